@@ -1,0 +1,58 @@
+use items::Items;
+
+/// An attribute of a class, a field or a method (JVMS 4.7). The name is a place of the pool.
+#[derive(Clone, Debug, Drop, PartialEq, Eq)]
+pub struct Attribute {
+    pub name: u16,
+    pub body: Body,
+}
+
+/// What an attribute holds.
+#[derive(Clone, Debug, Drop, PartialEq, Eq)]
+pub enum Body {
+    /// A method's Code (JVMS 4.7.3).
+    Code(CodeBody),
+    /// A field's ConstantValue, a place of the pool (JVMS 4.7.2).
+    Constant(u16),
+    /// The bytes of any other attribute, which mean nothing here (own).
+    Other(Items<u8>),
+}
+
+/// A method's code (JVMS 4.7.3).
+#[derive(Clone, Debug, Drop, PartialEq, Eq)]
+pub struct CodeBody {
+    /// The greatest depth of the operand stack, in slots.
+    pub max_stack: u16,
+    /// The number of local variables, in slots.
+    pub max_locals: u16,
+    pub code: Items<u8>,
+    /// The exception table.
+    pub rows: Items<Row>,
+    pub attributes: Items<CodeAttribute>,
+}
+
+/// A row of an exception table: places in the code, in bytes from its start, and the class caught, a place of
+/// the pool or 0 for every throwable (JVMS 4.7.3).
+#[derive(Clone, Copy, Debug, PartialEq, Eq)]
+pub struct Row {
+    pub start: u16,
+    pub end: u16,
+    pub handler: u16,
+    pub catch_type: u16,
+}
+
+/// An attribute of a Code attribute (JVMS 4.7). The name is a place of the pool.
+#[derive(Clone, Debug, Drop, PartialEq, Eq)]
+pub struct CodeAttribute {
+    pub name: u16,
+    pub body: CodeExtra,
+}
+
+/// What an attribute of a Code attribute holds.
+#[derive(Clone, Debug, Drop, PartialEq, Eq)]
+pub enum CodeExtra {
+    /// The bytes of a StackMapTable (JVMS 4.7.4).
+    StackMap(Items<u8>),
+    /// The bytes of any other attribute, which mean nothing here (own).
+    Other(Items<u8>),
+}

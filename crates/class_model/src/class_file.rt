@@ -1,0 +1,18 @@
+use crate::{Attribute, Const, Member};
+use items::Items;
+
+/// A class file (JVMS 4.1). `own`, `parent` and each of `interfaces` are places of the pool. The list `pool`
+/// has a place for each index, so the first is `Const::Unused`.
+#[derive(Clone, Debug, Drop, PartialEq, Eq)]
+pub struct ClassFile {
+    pub minor: u16,
+    pub major: u16,
+    pub pool: Items<Const>,
+    pub flags: u16,
+    pub own: u16,
+    pub parent: u16,
+    pub interfaces: Items<u16>,
+    pub fields: Items<Member>,
+    pub methods: Items<Member>,
+    pub attributes: Items<Attribute>,
+}

@@ -1,0 +1,11 @@
+use crate::Attribute;
+use items::Items;
+
+/// A field or a method (JVMS 4.5, 4.6). Name and descriptor are places of the pool.
+#[derive(Clone, Debug, Drop, PartialEq, Eq)]
+pub struct Member {
+    pub flags: u16,
+    pub name: u16,
+    pub descriptor: u16,
+    pub attributes: Items<Attribute>,
+}
