@@ -1,13 +1,12 @@
-// A library with one function.
+//! The grammar of class files (JVMS 4), which its reader and its writer cite. The definitions stand in `specs/`.
 #![tactic(auto)]
 
-ghost use Rattle.std.specs.Prelude.{◌≡◌};
-ghost use Rattle.class_grammar.specs.Echo.{echo_of};
+ghost use Rattle.std.specs.Prelude.{◌≡◌, List, ℕ};
+ghost use Rattle.class_model.specs.declared.class_file.ClassFile.{ClassFile};
+ghost use Rattle.class_grammar.specs.Spelling.{Spells};
 
-// The `ensures` clause is the contract: what `echo` returns is `echo_of` of its argument, a definition
-// in `specs/Echo.antt`, which a caller's clause can cite too.
-pub fn echo(x: usize) -> usize
-    ensures { result ≡ echo_of x }
+/// Each value has at most one spelling.
+pub fn one_spelling()
+    ensures { (a b : List ℕ) (f : ClassFile) → Spells a f → Spells b f → a ≡ b }
 {
-    x
 }

@@ -1,13 +1,13 @@
-// A library with one function.
+//! What the machine reaches outside: files, sinks for its output, a clock and a gate, each a trait with a
+//! written meaning and a count of faults, with a fake in memory and an adapter over the real thing.
 #![tactic(auto)]
 
-ghost use Rattle.std.specs.Prelude.{◌≡◌};
-ghost use Rattle.jvm_edges.specs.Echo.{echo_of};
+mod clock;
+mod gate;
+mod sink;
+mod store;
 
-// The `ensures` clause is the contract: what `echo` returns is `echo_of` of its argument, a definition
-// in `specs/Echo.antt`, which a caller's clause can cite too.
-pub fn echo(x: usize) -> usize
-    ensures { result ≡ echo_of x }
-{
-    x
-}
+pub use clock::Clock;
+pub use gate::Gate;
+pub use sink::{Failed, Sink};
+pub use store::{Store, StoreError};

@@ -1,0 +1,5 @@
+pub mod Text
+pub mod Layout
+pub mod Ranges
+pub mod Pool
+pub mod Spelling

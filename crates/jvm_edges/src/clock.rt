@@ -1,0 +1,14 @@
+ghost use Rattle.std.specs.Prelude.{ℕ, Bool, IsTrue};
+
+/// A clock that counts nanoseconds. It may fall, and it never fails.
+pub trait Clock {
+    /// Whether the clock may give that number. No call changes this.
+    ghost gives: { Self → ℕ → Bool };
+
+    /// The time, in nanoseconds.
+    fn now(&self) -> u64
+        ensures { IsTrue (gives self.now result) };
+
+    /// Waits for about so many nanoseconds.
+    fn nap(&self, nanos: u64);
+}
