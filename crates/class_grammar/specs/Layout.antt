@@ -1,6 +1,6 @@
 -- The bytes of a class file: its parts one after the other, each number with its highest byte first (JVMS 4.1
 -- to 4.7). Which values have a spelling is said in Ranges and Spelling; here each value has at most one.
-use Rattle.std.specs.Prelude.{ℕ, ℤ, List, [], ◌∷◌, ◌++◌, length}
+use Rattle.std.specs.Prelude.{ℕ, List, [], ◌∷◌, ◌++◌, length}
 use Rattle.std.specs.Int.{w16, w32, w64, to_be_bytes, cast_unsigned}
 use Rattle.std.specs.List.{flat_map}
 use Rattle.class_model.specs.declared.constant.Const.{Const}

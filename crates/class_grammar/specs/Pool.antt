@@ -1,7 +1,7 @@
 -- What a place of the constant pool says (JVMS 4.4): the text, or the text behind a chain of references.
 use Rattle.std.specs.Prelude.{ℕ, List, Option, Some, None, slice_get, option_and_then}
 use Rattle.class_model.specs.declared.constant.Const.{Const}
-use Rattle.class_model.specs.declared.constant.Const.TheVariants.{Utf8, Class, NameAndType, Fieldref, Methodref}
+use Rattle.class_model.specs.declared.constant.Const.TheVariants.{Utf8, Class}
 
 abbrev pub text_of : Const → Option (List ℕ)
 text_of (Utf8 units) = Some units

@@ -1,6 +1,7 @@
 -- Modified UTF-8, the bytes of a text in a class file (JVMS 4.4.7).
-use Rattle.std.specs.Prelude.{ℕ, ◌+◌, ◌/◌, ◌%◌, Bool, List, [], ◌∷◌, nat_lt, ◌==◌, ◌||◌, ◌&&◌, if◌then◌else◌}
+use Rattle.std.specs.Prelude.{ℕ, ◌+◌, ◌/◌, ◌%◌, Bool, List, [], ◌∷◌, nat_lt, ◌==◌, ◌||◌, ◌&&◌, if◌then◌else◌, nat_eq}
 use Rattle.std.specs.List.{flat_map}
+use Rattle.std.specs.Cmp.Lexicographic.{pointwise}
 
 -- One byte for a unit from 1 to 127, two for 0 and for one up to 2047, three for each other. A surrogate is a
 -- unit like any other, so a character beyond 65535 takes six bytes.
@@ -12,3 +13,7 @@ unit u =
 
 abbrev pub text : List ℕ → List ℕ
 text units = flat_map unit units
+
+-- whether two texts are one
+abbrev pub same_text : List ℕ → List ℕ → Bool
+same_text a b = pointwise nat_eq a b

@@ -8,5 +8,4 @@ ghost use Rattle.class_grammar.specs.Spelling.{Spells};
 /// Each value has at most one spelling.
 pub fn one_spelling()
     ensures { (a b : List ℕ) (f : ClassFile) → Spells a f → Spells b f → a ≡ b }
-{
-}
+{}

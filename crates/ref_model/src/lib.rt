@@ -1,13 +1,13 @@
-// A library with one function.
+//! The reference machine: each Java thread has one whole stack, and any enabled thread may step. The
+//! definitions stand in `specs/`; here are the plain types that the machine's history and code are made of.
 #![tactic(auto)]
 
-ghost use Rattle.std.specs.Prelude.{◌≡◌};
-ghost use Rattle.ref_model.specs.Echo.{echo_of};
+mod ending;
+mod entry;
+mod instruction;
+mod value;
 
-// The `ensures` clause is the contract: what `echo` returns is `echo_of` of its argument, a definition
-// in `specs/Echo.antt`, which a caller's clause can cite too.
-pub fn echo(x: usize) -> usize
-    ensures { result ≡ echo_of x }
-{
-    x
-}
+pub use ending::Ending;
+pub use entry::{Entry, What};
+pub use instruction::{Instr, Op};
+pub use value::{Slot, Value};

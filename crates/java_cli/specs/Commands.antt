@@ -1,0 +1,6 @@
+-- The command that a value of the code is.
+use Rattle.java_cli.specs.declared.words.Command as source
+use Rattle.java_cli.specs.Words.{Command}
+
+abbrev pub spelled : source.Command → Command
+spelled c = record { main = c.main.items; file = c.file.now }

@@ -1,0 +1,13 @@
+pub mod Words
+pub mod Methods
+pub mod Typing
+pub mod Decoding
+pub mod Runs
+pub mod Operands
+pub mod Standing
+pub mod Programs
+pub mod Commands
+pub mod Answers
+pub mod Lines
+pub mod Causes
+pub mod Headline

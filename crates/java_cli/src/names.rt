@@ -1,0 +1,107 @@
+ghost use Rattle.std.specs.Prelude.{◌≡◌, false};
+ghost use Rattle.std.specs.Option.{option_copied, option_map_or};
+ghost use Rattle.class_grammar.specs.Text.{same_text as is_same_text};
+ghost use Rattle.class_grammar.specs.Pool.{text_at as text_in, class_name_at as class_name_in};
+ghost use Rattle.ref_model.specs.Names.{member_of, is_member as is_member_named};
+ghost use Rattle.java_cli.specs.Typing.{names_out as is_out_named, names_print as is_print_named};
+
+use class_model::Const;
+
+/// The text at a place of the constant pool (JVMS 4.4.7).
+fn text_at(pool: &[Const], place: u16) -> Option<&[u16]>
+    ensures { option_copied result ≡ text_in pool.now place }
+{
+    match pool.get(usize::from(place)) {
+        Some(Const::Utf8(units)) => Some(units.as_slice()),
+        _ => None,
+    }
+}
+
+/// The name of the class at a place of the constant pool (JVMS 4.4.1).
+pub fn class_name_at(pool: &[Const], place: u16) -> Option<&[u16]>
+    ensures { option_copied result ≡ class_name_in pool.now place }
+{
+    match pool.get(usize::from(place)) {
+        Some(Const::Class(name)) => text_at(pool, *name),
+        _ => None,
+    }
+}
+
+/// Whether units and ASCII bytes are one text.
+pub fn same_text(units: &[u16], ascii: &[u8]) -> bool
+    ensures { result ≡ is_same_text units.now ascii.now }
+{
+    if units.len() != ascii.len() {
+        return false;
+    }
+    for (i, unit) in units.iter().enumerate() {
+        if *unit != u16::from(ascii[i]) {
+            return false;
+        }
+    }
+    true
+}
+
+/// Whether the class at one place, and the name and the descriptor at another, are these (JVMS 4.4.6).
+fn is_member(pool: &[Const], class: u16, member: u16, wanted: &Member) -> bool
+    ensures { result ≡ option_map_or (is_member_named wanted.now.class.now wanted.now.name.now wanted.now.descriptor.now)
+        (member_of pool.now class member) false }
+{
+    let Some(class) = class_name_at(pool, class) else {
+        return false;
+    };
+    let Some(Const::NameAndType(name, descriptor)) = pool.get(usize::from(member)) else {
+        return false;
+    };
+    let (Some(name), Some(descriptor)) = (text_at(pool, *name), text_at(pool, *descriptor)) else {
+        return false;
+    };
+    same_text(class, wanted.class)
+        && same_text(name, wanted.name)
+        && same_text(descriptor, wanted.descriptor)
+}
+
+/// A member by name, in ASCII.
+struct Member<'a> {
+    class: &'a [u8],
+    name: &'a [u8],
+    descriptor: &'a [u8],
+}
+
+/// Whether the place names the field java.lang.System.out.
+pub fn names_out(pool: &[Const], place: u16) -> bool
+    ensures { result ≡ is_out_named pool.now place }
+{
+    match pool.get(usize::from(place)) {
+        Some(Const::Fieldref(class, member)) => is_member(
+            pool,
+            *class,
+            *member,
+            &Member {
+                class: b"java/lang/System",
+                name: b"out",
+                descriptor: b"Ljava/io/PrintStream;",
+            },
+        ),
+        _ => false,
+    }
+}
+
+/// Whether the place names the method java.io.PrintStream.println of an int.
+pub fn names_print(pool: &[Const], place: u16) -> bool
+    ensures { result ≡ is_print_named pool.now place }
+{
+    match pool.get(usize::from(place)) {
+        Some(Const::Methodref(class, member)) => is_member(
+            pool,
+            *class,
+            *member,
+            &Member {
+                class: b"java/io/PrintStream",
+                name: b"println",
+                descriptor: b"(I)V",
+            },
+        ),
+        _ => false,
+    }
+}

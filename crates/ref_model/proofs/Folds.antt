@@ -1,0 +1,32 @@
+-- A history that goes on.
+use Rattle.std.proofs.Common.{◌≡◌, ℕ, suc, List, [], ◌∷◌, ◌++◌, Option, Some, refl}
+use Rattle.ref_model.specs.declared.entry.Entry.{Entry}
+use Rattle.ref_model.specs.declared.entry.What.TheVariants.{Step}
+use Rattle.ref_model.specs.Options.{◌>>=◌}
+use Rattle.ref_model.specs.Program.{Program}
+use Rattle.ref_model.specs.State.{State, opening}
+use Rattle.ref_model.specs.Step.{step}
+use Rattle.ref_model.specs.Run.{World, steps, stepped, made, folded, run, with_state}
+use Rattle.ref_model.proofs.Binds.{some_is, bind_is}
+
+-- one more entry at the end of the fold
+pub folded_more : (p : Program) (es : List Entry) (e : Entry) (w v x : World) → folded p es w ≡ Some v → made p v e.what ≡ Some x → folded p (es ++ e ∷ []) w ≡ Some x
+folded_more p [] e w v x f m = let same : w ≡ v = cc in bind_is (made p w e.what) (λ next. folded p [] next) x (Some x) (rw same m) refl
+folded_more p (a ∷ es) e w v x f m =
+    let first = some_is (made p w a.what) (λ next. folded p es next) v f in
+    bind_is (made p w a.what) (λ next. folded p (es ++ e ∷ []) next) first.0 (Some x) first.1 (folded_more p es e first.0 v x first.2 m)
+
+-- one more entry of steps at the end of a run
+pub run_more : (p : Program) (es : List Entry) (c t n : ℕ) (pick : Option ℕ) (r q : State) → run p es ≡ Some r → stepped p r t n pick ≡ Some q
+    → run p (es ++ record { carrier = c; what = Step t n pick } ∷ []) ≡ Some q
+run_more p es c t n pick r q h s =
+    let first = some_is (opening p) (λ o. folded p es (record { state = o }) >>= λ w. Some w.state) r h in
+    let second = some_is (folded p es (record { state = first.0 })) (λ w. Some w.state) r first.2 in
+    let here : second.0.state ≡ r = cc in
+    let entry_made : made p second.0 (Step t n pick) ≡ Some (with_state second.0 q) = rw here (rw s refl) in
+    let all = folded_more p es (record { carrier = c; what = Step t n pick }) (record { state = first.0 }) second.0 (with_state second.0 q) second.1 entry_made in
+    rw (first.1, all) refl
+
+-- steps and one more step are an entry's steps
+pub stepped_is : (p : Program) (r q s : State) (t n : ℕ) (pick : Option ℕ) → steps p n r t ≡ Some q → step p q t pick ≡ Some s → stepped p r t (suc n) pick ≡ Some s
+stepped_is p r q s t n pick h e = bind_is (steps p n r t) (λ v. step p v t pick) q (Some s) h e

@@ -1,0 +1,4 @@
+pub mod Binds
+pub mod Folds
+pub mod Places
+pub mod Straight

@@ -1,0 +1,36 @@
+-- The rows of local instructions (JVMS 6.5): the frames after one, as a function of the program and the frames
+-- alone. A row is undefined where the code would be out of range, and for what is no local instruction.
+use Rattle.std.specs.Prelude.{List, [], ◌∷◌, Option, Some, None, length, slice_get, nat_lt, if◌then◌else◌}
+use Rattle.ref_model.specs.declared.instruction.Op.{Op}
+use Rattle.ref_model.specs.declared.instruction.Op.TheVariants.{Bipush}
+use Rattle.ref_model.specs.declared.instruction.Instr.{Instr}
+use Rattle.ref_model.specs.declared.value.Value.TheVariants.{Int}
+use Rattle.ref_model.specs.declared.value.Slot.{Slot}
+use Rattle.ref_model.specs.declared.value.Slot.TheVariants.{One}
+use Rattle.ref_model.specs.Options.{◌>>=◌}
+use Rattle.ref_model.specs.Program.{Program, Method, instruction_at}
+use Rattle.ref_model.specs.State.{Frame}
+
+-- an operand stack with one more item, where the method has room for it
+abbrev pub pushed : Method → Slot → List Slot → Option (List Slot)
+pushed m item stack = if nat_lt (length stack) m.max_stack then Some (item ∷ stack) else None
+
+-- a method and its instruction, at which a frame stands
+pub record Fetched : Type 0 where
+  pub method : Method
+  pub instr : Instr
+
+abbrev pub fetched : Program → Frame → Option Fetched
+fetched p f = slice_get p.methods f.method >>= λ m. instruction_at m.code f.pc >>= λ i. Some (record { method = m; instr = i })
+
+-- the frame behind the instruction, with this operand stack
+abbrev pub gone_on : Frame → Instr → List Slot → Frame
+gone_on f i stack = record f { pc = i.next; stack = stack }
+
+abbrev pub local_act : Method → Instr → Op → Frame → List Frame → Option (List Frame)
+local_act m i (Bipush n) f below = pushed m (One (Int n)) f.stack >>= λ stack. Some (gone_on f i stack ∷ below)
+local_act m i op f below = None
+
+abbrev pub row : Program → List Frame → Option (List Frame)
+row p [] = None
+row p (f ∷ below) = fetched p f >>= λ x. local_act x.method x.instr x.instr.op f below

@@ -1,0 +1,56 @@
+-- Histories: what entries make of the state in which a program begins.
+use Rattle.std.specs.Prelude.{ℕ, zero, suc, Bool, true, false, List, [], ◌∷◌, Option, Some, None, nat_lt, if◌then◌else◌}
+use Rattle.std.specs.List.{filter}
+use Rattle.ref_model.specs.declared.entry.Entry.{Entry}
+use Rattle.ref_model.specs.declared.entry.What.{What}
+use Rattle.ref_model.specs.declared.entry.What.TheVariants.{Mount, Unmount, Step, Clock}
+use Rattle.ref_model.specs.Options.{◌>>=◌}
+use Rattle.ref_model.specs.Program.{Program}
+use Rattle.ref_model.specs.State.{State, opening}
+use Rattle.ref_model.specs.Step.{step}
+
+-- what a history has made of the machine
+pub record World : Type 0 where
+  pub state : State
+
+-- steps of one thread, none of which picks another
+abbrev pub steps : Program → ℕ → State → ℕ → Option State
+steps p zero r t = Some r
+steps p (suc n) r t = steps p n r t >>= λ q. step p q t None
+
+-- so many steps of one thread, at least one, of which the last may pick another
+abbrev pub stepped : Program → State → ℕ → ℕ → Option ℕ → Option State
+stepped p r t zero pick = None
+stepped p r t (suc n) pick = steps p n r t >>= λ q. step p q t pick
+
+-- time goes on, and never back
+abbrev pub ticked : State → ℕ → Option State
+ticked r now = if nat_lt r.now now then Some (record r { now = now }) else None
+
+abbrev pub with_state : World → State → World
+with_state w r = record w { state = r }
+
+-- What one entry makes of the machine. Threads aren't mounted yet: thread 0 stands on carrier 0 from the start.
+abbrev pub made : Program → World → What → Option World
+made p w (Mount t) = None
+made p w (Unmount t) = None
+made p w (Step t n pick) = stepped p w.state t n pick >>= λ r. Some (with_state w r)
+made p w (Clock now) = ticked w.state now >>= λ r. Some (with_state w r)
+
+abbrev pub folded : Program → List Entry → World → Option World
+folded p [] w = Some w
+folded p (e ∷ es) w = made p w e.what >>= λ next. folded p es next
+
+-- the state after these entries
+abbrev pub run : Program → List Entry → Option State
+run p entries = opening p >>= λ r. folded p entries (record { state = r }) >>= λ w. Some w.state
+
+abbrev pub is_java : What → Bool
+is_java (Mount t) = false
+is_java (Unmount t) = false
+is_java (Step t n pick) = true
+is_java (Clock now) = true
+
+-- the entries that change the state of the Java program
+abbrev pub java : List Entry → List Entry
+java entries = filter (λ (e : Entry). is_java e.what) entries
