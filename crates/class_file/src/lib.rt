@@ -1,13 +1,18 @@
-// A library with one function.
+//! Reads class files (JVMS 4). Today it takes the plain form alone (`specs/PlainForm.antt`).
 #![tactic(auto)]
 
-ghost use Rattle.std.specs.Prelude.{◌≡◌};
-ghost use Rattle.class_file.specs.Echo.{echo_of};
+mod constants;
+mod error;
+mod kinds;
+mod members;
+mod names;
+mod numbers;
+mod parts;
+mod plain;
+mod reader;
 
-// The `ensures` clause is the contract: what `echo` returns is `echo_of` of its argument, a definition
-// in `specs/Echo.antt`, which a caller's clause can cite too.
-pub fn echo(x: usize) -> usize
-    ensures { result ≡ echo_of x }
-{
-    x
-}
+pub use error::{ClassWhy, ReadError};
+pub use reader::read;
+
+#[cfg(test)]
+mod tests;
