@@ -1,3 +1,5 @@
+pub mod Bytes
 pub mod Causes
 pub mod Files
-pub mod Bytes
+pub mod Held
+pub mod Plan

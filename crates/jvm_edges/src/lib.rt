@@ -3,11 +3,22 @@
 #![tactic(auto)]
 
 mod clock;
+mod fault_plan;
 mod gate;
+mod list_clock;
+mod map_store;
+mod mem_sink;
+mod open_gate;
 mod sink;
+mod step_clock;
 mod store;
 
 pub use clock::Clock;
 pub use gate::Gate;
+pub use list_clock::ListClock;
+pub use map_store::MapStore;
+pub use mem_sink::MemSink;
+pub use open_gate::OpenGate;
 pub use sink::{Failed, Sink};
+pub use step_clock::StepClock;
 pub use store::{Store, StoreError};

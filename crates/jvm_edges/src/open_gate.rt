@@ -1,0 +1,15 @@
+use crate::gate::Gate;
+
+/// A gate that holds nobody.
+#[derive(Clone, Copy, Debug, Default, PartialEq, Eq)]
+pub struct OpenGate;
+
+impl OpenGate {
+    pub fn new() -> Self {
+        OpenGate
+    }
+}
+
+impl Gate for OpenGate {
+    fn local(&self, _carrier: u32, _thread: u32) {}
+}
