@@ -1,4 +1,4 @@
-ghost use Rattle.std.specs.Prelude.{◌≡◌, ◌<◌, List, ℕ, IsTrue, nat_eq, vec_len};
+ghost use Rattle.std.specs.Prelude.{◌≡◌, ◌<◌, List, ℕ, nat_eq, length, vec_len};
 ghost use Rattle.std.specs.List.{list_any};
 
 use crate::clock::Clock;
@@ -36,6 +36,7 @@ impl ListClock {
 
     /// The place of the next reading. It stands still at the last one.
     fn next_place(&self) -> usize
+        ensures { result < length self.now }
     {
         let last = self.readings.len() - 1;
         let moved = self
