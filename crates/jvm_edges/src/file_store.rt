@@ -1,4 +1,6 @@
-ghost use Rattle.std.specs.Prelude.{◌≡◌, ◌≤◌, ℕ, None, IfOk, vec_len};
+ghost use Rattle.std.specs.Prelude.{◌≡◌, ◌≢◌, ◌≤◌, ℕ, None, IfOk, IfErr, vec_len};
+ghost use Rattle.std.specs.IoError.{error_kind};
+ghost use Rattle.jvm_edges.specs.Causes.{StoreHasCause};
 
 use crate::store::{Store, StoreError};
 use std::alloc::Global;
@@ -22,12 +24,7 @@ impl<'a, R: Files> Model for FileStore<'a, R> {
 }
 
 /// The first bytes of a file, at most `most` of them. It reads no more than that.
-fn read_front<R: Files>(
-    rt: &R,
-    alloc: Global,
-    path: &str,
-    most: usize,
-) -> io::Result<Vec<u8>>
+fn read_front<R: Files>(rt: &R, alloc: Global, path: &str, most: usize) -> io::Result<Vec<u8>>
     ensures { IfOk result (λ bytes. vec_len bytes ≤ most) }
 {
     let mut bytes = Vec::new(alloc);
@@ -39,6 +36,7 @@ fn read_front<R: Files>(
 }
 
 impl<'a, R: Files> FileStore<'a, R> {
+    /// The files that this runtime reaches.
     pub fn new(rt: &'a R) -> Self
         ensures { result ≡ 0 }
     {
@@ -51,22 +49,17 @@ impl<'a, R: Files> FileStore<'a, R> {
     {
         self.faults
     }
-}
 
-impl<'a, R: Files> Store for FileStore<'a, R> {
-    ghost files = { λ _. None };
-
-    ghost faults = { λ faults. faults };
-
-    /// There is no such file where the system says that it is not found. Each other error of the system is a
-    /// fault, but for want of memory.
-    fn read(
-        &mut self,
-        alloc: Global,
-        name: &str,
-        most: usize,
-    ) -> Result<Option<Vec<u8>>, StoreError> {
-        match read_front(self.rt, alloc, name, most) {
+    /// What a reading comes to: there is no such file where the system says that it is not found, and each other
+    /// error is a fault, but for want of memory.
+    fn settle(&mut self, read: io::Result<Vec<u8>>) -> Result<Option<Vec<u8>>, StoreError>
+        ensures found { IfOk read (λ bytes. result ≡ Ok (Some bytes)) }
+        ensures missing { IfErr read (λ error. error_kind error ≡ ErrorKind.NotFound → result ≡ Ok None) }
+        ensures memory { IfErr read (λ error. error_kind error ≡ ErrorKind.OutOfMemory → result ≡ Err StoreError.NoMemory) }
+        ensures failed { IfErr read (λ error. error_kind error ≢ ErrorKind.NotFound → error_kind error ≢ ErrorKind.OutOfMemory → result ≡ Err StoreError.Failed) }
+        ensures cause { StoreHasCause self.old self.new result }
+    {
+        match read {
             Ok(bytes) => Ok(Some(bytes)),
             Err(error) => match error.kind() {
                 ErrorKind::NotFound => Ok(None),
@@ -77,5 +70,21 @@ impl<'a, R: Files> Store for FileStore<'a, R> {
                 }
             },
         }
+    }
+}
+
+impl<'a, R: Files> Store for FileStore<'a, R> {
+    ghost files = { λ _. None };
+
+    ghost faults = { λ faults. faults };
+
+    fn read(
+        &mut self,
+        alloc: Global,
+        name: &str,
+        most: usize,
+    ) -> Result<Option<Vec<u8>>, StoreError> {
+        let read = read_front(self.rt, alloc, name, most);
+        self.settle(read)
     }
 }

@@ -8,7 +8,7 @@ use std::sync::atomic::{AtomicUsize, Ordering};
 
 /// A clock that gives the readings of a list in turn, and then its last one again and again. Clauses see the
 /// clock as that list.
-#[derive(Drop)]
+#[derive(Debug, Drop)]
 pub struct ListClock {
     readings: Vec<u64>,
     place: CachePadded<AtomicUsize>,

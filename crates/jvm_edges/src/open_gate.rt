@@ -5,6 +5,7 @@ use crate::gate::Gate;
 pub struct OpenGate;
 
 impl OpenGate {
+    /// A gate that lets every carrier pass.
     pub fn new() -> Self {
         OpenGate
     }

@@ -1,9 +1,10 @@
-ghost use Rattle.std.specs.Prelude.{true};
+ghost use Rattle.std.specs.Prelude.{◌≡◌, true};
+ghost use Rattle.std.specs.Duration.{as_nanos};
+ghost use Rattle.jvm_edges.specs.Nanos.{clock_nanos, nap_nanos};
 
 use crate::clock::Clock;
-use std::rt;
-use std::thread;
 use std::time::{Duration, Instant};
+use std::{rt, thread};
 
 /// What a nap of no length takes, in nanoseconds (own).
 const SHORT_NAP: u64 = 50_000;
@@ -15,7 +16,22 @@ pub struct RealClock<'a, R: rt::Clock> {
     start: Option<Instant>,
 }
 
+/// The nanoseconds of a time, at most the greatest u64.
+fn clock_nanos(elapsed: Duration) -> u64
+    ensures { result ≡ clock_nanos (as_nanos elapsed) }
+{
+    u64::try_from(elapsed.as_nanos()).unwrap_or(u64::MAX)
+}
+
+/// How long a nap of so many nanoseconds is.
+fn nap_length(nanos: u64) -> Duration
+    ensures { as_nanos result ≡ nap_nanos SHORT_NAP nanos }
+{
+    Duration::from_nanos(if nanos == 0 { SHORT_NAP } else { nanos })
+}
+
 impl<'a, R: rt::Clock> RealClock<'a, R> {
+    /// A clock that counts from now on by the clock of this runtime.
     pub fn new(rt: &'a R) -> Self {
         RealClock {
             rt,
@@ -33,15 +49,11 @@ impl<'a, R: rt::Clock> Clock for RealClock<'a, R> {
     /// Any number.
     ghost gives = { λ _ _. true };
 
-    /// At most the greatest u64.
     fn now(&self) -> u64 {
-        let elapsed = self.elapsed().unwrap_or(Duration::ZERO);
-        u64::try_from(elapsed.as_nanos()).unwrap_or(u64::MAX)
+        clock_nanos(self.elapsed().unwrap_or(Duration::ZERO))
     }
 
-    /// Sleeps for so many nanoseconds, or for 50,000 of them where it is given 0.
     fn nap(&self, nanos: u64) {
-        let nanos = if nanos == 0 { SHORT_NAP } else { nanos };
-        thread::sleep(self.rt, Duration::from_nanos(nanos));
+        thread::sleep(self.rt, nap_length(nanos));
     }
 }

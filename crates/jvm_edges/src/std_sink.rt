@@ -19,6 +19,7 @@ impl<W: Write> Model for StdSink<W> {
 }
 
 impl<W: Write> StdSink<W> {
+    /// A sink that writes to this writer.
     pub fn new(writer: W) -> Self
         ensures { result ≡ 0 }
     {

@@ -7,7 +7,7 @@ use std::sync::atomic::{AtomicU64, Ordering};
 
 /// A clock that moves only where somebody naps. Its word is the nanoseconds since its first reading, so that it
 /// never falls below that. Clauses see the clock as its first reading.
-#[derive(Drop)]
+#[derive(Debug, Drop)]
 pub struct StepClock {
     first: u64,
     since_first: CachePadded<AtomicU64>,
