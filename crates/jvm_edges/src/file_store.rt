@@ -31,6 +31,7 @@ fn read_front<R: Files>(rt: &R, alloc: Global, path: &str, most: usize) -> io::R
     File::open(rt, path)?
         .take(most as u64)
         .read_to_end(&mut bytes)?;
+    // `take` lets no more through, and no clause of std says so.
     bytes.truncate(most);
     Ok(bytes)
 }

@@ -1,4 +1,4 @@
-ghost use Rattle.std.specs.Prelude.{◌≡◌, ◌↔◌, ◌≤◌, Option, Some, IsErrOf, IfOk, IfSome, option_map, vec_len};
+ghost use Rattle.std.specs.Prelude.{◌≡◌, ◌↔◌, ◌≤◌, Some, IsErrOf, IfOk, IfSome, option_map, vec_len};
 ghost use Rattle.jvm_edges.specs.Causes.{StoreHasCause};
 ghost use Rattle.jvm_edges.specs.Files.{file_named, first_bytes, found_bytes};
 ghost use Rattle.jvm_edges.specs.Held.{HeldFiles, named_files, new_files};
@@ -58,7 +58,7 @@ impl Store for MapStore {
 
     ghost faults = { λ store. store.plan.faults };
 
-    /// It fails only where the number of the call is one of those given to `new`.
+    /// It fails only where the number of the call is one of those given to `new`, and it may want memory for the bytes.
     fn read(
         &mut self,
         alloc: Global,

@@ -1,5 +1,4 @@
-ghost use Rattle.std.specs.Prelude.{◌≡◌, ◌<◌, ◌≤◌, ◌↔◌, ◌⊎◌, Some, ◌++◌, IsOk, IsErr, IfOk, OnErr, OnOk, length, take};
-ghost use Rattle.jvm_edges.specs.Bytes.{Appends};
+ghost use Rattle.std.specs.Prelude.{◌≡◌, ◌↔◌, ◌⊎◌, ◌++◌, Some, IsErr, IfOk, OnOk, OnErr, length, take};
 ghost use Rattle.jvm_edges.specs.Causes.{SinkHasCause};
 ghost use Rattle.jvm_edges.specs.Held.{new_bytes, next_taken, FindsNoRoom};
 ghost use Rattle.jvm_edges.specs.Plan.{FailsNext, after_call, after_failed_call};
