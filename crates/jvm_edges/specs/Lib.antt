@@ -1,3 +1,6 @@
+pub mod Bytes
 pub mod Causes
 pub mod Files
-pub mod Bytes
+pub mod Held
+pub mod Nanos
+pub mod Plan
