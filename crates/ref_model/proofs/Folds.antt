@@ -30,3 +30,20 @@ run_more p es c t n pick r q h s =
 -- steps and one more step are an entry's steps
 pub stepped_is : (p : Program) (r q s : State) (t n : ℕ) (pick : Option ℕ) → steps p n r t ≡ Some q → step p q t pick ≡ Some s → stepped p r t (suc n) pick ≡ Some s
 stepped_is p r q s t n pick h e = bind_is (steps p n r t) (λ v. step p v t pick) q (Some s) h e
+
+folded_front : (p : Program) (front back : List Entry) (w x : World) → folded p (front ++ back) w ≡ Some x → (v : World) × (folded p front w ≡ Some v)
+folded_front p [] back w x e = (w, refl)
+folded_front p (a ∷ front) back w x e =
+    let first = some_is (made p w a.what) (λ next. folded p (front ++ back) next) x e in
+    let rest = folded_front p front back first.0 x first.2 in
+    (rest.0, bind_is (made p w a.what) (λ next. folded p front next) first.0 (Some rest.0) first.1 rest.1)
+
+-- a history that runs has run up to each of its entries
+pub run_front : (p : Program) (front back : List Entry) (r : State) → run p (front ++ back) ≡ Some r → (q : State) × (run p front ≡ Some q)
+run_front p front back r e =
+    let first = some_is (opening p) (λ o. folded p (front ++ back) (record { state = o }) >>= λ w. Some w.state) r e in
+    let second = some_is (folded p (front ++ back) (record { state = first.0 })) (λ w. Some w.state) r first.2 in
+    let third = folded_front p front back (record { state = first.0 }) second.0 second.1 in
+    let state : Option State = Some third.0.state in
+    let ended : (folded p front (record { state = first.0 }) >>= λ w. Some w.state) ≡ state = bind_is (folded p front (record { state = first.0 })) (λ w. Some w.state) third.0 state third.1 refl in
+    (third.0.state, bind_is (opening p) (λ o. folded p front (record { state = o }) >>= λ w. Some w.state) first.0 state first.1 ended)

@@ -5,9 +5,11 @@
 mod ending;
 mod entry;
 mod instruction;
+mod laws;
 mod value;
 
 pub use ending::Ending;
 pub use entry::{Entry, What};
 pub use instruction::{Instr, Op};
+pub use laws::prefixes_run;
 pub use value::{Slot, Value};
