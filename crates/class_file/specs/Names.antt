@@ -1,12 +1,8 @@
 -- Names of the plain form: ASCII letters, digits, `_` and `$` (own; JVMS 4.2 allows more).
-use Rattle.std.specs.Prelude.{ℕ, Bool, false, true, List, [], ◌∷◌, codes, ◌==◌, ◌||◌, ◌&&◌, if◌then◌else◌, nat_eq}
+use Rattle.std.specs.Prelude.{ℕ, Bool, false, true, List, [], ◌∷◌, codes, ◌==◌, ◌||◌, ◌&&◌, if◌then◌else◌}
 use Rattle.std.specs.Int.{is_in_range}
 use Rattle.std.specs.List.{list_all}
-use Rattle.std.specs.Cmp.Lexicographic.{pointwise}
-
--- whether two texts are one
-abbrev pub same_text : List ℕ → List ℕ → Bool
-same_text a b = pointwise nat_eq a b
+pub use Rattle.class_grammar.specs.Text.{same_text}
 
 abbrev pub is_letter : ℕ → Bool
 is_letter u = is_in_range 48 57 u || is_in_range 65 90 u || is_in_range 97 122 u || u == 95 || u == 36

@@ -11,6 +11,9 @@ fn items_come_from_a_vector_and_go_back(rt: HostRuntime) -> Result<(), Fail> {
     assert!(rt; copy == items);
     assert_eq!(rt; copy.len(), 2);
     assert_eq!(rt; copy.as_slice(), [4, 2].as_slice());
-    assert_eq!(rt; Items::from(items.into_vec()).into_vec().as_slice(), [4, 2].as_slice());
+    assert_eq!(rt;
+        Items::from(items.into_vec()).into_vec().as_slice(),
+        [4, 2].as_slice()
+    );
     Ok(())
 }
