@@ -13,7 +13,7 @@ use Rattle.class_model.specs.declared.attribute.CodeAttribute.{CodeAttribute}
 use Rattle.class_model.specs.declared.attribute.Row.{Row}
 use Rattle.class_model.specs.declared.member.Member.{Member}
 use Rattle.class_model.specs.declared.class_file.ClassFile.{ClassFile}
-use Rattle.class_grammar.specs.Text.{unit, text}
+use Rattle.jvm_utf8.specs.Text.{unit, text}
 use Rattle.class_grammar.specs.Layout.{u1, u2, u4, constant, code, body, attribute, member, class_file, sized}
 use Rattle.class_grammar.specs.Layout as layout
 use Rattle.class_grammar.specs.Ranges as ranges

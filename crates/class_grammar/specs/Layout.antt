@@ -15,7 +15,7 @@ use Rattle.class_model.specs.declared.attribute.CodeExtra.{CodeExtra}
 use Rattle.class_model.specs.declared.attribute.CodeExtra.TheVariants as extras
 use Rattle.class_model.specs.declared.member.Member.{Member}
 use Rattle.class_model.specs.declared.class_file.ClassFile.{ClassFile}
-use Rattle.class_grammar.specs.Text.{text}
+use Rattle.jvm_utf8.specs.Text.{text}
 
 abbrev pub u1 : ℕ → List ℕ
 u1 n = n ∷ []

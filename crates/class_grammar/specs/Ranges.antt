@@ -12,7 +12,7 @@ use Rattle.class_model.specs.declared.attribute.Row.{Row}
 use Rattle.class_model.specs.declared.attribute.CodeAttribute.{CodeAttribute}
 use Rattle.class_model.specs.declared.member.Member.{Member}
 use Rattle.class_model.specs.declared.class_file.ClassFile.{ClassFile}
-use Rattle.class_grammar.specs.Text.{text}
+use Rattle.jvm_utf8.specs.Text.{text}
 use Rattle.class_grammar.specs.Layout.{code_extra, body}
 
 abbrev pub IsU1 : ℕ → Type 0
