@@ -1,0 +1,27 @@
+use Rattle.std.proofs.Common.{◌≡◌, ℕ, ◌<◌, Bool, false, nat_eq, sym, ◌∙◌, arith}
+use Rattle.std.proofs.lemmas.Bool.{eqb-true}
+use Rattle.std.proofs.lemmas.Bool.Decides.{nat_tests}
+use Rattle.opcodes.proofs.CodeLaws.{one_code, one_more, shorter, refused, refused_only, all_decoded}
+use Rattle.opcodes.proofs.code.decode.Goals as goal
+
+is_some : (n : ℕ) (empty : Bool) → empty ≡ nat_eq n 0 → empty ≡ false → 0 < n
+is_some n empty e not_empty = grind (arith, nat_tests)
+
+pub returns-in-Err-clause-only : goal.returns-in-Err-clause-only
+returns-in-Err-clause-only c = rw c.at.ensures (refused_only c.args.code.now c.loop-rest.instrs.items c.loop-rest.rest.now c.loop-rest.pc c.in-Err.refusal c.loop-rest.invariant (is_some _ _ c.is_empty.ensures c.loop-rest-test.true) c.in-Err.ensures)
+
+pub returns-in-Err-clause-bad : goal.returns-in-Err-clause-bad
+returns-in-Err-clause-bad c = rw c.at.ensures (refused c.args.code.now c.loop-rest.instrs.items c.loop-rest.rest.now c.loop-rest.pc c.in-Err.refusal c.loop-rest.invariant (is_some _ _ c.is_empty.ensures c.loop-rest-test.true) c.in-Err.ensures)
+
+pub overflow_sub-next : goal.overflow_sub-next
+overflow_sub-next c = omega (arith, shorter c.loop-rest.pc c.loop-rest.rest.now c.in-Ok.found.0 c.in-Ok.found.1.now c.loop-rest.invariant.rest_fits c.in-Ok.ensures)
+
+pub loop-rest-smaller : goal.loop-rest-smaller
+loop-rest-smaller c = shorter c.loop-rest.pc c.loop-rest.rest.now c.in-Ok.found.0 c.in-Ok.found.1.now c.loop-rest.invariant.rest_fits c.in-Ok.ensures
+
+pub loop-rest-preserved : goal.loop-rest-preserved
+loop-rest-preserved c = rw c.in_ok-push.ensures.items (one_more c.args.code.now c.loop-rest.instrs.items c.loop-rest.rest.now c.loop-rest.pc c.in-Ok.found.0 c.in-Ok.found.1.now c.loop-rest.invariant c.in-Ok.ensures)
+
+pub returns-clause-only : goal.returns-clause-only
+returns-clause-only c = λ js other.
+    one_code 0 c.args.code.now c.loop-rest.instrs.items js (all_decoded c.args.code.now c.loop-rest.instrs.items c.loop-rest.rest.now c.loop-rest.pc c.loop-rest.invariant (eqb-true _ _ (sym c.is_empty.ensures ∙ c.loop-rest-test.false))) other

@@ -1,0 +1,5 @@
+pub mod Rows
+pub mod Encoding
+pub mod Reading
+pub mod Forms
+pub mod Code

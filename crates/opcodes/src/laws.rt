@@ -1,0 +1,10 @@
+//! What holds of the definitions in specs/, each as a call that does nothing.
+
+ghost use Rattle.std.specs.Prelude.{◌≡◌, ℕ, List};
+ghost use Rattle.opcodes.specs.declared.op.Instr.{Instr};
+ghost use Rattle.opcodes.specs.Code.{IsCode};
+
+/// A code is of one list of instructions at most (own).
+pub fn one_decoding()
+    ensures { (code : List ℕ) (is js : List Instr) → IsCode code is → IsCode code js → is ≡ js }
+{}

@@ -1,0 +1,24 @@
+use items::Items;
+
+/// The operands of `tableswitch` (JVMS 6.5): `targets` has the places for `low` and the ints behind it, so that
+/// the highest is `low` plus their number less 1.
+#[derive(Debug, Drop)]
+pub struct TableSwitch {
+    pub default: i64,
+    pub low: i32,
+    pub targets: Items<i64>,
+}
+
+/// An int and the place that a `lookupswitch` goes to for it (JVMS 6.5).
+#[derive(Clone, Copy, Debug, PartialEq, Eq)]
+pub struct Match {
+    pub value: i32,
+    pub target: i64,
+}
+
+/// The operands of `lookupswitch` (JVMS 6.5). The values rise.
+#[derive(Debug, Drop)]
+pub struct LookupSwitch {
+    pub default: i64,
+    pub matches: Items<Match>,
+}
