@@ -33,7 +33,7 @@ same_first pc code i j rest rest' a b =
     instr_same i j e f g = ap (λ (n : ℕ). record i { pc = n }) e ∙ ap (λ (n : ℕ). record i { pc = j.pc; next = n }) f ∙ ap (λ (o : Op). record { pc = j.pc; next = j.next; op = o }) g
 
 -- an instruction takes bytes
-some_bytes : (pc : ℕ) (code : List ℕ) (i : Instr) (rest : List ℕ) → Begins pc code i rest → length rest < length code
+pub some_bytes : (pc : ℕ) (code : List ℕ) (i : Instr) (rest : List ℕ) → Begins pc code i rest → length rest < length code
 some_bytes pc code i rest b = omega (arith, ap length b.parts ∙ length-append b.bytes rest, nonempty pc i.op b.bytes b.encoded)
   where
     nonempty : (pc : ℕ) (op : Op) (bytes : List ℕ) → IsEncoded pc op bytes → 0 < length bytes

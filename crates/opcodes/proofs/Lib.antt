@@ -4,3 +4,4 @@ pub mod Readers
 pub mod SwitchLaws
 pub mod RowLaws
 pub mod CodeLaws
+pub mod PlaceLaws

@@ -3,3 +3,4 @@ pub mod Encoding
 pub mod Reading
 pub mod Forms
 pub mod Code
+pub mod Places

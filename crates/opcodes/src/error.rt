@@ -3,8 +3,8 @@ ghost use Rattle.std.specs.Prelude.{◌≡◌};
 use std::alloc::{AllocError, AllocFailed};
 use thiserror::Error;
 
-/// What is wrong with an instruction (JVMS 4.9.1, 6.5). Its fields are looked at from the first to the last: each
-/// must be there, and then be as it must.
+/// What is wrong with an instruction (JVMS 4.9.1, 6.5). Its fields are looked at from the first to the last, and
+/// each is first there (`Short`) and then as it must be (`Opcode`, `Operand`), before the next is looked at.
 #[derive(Clone, Copy, Debug, PartialEq, Eq, Error)]
 pub enum CodeWhy {
     /// No instruction has this opcode.
@@ -49,7 +49,7 @@ impl<T: Drop> From<AllocFailed<T>> for CodeError {
     }
 }
 
-/// Why an instruction was not read, wherever it stands.
+/// Why an instruction was not read, wherever it stands (own).
 #[derive(Clone, Copy)]
 pub enum Refusal {
     Bad(CodeWhy),
@@ -59,7 +59,7 @@ pub enum Refusal {
 impl Refusal {
     ghost use Rattle.opcodes.specs.Code.{error_at};
 
-    /// The same of the instruction at `pc`.
+    /// The error, for an instruction at `pc` (own).
     pub fn at(self, pc: u32) -> CodeError
         ensures { result ≡ error_at pc self }
     {

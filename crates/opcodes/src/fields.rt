@@ -5,12 +5,13 @@ ghost use Rattle.opcodes.specs.Reading.{Gives, u1_at, u2_at, u4_at, s1_at, s2_at
 
 use crate::error::{CodeWhy, Refusal};
 
-/// The code ends too soon.
+/// The code ends too soon (own).
 pub const SHORT: Refusal = Refusal::Bad(CodeWhy::Short);
 
-/// An operand isn't allowed.
+/// An operand isn't allowed (own).
 pub const OPERAND: Refusal = Refusal::Bad(CodeWhy::Operand);
 
+/// A number in one byte (JVMS 6.5).
 pub fn u1(bytes: &[u8]) -> Result<(u8, &[u8]), Refusal>
     ensures { Gives (λ x. (x.0, x.1.now)) result (u1_at bytes.now) }
 {
@@ -20,6 +21,7 @@ pub fn u1(bytes: &[u8]) -> Result<(u8, &[u8]), Refusal>
     }
 }
 
+/// A number in two bytes (JVMS 6.5).
 pub fn u2(bytes: &[u8]) -> Result<(u16, &[u8]), Refusal>
     ensures { Gives (λ x. (x.0, x.1.now)) result (u2_at bytes.now) }
 {
@@ -29,6 +31,7 @@ pub fn u2(bytes: &[u8]) -> Result<(u16, &[u8]), Refusal>
     }
 }
 
+/// A number in four bytes (JVMS 6.5).
 fn u4(bytes: &[u8]) -> Result<(u32, &[u8]), Refusal>
     ensures { Gives (λ x. (x.0, x.1.now)) result (u4_at bytes.now) }
 {
@@ -38,6 +41,7 @@ fn u4(bytes: &[u8]) -> Result<(u32, &[u8]), Refusal>
     }
 }
 
+/// A signed number in one byte (JVMS 6.5).
 pub fn s1(bytes: &[u8]) -> Result<(i8, &[u8]), Refusal>
     ensures { Gives (λ x. (x.0, x.1.now)) result (s1_at bytes.now) }
 {
@@ -45,6 +49,7 @@ pub fn s1(bytes: &[u8]) -> Result<(i8, &[u8]), Refusal>
     Ok((number.cast_signed(), rest))
 }
 
+/// A signed number in two bytes (JVMS 6.5).
 pub fn s2(bytes: &[u8]) -> Result<(i16, &[u8]), Refusal>
     ensures { Gives (λ x. (x.0, x.1.now)) result (s2_at bytes.now) }
 {
@@ -52,6 +57,7 @@ pub fn s2(bytes: &[u8]) -> Result<(i16, &[u8]), Refusal>
     Ok((number.cast_signed(), rest))
 }
 
+/// A signed number in four bytes (JVMS 6.5).
 pub fn s4(bytes: &[u8]) -> Result<(i32, &[u8]), Refusal>
     ensures { Gives (λ x. (x.0, x.1.now)) result (s4_at bytes.now) }
 {
@@ -59,7 +65,7 @@ pub fn s4(bytes: &[u8]) -> Result<(i32, &[u8]), Refusal>
     Ok((number.cast_signed(), rest))
 }
 
-/// A target as an offset of four bytes from `pc`.
+/// Where a branch by an offset in four bytes goes from `pc` (JVMS 6.5).
 pub fn far_target(pc: u32, bytes: &[u8]) -> Result<(i64, &[u8]), Refusal>
     ensures { Gives (λ x. (x.0, x.1.now)) result (target_at pc bytes.now) }
 {
@@ -67,7 +73,7 @@ pub fn far_target(pc: u32, bytes: &[u8]) -> Result<(i64, &[u8]), Refusal>
     Ok((i64::from(pc) + i64::from(offset), rest))
 }
 
-/// What stands behind a byte of 0.
+/// What stands behind a byte of 0 (JVMS 6.5, invokeinterface).
 pub fn skip_zero(bytes: &[u8]) -> Result<&[u8], Refusal>
     ensures { Gives (λ x. x.now) result (zero_at bytes.now) }
 {
@@ -78,7 +84,7 @@ pub fn skip_zero(bytes: &[u8]) -> Result<&[u8], Refusal>
     }
 }
 
-/// That many bytes.
+/// That many bytes, and those behind them (own).
 pub fn split(count: usize, bytes: &[u8]) -> Result<(&[u8], &[u8]), Refusal>
     ensures { Gives (λ x. (x.0.now, x.1.now)) result (bytes_at count bytes.now) }
 {

@@ -6,7 +6,7 @@ ghost use Rattle.opcodes.specs.Rows.{row};
 
 use crate::op::{Arithmetic, Bitwise, Comparison, Element, Kind, Narrow, Sameness, Shift};
 
-/// Constants, locals, items of arrays and moves on the stack, without operands.
+/// Constants, locals, items of arrays and moves on the stack, without operands (own).
 #[derive(Clone, Copy)]
 pub enum StackForm {
     Nop,
@@ -28,7 +28,7 @@ pub enum StackForm {
     Swap,
 }
 
-/// Arithmetic, and the others without operands.
+/// Arithmetic, and the others without operands (own).
 #[derive(Clone, Copy)]
 pub enum ComputeForm {
     IntArithmetic(Arithmetic),
@@ -52,7 +52,7 @@ pub enum ComputeForm {
     Floating(u8),
 }
 
-/// What is done with a local.
+/// What is done with a local whose number stands behind the opcode (own).
 #[derive(Clone, Copy)]
 pub enum LocalForm {
     Load(Kind),
@@ -61,7 +61,7 @@ pub enum LocalForm {
     Floating(u8),
 }
 
-/// What is done with a place of the constant pool.
+/// What is done with a place of the constant pool (own).
 #[derive(Clone, Copy)]
 pub enum PlaceForm {
     PushConstant,
@@ -79,7 +79,7 @@ pub enum PlaceForm {
     InstanceOf,
 }
 
-/// When control goes to a target.
+/// When control goes to a target (own).
 #[derive(Clone, Copy)]
 pub enum BranchForm {
     IfZero(Comparison),
@@ -90,7 +90,7 @@ pub enum BranchForm {
     Subroutine,
 }
 
-/// What stands behind an opcode.
+/// What stands behind an opcode (own).
 #[derive(Clone, Copy)]
 pub enum Form {
     Undefined,
@@ -319,7 +319,7 @@ static FORMS: [Form; 202] = [
     Form::FarBranch(BranchForm::Subroutine),
 ];
 
-/// What stands behind the opcode.
+/// What stands behind the opcode (JVMS 6.5).
 pub fn form_of(opcode: u8) -> Form
     ensures { meaning result ≡ row opcode }
 {

@@ -9,6 +9,7 @@ mod forms;
 mod laws;
 mod op;
 mod operands;
+mod place_table;
 mod switch;
 mod switches;
 
@@ -19,6 +20,7 @@ pub use laws::one_decoding;
 pub use op::{
     Arithmetic, Bitwise, Comparison, Element, Instr, Kind, Narrow, Op, Primitive, Sameness, Shift,
 };
+pub use place_table::{NO_INSTR, places};
 pub use switch::{LookupSwitch, Match, TableSwitch};
 
 const _: () = prove!(size_of::<Op>() == 16);

@@ -32,7 +32,7 @@ pub enum Primitive {
     Long,
 }
 
-/// A sum, or another operation whose division may fail (JVMS 6.5).
+/// An operation on two numbers (JVMS 6.5).
 #[derive(Clone, Copy, Debug, PartialEq, Eq)]
 pub enum Arithmetic {
     Add,
@@ -84,11 +84,13 @@ pub enum Sameness {
     Different,
 }
 
-/// What an instruction does (JVMS 6.5): a variant for each group of opcodes that differ in no more than the
-/// named operation. A `u16` is a local or a place of the constant pool. An `i64` is the place that a branch
-/// goes to, counted from the code's start; it may lie outside the code.
+/// What an instruction does (JVMS 6.5). Opcodes that differ only in how they spell an operand share a variant, as
+/// iload_1, iload 1 and wide iload 1; so do those that differ only in the kind or the operation that the variant
+/// names. A `u16` is a local or a place of the constant pool. An `i64` is the place that a branch goes to, counted
+/// from the code's start; it may lie outside the code.
 #[derive(Debug, Drop)]
 pub enum Op {
+    /// nop.
     Nop,
     /// aconst_null.
     PushNull,

@@ -13,7 +13,7 @@ use crate::switches::{lookup_switch, table_switch};
 use crate::{Op, Primitive};
 use std::alloc::Global;
 
-/// The instruction at the front of the code from `pc` on, and the bytes behind it.
+/// The instruction at the front of the code from `pc` on, and the bytes behind it (JVMS 6.5).
 #[tactic(auto, unfolding(crate::specs::Reading::op_at))]
 pub fn first_op(alloc: Global, pc: u32, code: &[u8]) -> Result<(Op, &[u8]), Refusal>
     ensures { Gives (λ x. (x.0, x.1.now)) result (op_at pc code.now) }

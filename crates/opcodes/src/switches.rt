@@ -10,13 +10,14 @@ use crate::{Boxed, LookupSwitch, Match, Op, TableSwitch};
 use items::Items;
 use std::alloc::Global;
 
-/// How many bytes pad a switch at `pc`, so that its operands begin at a multiple of 4.
+/// How many bytes pad a switch at `pc`, so that its operands begin at a multiple of 4 (JVMS 6.5).
 fn padding(pc: u32) -> usize
     ensures { result ≡ padding_of pc }
 {
     3 - pc as usize % 4
 }
 
+/// The operands of tableswitch at `pc` (JVMS 6.5).
 #[tactic(auto, unfolding(crate::specs::Reading::table_at))]
 pub fn table_switch(alloc: Global, pc: u32, bytes: &[u8]) -> Result<(Op, &[u8]), Refusal>
     ensures { Gives (λ x. (x.0, x.1.now)) result (table_at pc bytes.now) }
@@ -50,6 +51,7 @@ fn targets(alloc: Global, pc: u32, count: u64, bytes: &[u8]) -> Result<(Items<i6
     Ok((targets, rest))
 }
 
+/// The operands of lookupswitch at `pc` (JVMS 6.5).
 #[tactic(auto, unfolding(crate::specs::Reading::lookup_at))]
 pub fn lookup_switch(alloc: Global, pc: u32, bytes: &[u8]) -> Result<(Op, &[u8]), Refusal>
     ensures { Gives (λ x. (x.0, x.1.now)) result (lookup_at pc bytes.now) }

@@ -122,3 +122,14 @@ fn targets_of_a_switch(rt: HostRuntime) -> Result<(), Fail> {
     assert_eq!(rt; table.get().targets.as_slice(), [7, 1].as_slice());
     Ok(())
 }
+
+#[test]
+fn places_and_instructions(rt: HostRuntime) -> Result<(), Fail> {
+    let code = [0x10, 1, 0xb1];
+    let instrs = decode(rt.alloc(), &code)
+        .ok()
+        .ok_or("the bytes are a code")?;
+    let table = places(rt.alloc(), &code, &instrs).ok().ok_or("memory")?;
+    assert_eq!(rt; table.as_slice(), [0, NO_INSTR, 1].as_slice());
+    Ok(())
+}
