@@ -1,0 +1,7 @@
+use Rattle.std.proofs.Common.{◌≡◌, ◌++◌, length, take}
+use Rattle.std.specs.List.{flat_map}
+use Rattle.class_grammar.specs.Layout.{row, u2}
+use Rattle.class_write.proofs.attributes.rows.Given as goal
+
+abbrev pub invariant-loop-one : goal.invariant-loop-one
+invariant-loop-one l = l.out.items ≡ l.fn.out.items ++ u2 (length l.rows) ++ flat_map row (take l.one-index l.rows)

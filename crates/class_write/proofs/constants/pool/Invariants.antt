@@ -1,0 +1,7 @@
+use Rattle.std.proofs.Common.{◌≡◌, ◌++◌, length, take}
+use Rattle.std.specs.List.{flat_map}
+use Rattle.class_grammar.specs.Layout.{constant, u2}
+use Rattle.class_write.proofs.constants.pool.Given as goal
+
+abbrev pub invariant-loop-place : goal.invariant-loop-place
+invariant-loop-place l = l.out.items ≡ l.fn.out.items ++ u2 (length l.places) ++ flat_map constant (take l.place-index l.places)
