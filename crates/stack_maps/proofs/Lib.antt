@@ -1,0 +1,5 @@
+pub mod LoopLaws
+pub mod WithinLaws
+pub mod FieldLaws
+pub mod FrameLaws
+pub mod MapLaws

@@ -1,0 +1,42 @@
+use items::Items;
+
+/// The types of the locals and of the operand stack at one place of a code, the first local and the bottom of
+/// the stack first (JVMS 4.10.1.2). A long or a double is one item.
+#[derive(Clone, Debug, Drop, PartialEq, Eq)]
+pub struct FrameTypes {
+    pub locals: Items<VType>,
+    pub stack: Items<VType>,
+}
+
+/// A verification type (JVMS 4.7.4, 4.10.1.2).
+#[derive(Clone, Copy, Debug, PartialEq, Eq)]
+pub enum VType {
+    Top,
+    Int,
+    Float,
+    Double,
+    Long,
+    Null,
+    UninitThis,
+    /// A class by its place in the constant pool, as a map has it.
+    Object(u16),
+    /// An object before its constructor ran, by the place of its `new`.
+    Uninit(u16),
+    /// A class by its number, or an array of that many dimensions (own). No map has it.
+    Named(u8, Base),
+}
+
+/// What a named type is an array of. Without dimensions it is a class (own).
+#[derive(Clone, Copy, Debug, PartialEq, Eq)]
+pub enum Base {
+    Bool,
+    Byte,
+    Char,
+    Short,
+    Int,
+    Long,
+    Float,
+    Double,
+    /// A class by its number.
+    Class(u32),
+}
