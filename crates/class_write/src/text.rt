@@ -2,7 +2,7 @@
 
 ghost use Rattle.std.specs.Prelude.{◌≡◌, ◌++◌, length, OnOk};
 ghost use Rattle.std.specs.List.{flat_map};
-ghost use Rattle.class_grammar.specs.Text as spec;
+ghost use Rattle.jvm_utf8.specs.Text as spec;
 ghost use Rattle.class_grammar.specs.Layout as layout;
 ghost use Rattle.class_grammar.specs.Ranges.{IsU2};
 

@@ -1,6 +1,6 @@
 use Rattle.std.proofs.Common.{◌≡◌, ◌++◌, take}
 use Rattle.std.specs.List.{flat_map}
-use Rattle.class_grammar.specs.Text.{unit}
+use Rattle.jvm_utf8.specs.Text.{unit}
 use Rattle.class_write.proofs.text.text.Given as goal
 
 abbrev pub invariant-loop-one : goal.invariant-loop-one
