@@ -76,3 +76,8 @@ pub record IsSignature (s : Signature) : Type 0 where
 -- the units that are a kind by themselves
 abbrev pub is_base : ℕ → Bool
 is_base u = u == 66 || u == 67 || u == 68 || u == 70 || u == 73 || u == 74 || u == 83 || u == 90
+
+-- one kind, wherever its parts lie in memory
+abbrev pub AreSame : Kind → Kind → Type 0
+AreSame (Array' m p a) (Array' n q b) = (m ≡ n) × AreSame a b
+AreSame a b = a ≡ b
