@@ -1,0 +1,4 @@
+pub mod KindLaws
+pub mod FieldLaws
+pub mod MethodLaws
+pub mod OneKind

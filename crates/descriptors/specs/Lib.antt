@@ -1,0 +1,3 @@
+pub mod Descriptors
+pub mod Refusal
+pub mod Parts

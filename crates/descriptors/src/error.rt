@@ -1,0 +1,33 @@
+ghost use Rattle.std.specs.Prelude.{◌≡◌};
+ghost use Rattle.descriptors.specs.declared.error.DescriptorError.TheVariants.{NoMemory};
+
+use std::alloc::{AllocError, AllocFailed};
+use thiserror::Error;
+
+/// Why a descriptor was not read.
+#[derive(Clone, Copy, Debug, PartialEq, Eq, Error)]
+pub enum DescriptorError {
+    /// The units aren't a descriptor. `at` is the first unit that can't stand there, or their number where they
+    /// end too early.
+    #[error("no descriptor at {at}")]
+    Bad { at: u32 },
+    /// Memory ran out.
+    #[error("out of memory")]
+    NoMemory,
+}
+
+impl From<AllocError> for DescriptorError {
+    ghost from_gives = { λ _ e. e ≡ NoMemory };
+
+    fn from(_: AllocError) -> Self {
+        DescriptorError::NoMemory
+    }
+}
+
+impl<T: Drop> From<AllocFailed<T>> for DescriptorError {
+    ghost from_gives = { λ _ e. e ≡ NoMemory };
+
+    fn from(_: AllocFailed<T>) -> Self {
+        DescriptorError::NoMemory
+    }
+}

@@ -1,0 +1,19 @@
+//! Laws of the definitions, each the contract of a function that does nothing.
+
+ghost use Rattle.std.specs.Prelude.{◌≡◌, List, ℕ};
+ghost use Rattle.descriptors.specs.declared.kind.Kind.{Kind as AnyKind};
+ghost use Rattle.descriptors.specs.Descriptors.{AreSame, IsKind, spelling};
+ghost use Rattle.descriptors.specs.Refusal.{IsField, IsFirstBad, IsMethod};
+
+/// A text is the descriptor of at most one kind.
+pub fn one_kind()
+    ensures { (a b : AnyKind) → IsKind a → IsKind b → spelling a ≡ spelling b → AreSame a b }
+{}
+
+/// A text has at most one first bad unit, and none if it is a descriptor.
+pub fn one_first_bad()
+    ensures of_field { (units : List ℕ) (a b : ℕ) → IsFirstBad IsField units a → IsFirstBad IsField units b → a ≡ b }
+    ensures of_method { (units : List ℕ) (a b : ℕ) → IsFirstBad IsMethod units a → IsFirstBad IsMethod units b → a ≡ b }
+    ensures no_field { (units : List ℕ) (at : ℕ) → IsFirstBad IsField units at → IsField units → ⊥ }
+    ensures no_method { (units : List ℕ) (at : ℕ) → IsFirstBad IsMethod units at → IsMethod units → ⊥ }
+{}
