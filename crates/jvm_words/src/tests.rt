@@ -2,7 +2,7 @@ use crate::{IntOp, LongOp, Narrow, ShiftOp, i_binary, l_binary, l_compare, l_shi
 use std::test::Fail;
 
 #[test]
-fn the_words_of_the_standard(rt: HostRuntime) -> Result<(), Fail> {
+fn int_operations_of_the_standard(rt: HostRuntime) -> Result<(), Fail> {
     let ints = [
         (IntOp::Add, i32::MAX, 1, Some(i32::MIN)),
         (IntOp::Sub, i32::MIN, 1, Some(i32::MAX)),
@@ -29,6 +29,11 @@ fn the_words_of_the_standard(rt: HostRuntime) -> Result<(), Fail> {
     for (op, a, b, value) in ints {
         assert_eq!(rt; i_binary(op, a, b), value);
     }
+    Ok(())
+}
+
+#[test]
+fn long_operations_of_the_standard(rt: HostRuntime) -> Result<(), Fail> {
     let longs = [
         (LongOp::Add, i64::MAX, 1, Some(i64::MIN)),
         (LongOp::Sub, i64::MIN, 1, Some(i64::MAX)),
@@ -46,6 +51,11 @@ fn the_words_of_the_standard(rt: HostRuntime) -> Result<(), Fail> {
     for (op, a, b, value) in longs {
         assert_eq!(rt; l_binary(op, a, b), value);
     }
+    Ok(())
+}
+
+#[test]
+fn long_shifts_of_the_standard(rt: HostRuntime) -> Result<(), Fail> {
     let shifts = [
         (ShiftOp::Shl, 1, 65, 2),
         (ShiftOp::Shl, 1, 32, 1 << 32),
@@ -59,9 +69,19 @@ fn the_words_of_the_standard(rt: HostRuntime) -> Result<(), Fail> {
     for (op, a, count, value) in shifts {
         assert_eq!(rt; l_shift(op, a, count), value);
     }
+    Ok(())
+}
+
+#[test]
+fn long_comparisons_of_the_standard(rt: HostRuntime) -> Result<(), Fail> {
     for (a, b, order) in [(1, 2, -1), (2, 2, 0), (2, -1, 1), (i64::MIN, i64::MAX, -1)] {
         assert_eq!(rt; l_compare(a, b), order);
     }
+    Ok(())
+}
+
+#[test]
+fn narrowings_of_the_standard(rt: HostRuntime) -> Result<(), Fail> {
     let kinds = [
         (Narrow::Bool, 2, 0),
         (Narrow::Bool, -1, 1),
