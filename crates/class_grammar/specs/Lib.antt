@@ -1,5 +1,8 @@
 pub mod Text
+pub mod Names
 pub mod Layout
 pub mod Ranges
 pub mod Pool
+pub mod Placing
+pub mod Checks
 pub mod Spelling

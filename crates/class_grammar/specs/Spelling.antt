@@ -1,12 +1,20 @@
 -- The one relation between the bytes of a class file and its value.
-use Rattle.std.specs.Prelude.{◌≡◌, ℕ, ◌<◌, ◌^◌, List}
+use Rattle.std.specs.Prelude.{◌≡◌, ℕ, List, None}
+use Rattle.std.specs.List.{AllByRecursion}
 use Rattle.class_model.specs.declared.class_file.ClassFile.{ClassFile}
 use Rattle.class_grammar.specs.Layout.{class_file}
 use Rattle.class_grammar.specs.Ranges.{IsInRange}
+use Rattle.class_grammar.specs.Placing.{HasPlaced}
+use Rattle.class_grammar.specs.Checks.{Item, items}
 
--- These bytes are this class file: its parts one after the other, with each number in its range, and no module
--- (JVMS 4.1 to 4.7).
+-- nothing is wrong with an item
+abbrev pub IsSound : Item → Type 0
+IsSound i = i.fault ≡ None
+
+-- These bytes are this class file (JVMS 4.1 to 4.9): its parts one after the other, with each number in its range,
+-- each attribute as its name and place say, and nothing wrong with any item.
 pub record Spells (bytes : List ℕ) (f : ClassFile) : Type 0 where
   pub layout : bytes ≡ class_file f
   pub range : IsInRange f
-  pub no_module : f.flags < 2 ^ 15
+  pub placed : HasPlaced f
+  pub sound : AllByRecursion IsSound (items f)

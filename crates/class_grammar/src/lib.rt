@@ -1,11 +1,10 @@
 //! The grammar of class files (JVMS 4), which its reader and its writer cite. The definitions stand in `specs/`.
 #![tactic(auto)]
 
-ghost use Rattle.std.specs.Prelude.{◌≡◌, List, ℕ};
-ghost use Rattle.class_model.specs.declared.class_file.ClassFile.{ClassFile};
-ghost use Rattle.class_grammar.specs.Spelling.{Spells};
+mod class_why;
+mod holder;
+mod laws;
 
-/// Each value has at most one spelling.
-pub fn one_spelling()
-    ensures { (a b : List ℕ) (f : ClassFile) → Spells a f → Spells b f → a ≡ b }
-{}
+pub use class_why::{ClassWhy, Fault};
+pub use holder::Holder;
+pub use laws::one_spelling;
