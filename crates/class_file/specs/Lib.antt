@@ -1,5 +1,5 @@
-pub mod Names
-pub mod PlainForm
 pub mod Reading
-pub mod Parts
-pub mod Judging
+pub mod Constants
+pub mod Attributes
+pub mod FirstPass
+pub mod Refusal

@@ -1,18 +1,10 @@
-//! Reads class files (JVMS 4). Today it takes the plain form alone (`specs/PlainForm.antt`).
+//! Reads class files (JVMS 4).
 #![tactic(auto)]
 
-mod constants;
 mod error;
-mod kinds;
-mod members;
-mod names;
-mod numbers;
-mod parts;
-mod plain;
 mod reader;
+mod stop;
 
-pub use error::{ClassWhy, ReadError};
+pub use class_grammar::ClassWhy;
+pub use error::ReadError;
 pub use reader::read;
-
-#[cfg(test)]
-mod tests;

@@ -1,5 +1,5 @@
 -- The numbers that fit their fields: a count, a length or a place beyond its field has no spelling.
-use Rattle.std.specs.Prelude.{◌≡◌, ℕ, ◌<◌, ◌≤◌, ◌^◌, List, [], ◌∷◌, length, FitsSigned}
+use Rattle.std.specs.Prelude.{◌≡◌, ℕ, Bool, true, false, ◌<◌, ◌≤◌, ◌^◌, List, [], ◌∷◌, length, FitsSigned}
 use Rattle.std.specs.Int.{w32, w64}
 use Rattle.std.specs.List.{AllByRecursion}
 use Rattle.class_model.specs.declared.constant.Const.{Const}
@@ -52,19 +52,23 @@ IsConstant (InvokeDynamic bootstrap member) = IsU2 bootstrap × IsU2 member
 IsConstant (Module name) = IsU2 name
 IsConstant (Package name) = IsU2 name
 
--- each place is used, but the one after a Long or a Double (JVMS 4.4.5)
-abbrev pub ArePlaces : List Const → Type 0
-ArePlaces [] = Unit {0}
-ArePlaces (Unused ∷ cs) = ⊥
-ArePlaces (Long n ∷ Unused ∷ cs) = ArePlaces cs
-ArePlaces (Long n ∷ cs) = ⊥
-ArePlaces (Double bits ∷ Unused ∷ cs) = ArePlaces cs
-ArePlaces (Double bits ∷ cs) = ⊥
-ArePlaces (c ∷ cs) = ArePlaces cs
+-- a constant that takes two places (JVMS 4.4.5)
+abbrev pub is_wide : Const → Bool
+is_wide (Long n) = true
+is_wide (Double bits) = true
+is_wide c = false
+
+-- Each place is used, but the one after a Long or a Double, where `behind` says that such a one stands before.
+abbrev pub ArePlaces : Bool → List Const → Type 0
+ArePlaces behind [] = behind ≡ false
+ArePlaces true (Unused ∷ cs) = ArePlaces false cs
+ArePlaces true (c ∷ cs) = ⊥
+ArePlaces false (Unused ∷ cs) = ⊥
+ArePlaces false (c ∷ cs) = ArePlaces (is_wide c) cs
 
 -- place 0 isn't used, and the places after it hold constants
 abbrev pub IsPool : List Const → Type 0
-IsPool (Unused ∷ cs) = IsTable IsConstant (Unused ∷ cs) × ArePlaces cs
+IsPool (Unused ∷ cs) = IsTable IsConstant (Unused ∷ cs) × ArePlaces false cs
 IsPool pool = ⊥
 
 pub record IsRow (r : Row) : Type 0 where
