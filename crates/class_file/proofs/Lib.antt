@@ -1,0 +1,5 @@
+pub mod Ranges
+pub mod Readers
+pub mod PoolLaws
+pub mod AttributeLaws
+pub mod FileLaws
