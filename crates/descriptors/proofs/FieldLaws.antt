@@ -1,5 +1,7 @@
 -- Where a reading of a field's descriptor stops, the first bad unit stands.
-use Rattle.std.proofs.Common.{Global, ◌≡◌, ℕ, ◌+◌, ◌<◌, List, [], ◌∷◌, ◌++◌, length, take, drop, get_or, Result, Ok, Err, refl, sym, ap, subst, ◌∙◌, append_assoc, arith, inl, inr}
+use Rattle.std.proofs.Common.{Global, ◌≡◌, ◌↔◌, ℕ, Bool, true, ◌+◌, ◌<◌, List, [], ◌∷◌, ◌++◌, length, take, drop, get_or, Result, Ok, Err, refl, sym, ap, subst, ◌∙◌, append_assoc, arith, inl, inr}
+use Rattle.std.specs.Prelude.{IfOk}
+use Rattle.std.proofs.lemmas.Bool.{cases_Bool}
 use Rattle.std.proofs.lemmas.List.{append-nil, take-append-drop, take_more}
 use Rattle.std.proofs.Math.Nat.{eq-or-lt_of_le}
 use Rattle.std.proofs.Math.Seq.{take-length}
@@ -9,7 +11,7 @@ use Rattle.descriptors.specs.declared.error.DescriptorError.{DescriptorError}
 use Rattle.descriptors.specs.declared.error.DescriptorError.TheVariants.{Bad, NoMemory}
 use Rattle.descriptors.specs.Descriptors.{spelling, IsKind}
 use Rattle.descriptors.specs.Parts.{IsPart, IsDead, part_spelling}
-use Rattle.descriptors.specs.Refusal.{IsField, Begins, IsFirstBad, OnBad, IsTaken}
+use Rattle.descriptors.specs.Refusal.{IsField, Begins, IsFirstBad, OnBad, IsTaken, IsDecided}
 use Rattle.descriptors.proofs.KindLaws.{completed, unfinished, same_behind}
 
 -- a unit that can't stand behind a part
@@ -59,3 +61,13 @@ pub taken : {X : Type 0} (P : List ℕ → Type 0) (r : Result X DescriptorError
 taken P (Ok x) units bad member = tt
 taken P (Err (Bad at)) units bad member = absurd (no_member P units at bad member)
 taken P (Err NoMemory) units bad member = refl
+
+-- what is read, and what is refused for its units, is what a test of the grammar says
+pub decided : {X : Type 0} (P : List ℕ → Type 0) (Fits : X → Type 0) (test : Bool) (r : Result X DescriptorError) (units : List ℕ)
+    → ((test ≡ true) ↔ P units) → IfOk r Fits → ((x : X) → Fits x → P units) → OnBad r (IsFirstBad P units) → IsDecided test r
+decided P Fits test (Ok x) units decides found member bad = decides.1 (member x found)
+decided P Fits test (Err (Bad at)) units decides found member bad = elim (cases_Bool test) [
+  | inl holds ↦ absurd (no_member P units at bad (decides.0 holds))
+  | inr fails ↦ fails
+]
+decided P Fits test (Err NoMemory) units decides found member bad = tt

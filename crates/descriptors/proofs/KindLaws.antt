@@ -276,7 +276,7 @@ same_behind a b x y is_a is_b e =
 array : Global → ℕ → Kind → Kind
 array g n kind = Array' n (record { ptr = null_ptr; alloc = g; value = tt }) kind
 
-with_dims : (g : Global) (n : ℕ) (element : Kind) → n ≤ 255 → IsElement element → (kind : Kind) × IsKind kind × (spelling kind ≡ brackets n ++ spelling element)
+pub with_dims : (g : Global) (n : ℕ) (element : Kind) → n ≤ 255 → IsElement element → (kind : Kind) × IsKind kind × (spelling kind ≡ brackets n ++ spelling element)
 unfolding array
 with_dims g zero element few fit = (element, element_is element fit, refl)
   where

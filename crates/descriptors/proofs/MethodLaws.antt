@@ -23,7 +23,7 @@ heads a b x y e = cc
 not_cons : (a : ℕ) (x : List ℕ) → a ∷ x ≡ [] → ⊥
 not_cons a x e = cc
 
-regrouped : (k : Kind) (ks : List Kind) (x : List ℕ) → flat_map spelling (k ∷ ks) ++ x ≡ spelling k ++ (flat_map spelling ks ++ x)
+pub regrouped : (k : Kind) (ks : List Kind) (x : List ℕ) → flat_map spelling (k ∷ ks) ++ x ≡ spelling k ++ (flat_map spelling ks ++ x)
 regrouped k ks x = ap (λ (y : List ℕ). y ++ x) (flat_map-cons spelling k ks) ∙ append_assoc (spelling k) (flat_map spelling ks) x
 
 -- the arguments behind those that were read

@@ -1,6 +1,6 @@
 -- The descriptor of a field and of a method (JVMS 4.3.2, 4.3.3).
 use Rattle.std.specs.Prelude.{ℕ, ◌≡◌, ◌≤◌, Bool, true, false, not, List, [], ◌∷◌, ◌++◌, Option, Some, None, ◌==◌, ◌&&◌, ◌||◌, if◌then◌else◌}
-use Rattle.std.specs.List.{flat_map, repeat, sum_by, AllByRecursion}
+use Rattle.std.specs.List.{flat_map, repeat, sum_by, AllByRecursion, AllZip}
 use Rattle.descriptors.specs.declared.kind.Kind.{Kind}
 use Rattle.descriptors.specs.declared.kind.Kind.TheVariants.{Byte, Char, Double, Float, Int, Long, Short, Class, Array'}
 use Rattle.descriptors.specs.declared.kind.Kind.TheVariants as kinds
@@ -81,3 +81,15 @@ is_base u = u == 66 || u == 67 || u == 68 || u == 70 || u == 73 || u == 74 || u 
 abbrev pub AreSame : Kind → Kind → Type 0
 AreSame (Array' m p a) (Array' n q b) = (m ≡ n) × AreSame a b
 AreSame a b = a ≡ b
+
+-- one result, likewise
+abbrev pub AreSameResult : Option Kind → Option Kind → Type 0
+AreSameResult None None = Unit {0}
+AreSameResult (Some a) (Some b) = AreSame a b
+AreSameResult None (Some b) = ⊥
+AreSameResult (Some a) None = ⊥
+
+-- one signature, wherever its parts lie in memory
+pub record AreSameSignature (a b : Signature) : Type 0 where
+  pub args : AllZip AreSame a.args b.args
+  pub result : AreSameResult a.result b.result

@@ -1,5 +1,5 @@
 -- What a refusal says of the units.
-use Rattle.std.specs.Prelude.{◌≡◌, ℕ, ◌+◌, ◌<◌, ◌≤◌, List, ◌++◌, length, take, Result, Ok, Err}
+use Rattle.std.specs.Prelude.{◌≡◌, ℕ, ◌+◌, ◌<◌, ◌≤◌, Bool, true, false, List, ◌++◌, length, take, Result, Ok, Err}
 use Rattle.descriptors.specs.declared.error.DescriptorError.{DescriptorError}
 use Rattle.descriptors.specs.declared.error.DescriptorError.TheVariants.{Bad, NoMemory}
 use Rattle.descriptors.specs.declared.kind.Kind.{Kind}
@@ -35,3 +35,9 @@ OnBad (Err NoMemory) P = Unit {0}
 abbrev pub IsTaken : {X : Type 0} → Result X DescriptorError → Type 0
 IsTaken (Ok x) = Unit {0}
 IsTaken (Err e) = e ≡ NoMemory
+
+-- The test is true of what is read, and false of what is refused for its units.
+abbrev pub IsDecided : {X : Type 0} → Bool → Result X DescriptorError → Type 0
+IsDecided test (Ok x) = test ≡ true
+IsDecided test (Err (Bad at)) = test ≡ false
+IsDecided test (Err NoMemory) = Unit {0}

@@ -10,7 +10,7 @@ mod signature;
 
 pub use error::DescriptorError;
 pub use kind::{Kind, Signature};
-pub use laws::{one_first_bad, one_kind};
+pub use laws::{one_first_bad, one_kind, one_signature, tests_decide};
 pub use reading::field_kind;
 pub use signature::method_kind;
 

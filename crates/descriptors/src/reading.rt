@@ -1,6 +1,7 @@
 ghost use Rattle.std.specs.Prelude.{◌≡◌, ◌<◌, ◌^◌, length, IfOk};
 ghost use Rattle.descriptors.specs.Descriptors.{spelling, IsKind};
-ghost use Rattle.descriptors.specs.Refusal.{IsField, IsFirstBad, IsTaken, OnBad};
+ghost use Rattle.descriptors.specs.Recognizing.{is_field};
+ghost use Rattle.descriptors.specs.Refusal.{IsField, IsFirstBad, IsDecided, IsTaken, OnBad};
 
 use crate::error::DescriptorError;
 use crate::kind::Kind;
@@ -17,6 +18,8 @@ pub fn field_kind(alloc: Global, units: &[u16]) -> Result<Kind, DescriptorError>
     ensures only { IsField units.now → IsTaken result }
     // What stands at the place of a refusal.
     ensures bad { OnBad result (IsFirstBad IsField units.now) }
+    // What is read passes the test, and what is refused for its units fails it.
+    ensures exact { IsDecided (is_field units.now) result }
 {
     kind_of(alloc, units)
 }

@@ -1,7 +1,8 @@
 ghost use Rattle.std.specs.Prelude.{◌≡◌, ◌+◌, ◌<◌, ◌≤◌, ◌^◌, ◌++◌, [], ◌∷◌, ◌↔◌, length, take, IfOk, IsTrue};
 ghost use Rattle.descriptors.specs.Descriptors.{slots, method_spelling, IsSignature, unit_places as places_by_unit};
 ghost use Rattle.descriptors.specs.Parts.{AreArgs, IsFresh, args_spelling};
-ghost use Rattle.descriptors.specs.Refusal.{IsMethod, IsFirstBad, IsTaken, OnBad};
+ghost use Rattle.descriptors.specs.Recognizing.{is_method};
+ghost use Rattle.descriptors.specs.Refusal.{IsMethod, IsFirstBad, IsDecided, IsTaken, OnBad};
 
 use crate::error::DescriptorError;
 use crate::kind::{Kind, Signature};
@@ -19,6 +20,8 @@ pub fn method_kind(alloc: Global, units: &[u16]) -> Result<Signature, Descriptor
     ensures only { IsMethod units.now → IsTaken result }
     // What stands at the place of a refusal.
     ensures bad { OnBad result (IsFirstBad IsMethod units.now) }
+    // What is read passes the test, and what is refused for its units fails it.
+    ensures exact { IsDecided (is_method units.now) result }
 {
     signature_of(alloc, units)
 }

@@ -1,0 +1,5 @@
+use Rattle.descriptors.proofs.OneSignature.{one_signature}
+use Rattle.descriptors.proofs.laws.one_signature.Goals as goal
+
+pub returns : goal.returns
+returns c = λ a b f g e. one_signature a b f g e
