@@ -9,10 +9,18 @@ pub fn encode(alloc: Global, units: &[u16]) -> Result<Vec<u8>, NoMemory>
     ensures { IfOk result (λ v. v.items ≡ text units.now) }
 {
     let mut bytes = Vec::with_capacity(alloc, units.len())?;
-    for unit in units {
-        put_unit(&mut bytes, *unit)?;
-    }
+    append(&mut bytes, units)?;
     Ok(bytes)
+}
+
+/// Puts the bytes of the units behind others (JVMS 4.4.7). Without memory a part of them may stand there.
+pub fn append(bytes: &mut Vec<u8>, units: &[u16]) -> Result<(), NoMemory>
+    ensures { OnOk result (bytes.new.items ≡ bytes.old.items ++ text units.now) }
+{
+    for unit in units {
+        put_unit(bytes, *unit)?;
+    }
+    Ok(())
 }
 
 /// Puts the bytes of a unit behind the others.

@@ -7,7 +7,7 @@ mod error;
 mod laws;
 
 pub use decoding::decode;
-pub use encoding::encode;
+pub use encoding::{append, encode};
 pub use error::{NoMemory, Utf8Error};
 pub use laws::{one_first_bad, one_text};
 
