@@ -3,3 +3,4 @@ pub mod Readers
 pub mod PoolLaws
 pub mod AttributeLaws
 pub mod FileLaws
+pub mod ValueLaws

@@ -2,9 +2,11 @@
 #![tactic(auto)]
 
 mod error;
+mod laws;
 mod reader;
 mod stop;
 
 pub use class_grammar::ClassWhy;
 pub use error::ReadError;
+pub use laws::one_value;
 pub use reader::read;

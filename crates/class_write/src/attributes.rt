@@ -4,9 +4,9 @@ ghost use Rattle.std.specs.Prelude.{◌≡◌, ◌++◌, length, OnOk};
 ghost use Rattle.class_grammar.specs.Layout as spec;
 ghost use Rattle.class_grammar.specs.Ranges.{IsU2, IsU4, IsTable, IsAttribute, IsBody, IsCode, IsCodeAttribute};
 
-use crate::NoMemory;
 use crate::numbers::{fill_u4, u2, u4};
 use class_model::{Attribute, Body, CodeAttribute, CodeBody, CodeExtra, Row};
+use jvm_utf8::NoMemory;
 
 // Bytes behind their number.
 fn sized(out: &mut Vec<u8>, bytes: &[u8]) -> Result<(), NoMemory>

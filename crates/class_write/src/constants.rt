@@ -4,10 +4,10 @@ ghost use Rattle.std.specs.Prelude.{◌≡◌, ◌++◌, OnOk};
 ghost use Rattle.class_grammar.specs.Layout as spec;
 ghost use Rattle.class_grammar.specs.Ranges.{IsConstant, IsTable};
 
-use crate::NoMemory;
 use crate::numbers::{u2, u4};
 use crate::text::string;
 use class_model::Const;
+use jvm_utf8::NoMemory;
 
 // A tag and a number in two bytes.
 fn tagged(out: &mut Vec<u8>, tag: u8, n: u16) -> Result<(), NoMemory>

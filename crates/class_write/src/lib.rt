@@ -3,13 +3,12 @@
 
 mod attributes;
 mod constants;
-mod error;
 mod members;
 mod numbers;
 mod text;
 mod writer;
 
-pub use error::NoMemory;
+pub use jvm_utf8::NoMemory;
 pub use writer::write;
 
 #[cfg(test)]

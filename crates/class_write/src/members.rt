@@ -4,10 +4,10 @@ ghost use Rattle.std.specs.Prelude.{◌≡◌, ◌++◌, OnOk};
 ghost use Rattle.class_grammar.specs.Layout as spec;
 ghost use Rattle.class_grammar.specs.Ranges.{IsMember, IsTable};
 
-use crate::NoMemory;
 use crate::attributes::attributes;
 use crate::numbers::u2;
 use class_model::Member;
+use jvm_utf8::NoMemory;
 
 fn member(out: &mut Vec<u8>, member: &Member) -> Result<(), NoMemory>
     requires { IsMember member.now }

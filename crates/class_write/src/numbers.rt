@@ -3,7 +3,7 @@
 ghost use Rattle.std.specs.Prelude.{◌≡◌, ◌+◌, ◌<◌, ◌≤◌, ◌^◌, ◌++◌, length, take, drop, OnOk};
 ghost use Rattle.class_grammar.specs.Layout as spec;
 
-use crate::NoMemory;
+use jvm_utf8::NoMemory;
 
 /// A number in two bytes (JVMS 4).
 pub fn u2(out: &mut Vec<u8>, n: u16) -> Result<(), NoMemory>

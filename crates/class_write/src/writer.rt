@@ -1,16 +1,17 @@
 //! The parts of a class file, in their order (JVMS 4.1).
 
 ghost use Rattle.std.specs.Prelude.{◌≡◌, ℕ, List, ◌++◌, length, OnOk, IfOk};
+ghost use Rattle.class_model.specs.declared.class_file.ClassFile.{ClassFile as AnyFile};
 ghost use Rattle.class_grammar.specs.Layout as spec;
 ghost use Rattle.class_grammar.specs.Ranges.{IsU2, IsInRange};
 ghost use Rattle.class_grammar.specs.Spelling.{Spells};
 
-use crate::NoMemory;
 use crate::attributes::attributes;
 use crate::constants::pool;
 use crate::members::members;
 use crate::numbers::{u2, u4};
 use class_model::ClassFile;
+use jvm_utf8::NoMemory;
 use std::alloc::Global;
 
 // What stands before the flags.
@@ -46,12 +47,21 @@ fn class(out: &mut Vec<u8>, file: &ClassFile) -> Result<(), NoMemory>
     places(out, &file.interfaces)
 }
 
-/// The bytes of a class file (JVMS 4.1 to 4.7), for each value that has a spelling. By `Spells` these bytes are
-/// exactly `class_file` of the value. A reader that takes each value that some bytes spell, as the clause `only`
-/// of `class_file::read` says of the plain form, gives this value back.
+/// The bytes of a class file (JVMS 4.1 to 4.9), for each value that has a spelling.
 pub fn write(alloc: Global, file: &ClassFile) -> Result<Vec<u8>, NoMemory>
     requires { (bytes : List ℕ) × Spells bytes file.now }
+    // The bytes spell the value.
     ensures spelled { IfOk result (λ v. Spells v.items file.now) }
+    // They spell no other value: `class_file::read` answers only a value that the bytes spell, and each such one, so
+    // it gives this value back.
+    ensures read_back { IfOk result (λ v. (f : AnyFile) → Spells v.items f → f ≡ file.now) }
+{
+    whole(alloc, file)
+}
+
+fn whole(alloc: Global, file: &ClassFile) -> Result<Vec<u8>, NoMemory>
+    requires { IsInRange file.now }
+    ensures { IfOk result (λ v. v.items ≡ spec.class_file file.now) }
 {
     let mut out = Vec::new(alloc);
     head(&mut out, file)?;
