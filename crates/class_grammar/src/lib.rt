@@ -7,4 +7,4 @@ mod laws;
 
 pub use class_why::{ClassWhy, Fault};
 pub use holder::Holder;
-pub use laws::one_spelling;
+pub use laws::{items_are_whole, one_spelling};
