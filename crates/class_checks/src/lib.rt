@@ -2,5 +2,14 @@
 #![tactic(auto)]
 
 mod checking;
+mod class;
+mod code;
+mod constants;
+mod judging;
+mod members;
+mod names;
+mod pool;
+mod recognizing;
+mod walking;
 
 pub use checking::check;
