@@ -19,21 +19,21 @@ has_text test pool place = option_map_or test (text_at pool place) false
 
 abbrev pub judgement_of : Const → Judgement
 judgement_of c = record {
-    is_field_name = is_text is_field_name c;
-    is_method_name = is_text is_method_name c;
-    is_class_name = is_text is_class_text c;
-    is_field = is_text is_field c;
-    is_method = is_text is_method c
-  }
+  is_field_name = is_text is_field_name c;
+  is_method_name = is_text is_method_name c;
+  is_class_name = is_text is_class_text c;
+  is_field = is_text is_field c;
+  is_method = is_text is_method c;
+}
 
 abbrev pub judgement_at : List Const → ℕ → Judgement
 judgement_at pool place = record {
-    is_field_name = has_text is_field_name pool place;
-    is_method_name = has_text is_method_name pool place;
-    is_class_name = has_text is_class_text pool place;
-    is_field = has_text is_field pool place;
-    is_method = has_text is_method pool place
-  }
+  is_field_name = has_text is_field_name pool place;
+  is_method_name = has_text is_method_name pool place;
+  is_class_name = has_text is_class_text pool place;
+  is_field = has_text is_field pool place;
+  is_method = has_text is_method pool place;
+}
 
 -- why a place is refused whose text, if it holds one, is wrong for this reason
 abbrev pub reason : ClassWhy → List Const → ℕ → ClassWhy

@@ -5,12 +5,12 @@ ghost use Rattle.class_grammar.specs.Checks as checks;
 ghost use Rattle.class_grammar.specs.Checks.{walked, class_items};
 
 use crate::pool::{Pool, unless};
-use crate::walking::checked;
+use crate::walking::check_numbers;
 use class_grammar::{ClassWhy, Fault};
 use class_model::ClassFile;
 
 /// Goes over the class's flags, its own name, its parent and its interfaces.
-pub fn class(pool: &Pool, left: usize, file: &ClassFile) -> Result<usize, Fault>
+pub fn check_class(pool: &Pool, left: usize, file: &ClassFile) -> Result<usize, Fault>
     requires { pool.now ≡ file.now.pool }
     ensures { result ≡ walked left (class_items file.now) }
 {
@@ -19,8 +19,8 @@ pub fn class(pool: &Pool, left: usize, file: &ClassFile) -> Result<usize, Fault>
         pool.class_fault(file.own),
         pool.parent_fault(file.own, file.parent),
     ];
-    let left = checked(left, &faults)?;
-    interfaces(pool, left.saturating_sub(2), &file.interfaces)
+    let left = check_numbers(left, &faults)?;
+    check_interfaces(pool, left.saturating_sub(2), &file.interfaces)
 }
 
 // No module (own).
@@ -30,12 +30,12 @@ fn flags_fault(flags: u16) -> Option<ClassWhy>
     unless(flags < 0x8000, ClassWhy::Unsupported)
 }
 
-fn interfaces(pool: &Pool, left: usize, places: &[u16]) -> Result<usize, Fault>
+fn check_interfaces(pool: &Pool, left: usize, places: &[u16]) -> Result<usize, Fault>
     ensures { result ≡ walked left (map (λ place. checks.checked (checks.class_fault pool.now place)) places.now) }
 {
     let mut left = left;
     for place in places {
-        left = checked(left, &[pool.class_fault(*place)])?;
+        left = check_numbers(left, &[pool.class_fault(*place)])?;
     }
     Ok(left)
 }

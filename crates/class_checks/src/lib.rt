@@ -10,6 +10,10 @@ mod members;
 mod names;
 mod pool;
 mod recognizing;
+mod values;
 mod walking;
 
 pub use checking::check;
+
+#[cfg(test)]
+mod tests;

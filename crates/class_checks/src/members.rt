@@ -5,46 +5,46 @@ ghost use Rattle.std.specs.List.{flat_map, list_any};
 ghost use Rattle.class_grammar.specs.Checks as checks;
 ghost use Rattle.class_grammar.specs.Checks.{walked, field_items, method_items, attribute_items, attributes_items};
 
-use crate::code::code;
+use crate::code::check_code;
 use crate::pool::{Pool, unless};
-use crate::walking::checked;
+use crate::walking::check_numbers;
 use class_grammar::{ClassWhy, Fault};
 use class_model::{Attribute, Body, Member};
 
 /// Goes over fields (JVMS 4.5).
-pub fn fields(pool: &Pool, left: usize, members: &[Member]) -> Result<usize, Fault>
+pub fn check_fields(pool: &Pool, left: usize, members: &[Member]) -> Result<usize, Fault>
     ensures { result ≡ walked left (flat_map (field_items pool.now) members.now) }
 {
     let mut left = left;
     for member in members {
-        left = one_field(pool, left, member)?;
+        left = check_field(pool, left, member)?;
     }
     Ok(left)
 }
 
-fn one_field(pool: &Pool, left: usize, field: &Member) -> Result<usize, Fault>
+fn check_field(pool: &Pool, left: usize, field: &Member) -> Result<usize, Fault>
     ensures { result ≡ walked left (field_items pool.now field.now) }
 {
     let faults = [
         pool.field_name_fault(field.name),
         pool.field_descriptor_fault(field.descriptor),
     ];
-    let left = checked(left.saturating_sub(2), &faults)?;
-    attributes(pool, left, field)
+    let left = check_numbers(left.saturating_sub(2), &faults)?;
+    check_attributes(pool, left, field)
 }
 
 /// Goes over methods (JVMS 4.6).
-pub fn methods(pool: &Pool, left: usize, members: &[Member]) -> Result<usize, Fault>
+pub fn check_methods(pool: &Pool, left: usize, members: &[Member]) -> Result<usize, Fault>
     ensures { result ≡ walked left (flat_map (method_items pool.now) members.now) }
 {
     let mut left = left;
     for member in members {
-        left = one_method(pool, left, member)?;
+        left = check_method(pool, left, member)?;
     }
     Ok(left)
 }
 
-fn one_method(pool: &Pool, left: usize, method: &Member) -> Result<usize, Fault>
+fn check_method(pool: &Pool, left: usize, method: &Member) -> Result<usize, Fault>
     ensures { result ≡ walked left (method_items pool.now method.now) }
 {
     let faults = [
@@ -52,8 +52,8 @@ fn one_method(pool: &Pool, left: usize, method: &Member) -> Result<usize, Fault>
         pool.method_name_fault(method.name),
         pool.method_descriptor_fault(method.descriptor),
     ];
-    let left = checked(left, &faults)?;
-    attributes(pool, left, method)
+    let left = check_numbers(left, &faults)?;
+    check_attributes(pool, left, method)
 }
 
 // A method has code where it is neither abstract nor native, and only there (JVMS 4.7.3).
@@ -80,17 +80,17 @@ fn has_code(attributes: &[Attribute]) -> bool
 }
 
 // The attributes of a field or a method.
-fn attributes(pool: &Pool, left: usize, member: &Member) -> Result<usize, Fault>
+fn check_attributes(pool: &Pool, left: usize, member: &Member) -> Result<usize, Fault>
     ensures { result ≡ walked left (attributes_items pool.now member.now) }
 {
     let mut left = left.saturating_sub(2);
     for attribute in member.attributes.as_slice() {
-        left = one_attribute(pool, left, member, attribute)?;
+        left = check_attribute(pool, left, member, attribute)?;
     }
     Ok(left)
 }
 
-fn one_attribute(
+fn check_attribute(
     pool: &Pool,
     left: usize,
     member: &Member,
@@ -100,8 +100,8 @@ fn one_attribute(
 {
     let left = left.saturating_sub(6);
     match &attribute.body {
-        Body::Code(body) => code(pool, left, body),
-        Body::Constant(value) => checked(left, &[pool.value_fault(member, *value)]),
+        Body::Code(body) => check_code(pool, left, body),
+        Body::Constant(value) => check_numbers(left, &[pool.value_fault(member, *value)]),
         Body::Other(bytes) => Ok(left.saturating_sub(bytes.len())),
     }
 }

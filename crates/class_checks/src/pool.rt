@@ -1,6 +1,6 @@
 //! The constant pool with its judgements, and what is wrong with a place that names a constant (JVMS 4.4).
 
-ghost use Rattle.std.specs.Prelude.{◌≡◌, IfOk, false, pos};
+ghost use Rattle.std.specs.Prelude.{◌≡◌, IfOk, false};
 ghost use Rattle.std.specs.Option.{option_map, option_map_or};
 ghost use Rattle.descriptors.specs.Recognizing as descriptors;
 ghost use Rattle.class_grammar.specs.Names as grammar;
@@ -11,6 +11,7 @@ ghost use Rattle.class_checks.specs.Judging as spec;
 
 use crate::judging::{Judgement, NO_TEXT, judgements_of};
 use crate::names::{begins_with, is_same};
+use crate::values::has_type;
 use class_grammar::ClassWhy;
 use class_model::{Const, Member};
 use std::alloc::{AllocError, Global};
@@ -277,29 +278,4 @@ impl<'a> Pool<'a> {
         };
         unless(passed, ClassWhy::Index)
     }
-}
-
-// Whether the constant is the value of a field of this type (JVMS 4.7.2).
-fn has_type(units: &[u16], constant: &Const) -> bool
-    ensures { result ≡ checks.has_type units.now constant.now }
-{
-    match constant {
-        Const::Integer(_) => is_int(units),
-        Const::Float(_) => is_same(units, b"F"),
-        Const::Long(_) => is_same(units, b"J"),
-        Const::Double(_) => is_same(units, b"D"),
-        Const::Text(_) => is_same(units, b"Ljava/lang/String;"),
-        _ => false,
-    }
-}
-
-// Whether it is the type of a value that is kept as an int (JVMS 4.7.2).
-fn is_int(units: &[u16]) -> bool
-    ensures { result ≡ checks.has_type units.now (Const.Integer (pos 0)) }
-{
-    is_same(units, b"I")
-        || is_same(units, b"S")
-        || is_same(units, b"C")
-        || is_same(units, b"B")
-        || is_same(units, b"Z")
 }

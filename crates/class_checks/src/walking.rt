@@ -8,7 +8,7 @@ ghost use Rattle.class_checks.specs.Sizes.{text_size};
 use class_grammar::{ClassWhy, Fault};
 
 /// Goes over numbers of two bytes each, of which some are wrong.
-pub fn checked(left: usize, faults: &[Option<ClassWhy>]) -> Result<usize, Fault>
+pub fn check_numbers(left: usize, faults: &[Option<ClassWhy>]) -> Result<usize, Fault>
     ensures { result ≡ walked left (map item faults.now) }
 {
     let mut left = left;
@@ -22,7 +22,7 @@ pub fn checked(left: usize, faults: &[Option<ClassWhy>]) -> Result<usize, Fault>
 }
 
 /// Goes over the units of a text (JVMS 4.4.7).
-pub fn units(left: usize, text: &[u16]) -> usize
+pub fn left_behind_text(left: usize, text: &[u16]) -> usize
     ensures { walked left (map (λ u. sound (length (unit_bytes u))) text.now) ≡ Ok result }
 {
     left.saturating_sub(size_of_text(text))
