@@ -2,5 +2,18 @@
 #![tactic(auto)]
 
 mod checking;
+mod class;
+mod code;
+mod constants;
+mod judging;
+mod members;
+mod names;
+mod pool;
+mod recognizing;
+mod values;
+mod walking;
 
 pub use checking::check;
+
+#[cfg(test)]
+mod tests;

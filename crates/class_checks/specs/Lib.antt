@@ -1,0 +1,4 @@
+pub mod Names
+pub mod Recognizing
+pub mod Judging
+pub mod Sizes
