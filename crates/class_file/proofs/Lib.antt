@@ -1,1 +1,3 @@
 pub mod LoopLaws
+pub mod SoundLaws
+pub mod JudgingLaws

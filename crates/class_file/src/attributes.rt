@@ -31,7 +31,10 @@ fn other_of(alloc: Global, bytes: &[u8]) -> Result<(Body, &[u8]), Stop>
     ensures { Gives (λ x. (x.0, x.1.now)) result (mapped bodies.Other sized_bytes_at bytes.now) }
 {
     let (body, rest) = sized_bytes_of(bytes)?;
-    Ok((Body::Other(Items::from(Vec::from_slice(alloc, body)?)), rest))
+    Ok((
+        Body::Other(Items::from(Vec::from_slice(alloc, body)?)),
+        rest,
+    ))
 }
 
 // An attribute that means something there.
@@ -101,7 +104,8 @@ pub fn attributes_of<'a>(
 ) -> Result<(Vec<Attribute>, &'a [u8]), Stop>
     ensures { Gives (λ x. (x.0.items, x.1.now)) result (attributes_at pool.now holder false count bytes.now) }
 {
-    let mut attributes = Vec::new(alloc);
+    let most = usize::from(count).min(bytes.len() / 6);
+    let mut attributes = Vec::with_capacity(alloc, most)?;
     let mut rest = bytes;
     let mut seen = false;
     for _ in 0..count {

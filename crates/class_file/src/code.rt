@@ -53,7 +53,8 @@ fn extras_of<'a>(
 ) -> Result<(Vec<CodeAttribute>, &'a [u8]), Stop>
     ensures { Gives (λ x. (x.0.items, x.1.now)) result (extras_at pool.now false count bytes.now) }
 {
-    let mut extras = Vec::new(alloc);
+    let most = usize::from(count).min(bytes.len() / 6);
+    let mut extras = Vec::with_capacity(alloc, most)?;
     let mut rest = bytes;
     let mut seen = false;
     for _ in 0..count {
@@ -110,11 +111,7 @@ fn code_bytes_of(bytes: &[u8]) -> Result<(&[u8], &[u8]), Stop>
 
 // A Code behind its length.
 #[tactic(auto, unfolding(crate::specs::Attributes::code_at))]
-fn code_of<'a>(
-    alloc: Global,
-    pool: &[Const],
-    bytes: &'a [u8],
-) -> Result<(CodeBody, &'a [u8]), Stop>
+fn code_of<'a>(alloc: Global, pool: &[Const], bytes: &'a [u8]) -> Result<(CodeBody, &'a [u8]), Stop>
     ensures { Gives (λ x. (x.0, x.1.now)) result (code_at pool.now bytes.now) }
 {
     let ((max_stack, max_locals), rest) = pair_of(bytes)?;

@@ -1,6 +1,6 @@
 //! The constant pool (JVMS 4.4).
 
-ghost use Rattle.std.specs.Prelude.{◌≡◌, ◌<◌, ◌^◌, ◌∷◌, length, false};
+ghost use Rattle.std.specs.Prelude.{◌≡◌, ◌<◌, ◌≤◌, ◌^◌, ◌∷◌, length, false};
 ghost use Rattle.class_model.specs.declared.constant.Const.TheVariants as consts;
 ghost use Rattle.class_grammar.specs.declared.class_why.ClassWhy.TheVariants as whys;
 ghost use Rattle.class_grammar.specs.Ranges as ranges;
@@ -42,61 +42,13 @@ fn text_of(alloc: Global, bytes: &[u8]) -> Result<(Items<u16>, &[u8]), Stop>
     Ok((units, rest))
 }
 
-// What stands behind a tag. `unknown` is wrong where no constant has the tag.
+// What stands behind a tag from 15 on: what came with methods' handles and with modules (JVMS 4.4.8 to 4.4.12).
 #[tactic(auto, unfolding(crate::specs::Constants::tagged_at))]
-fn tagged_of(
-    alloc: Global,
-    unknown: Fault,
-    tag: u8,
-    bytes: &[u8],
-) -> Result<(Const, &[u8]), Stop>
+fn later_of(unknown: Fault, tag: u8, bytes: &[u8]) -> Result<(Const, &[u8]), Stop>
+    requires { 15 ≤ tag }
     ensures { Gives (λ x. (x.0, x.1.now)) result (spec.tagged_at unknown tag bytes.now) }
 {
     match tag {
-        1 => {
-            let (units, rest) = text_of(alloc, bytes)?;
-            Ok((Const::Utf8(units), rest))
-        }
-        3 => {
-            let (bits, rest) = u4_of(bytes)?;
-            Ok((Const::Integer(bits.cast_signed()), rest))
-        }
-        4 => {
-            let (bits, rest) = u4_of(bytes)?;
-            Ok((Const::Float(bits), rest))
-        }
-        5 => {
-            let (bits, rest) = u8_of(bytes)?;
-            Ok((Const::Long(bits.cast_signed()), rest))
-        }
-        6 => {
-            let (bits, rest) = u8_of(bytes)?;
-            Ok((Const::Double(bits), rest))
-        }
-        7 => {
-            let (name, rest) = u2_of(bytes)?;
-            Ok((Const::Class(name), rest))
-        }
-        8 => {
-            let (units, rest) = u2_of(bytes)?;
-            Ok((Const::Text(units), rest))
-        }
-        9 => {
-            let ((class, member), rest) = pair_of(bytes)?;
-            Ok((Const::Fieldref(class, member), rest))
-        }
-        10 => {
-            let ((class, member), rest) = pair_of(bytes)?;
-            Ok((Const::Methodref(class, member), rest))
-        }
-        11 => {
-            let ((class, member), rest) = pair_of(bytes)?;
-            Ok((Const::InterfaceMethodref(class, member), rest))
-        }
-        12 => {
-            let ((name, descriptor), rest) = pair_of(bytes)?;
-            Ok((Const::NameAndType(name, descriptor), rest))
-        }
         15 => {
             let (kind, rest) = u1_of(bytes)?;
             let (member, rest) = u2_of(rest)?;
@@ -126,6 +78,74 @@ fn tagged_of(
     }
 }
 
+// What stands behind a tag from 7 on: first what names classes, texts and members (JVMS 4.4.1 to 4.4.3, 4.4.6).
+#[tactic(auto, unfolding(crate::specs::Constants::tagged_at))]
+fn reference_of(unknown: Fault, tag: u8, bytes: &[u8]) -> Result<(Const, &[u8]), Stop>
+    requires { 7 ≤ tag }
+    ensures { Gives (λ x. (x.0, x.1.now)) result (spec.tagged_at unknown tag bytes.now) }
+{
+    match tag {
+        7 => {
+            let (name, rest) = u2_of(bytes)?;
+            Ok((Const::Class(name), rest))
+        }
+        8 => {
+            let (units, rest) = u2_of(bytes)?;
+            Ok((Const::Text(units), rest))
+        }
+        9 => {
+            let ((class, member), rest) = pair_of(bytes)?;
+            Ok((Const::Fieldref(class, member), rest))
+        }
+        10 => {
+            let ((class, member), rest) = pair_of(bytes)?;
+            Ok((Const::Methodref(class, member), rest))
+        }
+        11 => {
+            let ((class, member), rest) = pair_of(bytes)?;
+            Ok((Const::InterfaceMethodref(class, member), rest))
+        }
+        12 => {
+            let ((name, descriptor), rest) = pair_of(bytes)?;
+            Ok((Const::NameAndType(name, descriptor), rest))
+        }
+        15.. => later_of(unknown, tag, bytes),
+        _ => Err(Stop::Wrong(unknown)),
+    }
+}
+
+// What stands behind a tag: first texts and numbers (JVMS 4.4.4, 4.4.5, 4.4.7). `unknown` is wrong where no
+// constant has the tag.
+#[tactic(auto, unfolding(crate::specs::Constants::tagged_at))]
+fn tagged_of(alloc: Global, unknown: Fault, tag: u8, bytes: &[u8]) -> Result<(Const, &[u8]), Stop>
+    ensures { Gives (λ x. (x.0, x.1.now)) result (spec.tagged_at unknown tag bytes.now) }
+{
+    match tag {
+        1 => {
+            let (units, rest) = text_of(alloc, bytes)?;
+            Ok((Const::Utf8(units), rest))
+        }
+        3 => {
+            let (bits, rest) = u4_of(bytes)?;
+            Ok((Const::Integer(bits.cast_signed()), rest))
+        }
+        4 => {
+            let (bits, rest) = u4_of(bytes)?;
+            Ok((Const::Float(bits), rest))
+        }
+        5 => {
+            let (bits, rest) = u8_of(bytes)?;
+            Ok((Const::Long(bits.cast_signed()), rest))
+        }
+        6 => {
+            let (bits, rest) = u8_of(bytes)?;
+            Ok((Const::Double(bits), rest))
+        }
+        7.. => reference_of(unknown, tag, bytes),
+        _ => Err(Stop::Wrong(unknown)),
+    }
+}
+
 // A constant with so many places behind its own. A Long or a Double wants one of them (JVMS 4.4.5).
 #[tactic(auto, unfolding(crate::specs::Constants::constant_at))]
 fn constant_of(alloc: Global, more: u16, bytes: &[u8]) -> Result<(Const, &[u8]), Stop>
@@ -143,12 +163,7 @@ fn constant_of(alloc: Global, more: u16, bytes: &[u8]) -> Result<(Const, &[u8]),
 }
 
 // A place of the pool, which is not used behind a Long or a Double.
-fn place_of(
-    alloc: Global,
-    behind: bool,
-    more: u16,
-    bytes: &[u8],
-) -> Result<(Const, &[u8]), Stop>
+fn place_of(alloc: Global, behind: bool, more: u16, bytes: &[u8]) -> Result<(Const, &[u8]), Stop>
     ensures { Gives (λ x. (x.0, x.1.now)) result (spec.place_at behind more bytes.now) }
 {
     if behind {

@@ -32,6 +32,36 @@ fn code_of(file: &ClassFile) -> Option<&[u8]> {
 }
 
 #[test]
+fn the_first_fault_is_named(rt: HostRuntime) -> Result<(), Fail> {
+    let mut one_more = Vec::from_slice(rt.alloc(), &PRINTS_42)?;
+    one_more.push(0)?;
+    let mut other_magic = PRINTS_42;
+    other_magic[0] = 0xcb;
+    let mut other_version = PRINTS_42;
+    other_version[7] = 0x32;
+    let mut other_tag = PRINTS_42;
+    other_tag[14] = 2;
+    let cases = [
+        ([].as_slice(), 0, ClassWhy::Short),
+        (&PRINTS_42[..240], 239, ClassWhy::Short),
+        (one_more.as_slice(), 241, ClassWhy::Trailing),
+        (&other_magic, 0, ClassWhy::Magic),
+        (&other_version, 4, ClassWhy::Version),
+        (&other_tag, 14, ClassWhy::Tag),
+    ];
+    for (bytes, at, why) in cases {
+        match file_of(rt.alloc(), bytes) {
+            Err(Stop::Wrong(fault)) => {
+                assert_eq!(rt; bytes.len().saturating_sub(fault.left), at);
+                assert_eq!(rt; fault.why, why);
+            }
+            _ => assert!(rt; false),
+        }
+    }
+    Ok(())
+}
+
+#[test]
 fn a_file_is_taken_apart(rt: HostRuntime) -> Result<(), Fail> {
     let code = [0xb2, 0, 0x0d, 0x10, 0x2a, 0xb6, 0, 0x13, 0xb1];
     match file_of(rt.alloc(), &PRINTS_42) {

@@ -6,11 +6,11 @@ use Rattle.class_file.proofs.attributes.attributes_of.Goals as goal
 
 pub loop-init : goal.loop-init
 unfolding attributes_at
-loop-init c = rw c.new-attributes.ensures.items (begins (λ (seen : Bool) (more : ℕ). attribute_at c.args.pool.now c.args.holder seen) next_attribute false c.args.count c.args.bytes.now)
+loop-init c = rw c.in_ok-attributes.ensures.items (begins (λ (seen : Bool) (more : ℕ). attribute_at c.args.pool.now c.args.holder seen) next_attribute false c.args.count c.args.bytes.now)
 
 pub returns-in_err-attribute : goal.returns-in_err-attribute
 returns-in_err-attribute c =
-    let p = err_from_is_err_and c.from_residual.result c.from_residual.ensures.1 in
+    let p = err_from_is_err_and c.from_residual-in_err-attribute.result c.from_residual-in_err-attribute.ensures.1 in
     rw (p.1, p.2) (stops_at c.args.count c.loop.counter c.in_err-attribute.field-0.0 c.loop-test.true c.loop.invariant c.in_err-attribute.ensures)
 
 pub loop-preserved : goal.loop-preserved

@@ -6,11 +6,11 @@ use Rattle.class_file.proofs.code.extras_of.Goals as goal
 
 pub loop-init : goal.loop-init
 unfolding extras_at
-loop-init c = rw c.new-extras.ensures.items (begins (λ (seen : Bool) (more : ℕ). extra_at c.args.pool.now seen) next_extra false c.args.count c.args.bytes.now)
+loop-init c = rw c.in_ok-extras.ensures.items (begins (λ (seen : Bool) (more : ℕ). extra_at c.args.pool.now seen) next_extra false c.args.count c.args.bytes.now)
 
 pub returns-in_err-extra : goal.returns-in_err-extra
 returns-in_err-extra c =
-    let p = err_from_is_err_and c.from_residual.result c.from_residual.ensures.1 in
+    let p = err_from_is_err_and c.from_residual-in_err-extra.result c.from_residual-in_err-extra.ensures.1 in
     rw (p.1, p.2) (stops_at c.args.count c.loop.counter c.in_err-extra.field-0.0 c.loop-test.true c.loop.invariant c.in_err-extra.ensures)
 
 pub loop-preserved : goal.loop-preserved
