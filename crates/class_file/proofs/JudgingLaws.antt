@@ -1,5 +1,5 @@
 -- What reading and judging answer, in the words of what is asked of a reader.
-use Rattle.std.proofs.Common.{◌≡◌, ℕ, ◌<◌, ◌-◌, List, length, get_or, Option, Some, None, Result, Ok, Err, refl, sym, ap, ◌∙◌, inl, inr}
+use Rattle.std.proofs.Common.{◌≡◌, ℕ, ◌<◌, ◌-◌, List, length, get_or, Option, Some, None, Result, Ok, Err, refl, sym, ap, ◌∙◌, inl}
 use Rattle.class_model.specs.declared.class_file.ClassFile.{ClassFile}
 use Rattle.class_grammar.specs.declared.class_why.Fault.{Fault}
 use Rattle.class_grammar.specs.Checks.{first_fault}
@@ -10,7 +10,7 @@ use Rattle.class_file.specs.FirstPass.{first_pass}
 use Rattle.class_file.specs.Judging.{judged, unless_wrong}
 use Rattle.class_file.specs.Refusal.{fault_of, placed, first_bad, IsAnswered}
 use Rattle.class_file.proofs.SoundLaws.{first_fault-sound, is_sound}
-use Rattle.class_file.proofs.FileLaws.{HasLayout, pass_takes, pass_again}
+use Rattle.class_file.proofs.FileLaws.{pass_takes, pass_again}
 
 -- ---- one step
 

@@ -1,9 +1,8 @@
 -- No item is wrong exactly where there is no first fault.
-use Rattle.std.proofs.Common.{◌≡◌, ℕ, ◌-◌, List, [], ◌∷◌, Option, Some, None, refl, sym, ◌∙◌}
+use Rattle.std.proofs.Common.{◌≡◌, ℕ, ◌-◌, List, [], ◌∷◌, Option, Some, None, refl}
 use Rattle.std.specs.List.{AllByRecursion}
 use Rattle.class_model.specs.declared.class_file.ClassFile.{ClassFile}
 use Rattle.class_grammar.specs.declared.class_why.ClassWhy.{ClassWhy}
-use Rattle.class_grammar.specs.declared.class_why.Fault.{Fault}
 use Rattle.class_grammar.specs.Checks.{Item, items, walked, fault_of, first_fault}
 use Rattle.class_grammar.specs.Spelling.{IsSound}
 
