@@ -4,3 +4,6 @@ pub mod PoolLaws
 pub mod AttributeLaws
 pub mod FileLaws
 pub mod ValueLaws
+pub mod LoopLaws
+pub mod SoundLaws
+pub mod JudgingLaws

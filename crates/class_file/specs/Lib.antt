@@ -3,3 +3,4 @@ pub mod Constants
 pub mod Attributes
 pub mod FirstPass
 pub mod Refusal
+pub mod Judging

@@ -1,8 +1,15 @@
 //! Reads class files (JVMS 4).
 #![tactic(auto)]
 
+mod attributes;
+mod code;
+mod constants;
 mod error;
+mod first_pass;
 mod laws;
+mod members;
+mod names;
+mod numbers;
 mod reader;
 mod stop;
 
@@ -10,3 +17,6 @@ pub use class_grammar::ClassWhy;
 pub use error::ReadError;
 pub use laws::one_value;
 pub use reader::read;
+
+#[cfg(test)]
+mod tests;

@@ -1,0 +1,21 @@
+use Rattle.std.proofs.Common.{ℕ}
+use Rattle.std.proofs.lemmas.Result.{err_from_is_err_and}
+use Rattle.class_file.specs.Reading.{keep}
+use Rattle.class_file.specs.Attributes.{row_at, rows_at}
+use Rattle.class_file.proofs.LoopLaws.{begins, goes_on, stops_at, is_done}
+use Rattle.class_file.proofs.code.rows_of.Goals as goal
+
+pub loop-init : goal.loop-init
+unfolding rows_at
+loop-init c = rw c.in_ok-rows.ensures.items (begins (λ (state : Unit {0}) (more : ℕ). row_at) keep tt c.args.count c.args.bytes.now)
+
+pub returns-in_err-row : goal.returns-in_err-row
+returns-in_err-row c =
+    let p = err_from_is_err_and c.from_residual-in_err-row.result c.from_residual-in_err-row.ensures.1 in
+    rw (p.1, p.2) (stops_at c.args.count c.loop.counter c.in_err-row.field-0.0 c.loop-test.true c.loop.invariant c.in_err-row.ensures)
+
+pub loop-preserved : goal.loop-preserved
+loop-preserved c = rw c.in_ok-push.ensures.items (goes_on c.args.count c.loop.counter c.in_ok-row.row c.in_ok-row.after.now c.loop-test.true c.loop.invariant c.in_ok-row.ensures)
+
+pub returns : goal.returns
+returns c = is_done c.args.count c.loop.counter c.loop-test.false c.loop.invariant

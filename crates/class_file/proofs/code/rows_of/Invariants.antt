@@ -1,0 +1,8 @@
+use Rattle.std.proofs.Common.{ℕ, ◌-◌}
+use Rattle.class_file.specs.Reading.{keep}
+use Rattle.class_file.specs.Attributes.{row_at, rows_at}
+use Rattle.class_file.proofs.LoopLaws.{ReadsOn}
+use Rattle.class_file.proofs.code.rows_of.Given as goal
+
+abbrev pub invariant-loop : goal.invariant-loop
+invariant-loop l = ReadsOn (λ (state : Unit {0}) (more : ℕ). row_at) keep l.rows.items tt (l.count - l.counter) l.rest (rows_at l.count l.bytes)

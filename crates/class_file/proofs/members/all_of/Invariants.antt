@@ -1,0 +1,8 @@
+use Rattle.std.proofs.Common.{ℕ, ◌-◌}
+use Rattle.class_file.specs.Reading.{keep, many}
+use Rattle.class_file.specs.FirstPass.{member_at}
+use Rattle.class_file.proofs.LoopLaws.{ReadsOn}
+use Rattle.class_file.proofs.members.all_of.Given as goal
+
+abbrev pub invariant-loop : goal.invariant-loop
+invariant-loop l = ReadsOn (λ (state : Unit {0}) (more : ℕ). member_at l.pool l.holder) keep l.members.items tt (l.count - l.counter) l.rest (many (member_at l.pool l.holder) l.count l.bytes)

@@ -1,0 +1,147 @@
+//! A Code attribute (JVMS 4.7.3).
+
+ghost use Rattle.std.specs.Prelude.{◌≡◌, false};
+ghost use Rattle.class_file.specs.Reading.{Gives, sized};
+ghost use Rattle.class_file.specs.Attributes.{extra_at, next_extra, extras_at, row_at, rows_at, code_bytes_at, code_at};
+
+use crate::names::{is_known_extra, name_of};
+use crate::numbers::{bytes_of, pair_of, sized_bytes_of, u2_of, u4_of};
+use crate::stop::Stop;
+use class_grammar::ClassWhy;
+use class_model::{CodeAttribute, CodeBody, CodeExtra, Const, Row};
+use items::Items;
+use std::alloc::Global;
+
+// An attribute of a Code, where a StackMapTable has been seen or has not (JVMS 4.7.4).
+#[tactic(auto, unfolding(crate::specs::Attributes::extra_at))]
+fn extra_of<'a>(
+    alloc: Global,
+    pool: &[Const],
+    seen: bool,
+    bytes: &'a [u8],
+) -> Result<(CodeAttribute, &'a [u8]), Stop>
+    ensures { Gives (λ x. (x.0, x.1.now)) result (extra_at pool.now seen bytes.now) }
+{
+    let ((name, text), rest) = name_of(pool, bytes)?;
+    let is_map = is_known_extra(text);
+    if is_map && seen {
+        return Err(Stop::at(bytes, ClassWhy::Duplicate));
+    }
+    let (body, rest) = sized_bytes_of(rest)?;
+    let body = Items::from(Vec::from_slice(alloc, body)?);
+    let body = if is_map {
+        CodeExtra::StackMap(body)
+    } else {
+        CodeExtra::Other(body)
+    };
+    Ok((CodeAttribute { name, body }, rest))
+}
+
+// Whether a StackMapTable has been seen, behind one more attribute.
+fn is_map_seen(seen: bool, extra: &CodeAttribute) -> bool
+    ensures { result ≡ next_extra seen extra.now }
+{
+    seen || matches!(extra.body, CodeExtra::StackMap(_))
+}
+
+// That many attributes of a Code.
+fn extras_of<'a>(
+    alloc: Global,
+    pool: &[Const],
+    count: u16,
+    bytes: &'a [u8],
+) -> Result<(Vec<CodeAttribute>, &'a [u8]), Stop>
+    ensures { Gives (λ x. (x.0.items, x.1.now)) result (extras_at pool.now false count bytes.now) }
+{
+    let most = usize::from(count).min(bytes.len() / 6);
+    let mut extras = Vec::with_capacity(alloc, most)?;
+    let mut rest = bytes;
+    let mut seen = false;
+    for _ in 0..count {
+        let (extra, after) = extra_of(alloc, pool, seen, rest)?;
+        seen = is_map_seen(seen, &extra);
+        extras.push(extra)?;
+        rest = after;
+    }
+    Ok((extras, rest))
+}
+
+// A row of the exception table.
+#[tactic(auto, unfolding(crate::specs::Attributes::row_at))]
+fn row_of(bytes: &[u8]) -> Result<(Row, &[u8]), Stop>
+    ensures { Gives (λ x. (x.0, x.1.now)) result (row_at bytes.now) }
+{
+    let ((start, end), rest) = pair_of(bytes)?;
+    let ((handler, catch_type), rest) = pair_of(rest)?;
+    let row = Row {
+        start,
+        end,
+        handler,
+        catch_type,
+    };
+    Ok((row, rest))
+}
+
+// That many rows of the exception table.
+fn rows_of(alloc: Global, count: u16, bytes: &[u8]) -> Result<(Vec<Row>, &[u8]), Stop>
+    ensures { Gives (λ x. (x.0.items, x.1.now)) result (rows_at count bytes.now) }
+{
+    let most = usize::from(count).min(bytes.len() / 8);
+    let mut rows = Vec::with_capacity(alloc, most)?;
+    let mut rest = bytes;
+    for _ in 0..count {
+        let (row, after) = row_of(rest)?;
+        rows.push(row)?;
+        rest = after;
+    }
+    Ok((rows, rest))
+}
+
+// The bytes of the code behind their number.
+#[tactic(auto, unfolding(crate::specs::Attributes::code_bytes_at))]
+fn code_bytes_of(bytes: &[u8]) -> Result<(&[u8], &[u8]), Stop>
+    ensures { Gives (λ x. (x.0.now, x.1.now)) result (code_bytes_at bytes.now) }
+{
+    let (count, rest) = u4_of(bytes)?;
+    if count < 1 || 0xffff < count {
+        return Err(Stop::at(bytes, ClassWhy::Length));
+    }
+    bytes_of(count as usize, rest)
+}
+
+// A Code behind its length.
+#[tactic(auto, unfolding(crate::specs::Attributes::code_at))]
+fn code_of<'a>(alloc: Global, pool: &[Const], bytes: &'a [u8]) -> Result<(CodeBody, &'a [u8]), Stop>
+    ensures { Gives (λ x. (x.0, x.1.now)) result (code_at pool.now bytes.now) }
+{
+    let ((max_stack, max_locals), rest) = pair_of(bytes)?;
+    let (code, rest) = code_bytes_of(rest)?;
+    let (row_count, rest) = u2_of(rest)?;
+    let (rows, rest) = rows_of(alloc, row_count, rest)?;
+    let (extra_count, rest) = u2_of(rest)?;
+    let (attributes, rest) = extras_of(alloc, pool, extra_count, rest)?;
+    let body = CodeBody {
+        max_stack,
+        max_locals,
+        code: Items::from(Vec::from_slice(alloc, code)?),
+        rows: Items::from(rows),
+        attributes: Items::from(attributes),
+    };
+    Ok((body, rest))
+}
+
+/// A length in four bytes, and a Code of that length (JVMS 4.7.3).
+pub fn sized_code_of<'a>(
+    alloc: Global,
+    pool: &[Const],
+    bytes: &'a [u8],
+) -> Result<(CodeBody, &'a [u8]), Stop>
+    ensures { Gives (λ x. (x.0, x.1.now)) result (sized (code_at pool.now) bytes.now) }
+{
+    let (size, front) = u4_of(bytes)?;
+    let (code, rest) = code_of(alloc, pool, front)?;
+    if front.len().saturating_sub(rest.len()) != size as usize {
+        return Err(Stop::at(bytes, ClassWhy::Length));
+    }
+    Ok((code, rest))
+}
