@@ -87,4 +87,5 @@ def main():
                             maps.write(struct.pack(">HI", first, len(table)) + table)
 
 
-main()
+if __name__ == "__main__":
+    main()

@@ -2,6 +2,7 @@
 # Builds the benchmarks beside a copy of the crates, outside the repository, and runs them over the class files of
 # the JDK on this machine. usage: bench/run.sh [FOLDER OF CLASS FILES]
 set -eu
+export PYTHONDONTWRITEBYTECODE=1
 top=$(CDPATH='' cd -- "$(dirname -- "$0")/.." && pwd)
 work=$(mktemp -d)
 trap 'rm -rf "$work"' EXIT
@@ -12,6 +13,7 @@ if [ -z "$classes" ]; then
     jimage extract --dir="$classes" "$(dirname "$(readlink -f "$(command -v java)")")/../lib/modules"
 fi
 python3 "$top/bench/extract.py" "$classes" "$work/data"
+python3 "$top/bench/classes.py" "$classes" "$work/data"
 
 # A program of its own for each benchmark, proved and built by the kit over the repository's crates.
 cp -r "$top/crates" "$top/crates.txt" "$top/HANDLES" "$work"
@@ -19,10 +21,28 @@ add() {
     mkdir -p "$work/crates/bench_$1/src"
     cp "$top/bench/$1/main.txt" "$work/crates/bench_$1/src/main.rt"
     echo "bench_$1: $2" >>"$work/crates.txt"
-    (cd "$work/crates/bench_$1" && rt run >/dev/null)
+    (cd "$work/crates/bench_$1" && rt run >"$work/log" 2>&1) || { cat "$work/log"; exit 1; }
+}
+# Runs a benchmark on files of the data, and says how much memory it held at most.
+run() {
+    name=$1
+    shift
+    (cd "$work/data" && python3 -c '
+import resource, subprocess, sys
+subprocess.run(sys.argv[1:], check=True)
+print(resource.getrusage(resource.RUSAGE_CHILDREN).ru_maxrss, "KB of memory at most")
+' "$work/crates/bench_$name/out/bench_$name" "$@")
 }
 
 add decode 'opcodes'
-"$work/crates/bench_decode/out/bench_decode" "$work/data/codes"
+run decode codes
 add expand 'items stack_maps'
-"$work/crates/bench_expand/out/bench_expand" "$work/data/maps"
+run expand maps
+add read 'class_file'
+add write 'class_file class_write'
+for name in read write; do
+    run "$name" classes
+    run "$name" tenth tenfold
+    # Only the kinds of made files have a dash in their names.
+    run "$name" $(cd "$work/data" && ls -- *-1 *-10 | sort)
+done
