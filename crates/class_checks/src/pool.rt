@@ -10,9 +10,9 @@ ghost use Rattle.class_grammar.specs.declared.class_why.ClassWhy.TheVariants as 
 ghost use Rattle.class_checks.specs.Judging as spec;
 
 use crate::judging::{Judgement, NO_TEXT, judgements_of};
-use crate::names::{begins_with, is_same};
+use crate::names::begins_with;
 use crate::values::has_type;
-use class_grammar::ClassWhy;
+use class_grammar::{ClassWhy, is_same};
 use class_model::{Const, Member};
 use std::alloc::{AllocError, Global};
 use std::marker::Model;

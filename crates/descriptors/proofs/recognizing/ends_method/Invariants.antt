@@ -1,7 +1,7 @@
 use Rattle.std.proofs.Common.{◌≡◌, ◌≤◌, drop}
 use Rattle.descriptors.specs.Recognizing as grammar
-use Rattle.class_checks.specs.Recognizing.{front_of}
-use Rattle.class_checks.proofs.recognizing.ends_method.Given as goal
+use Rattle.descriptors.specs.Fronts.{front_of}
+use Rattle.descriptors.proofs.recognizing.ends_method.Given as goal
 
 abbrev pub invariant-loop-index : goal.invariant-loop-index
 invariant-loop-index l = record {

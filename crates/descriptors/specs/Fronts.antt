@@ -1,9 +1,9 @@
 -- What was read of a kind, in the grammar's words.
 use Rattle.descriptors.specs.Recognizing as grammar
-use Rattle.class_checks.specs.declared.recognizing.Front.{Front}
-use Rattle.class_checks.specs.declared.recognizing.Front.TheVariants as fronts
-use Rattle.class_checks.specs.declared.recognizing.Turn.{Turn}
-use Rattle.class_checks.specs.declared.recognizing.Turn.TheVariants as turns
+use Rattle.descriptors.specs.declared.recognizing.Front.{Front}
+use Rattle.descriptors.specs.declared.recognizing.Front.TheVariants as fronts
+use Rattle.descriptors.specs.declared.recognizing.Turn.{Turn}
+use Rattle.descriptors.specs.declared.recognizing.Turn.TheVariants as turns
 
 abbrev pub front_of : Front → grammar.Front
 front_of (fronts.Brackets n) = grammar.Brackets n

@@ -3,7 +3,7 @@
 ghost use Rattle.std.specs.Prelude.{◌≡◌, ◌≤◌, ◌+◌, ◌&&◌, ◌==◌};
 ghost use Rattle.descriptors.specs.Descriptors.{unit_places as places_of_unit, is_base as is_base_unit};
 ghost use Rattle.descriptors.specs.Recognizing as grammar;
-ghost use Rattle.class_checks.specs.Recognizing as spec;
+ghost use Rattle.descriptors.specs.Fronts as spec;
 
 /// What was read of a kind.
 #[derive(Clone, Copy, Debug)]
@@ -79,7 +79,7 @@ fn turn_in_name(begun: bool, unit: u16) -> Turn
 }
 
 /// Whether the units are the descriptor of a field (JVMS 4.3.2).
-pub fn is_field(units: &[u16]) -> bool
+pub fn is_field_descriptor(units: &[u16]) -> bool
     ensures { result ≡ grammar.is_field units.now }
 {
     let mut front = START;
@@ -99,7 +99,7 @@ fn is_result(units: &[u16]) -> bool
 {
     match units {
         [86] => true,
-        _ => is_field(units),
+        _ => is_field_descriptor(units),
     }
 }
 
@@ -124,7 +124,7 @@ fn places_with(places: u16, front: Front, unit: u16) -> u16
 }
 
 /// Whether the units are the descriptor of a method (JVMS 4.3.3).
-pub fn is_method(units: &[u16]) -> bool
+pub fn is_method_descriptor(units: &[u16]) -> bool
     ensures { result ≡ grammar.is_method units.now }
 {
     match units {
