@@ -3,4 +3,6 @@ pub mod Running
 pub mod Loops
 pub mod Putting
 pub mod Preparing
+pub mod TableLaws
+pub mod Reading
 pub mod Answering
