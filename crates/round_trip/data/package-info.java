@@ -1,0 +1,3 @@
+// javac --release 8 package-info.java
+@Deprecated
+package shop;
