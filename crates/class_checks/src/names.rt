@@ -67,10 +67,9 @@ fn names_by_unit(units: &[u16]) -> Names
             }
             slashed = true;
             begun = false;
+        } else if is_end(*unit) {
+            return NOTHING;
         } else {
-            if is_end(*unit) {
-                return NOTHING;
-            }
             angled = angled || is_angle(*unit);
             begun = true;
         }

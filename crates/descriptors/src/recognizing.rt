@@ -16,6 +16,12 @@ pub enum Front {
 
 const START: Front = Front::Brackets(0);
 
+// The parenthesis before the arguments of a method.
+const OPENING: u16 = b'(' as u16;
+
+// What a method without a result has in place of a kind.
+const VOID: u16 = b'V' as u16;
+
 /// What the next unit does to a kind.
 #[derive(Clone, Copy, Debug)]
 pub enum Turn {
@@ -26,7 +32,7 @@ pub enum Turn {
     Stops,
 }
 
-// A unit that is a kind by itself (JVMS 4.3.2).
+// A unit that is a kind by itself: B C D F I J S Z (JVMS 4.3.2).
 fn is_base(unit: u16) -> bool
     ensures { result ≡ is_base_unit unit }
 {
@@ -98,7 +104,7 @@ fn is_result(units: &[u16]) -> bool
     ensures { result ≡ grammar.is_result units.now }
 {
     match units {
-        [86] => true,
+        [VOID] => true,
         _ => is_field_descriptor(units),
     }
 }
@@ -128,7 +134,7 @@ pub fn is_method_descriptor(units: &[u16]) -> bool
     ensures { result ≡ grammar.is_method units.now }
 {
     match units {
-        [40, rest @ ..] => ends_method(rest),
+        [OPENING, rest @ ..] => ends_method(rest),
         _ => false,
     }
 }
