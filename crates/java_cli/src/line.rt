@@ -41,8 +41,16 @@ pub fn make_line(alloc: Global, why: &Why, command: &Command) -> Result<Line, Al
         Why::SinkFault { .. } => return Ok(Line::Fixed(b"jvt: cannot write\n")),
         Why::NoMemory => return Ok(Line::Fixed(NO_MEMORY)),
         Why::Limit { which, number } => limit(alloc, *which, *number)?,
-        Why::Missing { file } => line_with_name(alloc, b"jvt: missing ", file_word(command, *file))?,
-        Why::SourceFault { file } => line_with_name(alloc, b"jvt: cannot read ", file_word(command, *file))?,
+        Why::Missing { file } => line_with_name(
+            alloc,
+            b"jvt: missing ",
+            file_word(command, *file),
+        )?,
+        Why::SourceFault { file } => line_with_name(
+            alloc,
+            b"jvt: cannot read ",
+            file_word(command, *file),
+        )?,
         Why::BadClass { file, at, why } => bad_class(alloc, file_word(command, *file), *at, *why)?,
         Why::NoMain => line_with_name(alloc, b"jvt: no main in ", command.main)?,
         Why::LinkFault { class, why } => link(alloc, class.as_slice(), *why)?,

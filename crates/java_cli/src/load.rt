@@ -51,12 +51,7 @@ fn read_class<S: Store>(
 }
 
 /// Reads the bytes of the file, asking for one more than is taken.
-fn read_file<S: Store>(
-    alloc: Global,
-    place: u32,
-    name: &str,
-    store: &mut S,
-) -> Result<Vec<u8>, Why>
+fn read_file<S: Store>(alloc: Global, place: u32, name: &str, store: &mut S) -> Result<Vec<u8>, Why>
     ensures small { IfOk result (λ bytes. length bytes.items ≤ most_bytes) }
     ensures found { IfOk result (λ bytes. IfSome (S.files store.old) (λ files. Some bytes.items ≡ file_named name.now files)) }
     ensures cause { IfErr result (NotRead (S.files store.old) (Rose (S.faults store.old) (S.faults store.new)) place name.now) }

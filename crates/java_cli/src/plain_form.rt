@@ -56,17 +56,13 @@ fn means_nothing(attribute: &CodeAttribute) -> bool
 fn mean_nothing(attributes: &[CodeAttribute]) -> bool
     ensures { result ≡ list_all (λ a. not (is_map a.body)) attributes.now }
 {
-    attributes
-        .iter()
-        .all(|attribute| means_nothing(attribute))
+    attributes.iter().all(|attribute| means_nothing(attribute))
 }
 
 fn is_plain_code(code: &CodeBody) -> bool
     ensures { result ≡ spec.is_plain_code code.now }
 {
-    code.rows.as_slice().is_empty()
-        && mean_nothing(&code.attributes)
-        && 1 <= code.max_locals
+    code.rows.as_slice().is_empty() && mean_nothing(&code.attributes) && 1 <= code.max_locals
 }
 
 fn has_plain_shape(file: &ClassFile) -> bool

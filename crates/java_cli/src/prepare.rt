@@ -23,11 +23,7 @@ use items::Items;
 use std::alloc::{AllocError, Global};
 
 /// The main method of these classes, where main is in the class that the word names.
-pub fn link<'a>(
-    alloc: Global,
-    main: &str,
-    classes: &'a [ClassFile],
-) -> Result<PlainMethod<'a>, Why>
+pub fn link<'a>(alloc: Global, main: &str, classes: &'a [ClassFile]) -> Result<PlainMethod<'a>, Why>
     requires { AllByRecursion IsSpelled classes.now }
     ensures main { IfOk result (λ m. has_main_in (class_named_by main.now) classes.now ≡ true) }
     ensures linked { IfOk result (λ m. IsLinked classes.now (method_of m)) }

@@ -26,5 +26,5 @@ loop-place-preserved g c = record {
   kept = c.read_class.ensures.kept ∙ c.loop-place.invariant.kept;
   later = omega (arith, c.loop-place.invariant.later, c.read_class.ensures.later);
   read = one_more_read _ _ c.args.names.now c.loop-place.place c.index-names-place.result c.as_str.result.now c.loop-place.classes.items _ c.in_ok-read_class.field-0
-    c.loop-place-test.true c.index-names-place.is c.as_str.ensures.value c.in_ok-push.ensures.items c.loop-place.invariant.read c.loop-place.invariant.kept c.in_ok-read_class.ensures.found;
+      c.loop-place-test.true c.index-names-place.is c.as_str.ensures.value c.in_ok-push.ensures.items c.loop-place.invariant.read c.loop-place.invariant.kept c.in_ok-read_class.ensures.found;
 }
