@@ -3,6 +3,7 @@ use Rattle.std.proofs.Common.{◌≡◌, ℕ, suc, ◌+◌, ◌<◌, ◌≤◌, 
 use Rattle.std.specs.Prelude.{IfErr, OnOk, OnErr, IfSome, IsSomeAnd}
 use Rattle.std.specs.List.{AllZip, AllByRecursion}
 use Rattle.std.proofs.lemmas.List.{take_all}
+use Rattle.std.proofs.lemmas.Option.{same_Some}
 use Rattle.std.proofs.lemmas.Slice.Zip.{AllZip-long, AllZip-map}
 use Rattle.class_model.specs.declared.class_file.ClassFile.{ClassFile}
 use Rattle.class_grammar.specs.declared.class_why.ClassWhy.{ClassWhy}
@@ -23,9 +24,10 @@ use Rattle.java_cli.specs.Words.{Command, named}
 use Rattle.java_cli.specs.Answers.{line_of}
 use Rattle.java_cli.specs.MainClass.{class_named, has_main}
 use Rattle.java_cli.specs.Programs.{IsLinked, IsProgram}
-use Rattle.java_cli.specs.Causes.{most_files, Held, Holds, AreHeld, IsClass, AreClasses, IsBad, IsWrong, FirstWrong, first_name, IsJudged, IsDue, too_many, wrong, judged, HasCause, IsReached, held_by, IsExact, IsRefusal}
+use Rattle.java_cli.specs.Causes.{most_files, Held, Holds, AreHeld, IsClass, AreClasses, IsBad, IsWrong, FirstWrong, IsFirstName, IsJudged, IsDue, too_many, wrong, judged, HasCause, IsReached, held_by, IsExact, IsRefusal}
 use Rattle.java_cli.specs.Reading.{IsRead, HoldsWrong, NotRead, IsStopped}
-use Rattle.java_cli.specs.Linking.{IsSpelled, NotLinked}
+use Rattle.java_cli.specs.Linking.{IsSpelled, NotLinked, first_name}
+use Rattle.java_cli.proofs.Naming.{first_is}
 use Rattle.java_cli.specs.Runs.{IsRun, RanCommand}
 use Rattle.java_cli.specs.Headline.{IsTaken, IsIdle, DidRun, IsKept, Ran, TellsLine}
 
@@ -85,13 +87,17 @@ wrong_or_classes n (h ∷ held) a (f ∷ classes) (inr x) are = wrong_or_classes
 
 -- ---- classes have one answer
 
+one_first : (classes : List ClassFile) (a b : List ℕ) → IsFirstName classes a → IsFirstName classes b → a ≡ b
+one_first [] a b x y = absurd x
+one_first (f ∷ classes) a b x y = same_Some a b (sym x ∙ y)
+
 one_judgement : (name : List ℕ) (classes : List ClassFile) (a b : Why) → IsJudged name classes a → IsJudged name classes b → a ≡ b
 one_judgement name classes NoMain NoMain x y = refl
 one_judgement name classes NoMain (LinkFault class reason) x y = let no : false ≡ true = sym x ∙ y.main in absurd cc
 one_judgement name classes NoMain Ended x y = let no : false ≡ true = sym x ∙ y.1.main in absurd cc
 one_judgement name classes (LinkFault class reason) NoMain x y = let no : false ≡ true = sym y ∙ x.main in absurd cc
 one_judgement name classes (LinkFault class reason) (LinkFault other again) x y =
-    let names : class ≡ other = x.first ∙ sym y.first in
+    let names : class ≡ other = one_first classes class other x.first y.first in
     let reasons : reason ≡ again = x.unsupported ∙ sym y.unsupported in
     cc
 one_judgement name classes (LinkFault class reason) Ended x y = absurd (x.none y.0 y.1)
@@ -314,9 +320,9 @@ unlinked_refusal name classes (BadClass file at reason) is = tt
 unlinked_refusal name classes (SinkFault which written) is = absurd is
 
 -- without a method there is no program
-pub unlinked_is : (name : List ℕ) (classes : List ClassFile) (why : Why) → has_main name classes ≡ true → ((m : Method) → IsLinked classes m → ⊥) → why ≡ LinkFault (first_name classes) Unsupported → NotLinked name classes why
-unlinked_is name classes why main none is =
-    subst (λ (w : Why). NotLinked name classes w) (sym is) (record { main = main; none = λ p program. none program.method program.linked; first = refl; unsupported = refl })
+pub unlinked_is : (name : List ℕ) (classes : List ClassFile) (why : Why) → has_main name classes ≡ true → ((m : Method) → IsLinked classes m → ⊥) → AllByRecursion IsSpelled classes → why ≡ LinkFault (first_name classes) Unsupported → NotLinked name classes why
+unlinked_is name classes why main none spelled is =
+    subst (λ (w : Why). NotLinked name classes w) (sym is) (record { main = main; none = λ p program. none program.method program.linked; first = first_is name classes main spelled; unsupported = refl })
 
 -- files that were read are spelled
 pub all_spelled : (told : Option store.Files) (names : List (List ℕ)) (classes : List ClassFile) → AllZip (IsRead told) names classes → AllByRecursion IsSpelled classes

@@ -5,4 +5,5 @@ pub mod Putting
 pub mod Preparing
 pub mod TableLaws
 pub mod Reading
+pub mod Naming
 pub mod Answering

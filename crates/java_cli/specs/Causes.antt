@@ -1,6 +1,6 @@
 -- The answer that a command asks for, by what the store holds under the words of its files: the first cause in the
 -- order of this file.
-use Rattle.std.specs.Prelude.{◌≡◌, ◌⊎◌, ℕ, ◌+◌, ◌<◌, ◌≤◌, false, true, List, [], ◌∷◌, length, take, map, Option, Some, None, Result, Ok, Err, IfSome, unwrap_or}
+use Rattle.std.specs.Prelude.{◌≡◌, ◌⊎◌, ℕ, ◌+◌, ◌<◌, ◌≤◌, false, true, List, [], ◌∷◌, length, take, map, Option, Some, None, Result, Ok, Err, IfSome}
 use Rattle.std.specs.List.{AllZip}
 use Rattle.jvm_edges.specs.Files.{file_named}
 use Rattle.jvm_edges.specs.Files as store
@@ -48,7 +48,8 @@ IsClass (Some bytes) f = (length bytes ≤ most_bytes) × Spells bytes f
 abbrev pub AreClasses : List Held → List ClassFile → Type 0
 AreClasses held classes = AllZip IsClass held classes
 
--- The file at place n is small enough, but no value is spelled by its bytes: the answer tells the first check that fails.
+-- The file at place n is small enough, but no value is spelled by its bytes, and the answer tells the first check
+-- that fails.
 pub record IsBad (n : ℕ) (bytes : List ℕ) (why : Why) : Type 0 where
   pub at : ℕ
   pub reason : ClassWhy
@@ -69,16 +70,16 @@ FirstWrong n (x ∷ xs) why = IsWrong n x why ⊎ ((f : ClassFile) × IsClass x 
 
 -- ---- the classes
 
--- the name of the first class
-abbrev pub first_name : List ClassFile → List ℕ
-first_name [] = []
-first_name (f ∷ classes) = unwrap_or (class_name_at f.pool f.own) []
+-- the first class has this name
+abbrev pub IsFirstName : List ClassFile → List ℕ → Type 0
+IsFirstName [] name = ⊥
+IsFirstName (f ∷ classes) name = class_name_at f.pool f.own ≡ Some name
 
 -- there is a main, but the classes are no program that is linked today
 pub record IsUnlinked (name : List ℕ) (classes : List ClassFile) (class : List ℕ) (reason : LinkWhy) : Type 0 where
   pub main : has_main name classes ≡ true
   pub none : (p : Program) → IsProgram name classes p → ⊥
-  pub first : class ≡ first_name classes
+  pub first : IsFirstName classes class
   pub unsupported : reason ≡ Unsupported
 
 -- the answer to classes, where main is to be in the one of this name

@@ -22,9 +22,9 @@ IsTaken Ended taken size = taken ≡ size
 IsTaken (SinkFault which written) taken size = (which ≡ Out) × (written ≡ taken) × (taken < size)
 IsTaken why taken size = ⊥
 
--- The history of the report, without its mount and unmount entries, is a history of the reference machine for
--- the program that the command's files are, up to the program's end; and what the out sink took is that history's output,
--- or its front after a fault of the sink.
+-- The history of the report, without its mount and unmount entries, is a history of the reference machine for the
+-- program that the command's files are, up to the program's end; and what the out sink took is that history's
+-- output, or its front after a fault of the sink.
 pub record Ran (c : Command) (told : Option Files) (before after : Option (List ℕ)) (r : Report) : Type 0 where
   pub program : Program
   pub state : State

@@ -7,8 +7,7 @@ ghost use Rattle.ref_model.specs.Program.{Method};
 ghost use Rattle.java_cli.specs.Methods.{method_of, only_code as only_code_in};
 ghost use Rattle.java_cli.specs.MainClass.{class_named as class_named_by, has_main as has_main_in};
 ghost use Rattle.java_cli.specs.Programs.{IsMethod, IsLinked};
-ghost use Rattle.java_cli.specs.Linking.{IsSpelled, NotLinked};
-ghost use Rattle.java_cli.specs.Causes.{first_name as first_name_of};
+ghost use Rattle.java_cli.specs.Linking.{IsSpelled, NotLinked, first_name as first_name_of};
 ghost use Rattle.java_cli.specs.declared.report.LinkWhy.TheVariants as link_whys;
 
 use crate::decode::decode;
