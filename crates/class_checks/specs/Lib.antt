@@ -1,4 +1,3 @@
 pub mod Names
-pub mod Recognizing
 pub mod Judging
 pub mod Sizes

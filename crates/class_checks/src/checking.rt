@@ -1,5 +1,4 @@
 ghost use Rattle.std.specs.Prelude.{◌≡◌, IfOk};
-ghost use Rattle.class_grammar.specs.Ranges.{IsInRange};
 ghost use Rattle.class_grammar.specs.Checks.{walked, items as items_of, member_items, first_fault};
 
 use crate::class::check_class;
@@ -14,7 +13,6 @@ use std::alloc::Global;
 /// The first item of a class file of `size` bytes that is wrong, in the order of the file (JVMS 4.1 to 4.9).
 #[tactic(auto, unfolding(class_grammar::specs::Checks::first_fault))]
 pub fn check(alloc: Global, file: &ClassFile, size: usize) -> Result<Option<Fault>, NoMemory>
-    requires { IsInRange file.now }
     ensures { IfOk result (λ found. found ≡ first_fault size file.now) }
 {
     let pool = Pool::new(alloc, &file.pool)?;

@@ -4,8 +4,8 @@ ghost use Rattle.std.specs.Prelude.{◌≡◌, map, IfOk};
 ghost use Rattle.class_checks.specs.Judging as spec;
 
 use crate::names::{begins_with, names_of};
-use crate::recognizing::{is_field, is_method};
 use class_model::Const;
+use descriptors::{is_field_descriptor, is_method_descriptor};
 use std::alloc::{AllocError, Global};
 
 /// What the text at a place of the pool passes as. At a place with no text, all are false.
@@ -56,12 +56,12 @@ fn judgement_of_text(units: &[u16]) -> Judgement
     ensures { result ≡ spec.judgement_of (Const.Utf8 units.now) }
 {
     let names = names_of(units);
-    let is_field = is_field(units);
+    let is_field = is_field_descriptor(units);
     Judgement {
         is_field_name: names.of_field,
         is_method_name: names.of_method,
         is_class_name: names.of_class || begins_with(b'[', units) && is_field,
         is_field,
-        is_method: is_method(units),
+        is_method: is_method_descriptor(units),
     }
 }

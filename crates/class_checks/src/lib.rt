@@ -9,7 +9,6 @@ mod judging;
 mod members;
 mod names;
 mod pool;
-mod recognizing;
 mod values;
 mod walking;
 

@@ -5,6 +5,8 @@ ghost use Rattle.class_grammar.specs.Text.{same_text};
 ghost use Rattle.class_grammar.specs.Names as grammar;
 ghost use Rattle.class_checks.specs.Names as spec;
 
+use class_grammar::is_same;
+
 /// What a text can be the name of.
 #[derive(Clone, Copy, Debug)]
 pub struct Names {
@@ -19,21 +21,6 @@ const NOTHING: Names = Names {
     of_method: false,
     of_class: false,
 };
-
-/// Whether the units are these bytes.
-pub fn is_same(units: &[u16], text: &[u8]) -> bool
-    ensures { result ≡ same_text units.now text.now }
-{
-    if units.len() != text.len() {
-        return false;
-    }
-    for (index, unit) in units.iter().enumerate() {
-        if *unit != u16::from(text[index]) {
-            return false;
-        }
-    }
-    true
-}
 
 /// Whether a text begins with this unit.
 pub fn begins_with(unit: u8, units: &[u16]) -> bool
@@ -80,10 +67,9 @@ fn names_by_unit(units: &[u16]) -> Names
             }
             slashed = true;
             begun = false;
+        } else if is_end(*unit) {
+            return NOTHING;
         } else {
-            if is_end(*unit) {
-                return NOTHING;
-            }
             angled = angled || is_angle(*unit);
             begun = true;
         }

@@ -10,9 +10,9 @@ ghost use Rattle.class_grammar.specs.declared.class_why.ClassWhy.TheVariants as 
 ghost use Rattle.class_checks.specs.Judging as spec;
 
 use crate::judging::{Judgement, NO_TEXT, judgements_of};
-use crate::names::{begins_with, is_same};
+use crate::names::begins_with;
 use crate::values::has_type;
-use class_grammar::ClassWhy;
+use class_grammar::{ClassWhy, is_same};
 use class_model::{Const, Member};
 use std::alloc::{AllocError, Global};
 use std::marker::Model;
@@ -73,13 +73,13 @@ impl<'a> Pool<'a> {
         }
     }
 
-    // What is wrong with a place whose text doesn't pass the test, if it holds a text at all.
-    fn refused(&self, why: ClassWhy, place: u16) -> Option<ClassWhy>
-        ensures { result ≡ Some (spec.reason why self.now place) }
+    // What is wrong with a place whose text, if it holds one, is refused for this reason.
+    fn reason(&self, why: ClassWhy, place: u16) -> ClassWhy
+        ensures { result ≡ spec.reason why self.now place }
     {
         match self.text(place) {
-            Some(_) => Some(why),
-            None => Some(ClassWhy::Index),
+            Some(_) => why,
+            None => ClassWhy::Index,
         }
     }
 
@@ -90,7 +90,7 @@ impl<'a> Pool<'a> {
         if self.judgement(place).is_field_name {
             return None;
         }
-        self.refused(ClassWhy::Name, place)
+        Some(self.reason(ClassWhy::Name, place))
     }
 
     /// A place for the name of a method (JVMS 4.2.2).
@@ -100,7 +100,7 @@ impl<'a> Pool<'a> {
         if self.judgement(place).is_method_name {
             return None;
         }
-        self.refused(ClassWhy::Name, place)
+        Some(self.reason(ClassWhy::Name, place))
     }
 
     /// A place for the name of a class (JVMS 4.4.1).
@@ -110,7 +110,7 @@ impl<'a> Pool<'a> {
         if self.judgement(place).is_class_name {
             return None;
         }
-        self.refused(ClassWhy::Name, place)
+        Some(self.reason(ClassWhy::Name, place))
     }
 
     /// A place for the descriptor of a field (JVMS 4.5).
@@ -120,7 +120,7 @@ impl<'a> Pool<'a> {
         if self.judgement(place).is_field {
             return None;
         }
-        self.refused(ClassWhy::Descriptor, place)
+        Some(self.reason(ClassWhy::Descriptor, place))
     }
 
     /// A place for the descriptor of a method (JVMS 4.6, 4.4.9).
@@ -130,7 +130,7 @@ impl<'a> Pool<'a> {
         if self.judgement(place).is_method {
             return None;
         }
-        self.refused(ClassWhy::Descriptor, place)
+        Some(self.reason(ClassWhy::Descriptor, place))
     }
 
     /// A place for the descriptor of a field or of a method (JVMS 4.4.6).
@@ -141,7 +141,7 @@ impl<'a> Pool<'a> {
         if judgement.is_field || judgement.is_method {
             return None;
         }
-        self.refused(ClassWhy::Descriptor, place)
+        Some(self.reason(ClassWhy::Descriptor, place))
     }
 
     /// A place for any text (JVMS 4.4.3).

@@ -1,6 +1,3 @@
-ghost use Rattle.std.specs.Prelude.{IfOk};
-ghost use Rattle.class_grammar.specs.Ranges.{IsInRange};
-
 use crate::check;
 use class_grammar::{ClassWhy, Fault};
 use class_model::{ClassFile, Const};
@@ -9,9 +6,7 @@ use std::alloc::{AllocError, Global};
 use std::test::Fail;
 
 // The class A, of which this place is said to be the parent.
-fn class_of(alloc: Global, parent: u16) -> Result<ClassFile, AllocError>
-    ensures { IfOk result IsInRange }
-{
+fn class_of(alloc: Global, parent: u16) -> Result<ClassFile, AllocError> {
     let name = Items::from(vec![in alloc; 65u16]?);
     Ok(ClassFile {
         minor: 0,

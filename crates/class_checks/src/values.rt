@@ -3,7 +3,7 @@
 ghost use Rattle.std.specs.Prelude.{◌≡◌, pos};
 ghost use Rattle.class_grammar.specs.Checks as checks;
 
-use crate::names::is_same;
+use class_grammar::is_same;
 use class_model::Const;
 
 /// Whether the constant is the value of a field of this type.

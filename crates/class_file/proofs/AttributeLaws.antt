@@ -1,6 +1,6 @@
 -- The laws of the readers of attributes and of code.
-use Rattle.std.proofs.Common.{◌≡◌, ℕ, zero, suc, ◌^◌, ◌<◌, ◌≤◌, ◌-◌, ◌+◌, Bool, true, false, cond, eqb, List, [], ◌∷◌, ◌++◌, length, Option, Some, None, Result, Ok, Err, refl, sym, ap, subst, ◌∙◌, append_assoc, arith, ◌⊎◌, inl, inr}
-use Rattle.std.specs.Prelude.{◌==◌, ◌&&◌, ◌||◌, not}
+use Rattle.std.proofs.Common.{◌≡◌, ℕ, zero, suc, ◌<◌, Bool, true, false, cond, List, [], ◌∷◌, ◌++◌, length, Option, Some, None, Ok, Err, refl, sym, ap, subst, ◌∙◌, append_assoc, arith}
+use Rattle.std.specs.Prelude.{◌&&◌, ◌||◌, not}
 use Rattle.std.specs.Option.{option_map_or}
 use Rattle.std.specs.List.{flat_map, AllByRecursion}
 use Rattle.class_model.specs.declared.constant.Const.{Const}
@@ -13,7 +13,6 @@ use Rattle.class_model.specs.declared.attribute.CodeAttribute.{CodeAttribute}
 use Rattle.class_model.specs.declared.attribute.CodeExtra.{CodeExtra}
 use Rattle.class_model.specs.declared.attribute.CodeExtra.TheVariants as extras
 use Rattle.class_grammar.specs.declared.class_why.ClassWhy.TheVariants as whys
-use Rattle.class_grammar.specs.declared.class_why.Fault.{Fault}
 use Rattle.class_grammar.specs.declared.holder.Holder.{Holder}
 use Rattle.class_grammar.specs.declared.holder.Holder.TheVariants as holders
 use Rattle.class_grammar.specs.Pool.{text_at}
@@ -24,10 +23,9 @@ use Rattle.class_grammar.specs.Ranges as ranges
 use Rattle.class_grammar.specs.Placing.{is_known, is_known_extra, has_body, has_extra, means_something, is_map, at_most_one, is_named_extra, AreExtras, IsPlacedBody, IsPlaced, ArePlaced}
 use Rattle.class_file.specs.Reading.{◌>>=◌, Reader, fault_at, number_at, bytes_at, both, mapped, tested, counted, listed, keep, many}
 use Rattle.class_file.specs.Reading as reading
-use Rattle.class_file.specs.Constants.{pair_at}
-use Rattle.class_file.specs.Attributes.{named_at, name_at, sized_bytes_at, extra_behind, extra_at, next_extra, extras_at, row_at, rows_at, is_code_length, code_bytes_at, code_at, known_at, attribute_behind, attribute_at, next_attribute, attributes_at}
+use Rattle.class_file.specs.Attributes.{named_at, name_at, sized_bytes_at, extra_behind, extra_at, extras_at, row_at, rows_at, is_code_length, code_bytes_at, code_at, known_at, attribute_behind, attribute_at, attributes_at}
 use Rattle.class_file.proofs.Ranges.{in_range, range_in}
-use Rattle.class_file.proofs.Readers.{IsBytes, ok_of, done, ok_is, passed, Takes, Takes-then, Reads, Carries, carried, wide16, wide32, number_reads, bytes_again, bytes_reads, both_reads, tested_reads, mapped_reads, counted_reads, sized_reads, same_reads, AreListed, listed_reads}
+use Rattle.class_file.proofs.Readers.{IsBytes, ok_of, done, ok_is, Takes, Takes-then, Reads, wide16, wide32, number_reads, bytes_again, bytes_reads, both_reads, tested_reads, mapped_reads, counted_reads, sized_reads, same_reads, AreListed, listed_reads}
 use Rattle.class_file.proofs.PoolLaws.{u2_reads, pair_reads}
 
 -- ---- names
@@ -49,9 +47,10 @@ name_reads pool = record {
   takes = λ bytes p fits e.
       let a = ok_of (number_at 2 bytes) (λ place. named_at bytes place.0 place.1 (text_at pool place.0)) p e in
       let n = named bytes a.0.0 a.0.1 (text_at pool a.0.0) p a.2 in
-      let one = u2_reads.takes bytes a.0 fits a.1 in
-      (subst (λ (r : List ℕ). Takes bytes (u2 p.0.0) r) (sym n.2) (subst (λ (k : ℕ). Takes bytes (u2 k) a.0.1) (sym n.1) one.0),
-      record { place = subst IsU2 (sym n.1) one.1; text = ap (text_at pool) n.1 ∙ n.0 });
+      let one = u2_reads.takes bytes a.0 fits a.1 in (
+        subst (λ (r : List ℕ). Takes bytes (u2 p.0.0) r) (sym n.2) (subst (λ (k : ℕ). Takes bytes (u2 k) a.0.1) (sym n.1) one.0),
+        record { place = subst IsU2 (sym n.1) one.1; text = ap (text_at pool) n.1 ∙ n.0 },
+      );
   again = λ name rest h. let e = h.text in rw (u2_reads.again name.0 rest h.place, e) refl;
 }
 
@@ -203,9 +202,10 @@ extra_reads pool seen more = record {
       let one = (name_reads pool).takes bytes a.0 fits a.1 in
       let two = extra_takes (is_known_extra a.0.0.1) seen bytes a.0.0 a.0.1 p refl one.0.rest_fits a.2 in
       let whole = Takes-then bytes (u2 a.0.0.0) a.0.1 (sized (code_extra p.0.body)) p.1 one.0 two.takes in
-      let text : text_at pool p.0.name ≡ Some a.0.0.1 = ap (text_at pool) two.named ∙ one.1.text in
-      (subst (λ (n : ℕ). Takes bytes (u2 n ++ sized (code_extra p.0.body)) p.1) (sym two.named) whole,
-      ((record { name = subst IsU2 (sym two.named) one.1.place; contents = two.fits }, naming (has_extra p.0.body) (text_at pool p.0.name) a.0.0.1 text two.extra), two.once));
+      let text : text_at pool p.0.name ≡ Some a.0.0.1 = ap (text_at pool) two.named ∙ one.1.text in (
+        subst (λ (n : ℕ). Takes bytes (u2 n ++ sized (code_extra p.0.body)) p.1) (sym two.named) whole,
+        ((record { name = subst IsU2 (sym two.named) one.1.place; contents = two.fits }, naming (has_extra p.0.body) (text_at pool p.0.name) a.0.0.1 text two.extra), two.once),
+      );
   again = λ a rest h. extra_again pool seen a.name a.body rest h.0 h.1;
 }
 
@@ -281,22 +281,28 @@ code_reads pool =
   where
     to : (p : ((ℕ × ℕ) × List ℕ) × (List Row × List CodeAttribute)) → ((IsU2 p.0.0.0 × IsU2 p.0.0.1) × IsCodeBytes p.0.1) × (ranges.IsTable ranges.IsRow p.1.0 × (IsU2 (length p.1.1) × AreOnce (IsExtra pool) test_map false p.1.1))
         → (((u2 p.0.0.0 ++ u2 p.0.0.1) ++ sized p.0.1) ++ (layout.table row p.1.0 ++ layout.table code_attribute p.1.1) ≡ code (record { max_stack = p.0.0.0; max_locals = p.0.0.1; code = p.0.1; rows = p.1.0; attributes = p.1.1 }))
-            × IsCode pool (record { max_stack = p.0.0.0; max_locals = p.0.0.1; code = p.0.1; rows = p.1.0; attributes = p.1.1 })
-    to p h = (sym (append_assoc ((u2 p.0.0.0 ++ u2 p.0.0.1) ++ sized p.0.1) (layout.table row p.1.0) (layout.table code_attribute p.1.1)), record {
-      fits = record {
-        max_stack = h.0.0.0;
-        max_locals = h.0.0.1;
-        code = h.0.1;
-        rows = h.1.0;
-        attributes = (h.1.1.0, firsts ranges.IsCodeAttribute (IsNamed pool) p.1.1 h.1.1.1.0);
-      };
-      placed = record { named = seconds ranges.IsCodeAttribute (IsNamed pool) p.1.1 h.1.1.1.0; single = h.1.1.1.1 };
-    })
+        × IsCode pool (record { max_stack = p.0.0.0; max_locals = p.0.0.1; code = p.0.1; rows = p.1.0; attributes = p.1.1 })
+    to p h = (
+      sym (append_assoc ((u2 p.0.0.0 ++ u2 p.0.0.1) ++ sized p.0.1) (layout.table row p.1.0) (layout.table code_attribute p.1.1)),
+      record {
+        fits = record {
+          max_stack = h.0.0.0;
+          max_locals = h.0.0.1;
+          code = h.0.1;
+          rows = h.1.0;
+          attributes = (h.1.1.0, firsts ranges.IsCodeAttribute (IsNamed pool) p.1.1 h.1.1.1.0);
+        };
+        placed = record { named = seconds ranges.IsCodeAttribute (IsNamed pool) p.1.1 h.1.1.1.0; single = h.1.1.1.1 };
+      },
+    )
 
     from : (c : CodeBody) → IsCode pool c → (p : ((ℕ × ℕ) × List ℕ) × (List Row × List CodeAttribute)) × (record { max_stack = p.0.0.0; max_locals = p.0.0.1; code = p.0.1; rows = p.1.0; attributes = p.1.1 } ≡ c)
         × (((IsU2 p.0.0.0 × IsU2 p.0.0.1) × IsCodeBytes p.0.1) × (ranges.IsTable ranges.IsRow p.1.0 × (IsU2 (length p.1.1) × AreOnce (IsExtra pool) test_map false p.1.1)))
-    from c h = ((((c.max_stack, c.max_locals), c.code), (c.rows, c.attributes)), refl,
-      (((h.fits.max_stack, h.fits.max_locals), h.fits.code), (h.fits.rows, (h.fits.attributes.0, (zipped ranges.IsCodeAttribute (IsNamed pool) c.attributes h.fits.attributes.1 h.placed.named, h.placed.single)))))
+    from c h = (
+      (((c.max_stack, c.max_locals), c.code), (c.rows, c.attributes)),
+      refl,
+      (((h.fits.max_stack, h.fits.max_locals), h.fits.code), (h.fits.rows, (h.fits.attributes.0, (zipped ranges.IsCodeAttribute (IsNamed pool) c.attributes h.fits.attributes.1 h.placed.named, h.placed.single)))),
+    )
 
 -- ---- the attributes of a class, a field or a method
 
@@ -386,10 +392,16 @@ attribute_reads pool holder seen more = record {
       let one = (name_reads pool).takes bytes a.0 fits a.1 in
       let two = body_takes pool holder (is_known holder a.0.0.1) seen bytes a.0.0 a.0.1 p refl one.0.rest_fits a.2 in
       let whole = Takes-then bytes (u2 a.0.0.0) a.0.1 (sized (body p.0.body)) p.1 one.0 two.takes in
-      let text : text_at pool p.0.name ≡ Some a.0.0.1 = ap (text_at pool) two.named ∙ one.1.text in
-      (subst (λ (n : ℕ). Takes bytes (u2 n ++ sized (body p.0.body)) p.1) (sym two.named) whole,
-      ((record { name = subst IsU2 (sym two.named) one.1.place; contents = two.contents; size = two.size },
-      record { named = naming (has_body holder p.0.body) (text_at pool p.0.name) a.0.0.1 text two.has; inside = two.inside }), two.once));
+      let text : text_at pool p.0.name ≡ Some a.0.0.1 = ap (text_at pool) two.named ∙ one.1.text in (
+        subst (λ (n : ℕ). Takes bytes (u2 n ++ sized (body p.0.body)) p.1) (sym two.named) whole,
+        (
+          (
+            record { name = subst IsU2 (sym two.named) one.1.place; contents = two.contents; size = two.size },
+            record { named = naming (has_body holder p.0.body) (text_at pool p.0.name) a.0.0.1 text two.has; inside = two.inside },
+          ),
+          two.once,
+        ),
+      );
   again = λ a rest h. attribute_again pool holder seen a.name a.body rest h.0 h.1;
 }
 

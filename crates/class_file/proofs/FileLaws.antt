@@ -1,7 +1,7 @@
 -- The laws of the readers of members and of the whole file.
-use Rattle.std.proofs.Common.{◌≡◌, ℕ, ◌^◌, ◌<◌, ◌≤◌, ◌+◌, Bool, true, false, cond, ltb, leb, eqb, List, [], ◌∷◌, ◌++◌, length, Result, Ok, Err, refl, sym, ap, subst, ◌∙◌, append_assoc, arith}
+use Rattle.std.proofs.Common.{◌≡◌, ℕ, Bool, true, false, cond, ltb, leb, eqb, List, [], ◌++◌, length, Result, Ok, Err, refl, sym, ap, subst, ◌∙◌, append_assoc, arith}
 use Rattle.std.specs.Prelude.{◌==◌, ◌&&◌, ◌||◌}
-use Rattle.std.specs.List.{flat_map, AllByRecursion}
+use Rattle.std.specs.List.{flat_map}
 use Rattle.std.proofs.lemmas.Bool.{eqb-true, eq-eqb, le-ltb, ltb-false}
 use Rattle.std.proofs.lemmas.List.{append-nil, nil_from_length}
 use Rattle.class_model.specs.declared.constant.Const.{Const}
@@ -16,7 +16,7 @@ use Rattle.class_grammar.specs.Layout.{u2, u4, table, constant, attribute, membe
 use Rattle.class_grammar.specs.Ranges.{IsU2, IsVersion, IsInRange}
 use Rattle.class_grammar.specs.Ranges as ranges
 use Rattle.class_grammar.specs.Placing.{ArePlaced, AreMembers, HasPlaced}
-use Rattle.class_file.specs.Reading.{◌>>=◌, Reader, fault_at, number_at, both, tested, counted, many}
+use Rattle.class_file.specs.Reading.{◌>>=◌, fault_at, number_at, tested, counted}
 use Rattle.class_file.specs.Constants.{pair_at, pool_at}
 use Rattle.class_file.specs.Attributes.{attributes_at}
 use Rattle.class_file.specs.FirstPass.{is_version, version_at, class_at, member_at, members_at, tail_at, first_pass}

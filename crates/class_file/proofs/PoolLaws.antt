@@ -1,14 +1,14 @@
 -- The laws of the readers of the constant pool.
-use Rattle.std.proofs.Common.{◌≡◌, ℕ, ℤ, zero, suc, ◌^◌, ◌<◌, ◌≤◌, ◌-◌, ◌+◌, Bool, true, false, cond, eqb, List, [], ◌∷◌, ◌++◌, length, Result, Ok, Err, refl, sym, ap, subst, ◌∙◌, append_assoc, arith, ◌⊎◌, inl, inr}
-use Rattle.std.specs.Prelude.{◌==◌, ◌&&◌, not, FitsSigned}
-use Rattle.std.specs.Int.{w16, w32, w64, cast_signed, cast_unsigned}
+use Rattle.std.proofs.Common.{◌≡◌, ℕ, zero, suc, ◌^◌, ◌<◌, ◌≤◌, ◌-◌, Bool, true, false, cond, List, [], ◌∷◌, ◌++◌, length, Result, Ok, Err, refl, sym, ap, subst, ◌∙◌, append_assoc, arith, ◌⊎◌, inl, inr}
+use Rattle.std.specs.Prelude.{◌==◌, ◌&&◌, not}
+use Rattle.std.specs.Int.{w32, w64, cast_signed, cast_unsigned}
 use Rattle.std.specs.List.{flat_map, AllByRecursion}
-use Rattle.std.proofs.lemmas.Bool.{eqb-true, eq-eqb, eqb-false, ne_eqb}
+use Rattle.std.proofs.lemmas.Bool.{eqb-true, eqb-false, ne_eqb}
 use Rattle.std.proofs.lemmas.Int.{of_z-to_z, to_z-of_z}
 use Rattle.std.proofs.Math.Facts.{sfits_to_z, Fits-of_lt, Fits-lt-pow, Fits-of_z}
 use Rattle.class_model.specs.declared.constant.Const.{Const}
 use Rattle.class_model.specs.declared.constant.Const.TheVariants.{Unused, Utf8, Integer, Float, Long, Double, Class, Text, Fieldref, Methodref, InterfaceMethodref, NameAndType, MethodHandle, MethodType, Dynamic, InvokeDynamic, Module, Package}
-use Rattle.jvm_utf8.specs.Text.{unit, text}
+use Rattle.jvm_utf8.specs.Text.{text}
 use Rattle.jvm_utf8.specs.Reading.{decoded}
 use Rattle.jvm_utf8.proofs.TextLaws.{found, decoded_text}
 use Rattle.class_grammar.specs.declared.class_why.ClassWhy.TheVariants as whys
@@ -16,9 +16,9 @@ use Rattle.class_grammar.specs.declared.class_why.Fault.{Fault}
 use Rattle.class_grammar.specs.Layout.{u1, u2, u4, u8, string, constant}
 use Rattle.class_grammar.specs.Ranges.{IsU1, IsU2, IsU4, IsConstant, is_wide, ArePlaces}
 use Rattle.class_grammar.specs.Ranges as ranges
-use Rattle.class_file.specs.Reading.{◌>>=◌, Reader, fault_at, number_at, bytes_at, both, mapped, tested}
-use Rattle.class_file.specs.Constants.{units_of, text_at, pair_at, pair_as, tagged_at, is_wide_tag, constant_at, place_at, next_place, places_at, pool_at}
-use Rattle.class_file.proofs.Readers.{IsBytes, ok_of, done, ok_is, not_failed, Takes, Takes-then, Reads, Carries, wide8, wide16, wide32, wide64, number_reads, bytes_again, bytes_reads, both_reads, tested_reads, mapped_reads, same_reads, AreListed, listed_reads}
+use Rattle.class_file.specs.Reading.{◌>>=◌, Reader, fault_at, number_at, bytes_at, mapped, tested}
+use Rattle.class_file.specs.Constants.{units_of, text_at, pair_at, tagged_at, is_wide_tag, constant_at, place_at, next_place, places_at, pool_at}
+use Rattle.class_file.proofs.Readers.{IsBytes, ok_of, ok_is, Takes, Takes-then, Reads, wide8, wide16, wide32, wide64, number_reads, bytes_again, bytes_reads, both_reads, tested_reads, same_reads, AreListed, listed_reads}
 
 pub u2_reads : Reads (number_at 2) u2 IsU2
 u2_reads = number_reads wide16
@@ -58,7 +58,6 @@ text_reads = record {
       ap (number_at 2) (append_assoc (u2 size) bytes rest) ∙ u2_reads.again size (bytes ++ rest) h.1 in
       rw (front, bytes_again size bytes rest refl, decoded_text units h.0) refl;
 }
-
 
 -- ---- constants
 
@@ -124,12 +123,12 @@ row_takes {A = A} {r = r} {s = s} {P = P} f k tag bytes others reads to fits beh
     elim (chosen (tag == k) (mapped f r bytes) others (Ok p) e) [
       | inr h ↦ behind p h.1
       | inl h ↦
-        let a = ok_of (r bytes) (λ x. Ok (f x.0, x.1)) p h.1 in
-        let one = reads.takes bytes a.0 fits a.1 in
-        let c = to a.0.0 one.1 in
-        let made : Const × List ℕ = (f a.0.0, a.0.1) in
-        subst (λ (t : ℕ). Takes bytes (tail_of p.0) p.1 × IsTagged t p.0) (sym (eqb-true tag k h.0))
-        (subst (λ (q : Const × List ℕ). Takes bytes (tail_of q.0) q.1 × IsTagged k q.0) (ok_is made p a.2) (subst (λ (t : List ℕ). Takes bytes t a.0.1) c.0 one.0, c.1))
+          let a = ok_of (r bytes) (λ x. Ok (f x.0, x.1)) p h.1 in
+          let one = reads.takes bytes a.0 fits a.1 in
+          let c = to a.0.0 one.1 in
+          let made : Const × List ℕ = (f a.0.0, a.0.1) in
+          subst (λ (t : ℕ). Takes bytes (tail_of p.0) p.1 × IsTagged t p.0) (sym (eqb-true tag k h.0))
+          (subst (λ (q : Const × List ℕ). Takes bytes (tail_of q.0) q.1 × IsTagged k q.0) (ok_is made p a.2) (subst (λ (t : List ℕ). Takes bytes t a.0.1) c.0 one.0, c.1))
     ]
 
 abbrev of : (k : ℕ) (c : Const) → tag_of c ≡ k → 1 ≤ k → IsConstant c → IsTagged k c

@@ -1,5 +1,5 @@
 -- Bytes spell at most one value.
-use Rattle.std.proofs.Common.{◌≡◌, ℕ, List, Ok, sym, ◌∙◌}
+use Rattle.std.proofs.Common.{◌≡◌, ℕ, List, sym, ◌∙◌}
 use Rattle.class_model.specs.declared.class_file.ClassFile.{ClassFile}
 use Rattle.class_grammar.specs.Spelling.{Spells}
 use Rattle.class_file.proofs.Readers.{ok_is}

@@ -1,5 +1,5 @@
 -- Attributes, read from front to back (JVMS 4.7).
-use Rattle.std.specs.Prelude.{ℕ, Bool, true, false, List, length, Option, Some, None, Result, Ok, Err, ◌||◌, if◌then◌else◌}
+use Rattle.std.specs.Prelude.{ℕ, Bool, false, List, Option, Some, None, Result, Ok, Err, ◌||◌, if◌then◌else◌}
 use Rattle.std.specs.Int.{is_in_range}
 use Rattle.class_model.specs.declared.constant.Const.{Const}
 use Rattle.class_model.specs.declared.attribute.Attribute.{Attribute}

@@ -1,5 +1,5 @@
 -- The constant pool, read from front to back (JVMS 4.4).
-use Rattle.std.specs.Prelude.{ℕ, ℤ, ◌-◌, Bool, true, false, not, List, [], ◌∷◌, length, Result, Ok, Err, ◌==◌, ◌&&◌, ◌||◌, if◌then◌else◌}
+use Rattle.std.specs.Prelude.{ℕ, ◌-◌, Bool, true, false, not, List, ◌∷◌, length, Result, Ok, Err, ◌==◌, ◌&&◌, ◌||◌, if◌then◌else◌}
 use Rattle.std.specs.Int.{w32, w64, cast_signed}
 use Rattle.class_model.specs.declared.constant.Const.{Const}
 use Rattle.class_model.specs.declared.constant.Const.TheVariants.{Unused, Utf8, Integer, Float, Long, Double, Class, Text, Fieldref, Methodref, InterfaceMethodref, NameAndType, MethodHandle, MethodType, Dynamic, InvokeDynamic, Module, Package}
@@ -7,7 +7,7 @@ use Rattle.class_grammar.specs.declared.class_why.ClassWhy.TheVariants as whys
 use Rattle.class_grammar.specs.declared.class_why.Fault.{Fault}
 use Rattle.class_grammar.specs.Ranges.{is_wide}
 use Rattle.jvm_utf8.specs.Reading.{decoded}
-use Rattle.class_file.specs.Reading.{◌>>=◌, Reader, fault_at, number_at, bytes_at, both, mapped, tested, counted, listed}
+use Rattle.class_file.specs.Reading.{◌>>=◌, Reader, fault_at, number_at, bytes_at, both, mapped, tested, listed}
 
 -- the units of a text, where so many bytes are left in front of it
 abbrev pub units_of : ℕ → Result (List ℕ) ℕ → Result (List ℕ) Fault

@@ -42,18 +42,21 @@ tail_at version pool bytes = do
   fields ← members_at pool holders.Field class.1
   methods ← members_at pool holders.Method fields.1
   attributes ← counted 2 (attributes_at pool holders.Class false) methods.1
-  Ok (record {
-    minor = version.0;
-    major = version.1;
-    pool = pool;
-    flags = class.0.0.0;
-    own = class.0.0.1.0;
-    parent = class.0.0.1.1;
-    interfaces = class.0.1;
-    fields = fields.0;
-    methods = methods.0;
-    attributes = attributes.0;
-  }, attributes.1)
+  Ok (
+    record {
+      minor = version.0;
+      major = version.1;
+      pool = pool;
+      flags = class.0.0.0;
+      own = class.0.0.1.0;
+      parent = class.0.0.1.1;
+      interfaces = class.0.1;
+      fields = fields.0;
+      methods = methods.0;
+      attributes = attributes.0;
+    },
+    attributes.1,
+  )
 
 -- a class file, and no byte more
 unfoldable pub first_pass : List ℕ → Result ClassFile Fault

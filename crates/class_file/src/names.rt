@@ -2,7 +2,6 @@
 
 ghost use Rattle.std.specs.Prelude.{◌≡◌};
 ghost use Rattle.std.specs.Option.{option_map};
-ghost use Rattle.class_grammar.specs.Text.{same_text};
 ghost use Rattle.class_grammar.specs.Placing as placing;
 ghost use Rattle.class_grammar.specs.Pool.{text_at};
 ghost use Rattle.class_file.specs.Reading.{Gives};
@@ -10,23 +9,8 @@ ghost use Rattle.class_file.specs.Attributes.{name_at};
 
 use crate::numbers::u2_of;
 use crate::stop::Stop;
-use class_grammar::{ClassWhy, Holder};
+use class_grammar::{ClassWhy, Holder, is_same};
 use class_model::Const;
-
-// Whether the units are these bytes.
-fn is_same(units: &[u16], text: &[u8]) -> bool
-    ensures { result ≡ same_text units.now text.now }
-{
-    if units.len() != text.len() {
-        return false;
-    }
-    for (index, unit) in units.iter().enumerate() {
-        if *unit != u16::from(text[index]) {
-            return false;
-        }
-    }
-    true
-}
 
 /// Whether an attribute of this name means something there.
 pub fn is_known(holder: Holder, name: &[u16]) -> bool

@@ -1,6 +1,4 @@
-use crate::ClassWhy;
-use crate::first_pass::file_of;
-use crate::stop::Stop;
+use crate::{ClassWhy, ReadError, read};
 use class_model::{Body, ClassFile};
 use std::test::Fail;
 
@@ -32,7 +30,7 @@ fn code_of(file: &ClassFile) -> Option<&[u8]> {
 }
 
 #[test]
-fn the_first_fault_is_named(rt: HostRuntime) -> Result<(), Fail> {
+fn the_first_failing_check_is_named(rt: HostRuntime) -> Result<(), Fail> {
     let mut one_more = Vec::from_slice(rt.alloc(), &PRINTS_42)?;
     one_more.push(0)?;
     let mut other_magic = PRINTS_42;
@@ -41,6 +39,8 @@ fn the_first_fault_is_named(rt: HostRuntime) -> Result<(), Fail> {
     other_version[7] = 0x32;
     let mut other_tag = PRINTS_42;
     other_tag[14] = 2;
+    let mut other_name = PRINTS_42;
+    other_name[13] = b'.';
     let cases = [
         ([].as_slice(), 0, ClassWhy::Short),
         (&PRINTS_42[..240], 239, ClassWhy::Short),
@@ -48,31 +48,25 @@ fn the_first_fault_is_named(rt: HostRuntime) -> Result<(), Fail> {
         (&other_magic, 0, ClassWhy::Magic),
         (&other_version, 4, ClassWhy::Version),
         (&other_tag, 14, ClassWhy::Tag),
+        (&other_name, 15, ClassWhy::Name),
     ];
     for (bytes, at, why) in cases {
-        match file_of(rt.alloc(), bytes) {
-            Err(Stop::Wrong(fault)) => {
-                assert_eq!(rt; bytes.len().saturating_sub(fault.left), at);
-                assert_eq!(rt; fault.why, why);
-            }
-            _ => assert!(rt; false),
-        }
+        assert_eq!(rt;
+            read(rt.alloc(), bytes).err(),
+            Some(ReadError::Bad { at, why })
+        );
     }
     Ok(())
 }
 
 #[test]
-fn a_file_is_taken_apart(rt: HostRuntime) -> Result<(), Fail> {
+fn a_file_is_read(rt: HostRuntime) -> Result<(), Fail> {
+    let file = read(rt.alloc(), &PRINTS_42)?;
+    assert_eq!(rt; file.major, 61);
+    assert_eq!(rt; file.pool.len(), 20);
+    assert_eq!(rt; file.own, 2);
+    assert_eq!(rt; file.parent, 4);
     let code = [0xb2, 0, 0x0d, 0x10, 0x2a, 0xb6, 0, 0x13, 0xb1];
-    match file_of(rt.alloc(), &PRINTS_42) {
-        Ok(file) => {
-            assert_eq!(rt; file.major, 61);
-            assert_eq!(rt; file.pool.len(), 20);
-            assert_eq!(rt; file.own, 2);
-            assert_eq!(rt; file.parent, 4);
-            assert_eq!(rt; code_of(&file), Some(code.as_slice()));
-        }
-        Err(_) => assert!(rt; false),
-    }
+    assert_eq!(rt; code_of(&file), Some(code.as_slice()));
     Ok(())
 }

@@ -1,20 +1,19 @@
 -- The items of a class file take just the bytes that the file has in front of its own attributes.
-use Rattle.std.proofs.Common.{◌≡◌, ℕ, ◌+◌, List, [], ◌∷◌, ◌++◌, length, refl, ap, ◌∙◌, arith}
+use Rattle.std.proofs.Common.{◌≡◌, ℕ, ◌+◌, List, [], ◌∷◌, ◌++◌, length, refl, arith}
 use Rattle.std.specs.Prelude.{map}
 use Rattle.std.specs.List.{flat_map}
 use Rattle.std.proofs.lemmas.List.{length-append}
 use Rattle.class_model.specs.declared.constant.Const.{Const}
-use Rattle.class_model.specs.declared.constant.Const.TheVariants.{Unused, Utf8}
+use Rattle.class_model.specs.declared.constant.Const.TheVariants.{Utf8}
 use Rattle.class_model.specs.declared.attribute.Attribute.{Attribute}
 use Rattle.class_model.specs.declared.attribute.Body.{Body}
 use Rattle.class_model.specs.declared.attribute.Body.TheVariants.{Code, Constant, Other}
 use Rattle.class_model.specs.declared.attribute.CodeBody.{CodeBody}
-use Rattle.class_model.specs.declared.attribute.Row.{Row}
 use Rattle.class_model.specs.declared.attribute.CodeAttribute.{CodeAttribute}
 use Rattle.class_model.specs.declared.member.Member.{Member}
 use Rattle.class_model.specs.declared.class_file.ClassFile.{ClassFile}
 use Rattle.jvm_utf8.specs.Text.{unit, text}
-use Rattle.class_grammar.specs.Layout.{u2, u4, table, sized, constant, row, code_extra, code_attribute, code, body, attribute, member, class_file}
+use Rattle.class_grammar.specs.Layout.{u2, u4, table, sized, constant, row, code_attribute, code, body, attribute, member, class_file}
 use Rattle.class_grammar.specs.Checks.{Item, sound, checked, class_fault, constant_items, class_items, row_items, extra_items, code_items, body_items, attribute_items, attributes_items, field_items, method_items, member_items, pool_items, items, size_of}
 
 size_of-append : (a b : List Item) → size_of (a ++ b) ≡ size_of a + size_of b

@@ -1,7 +1,7 @@
 -- The references, names, descriptors and ranges of a class file, item by item in the order of the file (JVMS 4.1 to
 -- 4.9; own where a line says so): each item's size in bytes, and what is wrong with it, if anything is. Items that
 -- can't be wrong stand together.
-use Rattle.std.specs.Prelude.{◌≡◌, ℕ, ◌+◌, ◌-◌, Bool, true, false, not, List, [], ◌∷◌, ◌++◌, length, map, codes, Option, Some, None, Result, Ok, Err, is_some, slice_get, bit_and, nat_lt, nat_le, ◌==◌, ◌&&◌, ◌||◌, if◌then◌else◌}
+use Rattle.std.specs.Prelude.{ℕ, ◌+◌, ◌-◌, Bool, true, false, not, List, [], ◌∷◌, ◌++◌, length, map, codes, Option, Some, None, Result, Ok, Err, is_some, slice_get, bit_and, nat_lt, nat_le, ◌==◌, ◌||◌, if◌then◌else◌}
 use Rattle.std.specs.Option.{option_map_or}
 use Rattle.std.specs.List.{flat_map, list_any}
 use Rattle.class_model.specs.declared.constant.Const.{Const}

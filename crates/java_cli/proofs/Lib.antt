@@ -3,4 +3,7 @@ pub mod Running
 pub mod Loops
 pub mod Putting
 pub mod Preparing
+pub mod TableLaws
+pub mod Reading
+pub mod Naming
 pub mod Answering

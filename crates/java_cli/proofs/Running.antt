@@ -1,35 +1,31 @@
 -- Where the interpreter stands in a run of the reference machine.
-use Rattle.std.proofs.Common.{add-one, ◌≡◌, ℕ, ℤ, zero, suc, ◌+◌, ◌<◌, ◌≤◌, Bool, true, false, cond, eqb, ltb, List, [], ◌∷◌, ◌++◌, length, Option, Some, None, refl, sym, ap, subst, ◌∙◌, append_assoc, arith, ◌⊎◌, inl, inr}
-use Rattle.std.specs.Prelude.{map, ◌==◌, ◌&&◌, if◌then◌else◌}
-use Rattle.std.specs.List.{list_all, AllByRecursion, filter}
+use Rattle.std.proofs.Common.{add-one, ◌≡◌, ℕ, ℤ, suc, ◌+◌, ◌<◌, Bool, true, false, cond, eqb, ltb, List, [], ◌∷◌, ◌++◌, length, Option, Some, None, refl, sym, ap, subst, ◌∙◌, append_assoc}
+use Rattle.std.specs.Prelude.{map, ◌&&◌}
+use Rattle.std.specs.List.{list_all, AllByRecursion}
 use Rattle.std.specs.Option.{option_map_or}
 use Rattle.std.proofs.lemmas.Bool.{ltb-true, eqb-true}
-use Rattle.std.proofs.lemmas.List.{length-map}
 use Rattle.ref_model.specs.declared.instruction.Op.{Op}
 use Rattle.ref_model.specs.declared.instruction.Op.TheVariants.{Bipush, Getstatic, Invokevirtual, Return}
 use Rattle.ref_model.specs.declared.instruction.Instr.{Instr}
 use Rattle.ref_model.specs.declared.value.Value.{Value}
 use Rattle.ref_model.specs.declared.value.Value.TheVariants as values
-use Rattle.ref_model.specs.declared.value.Slot.{Slot}
-use Rattle.ref_model.specs.declared.value.Slot.TheVariants.{One}
 use Rattle.ref_model.specs.declared.entry.Entry.{Entry}
 use Rattle.ref_model.specs.declared.entry.What.{What}
 use Rattle.ref_model.specs.declared.entry.What.TheVariants.{Mount, Unmount, Step, Clock}
 use Rattle.class_grammar.specs.Pool.{MemberName}
 use Rattle.ref_model.specs.Instructions.{encoding, instr, placed, behind}
 use Rattle.ref_model.specs.Program.{Method, instruction_at}
-use Rattle.ref_model.specs.State.{State, out_stream}
+use Rattle.ref_model.specs.State.{out_stream}
 use Rattle.ref_model.specs.Alone.{alone, at, over}
 use Rattle.ref_model.specs.Names.{field_at, method_at, is_out, is_print_int}
-use Rattle.ref_model.specs.Options.{◌>>=◌}
-use Rattle.ref_model.specs.Step.{step, line_of_int}
-use Rattle.ref_model.specs.Run.{steps, run, java, is_java}
+use Rattle.ref_model.specs.Step.{step}
+use Rattle.ref_model.specs.Run.{steps, java, is_java}
 use Rattle.ref_model.proofs.Places.{behind_more, found_at}
 use Rattle.ref_model.proofs.Folds.{run_more}
 use Rattle.ref_model.proofs.Straight.{bipush_steps, getstatic_steps, print_steps, return_steps}
 use Rattle.java_cli.specs.declared.typing.Kind.{Kind}
 use Rattle.java_cli.specs.declared.typing.Kind.TheVariants as kinds
-use Rattle.java_cli.specs.Typing.{names_out, names_print, grown, without_printed, effect, is_empty, is_return, is_typed}
+use Rattle.java_cli.specs.Typing.{names_out, names_print, grown, without_printed, is_return, is_typed}
 use Rattle.java_cli.specs.Standing.{kind_of, is_operand, slots, Stands}
 use Rattle.java_cli.specs.Operands.{CanPerform, values_after, out_after}
 use Rattle.java_cli.specs.Runs.{IsMainEntry, IsMainStep, IsRun}

@@ -1,11 +1,18 @@
 -- What each answer says to the outside (own): the exit status, as sysexits has it from 64 on, and the line on
 -- the fault output.
-use Rattle.std.specs.Prelude.{ℕ, List, [], ◌∷◌, ◌++◌, codes}
+use Rattle.std.specs.Prelude.{ℕ, List, [], ◌∷◌, ◌++◌, codes, map, unwrap_or, slice_get}
 use Rattle.std.specs.Fmt.{decimal}
-use Rattle.class_file.specs.declared.error.ClassWhy.{ClassWhy}
-use Rattle.class_file.specs.declared.error.ClassWhy.TheVariants.{Unsupported}
+use Rattle.std.specs.Str.{encode_utf8_all}
+use Rattle.std.specs.Char.Utf16.{utf16_chars}
+use Rattle.class_grammar.specs.declared.class_why.ClassWhy.{ClassWhy}
+use Rattle.class_grammar.specs.declared.class_why.ClassWhy.TheVariants as class_whys
+use Rattle.java_cli.specs.declared.report.LinkWhy.{LinkWhy}
+use Rattle.java_cli.specs.declared.report.LinkWhy.TheVariants as link_whys
+use Rattle.java_cli.specs.declared.report.Which.{Which}
+use Rattle.java_cli.specs.declared.report.Which.TheVariants.{Files, FileSize}
 use Rattle.java_cli.specs.declared.report.Why.{Why}
-use Rattle.java_cli.specs.declared.report.Why.TheVariants.{Ended, Usage, BadClass, Missing, SourceFault, SinkFault, NoMemory}
+use Rattle.java_cli.specs.declared.report.Why.TheVariants.{Ended, Usage, Limit, Missing, SourceFault, BadClass, NoMain, LinkFault, SinkFault, NoMemory}
+use Rattle.java_cli.specs.Words.{Command}
 
 abbrev pub status_of : Why → ℕ
 status_of Ended = 0
@@ -13,30 +20,75 @@ status_of Usage = 64
 status_of (BadClass file at why) = 65
 status_of (Missing file) = 66
 status_of (SourceFault file) = 67
+status_of (LinkFault class why) = 68
+status_of NoMain = 70
+status_of (Limit which number) = 71
 status_of (SinkFault which written) = 74
 status_of NoMemory = 75
 
--- the name of a refusal
-abbrev pub name_of : ClassWhy → List ℕ
-name_of Unsupported = codes "Unsupported"
+-- the name of what is wrong with a class file
+abbrev pub class_why_name : ClassWhy → List ℕ
+class_why_name class_whys.Short = codes "Short"
+class_why_name class_whys.Magic = codes "Magic"
+class_why_name class_whys.Version = codes "Version"
+class_why_name class_whys.Count = codes "Count"
+class_why_name class_whys.Tag = codes "Tag"
+class_why_name class_whys.Utf8 = codes "Utf8"
+class_why_name class_whys.Index = codes "Index"
+class_why_name class_whys.Length = codes "Length"
+class_why_name class_whys.Duplicate = codes "Duplicate"
+class_why_name class_whys.Trailing = codes "Trailing"
+class_why_name class_whys.Name = codes "Name"
+class_why_name class_whys.Descriptor = codes "Descriptor"
+class_why_name class_whys.Code = codes "Code"
+class_why_name class_whys.Range = codes "Range"
+class_why_name class_whys.Unsupported = codes "Unsupported"
 
--- a line that says something of a file
+abbrev pub link_why_name : LinkWhy → List ℕ
+link_why_name link_whys.Unsupported = codes "Unsupported"
+
+abbrev pub which_name : Which → List ℕ
+which_name Files = codes "Files"
+which_name FileSize = codes "FileSize"
+
+-- units of UTF-16 as UTF-8, with `?` for a surrogate without its partner
+abbrev pub utf8_of : List ℕ → List ℕ
+utf8_of units = encode_utf8_all (map (λ c. unwrap_or c 63) (utf16_chars units))
+
+-- the word of the file at a place
+abbrev pub file_word : Command → ℕ → List ℕ
+file_word c n = unwrap_or (slice_get c.files n) []
+
+-- a text, a name and a line's end
 abbrev pub line_with : List ℕ → List ℕ → List ℕ
-line_with text file = text ++ file ++ 10 ∷ []
+line_with text name = text ++ name ++ 10 ∷ []
 
--- the line of an answer, where `file` is the word of the file that it names
-abbrev pub line_of : Why → List ℕ → List ℕ
-line_of Ended file = []
-line_of Usage file = codes "jvt: usage\n"
-line_of (BadClass n at why) file = codes "jvt: bad class " ++ file ++ codes " at " ++ decimal at ++ codes ": " ++ name_of why ++ 10 ∷ []
-line_of (Missing n) file = line_with (codes "jvt: missing ") file
-line_of (SourceFault n) file = line_with (codes "jvt: cannot read ") file
-line_of (SinkFault which written) file = codes "jvt: cannot write\n"
-line_of NoMemory file = codes "jvt: no memory\n"
+abbrev pub limit_line : Which → ℕ → List ℕ
+limit_line which number = codes "jvt: limit " ++ which_name which ++ codes " " ++ decimal number ++ 10 ∷ []
 
--- the line of this answer names a file, and so is made in memory
-abbrev pub NamesFile : Why → Type 0
-NamesFile (BadClass file at why) = Unit {0}
-NamesFile (Missing file) = Unit {0}
-NamesFile (SourceFault file) = Unit {0}
-NamesFile why = ⊥
+abbrev pub bad_class_line : List ℕ → ℕ → ClassWhy → List ℕ
+bad_class_line file at why = codes "jvt: bad class " ++ file ++ codes " at " ++ decimal at ++ codes ": " ++ class_why_name why ++ 10 ∷ []
+
+abbrev pub link_line : List ℕ → LinkWhy → List ℕ
+link_line class why = codes "jvt: link " ++ utf8_of class ++ codes ": " ++ link_why_name why ++ 10 ∷ []
+
+-- the line of an answer to this command
+abbrev pub line_of : Command → Why → List ℕ
+line_of c Ended = []
+line_of c Usage = codes "jvt: usage\n"
+line_of c (Limit which number) = limit_line which number
+line_of c (Missing file) = line_with (codes "jvt: missing ") (file_word c file)
+line_of c (SourceFault file) = line_with (codes "jvt: cannot read ") (file_word c file)
+line_of c (BadClass file at why) = bad_class_line (file_word c file) at why
+line_of c NoMain = line_with (codes "jvt: no main in ") c.main
+line_of c (LinkFault class why) = link_line class why
+line_of c (SinkFault which written) = codes "jvt: cannot write\n"
+line_of c NoMemory = codes "jvt: no memory\n"
+
+-- the line of this answer names something, and so is made in memory
+abbrev pub NamesSomething : Why → Type 0
+NamesSomething Ended = ⊥
+NamesSomething Usage = ⊥
+NamesSomething (SinkFault which written) = ⊥
+NamesSomething NoMemory = ⊥
+NamesSomething why = Unit {0}

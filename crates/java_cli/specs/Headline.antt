@@ -1,24 +1,20 @@
 -- What a call of the machine did, from the words to what the sinks took.
-use Rattle.std.specs.Prelude.{◌≡◌, ◌⊎◌, ℕ, ◌≤◌, ◌<◌, List, [], Option, Some, length, take}
+use Rattle.std.specs.Prelude.{◌≡◌, ◌⊎◌, ℕ, ◌<◌, List, [], Option, Some, length, take}
 use Rattle.std.specs.List.{AllByRecursion}
 use Rattle.jvm_edges.specs.Bytes.{Appends}
 use Rattle.jvm_edges.specs.Causes.{Rose}
 use Rattle.jvm_edges.specs.Files.{Files}
-use Rattle.ref_model.specs.declared.entry.Entry.{Entry}
 use Rattle.ref_model.specs.declared.ending.Ending.TheVariants as endings
 use Rattle.ref_model.specs.Program.{Program}
 use Rattle.ref_model.specs.State.{State, ending}
 use Rattle.ref_model.specs.Run.{run, java}
 use Rattle.java_cli.specs.declared.report.Report.{Report}
-use Rattle.java_cli.specs.declared.report.SinkName.{SinkName}
 use Rattle.java_cli.specs.declared.report.SinkName.TheVariants.{Out}
 use Rattle.java_cli.specs.declared.report.Why.{Why}
-use Rattle.java_cli.specs.declared.report.Why.TheVariants.{Ended, Usage, BadClass, Missing, SourceFault, SinkFault, NoMemory}
+use Rattle.java_cli.specs.declared.report.Why.TheVariants.{Ended, SinkFault, NoMemory}
 use Rattle.java_cli.specs.Words.{Command}
-use Rattle.java_cli.specs.Programs.{IsProgram}
-use Rattle.java_cli.specs.Runs.{IsMainEntry}
-use Rattle.java_cli.specs.Causes.{IsGiven}
-use Rattle.java_cli.specs.Answers.{NamesFile}
+use Rattle.java_cli.specs.Runs.{IsMainEntry, IsGiven}
+use Rattle.java_cli.specs.Answers.{NamesSomething}
 
 -- how much the out sink took: all that the program printed, or less after a fault
 abbrev pub IsTaken : Why → ℕ → ℕ → Type 0
@@ -26,15 +22,13 @@ IsTaken Ended taken size = taken ≡ size
 IsTaken (SinkFault which written) taken size = (which ≡ Out) × (written ≡ taken) × (taken < size)
 IsTaken why taken size = ⊥
 
--- The history of the report, without its mount and unmount entries, is a history of the reference machine for
--- the program that the store gave, up to the program's end; and what the out sink took is that history's output,
--- or its front after a fault of the sink.
+-- The history of the report, without its mount and unmount entries, is a history of the reference machine for the
+-- program that the command's files are, up to the program's end; and what the out sink took is that history's
+-- output, or its front after a fault of the sink.
 pub record Ran (c : Command) (told : Option Files) (before after : Option (List ℕ)) (r : Report) : Type 0 where
-  pub bytes : List ℕ
   pub program : Program
   pub state : State
-  pub given : IsGiven told c bytes
-  pub accepted : IsProgram c.main bytes program
+  pub given : IsGiven told c program
   pub runs : run program (java r.history.items) ≡ Some state
   pub ended : ending state ≡ Some endings.Ended
   pub tells : state.err ≡ []
@@ -61,6 +55,6 @@ pub record TellsLine (before after : Option (List ℕ)) (faults_before faults_af
   pub written : Appends before (take told line) after
   pub whole : told < length line → Rose faults_before faults_after
 
--- an answer stays as it is, or was to name a file and found no memory for that
+-- an answer stays as it is, or was to name something and found no memory for that
 abbrev pub IsKept : Why → Why → Type 0
-IsKept before after = (after ≡ before) ⊎ (NamesFile before × (after ≡ NoMemory))
+IsKept before after = (after ≡ before) ⊎ (NamesSomething before × (after ≡ NoMemory))

@@ -1,5 +1,5 @@
 -- The operands of a plain method as its interpreter keeps them.
-use Rattle.std.specs.Prelude.{◌≡◌, ℕ, ℤ, Bool, true, false, List, [], ◌∷◌, ◌++◌, ◌==◌, IsTrue}
+use Rattle.std.specs.Prelude.{◌≡◌, ℕ, Bool, true, false, List, ◌∷◌, ◌++◌, ◌==◌}
 use Rattle.ref_model.specs.declared.value.Value.{Value}
 use Rattle.ref_model.specs.declared.value.Value.TheVariants.{Int, Ref}
 use Rattle.ref_model.specs.declared.instruction.Op.{Op}

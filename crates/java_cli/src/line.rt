@@ -1,8 +1,11 @@
 ghost use Rattle.std.specs.Prelude.{◌≡◌, IfOk, OnErr};
-ghost use Rattle.java_cli.specs.Answers.{line_of, line_with, name_of as class_why_name, NamesFile};
+ghost use Rattle.java_cli.specs.Answers.{line_of, line_with, limit_line, bad_class_line, link_line, NamesSomething, class_why_name as class_why_name_of, link_why_name as link_why_name_of, which_name as which_name_of, file_word as file_word_of};
+ghost use Rattle.java_cli.specs.Commands.{spelled};
 ghost use Rattle.java_cli.specs.Lines.{bytes_of};
 
-use crate::report::Why;
+use crate::report::{LinkWhy, Which, Why};
+use crate::utf8::utf8;
+use crate::words::Command;
 use class_file::ClassWhy;
 use itoa::Buffer;
 use std::alloc::{AllocError, Global};
@@ -27,34 +30,67 @@ impl Line {
     }
 }
 
-/// The line that an answer writes, with LF, where `file` is the word of the file that it names.
-pub fn make_line(alloc: Global, why: &Why, file: &str) -> Result<Line, AllocError>
-    ensures line { IfOk result (λ line. bytes_of line ≡ line_of why.now file.now) }
-    ensures memory { OnErr result (NamesFile why.now) }
+/// The line that an answer to this command writes, with LF.
+pub fn make_line(alloc: Global, why: &Why, command: &Command) -> Result<Line, AllocError>
+    ensures line { IfOk result (λ line. bytes_of line ≡ line_of (spelled command.now) why.now) }
+    ensures memory { OnErr result (NamesSomething why.now) }
 {
     let bytes = match why {
         Why::Ended => return Ok(Line::Fixed(b"")),
         Why::Usage => return Ok(Line::Fixed(b"jvt: usage\n")),
         Why::SinkFault { .. } => return Ok(Line::Fixed(b"jvt: cannot write\n")),
         Why::NoMemory => return Ok(Line::Fixed(NO_MEMORY)),
-        Why::BadClass { at, why, .. } => bad_class(alloc, file, *at, *why)?,
-        Why::Missing { .. } => line_with_file(alloc, b"jvt: missing ", file)?,
-        Why::SourceFault { .. } => line_with_file(alloc, b"jvt: cannot read ", file)?,
+        Why::Limit { which, number } => limit(alloc, *which, *number)?,
+        Why::Missing { file } => line_with_name(
+            alloc,
+            b"jvt: missing ",
+            file_word(command, *file),
+        )?,
+        Why::SourceFault { file } => line_with_name(
+            alloc,
+            b"jvt: cannot read ",
+            file_word(command, *file),
+        )?,
+        Why::BadClass { file, at, why } => bad_class(alloc, file_word(command, *file), *at, *why)?,
+        Why::NoMain => line_with_name(alloc, b"jvt: no main in ", command.main)?,
+        Why::LinkFault { class, why } => link(alloc, class.as_slice(), *why)?,
     };
     Ok(Line::Made(bytes))
 }
 
-fn line_with_file(alloc: Global, text: &[u8], file: &str) -> Result<Vec<u8>, AllocError>
-    ensures { IfOk result (λ line. line.items ≡ line_with text.now file.now) }
+/// The word of the file at a place.
+fn file_word<'a>(command: &Command<'a>, file: u32) -> &'a str
+    ensures { result.now ≡ file_word_of (spelled command.now) file }
+{
+    match command.files.get(file as usize) {
+        Some(word) => word.as_str(),
+        None => "",
+    }
+}
+
+fn line_with_name(alloc: Global, text: &[u8], name: &str) -> Result<Vec<u8>, AllocError>
+    ensures { IfOk result (λ line. line.items ≡ line_with text.now name.now) }
 {
     let mut line = Vec::from_slice(alloc, text)?;
-    line.extend_from_slice(file.as_bytes())?;
+    line.extend_from_slice(name.as_bytes())?;
+    line.push(b'\n')?;
+    Ok(line)
+}
+
+fn limit(alloc: Global, which: Which, number: u32) -> Result<Vec<u8>, AllocError>
+    ensures { IfOk result (λ line. line.items ≡ limit_line which number) }
+{
+    let mut buffer = Buffer::new();
+    let mut line = Vec::from_slice(alloc, b"jvt: limit ")?;
+    line.extend_from_slice(which_name(which))?;
+    line.extend_from_slice(b" ")?;
+    line.extend_from_slice(buffer.format(number).as_bytes())?;
     line.push(b'\n')?;
     Ok(line)
 }
 
 fn bad_class(alloc: Global, file: &str, at: u32, why: ClassWhy) -> Result<Vec<u8>, AllocError>
-    ensures { IfOk result (λ line. line.items ≡ line_of (Why.BadClass 0 at why) file.now) }
+    ensures { IfOk result (λ line. line.items ≡ bad_class_line file.now at why) }
 {
     let mut buffer = Buffer::new();
     let mut line = Vec::from_slice(alloc, b"jvt: bad class ")?;
@@ -62,15 +98,58 @@ fn bad_class(alloc: Global, file: &str, at: u32, why: ClassWhy) -> Result<Vec<u8
     line.extend_from_slice(b" at ")?;
     line.extend_from_slice(buffer.format(at).as_bytes())?;
     line.extend_from_slice(b": ")?;
-    line.extend_from_slice(name_of(why))?;
+    line.extend_from_slice(class_why_name(why))?;
     line.push(b'\n')?;
     Ok(line)
 }
 
-fn name_of(why: ClassWhy) -> &'static [u8]
-    ensures { result.now ≡ class_why_name why }
+fn link(alloc: Global, class: &[u16], why: LinkWhy) -> Result<Vec<u8>, AllocError>
+    ensures { IfOk result (λ line. line.items ≡ link_line class.now why) }
+{
+    let name = utf8(alloc, class)?;
+    let mut line = Vec::from_slice(alloc, b"jvt: link ")?;
+    line.extend_from_slice(name.as_bytes())?;
+    line.extend_from_slice(b": ")?;
+    line.extend_from_slice(link_why_name(why))?;
+    line.push(b'\n')?;
+    Ok(line)
+}
+
+fn which_name(which: Which) -> &'static [u8]
+    ensures { result.now ≡ which_name_of which }
+{
+    match which {
+        Which::Files => b"Files",
+        Which::FileSize => b"FileSize",
+    }
+}
+
+fn link_why_name(why: LinkWhy) -> &'static [u8]
+    ensures { result.now ≡ link_why_name_of why }
 {
     match why {
+        LinkWhy::Unsupported => b"Unsupported",
+    }
+}
+
+fn class_why_name(why: ClassWhy) -> &'static [u8]
+    ensures { result.now ≡ class_why_name_of why }
+{
+    match why {
+        ClassWhy::Short => b"Short",
+        ClassWhy::Magic => b"Magic",
+        ClassWhy::Version => b"Version",
+        ClassWhy::Count => b"Count",
+        ClassWhy::Tag => b"Tag",
+        ClassWhy::Utf8 => b"Utf8",
+        ClassWhy::Index => b"Index",
+        ClassWhy::Length => b"Length",
+        ClassWhy::Duplicate => b"Duplicate",
+        ClassWhy::Trailing => b"Trailing",
+        ClassWhy::Name => b"Name",
+        ClassWhy::Descriptor => b"Descriptor",
+        ClassWhy::Code => b"Code",
+        ClassWhy::Range => b"Range",
         ClassWhy::Unsupported => b"Unsupported",
     }
 }

@@ -1,73 +1,91 @@
-ghost use Rattle.std.specs.Prelude.{◌≤◌, IfOk, IfErr};
-ghost use Rattle.jvm_edges.specs.Causes.{Rose};
-ghost use Rattle.java_cli.specs.Commands.{spelled};
-ghost use Rattle.java_cli.specs.Causes.{HasCause, HasByteCause, IsFound};
-ghost use Rattle.java_cli.specs.Runs.{RanBytes, RanCommand};
+//! The files of a command, read as class files.
 
-use crate::interpreter::{Execution, run};
-use crate::prepare::prepare;
-use crate::report::Why;
-use crate::words::Command;
-use class_file::{ClassWhy, ReadError, read};
-use jvm_edges::{Gate, Store, StoreError};
+ghost use Rattle.std.specs.Prelude.{◌≡◌, ◌⊎◌, ◌≤◌, ◌<◌, ◌^◌, Some, length, string_bytes, IfOk, IfErr, IfSome};
+ghost use Rattle.std.specs.List.{AllZip};
+ghost use Rattle.jvm_edges.specs.Causes.{Rose};
+ghost use Rattle.jvm_edges.specs.Files.{file_named};
+ghost use Rattle.java_cli.specs.Words.{texts};
+ghost use Rattle.java_cli.specs.Causes.{most_files, most_bytes, IsBad};
+ghost use Rattle.java_cli.specs.Reading.{IsRead, NotRead, IsStopped, SpellsOnly};
+
+use crate::report::{Which, Why};
+use class_file::{ReadError, read};
+use class_model::ClassFile;
+use jvm_edges::{Store, StoreError};
 use std::alloc::Global;
 
-/// The most bytes of a class file of the plain form.
-const FILE_BYTES: usize = 65_535;
+/// The most bytes of a class file (own).
+const MOST_BYTES: u32 = 4_194_304;
 
-const BAD_CLASS: Why = Why::BadClass {
-    file: 0,
-    at: 0,
-    why: ClassWhy::Unsupported,
-};
-
-/// Runs the program of a command to its end, or says why it was not run.
-pub fn run_command<S: Store, G: Gate>(
+/// Reads the files of these names, one after the other.
+pub fn read_files<S: Store>(
     alloc: Global,
-    command: &Command,
+    names: &[String],
     store: &mut S,
-    gate: &G,
-) -> Result<Execution, Why>
-    ensures ran { IfOk result (λ x. RanCommand (S.files store.old) (spelled command.now) x.history.items x.out.items) }
-    ensures cause { IfErr result (λ why. HasCause (S.files store.old) (Rose (S.faults store.old) (S.faults store.new)) (spelled command.now) why) }
+) -> Result<Vec<ClassFile>, Why>
+    requires { length names.now ≤ most_files }
+    ensures found { IfOk result (λ classes. AllZip (IsRead (S.files store.old)) (texts names.now) classes.items) }
+    ensures stopped { IfErr result (IsStopped (S.files store.old) (Rose (S.faults store.old) (S.faults store.new)) (texts names.now)) }
 {
-    let bytes = read_file(alloc, command, store)?;
-    run_bytes(alloc, &command.main, &bytes, gate)
+    let mut classes = Vec::new(alloc);
+    for (place, name) in names.iter().enumerate() {
+        classes.push(read_class(alloc, place as u32, name.as_str(), store)?)?;
+    }
+    Ok(classes)
 }
 
-/// Reads the command's file, at most one byte more than is taken.
-fn read_file<S: Store>(alloc: Global, command: &Command, store: &mut S) -> Result<Vec<u8>, Why>
-    ensures found { IfOk result (λ bytes. IsFound (S.files store.old) (spelled command.now) bytes.items) }
-    ensures cause { IfErr result (λ why. HasCause (S.files store.old) (Rose (S.faults store.old) (S.faults store.new)) (spelled command.now) why) }
+/// Reads the file of this name, which stands at a place among the FILE words.
+fn read_class<S: Store>(
+    alloc: Global,
+    place: u32,
+    name: &str,
+    store: &mut S,
+) -> Result<ClassFile, Why>
+    ensures found { IfOk result (IsRead (S.files store.old) name.now) }
+    ensures cause { IfErr result (NotRead (S.files store.old) (Rose (S.faults store.old) (S.faults store.new)) place name.now) }
+    ensures kept { S.files store.new ≡ S.files store.old }
+    ensures later { S.faults store.old ≤ S.faults store.new }
 {
-    match store.read(alloc, command.file, FILE_BYTES + 1) {
-        Ok(Some(bytes)) => Ok(bytes),
-        Ok(None) => Err(Why::Missing { file: 0 }),
-        Err(StoreError::Failed) => Err(Why::SourceFault { file: 0 }),
-        Err(StoreError::NoMemory) => Err(Why::NoMemory),
-    }
+    let bytes = read_file(alloc, place, name, store)?;
+    class_of(alloc, place, &bytes)
 }
 
-/// Runs the program that these bytes are.
-fn run_bytes<G: Gate>(alloc: Global, main: &[u8], bytes: &[u8], gate: &G) -> Result<Execution, Why>
-    ensures ran { IfOk result (λ x. RanBytes main.now bytes.now x.history.items x.out.items) }
-    ensures cause { IfErr result (HasByteCause main.now bytes.now) }
+/// Reads the bytes of the file, asking for one more than is taken.
+fn read_file<S: Store>(alloc: Global, place: u32, name: &str, store: &mut S) -> Result<Vec<u8>, Why>
+    ensures small { IfOk result (λ bytes. length bytes.items ≤ most_bytes) }
+    ensures found { IfOk result (λ bytes. IfSome (S.files store.old) (λ files. Some bytes.items ≡ file_named name.now files)) }
+    ensures cause { IfErr result (NotRead (S.files store.old) (Rose (S.faults store.old) (S.faults store.new)) place name.now) }
+    ensures kept { S.files store.new ≡ S.files store.old }
+    ensures later { S.faults store.old ≤ S.faults store.new }
 {
-    if bytes.len() > FILE_BYTES {
-        return Err(BAD_CLASS);
+    let bytes = match store.read(alloc, name, MOST_BYTES as usize + 1) {
+        Ok(Some(bytes)) => bytes,
+        Ok(None) => return Err(Why::Missing { file: place }),
+        Err(StoreError::Failed) => return Err(Why::SourceFault { file: place }),
+        Err(StoreError::NoMemory) => return Err(Why::NoMemory),
+    };
+    if bytes.len() > MOST_BYTES as usize {
+        return Err(Why::Limit {
+            which: Which::FileSize,
+            number: MOST_BYTES,
+        });
     }
-    let file = match read(alloc, bytes) {
-        Ok(file) => file,
-        Err(ReadError::Bad { at, why }) => return Err(Why::BadClass { file: 0, at, why }),
-        Err(ReadError::NoMemory) => return Err(Why::NoMemory),
-    };
-    let method = match prepare(alloc, main, &file) {
-        Ok(Some(method)) => method,
-        Ok(None) => return Err(BAD_CLASS),
-        Err(_) => return Err(Why::NoMemory),
-    };
-    match run(alloc, &method, gate) {
-        Ok(execution) => Ok(execution),
-        Err(_) => Err(Why::NoMemory),
+    Ok(bytes)
+}
+
+/// The class file that the bytes spell.
+fn class_of(alloc: Global, place: u32, bytes: &[u8]) -> Result<ClassFile, Why>
+    requires { length bytes.now ≤ most_bytes }
+    ensures found { IfOk result (SpellsOnly bytes.now) }
+    ensures bad { IfErr result (λ why. (why ≡ Why.NoMemory) ⊎ IsBad place bytes.now why) }
+{
+    match read(alloc, bytes) {
+        Ok(file) => Ok(file),
+        Err(ReadError::Bad { at, why }) => Err(Why::BadClass {
+            file: place,
+            at,
+            why,
+        }),
+        Err(ReadError::NoMemory) => Err(Why::NoMemory),
     }
 }

@@ -3,12 +3,13 @@ ghost use Rattle.std.specs.Option.{option_copied, option_map_or};
 ghost use Rattle.class_grammar.specs.Text.{same_text as is_same_text};
 ghost use Rattle.class_grammar.specs.Pool.{text_at as text_in, class_name_at as class_name_in};
 ghost use Rattle.ref_model.specs.Names.{member_of, is_member as is_member_named};
+ghost use Rattle.java_cli.specs.MainClass.{is_text, has_text, is_class_named};
 ghost use Rattle.java_cli.specs.Typing.{names_out as is_out_named, names_print as is_print_named};
 
 use class_model::Const;
 
 /// The text at a place of the constant pool (JVMS 4.4.7).
-fn text_at(pool: &[Const], place: u16) -> Option<&[u16]>
+pub fn text_at(pool: &[Const], place: u16) -> Option<&[u16]>
     ensures { option_copied result ≡ text_in pool.now place }
 {
     match pool.get(usize::from(place)) {
@@ -40,6 +41,26 @@ pub fn same_text(units: &[u16], ascii: &[u8]) -> bool
         }
     }
     true
+}
+
+/// Whether the place holds this text.
+pub fn holds_text(pool: &[Const], place: u16, ascii: &[u8]) -> bool
+    ensures { result ≡ has_text (is_text ascii.now) pool.now place }
+{
+    match text_at(pool, place) {
+        Some(units) => same_text(units, ascii),
+        None => false,
+    }
+}
+
+/// Whether the class at the place has this name.
+pub fn names_class(pool: &[Const], place: u16, ascii: &[u8]) -> bool
+    ensures { result ≡ is_class_named ascii.now pool.now place }
+{
+    match class_name_at(pool, place) {
+        Some(units) => same_text(units, ascii),
+        None => false,
+    }
 }
 
 /// Whether the class at one place, and the name and the descriptor at another, are these (JVMS 4.4.6).

@@ -1,13 +1,31 @@
 ghost use Rattle.std.specs.Prelude.{◌≡◌};
 
 use class_file::ClassWhy;
+use items::Items;
 use ref_model::Entry;
+use std::alloc::{AllocError, AllocFailed};
 
 /// Which sink (own).
 #[derive(Clone, Copy, Debug, PartialEq, Eq)]
 pub enum SinkName {
     Out,
     Err,
+}
+
+/// What there may be only so much of (own).
+#[derive(Clone, Copy, Debug, PartialEq, Eq)]
+pub enum Which {
+    /// The FILE words of a command.
+    Files,
+    /// The bytes of a file.
+    FileSize,
+}
+
+/// Why a class could not be linked (own).
+#[derive(Clone, Copy, Debug, PartialEq, Eq)]
+pub enum LinkWhy {
+    /// There are several class files, or the one is not of the plain form.
+    Unsupported,
 }
 
 /// Why the call returned. `file` is the place of a file among the FILE words, from 0.
@@ -17,12 +35,18 @@ pub enum Why {
     Ended,
     /// The words are no command.
     Usage,
-    /// The file is no class file that is taken; `at` is the first byte that is wrong, or 0.
-    BadClass { file: u32, at: u32, why: ClassWhy },
+    /// There is more than is taken: more than this number.
+    Limit { which: Which, number: u32 },
     /// There is no such file.
     Missing { file: u32 },
     /// The store failed.
     SourceFault { file: u32 },
+    /// The file is no class file; `at` is the byte of the first check that fails.
+    BadClass { file: u32, at: u32, why: ClassWhy },
+    /// No file's class is the main class with a `main` (JLS 12.1.4).
+    NoMain,
+    /// The class of this name could not be linked (JVMS 5.4).
+    LinkFault { class: Items<u16>, why: LinkWhy },
     /// The sink failed, and had taken so many bytes of what was to be written.
     SinkFault { which: SinkName, written: u64 },
     /// Memory ran out.
@@ -42,9 +66,32 @@ impl Why {
             Why::BadClass { .. } => 65,
             Why::Missing { .. } => 66,
             Why::SourceFault { .. } => 67,
+            Why::LinkFault { .. } => 68,
+            Why::NoMain => 70,
+            Why::Limit { .. } => 71,
             Why::SinkFault { .. } => 74,
             Why::NoMemory => 75,
         }
+    }
+}
+
+impl From<AllocError> for Why {
+    ghost use Rattle.java_cli.specs.declared.report.Why.TheVariants as whys;
+
+    ghost from_gives = { λ _ e. e ≡ whys.NoMemory };
+
+    fn from(_: AllocError) -> Self {
+        Why::NoMemory
+    }
+}
+
+impl<T: Drop> From<AllocFailed<T>> for Why {
+    ghost use Rattle.java_cli.specs.declared.report.Why.TheVariants as whys;
+
+    ghost from_gives = { λ _ e. e ≡ whys.NoMemory };
+
+    fn from(_: AllocFailed<T>) -> Self {
+        Why::NoMemory
     }
 }
 

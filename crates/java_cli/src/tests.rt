@@ -1,7 +1,9 @@
-use crate::{Report, SinkName, Why, jvt};
+use crate::{Report, SinkName, Which, Why, jvt};
+use class_file::ClassWhy;
 use jvm_edges::{ListClock, MapStore, MemSink, OpenGate};
 use ref_model::{Entry, What};
 use std::alloc::{AllocError, Global};
+use std::process::Abort;
 use std::test::Fail;
 
 /// `class A`, whose main prints 42: what an assembler makes of it without debugging information.
@@ -24,12 +26,19 @@ const A_CLASS: [u8; 241] = [
     0x00,
 ];
 
-/// A call: its words, the bytes of `A.class` where there are any, and the calls of the store and of the out sink
-/// that fail.
+/// Where each field of `A.class` begins.
+const FIELD_STARTS: [u32; 76] = [
+    0, 4, 6, 8, 10, 11, 13, 14, 15, 17, 18, 20, 36, 37, 39, 40, 42, 46, 47, 49, 71, 72, 74, 78, 79,
+    81, 97, 98, 100, 101, 103, 106, 107, 109, 130, 131, 133, 135, 136, 138, 140, 141, 143, 162,
+    163, 165, 166, 168, 175, 176, 178, 182, 183, 185, 187, 188, 190, 192, 194, 196, 198, 200, 202,
+    204, 206, 208, 210, 212, 214, 218, 220, 222, 226, 235, 237, 239,
+];
+
+/// A call: its words, the files of the store by name, and the calls of the store and of the out sink that fail.
 #[derive(Drop)]
 struct Case<'a> {
     words: &'a str,
-    file: Option<&'a [u8]>,
+    files: &'a [(&'a str, &'a [u8])],
     store_fails: &'a [u64],
     out_fails: &'a [u64],
 }
@@ -55,15 +64,15 @@ fn split(alloc: Global, text: &str) -> Result<Vec<String>, AllocError> {
 /// Makes the call, with an out sink that takes two bytes a put.
 fn call(alloc: Global, case: &Case) -> Result<Outcome, AllocError> {
     let mut files = Vec::new(alloc);
-    if let Some(bytes) = case.file {
+    for (name, bytes) in case.files {
         files.push((
-            String::from_str(alloc, "A.class")?,
+            String::from_str(alloc, name)?,
             Vec::from_slice(alloc, bytes)?,
         ))?;
     }
     let mut store = MapStore::new(files, Vec::from_slice(alloc, case.store_fails)?);
-    let mut out = MemSink::new(alloc, 2, 1_048_576, Vec::from_slice(alloc, case.out_fails)?)?;
-    let mut err = MemSink::new(alloc, 1_048_576, 1_048_576, Vec::new(alloc))?;
+    let mut out = MemSink::new(alloc, 2, 4096, Vec::from_slice(alloc, case.out_fails)?)?;
+    let mut err = MemSink::new(alloc, 4096, 4096, Vec::new(alloc))?;
     let clock = ListClock::new(vec![in alloc; 0]?);
     let words = split(alloc, case.words)?;
     let report = jvt(
@@ -76,6 +85,56 @@ fn call(alloc: Global, case: &Case) -> Result<Outcome, AllocError> {
         &OpenGate::new(),
     );
     Ok(Outcome { report, out, err })
+}
+
+/// The call of `run A A.class`, where `A.class` has these bytes.
+fn call_on(alloc: Global, bytes: &[u8]) -> Result<Outcome, AllocError> {
+    call(
+        alloc,
+        &Case {
+            words: "run A A.class",
+            files: &[("A.class", bytes)],
+            store_fails: &[],
+            out_fails: &[],
+        },
+    )
+}
+
+/// Nothing was run, and the answer has this status and this line.
+fn expect_refusal(rt: &impl Abort, outcome: &Outcome, status: u8, line: &str) -> Result<(), Fail> {
+    assert_eq!(rt; outcome.report.why.status(), status);
+    assert_eq!(rt; outcome.err.bytes(), line.as_bytes());
+    assert_eq!(rt; outcome.out.bytes(), b"".as_slice());
+    assert!(rt; outcome.report.history.is_empty());
+    Ok(())
+}
+
+/// `A.class` as javac makes it, with the name of its source file.
+fn javac_variant(alloc: Global) -> Result<Vec<u8>, AllocError> {
+    let mut bytes = Vec::from_slice(alloc, &A_CLASS[..8])?;
+    bytes.extend_from_slice(b"\x00\x16")?;
+    bytes.extend_from_slice(&A_CLASS[10..192])?;
+    bytes.extend_from_slice(b"\x01\x00\x0aSourceFile")?;
+    bytes.extend_from_slice(b"\x01\x00\x06A.java")?;
+    bytes.extend_from_slice(&A_CLASS[192..239])?;
+    bytes.extend_from_slice(b"\x00\x01\x00\x14\x00\x00\x00\x02\x00\x15")?;
+    Ok(bytes)
+}
+
+/// The first bytes, so many, with some of them replaced.
+fn replaced(
+    alloc: Global,
+    bytes: &[u8],
+    size: usize,
+    places: &[(usize, u8)],
+) -> Result<Vec<u8>, AllocError> {
+    let mut made = Vec::from_slice(alloc, &bytes[..size.min(bytes.len())])?;
+    for (place, byte) in places {
+        if *place < made.len() {
+            made[*place] = *byte;
+        }
+    }
+    Ok(made)
 }
 
 /// The entry of so many steps of the main thread on the one carrier.
@@ -92,54 +151,203 @@ fn main_steps(steps: u32) -> Entry {
 
 #[test]
 fn the_smallest_program_prints_and_has_three_entries(rt: HostRuntime) -> Result<(), Fail> {
-    let case = Case {
-        words: "run A A.class",
-        file: Some(&A_CLASS),
-        store_fails: &[],
-        out_fails: &[],
-    };
-    let outcome = call(rt.alloc(), &case)?;
-    assert_eq!(rt; outcome.out.bytes(), b"42\n".as_slice());
-    assert_eq!(rt; outcome.err.bytes(), b"".as_slice());
-    assert_eq!(rt; outcome.report.why, Why::Ended);
-    assert_eq!(rt; outcome.report.why.status(), 0);
-    assert_eq!(rt; outcome.report.out_written, 3);
-    assert_eq!(rt; outcome.report.err_written, 0);
-    let entries = [main_steps(1), main_steps(2), main_steps(1)];
-    assert_eq!(rt; outcome.report.history.as_slice(), entries.as_slice());
+    let variant = javac_variant(rt.alloc())?;
+    assert_eq!(rt; variant.len(), 271);
+    for bytes in [A_CLASS.as_slice(), variant.as_slice()] {
+        let outcome = call_on(rt.alloc(), bytes)?;
+        assert_eq!(rt; outcome.out.bytes(), b"42\n".as_slice());
+        assert_eq!(rt; outcome.err.bytes(), b"".as_slice());
+        assert_eq!(rt; outcome.report.why, Why::Ended);
+        assert_eq!(rt; outcome.report.why.status(), 0);
+        assert_eq!(rt; outcome.report.out_written, 3);
+        assert_eq!(rt; outcome.report.err_written, 0);
+        let entries = [main_steps(1), main_steps(2), main_steps(1)];
+        assert_eq!(rt; outcome.report.history.as_slice(), entries.as_slice());
+    }
     Ok(())
 }
 
 #[test]
-fn each_refusal_has_its_status_and_its_line(rt: HostRuntime) -> Result<(), Fail> {
-    let file = Some(A_CLASS.as_slice());
-    let mut longer = Vec::from_slice(rt.alloc(), &A_CLASS)?;
-    longer.push(0)?;
-    let bad = "jvt: bad class A.class at 0: Unsupported\n";
-    let table = [
-        ("", file, 0, 64, "jvt: usage\n"),
-        ("run A", file, 0, 64, "jvt: usage\n"),
-        ("walk A A.class", file, 0, 64, "jvt: usage\n"),
-        ("run A A.class B.class", file, 0, 64, "jvt: usage\n"),
-        ("run A A.class", Some([].as_slice()), 0, 65, bad),
-        ("run A A.class", Some(&A_CLASS[..240]), 0, 65, bad),
-        ("run A A.class", Some(longer.as_slice()), 0, 65, bad),
-        ("run B A.class", file, 0, 65, bad),
-        ("run A A.class", None, 0, 66, "jvt: missing A.class\n"),
-        ("run A A.class", file, 1, 67, "jvt: cannot read A.class\n"),
-    ];
-    for (words, file, fails_at, status, line) in table {
+fn words_that_are_no_command_are_refused_as_usage(rt: HostRuntime) -> Result<(), Fail> {
+    for words in ["", "run", "run A", "walk A A.class"] {
         let case = Case {
             words,
-            file,
+            files: &[("A.class", &A_CLASS)],
+            store_fails: &[],
+            out_fails: &[],
+        };
+        let outcome = call(rt.alloc(), &case)?;
+        expect_refusal(&rt, &outcome, 64, "jvt: usage\n")?;
+    }
+    Ok(())
+}
+
+#[test]
+fn a_file_that_is_not_read_is_named(rt: HostRuntime) -> Result<(), Fail> {
+    let table = [
+        ("run A B.class", 0, 66, "jvt: missing B.class\n"),
+        ("run A A.class B.class", 0, 66, "jvt: missing B.class\n"),
+        ("run A A.class", 1, 67, "jvt: cannot read A.class\n"),
+        ("run A A.class B.class", 2, 67, "jvt: cannot read B.class\n"),
+    ];
+    for (words, fails_at, status, line) in table {
+        let case = Case {
+            words,
+            files: &[("A.class", &A_CLASS)],
             store_fails: &[fails_at],
             out_fails: &[],
         };
         let outcome = call(rt.alloc(), &case)?;
-        assert_eq!(rt; outcome.report.why.status(), status, "after {words:?}");
-        assert_eq!(rt; outcome.err.bytes(), line.as_bytes());
-        assert_eq!(rt; outcome.out.bytes(), b"".as_slice());
-        assert!(rt; outcome.report.history.is_empty());
+        expect_refusal(&rt, &outcome, status, line)?;
+    }
+    Ok(())
+}
+
+#[test]
+fn a_file_of_one_byte_too_many_is_refused(rt: HostRuntime) -> Result<(), Fail> {
+    let bytes = vec![in rt.alloc(); 0u8; 4_194_305]?;
+    let outcome = call_on(rt.alloc(), &bytes)?;
+    expect_refusal(&rt, &outcome, 71, "jvt: limit FileSize 4194304\n")?;
+    let (which, number) = (Which::FileSize, 4_194_304);
+    assert_eq!(rt; outcome.report.why, Why::Limit { which, number });
+    Ok(())
+}
+
+#[test]
+fn one_file_word_too_many_is_refused(rt: HostRuntime) -> Result<(), Fail> {
+    let table = [
+        (256, 66, "jvt: missing A.class\n"),
+        (257, 71, "jvt: limit Files 256\n"),
+    ];
+    for (count, status, line) in table {
+        let mut words = String::from_str(rt.alloc(), "run A")?;
+        for _ in 0..count {
+            words.push_str(" A.class")?;
+        }
+        let case = Case {
+            words: words.as_str(),
+            files: &[],
+            store_fails: &[],
+            out_fails: &[],
+        };
+        let outcome = call(rt.alloc(), &case)?;
+        expect_refusal(&rt, &outcome, status, line)?;
+    }
+    Ok(())
+}
+
+#[test]
+fn classes_that_make_no_program_are_refused(rt: HostRuntime) -> Result<(), Fail> {
+    let other_parent = replaced(rt.alloc(), &A_CLASS, 241, &[(35, b'x')])?;
+    let private_main = replaced(rt.alloc(), &A_CLASS, 241, &[(205, 0x0a)])?;
+    let member_main = replaced(rt.alloc(), &A_CLASS, 241, &[(205, 0x01)])?;
+    let files = [
+        ("A.class", A_CLASS.as_slice()),
+        ("P.class", other_parent.as_slice()),
+        ("V.class", private_main.as_slice()),
+        ("M.class", member_main.as_slice()),
+    ];
+    let table = [
+        ("run B A.class", 70, "jvt: no main in B\n"),
+        ("run b.B A.class", 70, "jvt: no main in b.B\n"),
+        ("run A V.class", 70, "jvt: no main in A\n"),
+        ("run A M.class", 70, "jvt: no main in A\n"),
+        ("run B A.class A.class", 70, "jvt: no main in B\n"),
+        ("run A A.class A.class", 68, "jvt: link A: Unsupported\n"),
+        ("run A P.class", 68, "jvt: link A: Unsupported\n"),
+    ];
+    for (words, status, line) in table {
+        let case = Case {
+            words,
+            files: &files,
+            store_fails: &[],
+            out_fails: &[],
+        };
+        let outcome = call(rt.alloc(), &case)?;
+        expect_refusal(&rt, &outcome, status, line)?;
+    }
+    Ok(())
+}
+
+#[test]
+fn a_bad_class_is_told_with_its_first_failing_check(rt: HostRuntime) -> Result<(), Fail> {
+    let mut longer = Vec::from_slice(rt.alloc(), &A_CLASS)?;
+    longer.push(0)?;
+    let table = [
+        ([].as_slice(), "jvt: bad class A.class at 0: Short\n"),
+        (&A_CLASS[..10], "jvt: bad class A.class at 10: Short\n"),
+        (
+            longer.as_slice(),
+            "jvt: bad class A.class at 241: Trailing\n",
+        ),
+    ];
+    for (bytes, line) in table {
+        let outcome = call_on(rt.alloc(), bytes)?;
+        expect_refusal(&rt, &outcome, 65, line)?;
+    }
+    Ok(())
+}
+
+#[test]
+fn each_hostile_file_is_refused_where_it_is_wrong(rt: HostRuntime) -> Result<(), Fail> {
+    let variant = javac_variant(rt.alloc())?;
+    let (a, v) = (A_CLASS.as_slice(), variant.as_slice());
+    let table: [(&[u8], usize, &[(usize, u8)], u32, ClassWhy); 17] = [
+        (a, 12, &[], 11, ClassWhy::Short),
+        (a, 13, &[], 13, ClassWhy::Short),
+        (a, 16, &[], 15, ClassWhy::Short),
+        (a, 225, &[], 222, ClassWhy::Short),
+        (a, 241, &[(0, 0)], 0, ClassWhy::Magic),
+        (a, 241, &[(7, 70)], 4, ClassWhy::Version),
+        (a, 241, &[(8, 0), (9, 0)], 8, ClassWhy::Count),
+        (a, 241, &[(13, 0)], 13, ClassWhy::Utf8),
+        (a, 241, &[(14, 2)], 14, ClassWhy::Tag),
+        (a, 241, &[(15, 0), (16, 0)], 15, ClassWhy::Index),
+        (a, 241, &[(196, 0), (197, 0)], 196, ClassWhy::Index),
+        (a, 241, &[(179, b'Q')], 185, ClassWhy::Descriptor),
+        (a, 241, &[(217, 0x14)], 214, ClassWhy::Length),
+        (
+            a,
+            241,
+            &[(214, 255), (215, 255), (216, 255), (217, 255)],
+            214,
+            ClassWhy::Length,
+        ),
+        (
+            a,
+            241,
+            &[(222, 0), (223, 0), (224, 0), (225, 0)],
+            222,
+            ClassWhy::Length,
+        ),
+        (
+            v,
+            271,
+            &[(265, 255), (266, 255), (267, 255), (268, 255)],
+            269,
+            ClassWhy::Short,
+        ),
+        (v, 271, &[(268, 1)], 270, ClassWhy::Trailing),
+    ];
+    for (bytes, size, places, at, why) in table {
+        let made = replaced(rt.alloc(), bytes, size, places)?;
+        let outcome = call_on(rt.alloc(), &made)?;
+        let file = 0;
+        assert_eq!(rt; outcome.report.why, Why::BadClass { file, at, why });
+    }
+    Ok(())
+}
+
+#[test]
+fn a_file_that_is_cut_is_short_where_its_last_field_begins(rt: HostRuntime) -> Result<(), Fail> {
+    let mut start = 0;
+    for size in 0..241u32 {
+        if FIELD_STARTS.contains(&size) {
+            start = size;
+        }
+        let outcome = call_on(rt.alloc(), &A_CLASS[..size as usize])?;
+        let (file, at, why) = (0, start, ClassWhy::Short);
+        assert_eq!(rt; outcome.report.why, Why::BadClass { file, at, why });
     }
     Ok(())
 }
@@ -149,7 +357,7 @@ fn a_sink_that_fails_is_told_on_the_other(rt: HostRuntime) -> Result<(), Fail> {
     for (fails_at, written) in [(1, 0), (2, 2)] {
         let case = Case {
             words: "run A A.class",
-            file: Some(&A_CLASS),
+            files: &[("A.class", &A_CLASS)],
             store_fails: &[],
             out_fails: &[fails_at],
         };

@@ -5,13 +5,14 @@ ghost use Rattle.java_cli.specs.declared.report.SinkName.{SinkName};
 ghost use Rattle.java_cli.specs.Answers.{line_of};
 ghost use Rattle.java_cli.specs.Causes.{IsExact};
 ghost use Rattle.java_cli.specs.Headline.{Ran, IsIdle, IsTaken, IsKept, DidRun, TellsLine};
-ghost use Rattle.java_cli.specs.Words.{command_of, file_word, texts};
+ghost use Rattle.java_cli.specs.Words.{command_of, named, texts};
+ghost use Rattle.java_cli.specs.Commands.{spelled};
 
 use crate::interpreter::Execution;
 use crate::line::{NO_MEMORY, make_line};
-use crate::load::run_command;
 use crate::output::put_all;
 use crate::report::{Report, SinkName, Why};
+use crate::start::run_command;
 use crate::words::{Command, read_command};
 use jvm_edges::{Clock, Gate, Sink, Store};
 use std::alloc::Global;
@@ -36,16 +37,21 @@ pub fn jvt<S: Store, O: Sink, E: Sink, C: Clock + Sync, G: Gate + Sync>(
         IsExact (S.files store.old) (Rose (S.faults store.old) (S.faults store.new)) c result.why) }
     ensures sink_fault { (which : SinkName) (written : ℕ) → result.why ≡ Why.SinkFault which written → Rose (O.faults out.old) (O.faults out.new) }
     ensures line { TellsLine (E.contents err.old) (E.contents err.new) (E.faults err.old) (E.faults err.new)
-        (line_of result.why (file_word (command_of (texts words.now)))) }
+        (line_of (named (command_of (texts words.now))) result.why) }
     ensures no_faults { result.err_written ≡ 0 }
 {
-    match read_command(alloc, words) {
-        Ok(Some(command)) => match run_command(alloc, &command, store, gate) {
-            Ok(execution) => deliver(alloc, execution, command.file, out, err),
-            Err(why) => refuse(alloc, why, command.file, err),
+    match read_command(words) {
+        Some(command) => match run_command(alloc, &command, store, gate) {
+            Ok(execution) => deliver(alloc, execution, &command, out, err),
+            Err(why) => refuse(alloc, why, &command, err),
         },
-        Ok(None) => refuse(alloc, Why::Usage, "", err),
-        Err(_) => refuse(alloc, Why::NoMemory, "", err),
+        None => {
+            let none = Command {
+                main: "",
+                files: &[],
+            };
+            refuse(alloc, Why::Usage, &none, err)
+        }
     }
 }
 
@@ -53,7 +59,7 @@ pub fn jvt<S: Store, O: Sink, E: Sink, C: Clock + Sync, G: Gate + Sync>(
 fn deliver<O: Sink, E: Sink>(
     alloc: Global,
     execution: Execution,
-    file: &str,
+    command: &Command,
     out: &mut O,
     err: &mut E,
 ) -> Report
@@ -61,7 +67,7 @@ fn deliver<O: Sink, E: Sink>(
     ensures written { Appends (O.contents out.old) (take result.out_written execution.out.items) (O.contents out.new) }
     ensures taken { IsTaken result.why result.out_written (length execution.out.items) }
     ensures sink_fault { (which : SinkName) (written : ℕ) → result.why ≡ Why.SinkFault which written → Rose (O.faults out.old) (O.faults out.new) }
-    ensures line { TellsLine (E.contents err.old) (E.contents err.new) (E.faults err.old) (E.faults err.new) (line_of result.why file.now) }
+    ensures line { TellsLine (E.contents err.old) (E.contents err.new) (E.faults err.old) (E.faults err.new) (line_of (spelled command.now) result.why) }
     ensures no_faults { result.err_written ≡ 0 }
 {
     let Execution { history, out: text } = execution;
@@ -76,7 +82,7 @@ fn deliver<O: Sink, E: Sink>(
         ),
     };
     Report {
-        why: tell(alloc, why, file, err),
+        why: tell(alloc, why, command, err),
         history,
         out_written,
         err_written: 0,
@@ -84,27 +90,27 @@ fn deliver<O: Sink, E: Sink>(
 }
 
 /// Writes the line of an answer without a run.
-fn refuse<E: Sink>(alloc: Global, why: Why, file: &str, err: &mut E) -> Report
+fn refuse<E: Sink>(alloc: Global, why: Why, command: &Command, err: &mut E) -> Report
     ensures why { IsKept why result.why }
     ensures history { result.history.items ≡ [] }
     ensures out_written { result.out_written ≡ 0 }
-    ensures line { TellsLine (E.contents err.old) (E.contents err.new) (E.faults err.old) (E.faults err.new) (line_of result.why file.now) }
+    ensures line { TellsLine (E.contents err.old) (E.contents err.new) (E.faults err.old) (E.faults err.new) (line_of (spelled command.now) result.why) }
     ensures no_faults { result.err_written ≡ 0 }
 {
     Report {
-        why: tell(alloc, why, file, err),
+        why: tell(alloc, why, command, err),
         history: Vec::new(alloc),
         out_written: 0,
         err_written: 0,
     }
 }
 
-/// Writes the answer's line, which names this file. Without memory for it the answer is NoMemory.
-fn tell<E: Sink>(alloc: Global, why: Why, file: &str, err: &mut E) -> Why
+/// Writes the answer's line, which may name a word of the command. Without memory for it the answer is NoMemory.
+fn tell<E: Sink>(alloc: Global, why: Why, command: &Command, err: &mut E) -> Why
     ensures why { IsKept why result }
-    ensures line { TellsLine (E.contents err.old) (E.contents err.new) (E.faults err.old) (E.faults err.new) (line_of result file.now) }
+    ensures line { TellsLine (E.contents err.old) (E.contents err.new) (E.faults err.old) (E.faults err.new) (line_of (spelled command.now) result) }
 {
-    match make_line(alloc, &why, file) {
+    match make_line(alloc, &why, command) {
         Ok(line) => {
             let _ = put_all(err, line.as_slice());
             why

@@ -1,44 +1,29 @@
-ghost use Rattle.std.specs.Prelude.{◌≡◌, IfOk, IsSome, OnErr};
+ghost use Rattle.std.specs.Prelude.{◌≡◌};
 ghost use Rattle.std.specs.Option.{option_map};
-ghost use Rattle.java_cli.specs.Words.{command_of, texts, with_slashes as slashed};
+ghost use Rattle.java_cli.specs.Words.{command_of, texts};
 ghost use Rattle.java_cli.specs.Commands.{spelled};
 
-use std::alloc::{AllocError, Global};
-
-/// The command `run MAIN FILE`.
+/// The command `run MAIN FILE ..`, with one FILE or more.
 #[derive(Debug, Drop)]
 pub struct Command<'a> {
-    /// The name of the main class, with slashes.
-    pub main: Vec<u8>,
-    /// The file that holds the class.
-    pub file: &'a str,
+    /// The word that names the main class.
+    pub main: &'a str,
+    /// The words that name the files.
+    pub files: &'a [String],
 }
 
 /// The command that the words spell, the program's name first. `None`: they spell none.
-pub fn read_command<'a>(
-    alloc: Global,
-    words: &'a [String],
-) -> Result<Option<Command<'a>>, AllocError>
-    ensures spelled { IfOk result (λ found. option_map spelled found ≡ command_of (texts words.now)) }
-    ensures memory { OnErr result (IsSome (command_of (texts words.now))) }
+pub fn read_command(words: &[String]) -> Option<Command<'_>>
+    ensures { option_map spelled result ≡ command_of (texts words.now) }
 {
-    let [_, verb, main, file] = words else {
-        return Ok(None);
+    let [_, verb, main, files @ ..] = words else {
+        return None;
     };
-    if verb.as_bytes() != b"run".as_slice() {
-        return Ok(None);
+    if files.is_empty() || verb.as_bytes() != b"run".as_slice() {
+        return None;
     }
-    Ok(Some(Command {
-        main: with_slashes(alloc, main.as_bytes())?,
-        file: file.as_str(),
-    }))
-}
-
-/// A class name with its dots made slashes.
-fn with_slashes(alloc: Global, name: &[u8]) -> Result<Vec<u8>, AllocError>
-    ensures { IfOk result (λ v. v.items ≡ slashed name.now) }
-{
-    name.iter()
-        .map(|byte| if *byte == b'.' { b'/' } else { *byte })
-        .collect(alloc)
+    Some(Command {
+        main: main.as_str(),
+        files,
+    })
 }

@@ -1,4 +1,4 @@
-use Rattle.std.proofs.Common.{rules, sym, arith}
+use Rattle.std.proofs.Common.{rules, sym}
 use Rattle.java_cli.proofs.DecodingLaws.{none_left, one_more}
 use Rattle.java_cli.proofs.decode.decode.Goals as goal
 

@@ -1,7 +1,4 @@
-use Rattle.std.proofs.Common.{◌≡◌, ◌+◌, ◌-◌, ◌≤◌, List, ℕ, reverse, length}
-use Rattle.ref_model.specs.declared.entry.Entry.{Entry}
-use Rattle.ref_model.specs.Program.{Method}
-use Rattle.java_cli.specs.Standing.{Stands}
+use Rattle.std.proofs.Common.{length}
 use Rattle.java_cli.proofs.Loops.{LocalRun}
 use Rattle.java_cli.proofs.interpreter.local_run.Given as goal
 

@@ -1,4 +1,4 @@
-use Rattle.std.proofs.Common.{◌≡◌, sym, ap, subst, rules, ◌∙◌}
+use Rattle.std.proofs.Common.{sym, ◌∙◌}
 use Rattle.std.proofs.lemmas.List.{nil_from_length}
 use Rattle.java_cli.specs.Methods.{method_of}
 use Rattle.java_cli.proofs.Running.{begins, can_perform, first_of, one_entry, last_entry, goes_further}

@@ -1,5 +1,4 @@
-use Rattle.std.proofs.Common.{◌≤◌, ◌-◌, length, take}
-use Rattle.jvm_edges.specs.Bytes.{Appends}
+use Rattle.std.proofs.Common.{◌-◌, length}
 use Rattle.java_cli.proofs.Putting.{Put}
 use Rattle.java_cli.proofs.output.put_all.Given as goal
 

@@ -1,13 +1,13 @@
-use Rattle.std.proofs.Common.{sym, ap, ◌∙◌, List, []}
-use Rattle.class_model.specs.declared.constant.Const.{Const}
-use Rattle.java_cli.specs.Typing.{is_typed}
-use Rattle.java_cli.proofs.Preparing.{is_untyped}
+use Rattle.std.proofs.Common.{◌≡◌, [], ◌∷◌, arith}
+use Rattle.java_cli.proofs.Preparing.{one_class, one_spelled, spelled_short, no_method}
 use Rattle.java_cli.proofs.prepare.prepare.Goals as goal
 
-pub returns-then-not-branch-clause-none : goal.returns-then-not-branch-clause-none
-returns-then-not-branch-clause-none c = λ m is.
-    let found = rw c.in-Some-2.is at c.in_ok-code.ensures.found in
-    is_untyped c.args.main.now c.args.file.now m is c.in-Some-only_code.body.now found.0 c.in-Some-2.code.items
-    (rw c.deref-2.ensures at (sym c.in-Some-only_code.ensures)) found.1 (sym c.deref-3.ensures ∙ found.2) found.3
-    (ap (λ (pool : List Const). is_typed (record { pool = pool; max_stack = c.in-Some-only_code.body.now.max_stack; max_locals = c.in-Some-only_code.body.now.max_locals; code = c.in-Some-2.code.items }) [] c.in-Some-2.code.items) (sym c.deref-4.ensures)
-    ∙ sym c.in_ok-is_typed.ensures ∙ c.if-not-branch.true)
+pub plain_method-requires : goal.plain_method-requires
+plain_method-requires c =
+    let one : c.args.classes.now ≡ c.file-item.result ∷ [] = one_class _ _ (omega (arith, c.in-len1.len_at_least, c.in-len1.len_below)) c.file-item.is in
+    spelled_short c.file-item.result (one_spelled c.args.classes.now c.file-item.result one c.requires)
+
+pub returns-clause-none : goal.returns-clause-none
+returns-clause-none c =
+    let one : c.args.classes.now ≡ c.file-item.result ∷ [] = one_class _ _ (omega (arith, c.in-len1.len_at_least, c.in-len1.len_below)) c.file-item.is in
+    no_method c.args.classes.now c.file-item.result c.plain_method.result one c.plain_method.ensures.none
