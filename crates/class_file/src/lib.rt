@@ -15,7 +15,7 @@ mod stop;
 
 pub use class_grammar::ClassWhy;
 pub use error::ReadError;
-pub use laws::one_value;
+pub use laws::{one_outcome, one_value};
 pub use reader::read;
 
 #[cfg(test)]
