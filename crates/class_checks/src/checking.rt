@@ -20,6 +20,7 @@ pub fn check(alloc: Global, file: &ClassFile, size: usize) -> Result<Option<Faul
 }
 
 // Goes over the items of a file of this size. The attributes of the class can't be wrong.
+#[inline(never)]
 fn check_items(pool: &Pool, size: usize, file: &ClassFile) -> Result<usize, Fault>
     requires { pool.now ≡ file.now.pool }
     ensures { result ≡ walked size (items_of file.now) }

@@ -54,6 +54,7 @@ fn is_initializer(units: &[u16]) -> bool
 }
 
 // What each unit lets the text be.
+#[inline(never)]
 fn names_by_unit(units: &[u16]) -> Names
     ensures { result ≡ spec.names_by false false false units.now }
 {
