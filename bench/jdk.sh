@@ -2,15 +2,7 @@
 # Reads every class file of the JDK on this machine and writes it again: how many come out byte for byte the same, and
 # how many come to anything else, with an example of each. usage: bench/jdk.sh [FOLDER OF CLASS FILES]
 set -eu
-top=$(CDPATH='' cd -- "$(dirname -- "$0")/.." && pwd)
-work=$(mktemp -d)
-trap 'rm -rf "$work"' EXIT
-
-classes=${1:-}
-if [ -z "$classes" ]; then
-    classes=$work/classes
-    jimage extract --dir="$classes" "$(dirname "$(readlink -f "$(command -v java)")")/../lib/modules"
-fi
+. "$(dirname -- "$0")/setup.sh"
 (cd "$top/crates/round_trip" && rt run >"$work/log" 2>&1) || { cat "$work/log"; exit 1; }
 (cd "$classes" && find . -name '*.class' -print0 | sort -z) >"$work/names"
 # The status says that some file did not come out the same; the lines say which.

@@ -3,15 +3,7 @@
 # the JDK on this machine. usage: bench/run.sh [FOLDER OF CLASS FILES]
 set -eu
 export PYTHONDONTWRITEBYTECODE=1
-top=$(CDPATH='' cd -- "$(dirname -- "$0")/.." && pwd)
-work=$(mktemp -d)
-trap 'rm -rf "$work"' EXIT
-
-classes=${1:-}
-if [ -z "$classes" ]; then
-    classes=$work/classes
-    jimage extract --dir="$classes" "$(dirname "$(readlink -f "$(command -v java)")")/../lib/modules"
-fi
+. "$(dirname -- "$0")/setup.sh"
 python3 "$top/bench/extract.py" "$classes" "$work/data"
 python3 "$top/bench/classes.py" "$classes" "$work/data"
 
