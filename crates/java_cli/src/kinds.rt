@@ -3,8 +3,8 @@
 ghost use Rattle.std.specs.Prelude.{◌≡◌, ◌<◌, map, length, IfOk, slice_set, true};
 ghost use Rattle.java_cli.specs.Kinds as spec;
 
-use crate::names::same_text;
 use crate::plain_names::{are_ascii, is_class_name, is_member_name};
+use class_grammar::is_same;
 use class_model::Const;
 use items::Items;
 use std::alloc::{AllocError, Global};
@@ -63,8 +63,8 @@ fn kind_of_text(units: &[u16]) -> Kind
     Kind {
         is_member_name: is_member_name(units),
         is_class_name: is_class_name(units),
-        is_stream: same_text(units, b"Ljava/io/PrintStream;"),
-        is_int: same_text(units, b"(I)V"),
+        is_stream: is_same(units, b"Ljava/io/PrintStream;"),
+        is_int: is_same(units, b"(I)V"),
     }
 }
 

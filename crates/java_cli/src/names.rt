@@ -1,11 +1,11 @@
 ghost use Rattle.std.specs.Prelude.{◌≡◌, false};
 ghost use Rattle.std.specs.Option.{option_copied, option_map_or};
-ghost use Rattle.class_grammar.specs.Text.{same_text as is_same_text};
 ghost use Rattle.class_grammar.specs.Pool.{text_at as text_in, class_name_at as class_name_in};
 ghost use Rattle.ref_model.specs.Names.{member_of, is_member as is_member_named};
 ghost use Rattle.java_cli.specs.MainClass.{is_text, has_text, is_class_named};
 ghost use Rattle.java_cli.specs.Typing.{names_out as is_out_named, names_print as is_print_named};
 
+use class_grammar::is_same;
 use class_model::Const;
 
 /// The text at a place of the constant pool (JVMS 4.4.7).
@@ -28,27 +28,12 @@ pub fn class_name_at(pool: &[Const], place: u16) -> Option<&[u16]>
     }
 }
 
-/// Whether units and ASCII bytes are one text.
-pub fn same_text(units: &[u16], ascii: &[u8]) -> bool
-    ensures { result ≡ is_same_text units.now ascii.now }
-{
-    if units.len() != ascii.len() {
-        return false;
-    }
-    for (i, unit) in units.iter().enumerate() {
-        if *unit != u16::from(ascii[i]) {
-            return false;
-        }
-    }
-    true
-}
-
 /// Whether the place holds this text.
 pub fn holds_text(pool: &[Const], place: u16, ascii: &[u8]) -> bool
     ensures { result ≡ has_text (is_text ascii.now) pool.now place }
 {
     match text_at(pool, place) {
-        Some(units) => same_text(units, ascii),
+        Some(units) => is_same(units, ascii),
         None => false,
     }
 }
@@ -58,7 +43,7 @@ pub fn names_class(pool: &[Const], place: u16, ascii: &[u8]) -> bool
     ensures { result ≡ is_class_named ascii.now pool.now place }
 {
     match class_name_at(pool, place) {
-        Some(units) => same_text(units, ascii),
+        Some(units) => is_same(units, ascii),
         None => false,
     }
 }
@@ -77,9 +62,9 @@ fn is_member(pool: &[Const], class: u16, member: u16, wanted: &Member) -> bool
     let (Some(name), Some(descriptor)) = (text_at(pool, *name), text_at(pool, *descriptor)) else {
         return false;
     };
-    same_text(class, wanted.class)
-        && same_text(name, wanted.name)
-        && same_text(descriptor, wanted.descriptor)
+    is_same(class, wanted.class)
+        && is_same(name, wanted.name)
+        && is_same(descriptor, wanted.descriptor)
 }
 
 /// A member by name, in ASCII.
