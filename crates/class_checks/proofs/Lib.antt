@@ -1,2 +1,2 @@
-pub mod WalkLaws
+pub mod ItemLaws
 pub mod FileLaws

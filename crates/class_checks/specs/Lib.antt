@@ -1,3 +1,3 @@
 pub mod Names
-pub mod Judging
+pub mod TextRoles
 pub mod Sizes

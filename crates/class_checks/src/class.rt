@@ -1,18 +1,18 @@
 //! The class itself (JVMS 4.1).
 
-ghost use Rattle.std.specs.Prelude.{◌≡◌, map};
+ghost use Rattle.std.specs.Prelude.{◌≡◌};
 ghost use Rattle.class_grammar.specs.Checks as checks;
-ghost use Rattle.class_grammar.specs.Checks.{walked, class_items};
+ghost use Rattle.class_grammar.specs.Checks.{left_after, class_items};
 
 use crate::pool::{Pool, unless};
-use crate::walking::check_numbers;
-use class_grammar::{ClassWhy, Fault};
-use class_model::ClassFile;
+use crate::sizes::check_numbers;
+use class_grammar::{ClassFault, ClassWhy};
+use class_model::{ACC_MODULE, ClassFile};
 
 /// Goes over the class's flags, its own name, its parent and its interfaces.
-pub fn check_class(pool: &Pool, left: usize, file: &ClassFile) -> Result<usize, Fault>
+pub fn check_class(pool: &Pool, left: usize, file: &ClassFile) -> Result<usize, ClassFault>
     requires { pool.now ≡ file.now.pool }
-    ensures { result ≡ walked left (class_items file.now) }
+    ensures { result ≡ left_after left (class_items file.now) }
 {
     let faults = [
         flags_fault(file.flags),
@@ -23,19 +23,19 @@ pub fn check_class(pool: &Pool, left: usize, file: &ClassFile) -> Result<usize, 
     check_interfaces(pool, left.saturating_sub(2), &file.interfaces)
 }
 
-// No module (own).
+// The file isn't that of a module (own).
 fn flags_fault(flags: u16) -> Option<ClassWhy>
     ensures { result ≡ checks.flags_fault flags }
 {
-    unless(flags < 0x8000, ClassWhy::Unsupported)
+    unless(flags & ACC_MODULE == 0, ClassWhy::Unsupported)
 }
 
-fn check_interfaces(pool: &Pool, left: usize, places: &[u16]) -> Result<usize, Fault>
-    ensures { result ≡ walked left (map (λ place. checks.checked (checks.class_fault pool.now place)) places.now) }
+fn check_interfaces(pool: &Pool, left: usize, indices: &[u16]) -> Result<usize, ClassFault>
+    ensures { result ≡ left_after left (checks.interface_items pool.now indices.now) }
 {
     let mut left = left;
-    for place in places {
-        left = check_numbers(left, &[pool.class_fault(*place)])?;
+    for index in indices {
+        left = check_numbers(left, &[pool.class_fault(*index)])?;
     }
     Ok(left)
 }

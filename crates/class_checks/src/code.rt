@@ -3,17 +3,17 @@
 ghost use Rattle.std.specs.Prelude.{◌≡◌, length};
 ghost use Rattle.class_grammar.specs.Layout.{code_extra};
 ghost use Rattle.std.specs.List.{flat_map};
-ghost use Rattle.class_grammar.specs.Checks.{walked, row_items, extra_items, code_items};
+ghost use Rattle.class_grammar.specs.Checks.{left_after, row_items, extra_items, code_items};
 
 use crate::pool::{Pool, unless};
-use crate::walking::check_numbers;
-use class_grammar::{ClassWhy, Fault};
+use crate::sizes::check_numbers;
+use class_grammar::{ClassFault, ClassWhy};
 use class_model::{CodeAttribute, CodeBody, CodeExtra, Row};
 
 /// Goes over a code.
-#[tactic(auto, using(crate::proofs::WalkLaws::walked_append))]
-pub fn check_code(pool: &Pool, left: usize, body: &CodeBody) -> Result<usize, Fault>
-    ensures { result ≡ walked left (code_items pool.now body.now) }
+#[tactic(auto, using(crate::proofs::ItemLaws::left_after_append))]
+pub fn check_code(pool: &Pool, left: usize, body: &CodeBody) -> Result<usize, ClassFault>
+    ensures { result ≡ left_after left (code_items pool.now body.now) }
 {
     let size = body.code.len();
     let left = left
@@ -21,12 +21,12 @@ pub fn check_code(pool: &Pool, left: usize, body: &CodeBody) -> Result<usize, Fa
         .saturating_sub(size)
         .saturating_sub(2);
     let left = check_rows(pool, left, size, &body.rows)?;
-    Ok(left_behind_extras(left.saturating_sub(2), &body.attributes))
+    Ok(skip_extras(left.saturating_sub(2), &body.attributes))
 }
 
 // The exception table of a code of this size.
-fn check_rows(pool: &Pool, left: usize, size: usize, table: &[Row]) -> Result<usize, Fault>
-    ensures { result ≡ walked left (flat_map (row_items pool.now size) table.now) }
+fn check_rows(pool: &Pool, left: usize, size: usize, table: &[Row]) -> Result<usize, ClassFault>
+    ensures { result ≡ left_after left (flat_map (row_items pool.now size) table.now) }
 {
     let mut left = left;
     for row in table {
@@ -35,8 +35,8 @@ fn check_rows(pool: &Pool, left: usize, size: usize, table: &[Row]) -> Result<us
     Ok(left)
 }
 
-fn check_row(pool: &Pool, left: usize, size: usize, row: &Row) -> Result<usize, Fault>
-    ensures { result ≡ walked left (row_items pool.now size row.now) }
+fn check_row(pool: &Pool, left: usize, size: usize, row: &Row) -> Result<usize, ClassFault>
+    ensures { result ≡ left_after left (row_items pool.now size row.now) }
 {
     let end = usize::from(row.end);
     let handler = usize::from(row.handler);
@@ -52,8 +52,8 @@ fn check_row(pool: &Pool, left: usize, size: usize, row: &Row) -> Result<usize, 
 }
 
 // The attributes of a code, which can't be wrong.
-fn left_behind_extras(left: usize, attributes: &[CodeAttribute]) -> usize
-    ensures { walked left (flat_map extra_items attributes.now) ≡ Ok result }
+fn skip_extras(left: usize, attributes: &[CodeAttribute]) -> usize
+    ensures { left_after left (flat_map extra_items attributes.now) ≡ Ok result }
 {
     let mut left = left;
     for attribute in attributes {

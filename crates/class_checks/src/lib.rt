@@ -1,18 +1,16 @@
-//! Judges the references, names, descriptors and ranges of a class file (JVMS 4.1 to 4.9), each text of its pool once.
+//! The checks on the references, names, descriptors and ranges of a class file (JVMS 4.1 to 4.9). Each text of its pool is
+//! looked at once.
 #![tactic(auto)]
 
-mod checking;
 mod class;
 mod code;
 mod constants;
-mod judging;
+mod file;
 mod members;
 mod names;
 mod pool;
+mod sizes;
+mod text_roles;
 mod values;
-mod walking;
 
-pub use checking::check;
-
-#[cfg(test)]
-mod tests;
+pub use file::check;

@@ -3,17 +3,17 @@
 ghost use Rattle.std.specs.Prelude.{◌≡◌};
 ghost use Rattle.std.specs.List.{flat_map, list_any};
 ghost use Rattle.class_grammar.specs.Checks as checks;
-ghost use Rattle.class_grammar.specs.Checks.{walked, field_items, method_items, attribute_items, attributes_items};
+ghost use Rattle.class_grammar.specs.Checks.{left_after, field_items, method_items, attribute_items, attributes_items};
 
 use crate::code::check_code;
 use crate::pool::{Pool, unless};
-use crate::walking::check_numbers;
-use class_grammar::{ClassWhy, Fault};
-use class_model::{Attribute, Body, Member};
+use crate::sizes::check_numbers;
+use class_grammar::{ClassFault, ClassWhy};
+use class_model::{ACC_ABSTRACT, ACC_NATIVE, Attribute, Body, Member};
 
 /// Goes over fields (JVMS 4.5).
-pub fn check_fields(pool: &Pool, left: usize, members: &[Member]) -> Result<usize, Fault>
-    ensures { result ≡ walked left (flat_map (field_items pool.now) members.now) }
+pub fn check_fields(pool: &Pool, left: usize, members: &[Member]) -> Result<usize, ClassFault>
+    ensures { result ≡ left_after left (flat_map (field_items pool.now) members.now) }
 {
     let mut left = left;
     for member in members {
@@ -22,8 +22,8 @@ pub fn check_fields(pool: &Pool, left: usize, members: &[Member]) -> Result<usiz
     Ok(left)
 }
 
-fn check_field(pool: &Pool, left: usize, field: &Member) -> Result<usize, Fault>
-    ensures { result ≡ walked left (field_items pool.now field.now) }
+fn check_field(pool: &Pool, left: usize, field: &Member) -> Result<usize, ClassFault>
+    ensures { result ≡ left_after left (field_items pool.now field.now) }
 {
     let faults = [
         pool.field_name_fault(field.name),
@@ -34,8 +34,8 @@ fn check_field(pool: &Pool, left: usize, field: &Member) -> Result<usize, Fault>
 }
 
 /// Goes over methods (JVMS 4.6).
-pub fn check_methods(pool: &Pool, left: usize, members: &[Member]) -> Result<usize, Fault>
-    ensures { result ≡ walked left (flat_map (method_items pool.now) members.now) }
+pub fn check_methods(pool: &Pool, left: usize, members: &[Member]) -> Result<usize, ClassFault>
+    ensures { result ≡ left_after left (flat_map (method_items pool.now) members.now) }
 {
     let mut left = left;
     for member in members {
@@ -44,8 +44,8 @@ pub fn check_methods(pool: &Pool, left: usize, members: &[Member]) -> Result<usi
     Ok(left)
 }
 
-fn check_method(pool: &Pool, left: usize, method: &Member) -> Result<usize, Fault>
-    ensures { result ≡ walked left (method_items pool.now method.now) }
+fn check_method(pool: &Pool, left: usize, method: &Member) -> Result<usize, ClassFault>
+    ensures { result ≡ left_after left (method_items pool.now method.now) }
 {
     let faults = [
         code_fault(method),
@@ -60,7 +60,7 @@ fn check_method(pool: &Pool, left: usize, method: &Member) -> Result<usize, Faul
 fn code_fault(method: &Member) -> Option<ClassWhy>
     ensures { result ≡ checks.code_fault method.now }
 {
-    let passed = if method.flags & 0x0500 == 0 {
+    let passed = if method.flags & (ACC_NATIVE | ACC_ABSTRACT) == 0 {
         has_code(&method.attributes)
     } else {
         !has_code(&method.attributes)
@@ -80,8 +80,8 @@ fn has_code(attributes: &[Attribute]) -> bool
 }
 
 // The attributes of a field or a method.
-fn check_attributes(pool: &Pool, left: usize, member: &Member) -> Result<usize, Fault>
-    ensures { result ≡ walked left (attributes_items pool.now member.now) }
+fn check_attributes(pool: &Pool, left: usize, member: &Member) -> Result<usize, ClassFault>
+    ensures { result ≡ left_after left (attributes_items pool.now member.now) }
 {
     let mut left = left.saturating_sub(2);
     for attribute in member.attributes.as_slice() {
@@ -95,8 +95,8 @@ fn check_attribute(
     left: usize,
     member: &Member,
     attribute: &Attribute,
-) -> Result<usize, Fault>
-    ensures { result ≡ walked left (attribute_items pool.now member.now attribute.now) }
+) -> Result<usize, ClassFault>
+    ensures { result ≡ left_after left (attribute_items pool.now member.now attribute.now) }
 {
     let left = left.saturating_sub(6);
     match &attribute.body {

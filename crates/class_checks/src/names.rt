@@ -1,13 +1,13 @@
 //! Names of fields, methods and classes, in the units of UTF-16 (JVMS 4.2).
 
-ghost use Rattle.std.specs.Prelude.{◌≡◌, ◌==◌, ◌||◌, codes, false};
-ghost use Rattle.class_grammar.specs.Text.{same_text};
+ghost use Rattle.std.specs.Prelude.{◌≡◌, ◌∷◌, [], ◌||◌, codes, false};
+ghost use Rattle.class_grammar.specs.Text.{same_text, is_one_of};
 ghost use Rattle.class_grammar.specs.Names as grammar;
 ghost use Rattle.class_checks.specs.Names as spec;
 
 use class_grammar::is_same;
 
-/// What a text can be the name of.
+/// What a text may be the name of.
 #[derive(Clone, Copy, Debug)]
 pub struct Names {
     pub of_field: bool,
@@ -24,7 +24,7 @@ const NOTHING: Names = Names {
 
 /// Whether a text begins with this unit.
 pub fn begins_with(unit: u8, units: &[u16]) -> bool
-    ensures { result ≡ grammar.begins_with unit units.now }
+    ensures { result ≡ grammar.begins_with (unit ∷ []) units.now }
 {
     match units {
         [first, ..] => *first == u16::from(unit),
@@ -32,7 +32,7 @@ pub fn begins_with(unit: u8, units: &[u16]) -> bool
     }
 }
 
-/// What the text can be the name of (JVMS 4.2.1, 4.2.2).
+/// What the text may be the name of (JVMS 4.2.1, 4.2.2).
 pub fn names_of(units: &[u16]) -> Names
     ensures { result ≡ spec.names_of units.now }
 {
@@ -46,14 +46,14 @@ pub fn names_of(units: &[u16]) -> Names
     }
 }
 
-// The names that are a method's though they have angles (JVMS 2.9).
+// The names with angle brackets that a method may have (JVMS 2.9).
 fn is_initializer(units: &[u16]) -> bool
-    ensures { result ≡ (same_text units.now (codes "<init>") || same_text units.now (codes "<clinit>")) }
+    ensures { result ≡ grammar.is_initializer units.now }
 {
     is_same(units, b"<init>") || is_same(units, b"<clinit>")
 }
 
-// What each unit lets the text be.
+// What the text may be by its units alone.
 #[inline(never)]
 fn names_by_unit(units: &[u16]) -> Names
     ensures { result ≡ spec.names_by false false false units.now }
@@ -68,7 +68,7 @@ fn names_by_unit(units: &[u16]) -> Names
             }
             slashed = true;
             begun = false;
-        } else if is_end(*unit) {
+        } else if is_never_in_a_name(*unit) {
             return NOTHING;
         } else {
             angled = angled || is_angle(*unit);
@@ -82,15 +82,15 @@ fn names_by_unit(units: &[u16]) -> Names
     }
 }
 
-// A unit of no name (JVMS 4.2.2).
-fn is_end(unit: u16) -> bool
-    ensures { result ≡ (unit == 46 || unit == 59 || unit == 91) }
+// Whether no name has the unit (JVMS 4.2.2).
+fn is_never_in_a_name(unit: u16) -> bool
+    ensures { result ≡ is_one_of (codes ".;[") unit }
 {
     unit == u16::from(b'.') || unit == u16::from(b';') || unit == u16::from(b'[')
 }
 
 fn is_angle(unit: u16) -> bool
-    ensures { result ≡ (unit == 60 || unit == 62) }
+    ensures { result ≡ is_one_of (codes "<>") unit }
 {
     unit == u16::from(b'<') || unit == u16::from(b'>')
 }

@@ -1,42 +1,42 @@
-//! The constant pool with its judgements, and what is wrong with a place that names a constant (JVMS 4.4).
+//! The constant pool with the roles of its texts, and what is wrong with an index of it (JVMS 4.4).
 
 ghost use Rattle.std.specs.Prelude.{◌≡◌, IfOk, false};
 ghost use Rattle.std.specs.Option.{option_map, option_map_or};
-ghost use Rattle.descriptors.specs.Recognizing as descriptors;
+ghost use Rattle.descriptors.specs.States as descriptors;
 ghost use Rattle.class_grammar.specs.Names as grammar;
-ghost use Rattle.class_grammar.specs.Pool.{text_at};
+ghost use Rattle.class_grammar.specs.Pool as entries;
 ghost use Rattle.class_grammar.specs.Checks as checks;
 ghost use Rattle.class_grammar.specs.declared.class_why.ClassWhy.TheVariants as whys;
-ghost use Rattle.class_checks.specs.Judging as spec;
+ghost use Rattle.class_checks.specs.TextRoles as spec;
 
-use crate::judging::{Judgement, NO_TEXT, judgements_of};
 use crate::names::begins_with;
+use crate::text_roles::{NO_TEXT, TextRoles, roles_of};
 use crate::values::has_type;
-use class_grammar::{ClassWhy, is_same};
-use class_model::{Const, Member};
+use class_grammar::{ClassWhy, class_name_at, is_same, text_at};
+use class_model::{ACC_STATIC, Const, Member};
 use std::alloc::{AllocError, Global};
 use std::marker::Model;
 
-/// A constant pool, of which each text was judged once. Contracts see the list of its constants.
+/// A constant pool with the roles of its texts. Contracts see the list of its constants.
 #[derive(Debug, Drop)]
 pub struct Pool<'a> {
     constants: &'a [Const],
-    judgements: Vec<Judgement>,
+    roles: Vec<TextRoles>,
 }
 
 impl<'a> Model for Pool<'a> {
     ghost use Rattle.std.specs.Prelude.{◌≡◌, List, map};
     ghost use Rattle.class_model.specs.declared.constant.Const.{Const};
-    ghost use Rattle.class_checks.specs.Judging.{judgement_of};
+    ghost use Rattle.class_checks.specs.TextRoles.{entry_roles};
 
     ghost Value = { List Const };
 
     ghost view = { λ p. p.constants.now };
 
-    ghost invariant = { λ p. p.judgements.items ≡ map judgement_of p.constants.now };
+    ghost invariant = { λ p. p.roles.items ≡ map entry_roles p.constants.now };
 }
 
-/// A fault, unless the test was passed.
+/// This fault, unless the test has passed.
 pub fn unless(passed: bool, why: ClassWhy) -> Option<ClassWhy>
     ensures { result ≡ checks.unless passed why }
 {
@@ -44,142 +44,130 @@ pub fn unless(passed: bool, why: ClassWhy) -> Option<ClassWhy>
 }
 
 impl<'a> Pool<'a> {
-    /// Judges the texts of a pool.
+    /// The pool of these constants.
     pub fn new(alloc: Global, constants: &'a [Const]) -> Result<Self, AllocError>
         ensures { IfOk result (λ pool. pool ≡ constants.now) }
     {
-        let judgements = judgements_of(alloc, constants)?;
-        Ok(Pool {
-            constants,
-            judgements,
-        })
+        let roles = roles_of(alloc, constants)?;
+        Ok(Pool { constants, roles })
     }
 
-    fn judgement(&self, place: u16) -> Judgement
-        ensures { result ≡ spec.judgement_at self.now place }
+    fn roles(&self, index: u16) -> TextRoles
+        ensures { result ≡ spec.roles_of (entries.text_at self.now index) }
     {
-        self.judgements
-            .get(usize::from(place))
+        self.roles
+            .get(usize::from(index))
             .copied()
             .unwrap_or(NO_TEXT)
     }
 
-    fn text(&self, place: u16) -> Option<&[u16]>
-        ensures { option_map (λ units. units.now) result ≡ text_at self.now place }
+    // Why an index is refused whose text, if there is one, is wrong for this reason.
+    fn reason(&self, why: ClassWhy, index: u16) -> ClassWhy
+        ensures { result ≡ spec.reason_at why self.now index }
     {
-        match self.constants.get(usize::from(place)) {
-            Some(Const::Utf8(units)) => Some(units.as_slice()),
-            _ => None,
-        }
-    }
-
-    // What is wrong with a place whose text, if it holds one, is refused for this reason.
-    fn reason(&self, why: ClassWhy, place: u16) -> ClassWhy
-        ensures { result ≡ spec.reason why self.now place }
-    {
-        match self.text(place) {
+        match text_at(self.constants, index) {
             Some(_) => why,
             None => ClassWhy::Index,
         }
     }
 
-    /// A place for the name of a field (JVMS 4.2.2).
-    pub fn field_name_fault(&self, place: u16) -> Option<ClassWhy>
-        ensures { result ≡ checks.text_fault grammar.is_field_name whys.Name self.now place }
+    /// An index of the name of a field (JVMS 4.2.2).
+    pub fn field_name_fault(&self, index: u16) -> Option<ClassWhy>
+        ensures { result ≡ checks.text_fault grammar.is_field_name whys.Name self.now index }
     {
-        if self.judgement(place).is_field_name {
+        if self.roles(index).is_field_name {
             return None;
         }
-        Some(self.reason(ClassWhy::Name, place))
+        Some(self.reason(ClassWhy::Name, index))
     }
 
-    /// A place for the name of a method (JVMS 4.2.2).
-    pub fn method_name_fault(&self, place: u16) -> Option<ClassWhy>
-        ensures { result ≡ checks.text_fault grammar.is_method_name whys.Name self.now place }
+    /// An index of the name of a method (JVMS 4.2.2).
+    pub fn method_name_fault(&self, index: u16) -> Option<ClassWhy>
+        ensures { result ≡ checks.text_fault grammar.is_method_name whys.Name self.now index }
     {
-        if self.judgement(place).is_method_name {
+        if self.roles(index).is_method_name {
             return None;
         }
-        Some(self.reason(ClassWhy::Name, place))
+        Some(self.reason(ClassWhy::Name, index))
     }
 
-    /// A place for the name of a class (JVMS 4.4.1).
-    pub fn class_name_fault(&self, place: u16) -> Option<ClassWhy>
-        ensures { result ≡ checks.text_fault grammar.is_class_text whys.Name self.now place }
+    /// An index of the name of a class (JVMS 4.4.1).
+    pub fn class_name_fault(&self, index: u16) -> Option<ClassWhy>
+        ensures { result ≡ checks.text_fault grammar.is_class_text whys.Name self.now index }
     {
-        if self.judgement(place).is_class_name {
+        if self.roles(index).is_class_name {
             return None;
         }
-        Some(self.reason(ClassWhy::Name, place))
+        Some(self.reason(ClassWhy::Name, index))
     }
 
-    /// A place for the descriptor of a field (JVMS 4.5).
-    pub fn field_descriptor_fault(&self, place: u16) -> Option<ClassWhy>
-        ensures { result ≡ checks.text_fault descriptors.is_field whys.Descriptor self.now place }
+    /// An index of the descriptor of a field (JVMS 4.5).
+    pub fn field_descriptor_fault(&self, index: u16) -> Option<ClassWhy>
+        ensures { result ≡ checks.text_fault descriptors.is_field whys.Descriptor self.now index }
     {
-        if self.judgement(place).is_field {
+        if self.roles(index).is_field {
             return None;
         }
-        Some(self.reason(ClassWhy::Descriptor, place))
+        Some(self.reason(ClassWhy::Descriptor, index))
     }
 
-    /// A place for the descriptor of a method (JVMS 4.6, 4.4.9).
-    pub fn method_descriptor_fault(&self, place: u16) -> Option<ClassWhy>
-        ensures { result ≡ checks.text_fault descriptors.is_method whys.Descriptor self.now place }
+    /// An index of the descriptor of a method (JVMS 4.6, 4.4.9).
+    pub fn method_descriptor_fault(&self, index: u16) -> Option<ClassWhy>
+        ensures { result ≡ checks.text_fault descriptors.is_method whys.Descriptor self.now index }
     {
-        if self.judgement(place).is_method {
+        if self.roles(index).is_method {
             return None;
         }
-        Some(self.reason(ClassWhy::Descriptor, place))
+        Some(self.reason(ClassWhy::Descriptor, index))
     }
 
-    /// A place for the descriptor of a field or of a method (JVMS 4.4.6).
-    pub fn descriptor_fault(&self, place: u16) -> Option<ClassWhy>
-        ensures { result ≡ checks.text_fault checks.is_descriptor whys.Descriptor self.now place }
+    /// An index of the descriptor of a field or of a method (JVMS 4.4.6).
+    pub fn descriptor_fault(&self, index: u16) -> Option<ClassWhy>
+        ensures { result ≡ checks.text_fault checks.is_descriptor whys.Descriptor self.now index }
     {
-        let judgement = self.judgement(place);
-        if judgement.is_field || judgement.is_method {
+        let roles = self.roles(index);
+        if roles.is_field || roles.is_method {
             return None;
         }
-        Some(self.reason(ClassWhy::Descriptor, place))
+        Some(self.reason(ClassWhy::Descriptor, index))
     }
 
-    /// A place for any text (JVMS 4.4.3).
-    pub fn any_text_fault(&self, place: u16) -> Option<ClassWhy>
-        ensures { result ≡ checks.any_text_fault self.now place }
+    /// An index of any text (JVMS 4.4.3).
+    pub fn any_text_fault(&self, index: u16) -> Option<ClassWhy>
+        ensures { result ≡ checks.any_text_fault self.now index }
     {
-        unless(self.text(place).is_some(), ClassWhy::Index)
+        unless(text_at(self.constants, index).is_some(), ClassWhy::Index)
     }
 
-    /// A place for a class (JVMS 4.4.1).
-    pub fn class_fault(&self, place: u16) -> Option<ClassWhy>
-        ensures { result ≡ checks.class_fault self.now place }
+    /// An index of a class (JVMS 4.4.1).
+    pub fn class_fault(&self, index: u16) -> Option<ClassWhy>
+        ensures { result ≡ checks.class_fault self.now index }
     {
-        match self.constants.get(usize::from(place)) {
+        match self.constants.get(usize::from(index)) {
             Some(Const::Class(_)) => None,
             _ => Some(ClassWhy::Index),
         }
     }
 
-    /// A place for the class that a handler catches, or 0 for every throwable (JVMS 4.7.3).
-    pub fn catch_fault(&self, place: u16) -> Option<ClassWhy>
-        ensures { result ≡ checks.catch_fault self.now place }
+    /// An index of the class that a handler catches, or 0 for every throwable (JVMS 4.7.3).
+    pub fn catch_fault(&self, index: u16) -> Option<ClassWhy>
+        ensures { result ≡ checks.catch_fault self.now index }
     {
-        if place == 0 {
+        if index == 0 {
             return None;
         }
-        self.class_fault(place)
+        self.class_fault(index)
     }
 
-    // Whether the text at the place begins as a method's descriptor. `None`: it holds no text.
-    fn is_like_method(&self, place: u16) -> Option<bool>
-        ensures { result ≡ option_map grammar.is_like_method (text_at self.now place) }
+    // Whether the text at the index begins as a method's descriptor. `None`: there is no text.
+    fn is_like_method(&self, index: u16) -> Option<bool>
+        ensures { result ≡ option_map grammar.is_like_method (entries.text_at self.now index) }
     {
-        let units = self.text(place)?;
+        let units = text_at(self.constants, index)?;
         Some(begins_with(b'(', units))
     }
 
-    /// The places of a NameAndType (JVMS 4.4.6): that of the name, which its descriptor makes a field's or a method's.
+    /// The index of the name in a NameAndType (JVMS 4.4.6), which its descriptor makes a field's or a method's.
     pub fn name_fault(&self, name: u16, descriptor: u16) -> Option<ClassWhy>
         ensures { result ≡ checks.name_fault self.now name descriptor }
     {
@@ -189,11 +177,11 @@ impl<'a> Pool<'a> {
         }
     }
 
-    /// A place for the NameAndType of a field (JVMS 4.4.2).
-    pub fn of_field_fault(&self, place: u16) -> Option<ClassWhy>
-        ensures { result ≡ checks.of_field_fault self.now place }
+    /// An index of the NameAndType of a field (JVMS 4.4.2).
+    pub fn of_field_fault(&self, index: u16) -> Option<ClassWhy>
+        ensures { result ≡ checks.of_field_fault self.now index }
     {
-        match self.constants.get(usize::from(place)) {
+        match self.constants.get(usize::from(index)) {
             Some(Const::NameAndType(_, descriptor)) => match self.is_like_method(*descriptor) {
                 Some(true) => Some(ClassWhy::Descriptor),
                 _ => None,
@@ -202,11 +190,11 @@ impl<'a> Pool<'a> {
         }
     }
 
-    /// A place for the NameAndType of a method (JVMS 4.4.2).
-    pub fn of_method_fault(&self, place: u16) -> Option<ClassWhy>
-        ensures { result ≡ checks.of_method_fault self.now place }
+    /// An index of the NameAndType of a method (JVMS 4.4.2).
+    pub fn of_method_fault(&self, index: u16) -> Option<ClassWhy>
+        ensures { result ≡ checks.of_method_fault self.now index }
     {
-        match self.constants.get(usize::from(place)) {
+        match self.constants.get(usize::from(index)) {
             Some(Const::NameAndType(_, descriptor)) => match self.is_like_method(*descriptor) {
                 Some(false) => Some(ClassWhy::Descriptor),
                 _ => None,
@@ -215,20 +203,17 @@ impl<'a> Pool<'a> {
         }
     }
 
-    // Whether the class at the place is java/lang/Object.
+    // Whether the class at the index is java/lang/Object.
     fn is_object(&self, own: u16) -> bool
         ensures { result ≡ checks.is_object self.now own }
     {
-        match self.constants.get(usize::from(own)) {
-            Some(Const::Class(name)) => match self.text(*name) {
-                Some(units) => is_same(units, b"java/lang/Object"),
-                None => false,
-            },
-            _ => false,
+        match class_name_at(self.constants, own) {
+            Some(name) => is_same(name, b"java/lang/Object"),
+            None => false,
         }
     }
 
-    /// The place of the parent of the class at `own`: Object, and no other class, has none (JVMS 4.1).
+    /// The index of the parent of the class at `own`. Object has none, and every other class has one (JVMS 4.1).
     pub fn parent_fault(&self, own: u16, parent: u16) -> Option<ClassWhy>
         ensures { result ≡ checks.parent_fault self.now own parent }
     {
@@ -238,12 +223,12 @@ impl<'a> Pool<'a> {
         self.class_fault(parent)
     }
 
-    // Whether the place holds the value of a field.
-    fn is_value(&self, place: u16) -> bool
-        ensures { result ≡ checks.holds checks.is_value self.now place }
+    // Whether the constant at the index is the value of a field.
+    fn is_value(&self, index: u16) -> bool
+        ensures { result ≡ checks.holds checks.is_value self.now index }
     {
         matches!(
-            self.constants.get(usize::from(place)),
+            self.constants.get(usize::from(index)),
             Some(
                 Const::Integer(_)
                     | Const::Float(_)
@@ -254,12 +239,12 @@ impl<'a> Pool<'a> {
         )
     }
 
-    // Whether the place holds the value of a field of the type that this place describes.
-    fn is_value_of(&self, descriptor: u16, place: u16) -> bool
-        ensures { result ≡ option_map_or (λ type. checks.holds (checks.has_type type) self.now place) (text_at self.now descriptor) false }
+    // Whether the constant at the index is the value of a field with this descriptor.
+    fn is_value_of(&self, descriptor: u16, index: u16) -> bool
+        ensures { result ≡ checks.is_value_of self.now descriptor index }
     {
-        match self.text(descriptor) {
-            Some(units) => match self.constants.get(usize::from(place)) {
+        match text_at(self.constants, descriptor) {
+            Some(units) => match self.constants.get(usize::from(index)) {
                 Some(constant) => has_type(units, constant),
                 None => false,
             },
@@ -267,14 +252,14 @@ impl<'a> Pool<'a> {
         }
     }
 
-    /// The place of the value of a field with this descriptor (JVMS 4.7.2).
-    pub fn value_fault(&self, field: &Member, place: u16) -> Option<ClassWhy>
-        ensures { result ≡ checks.value_fault self.now field.now place }
+    /// The index of the value of a field with this descriptor (JVMS 4.7.2).
+    pub fn value_fault(&self, field: &Member, index: u16) -> Option<ClassWhy>
+        ensures { result ≡ checks.value_fault self.now field.now index }
     {
-        let passed = if field.flags & 0x0008 == 0x0008 {
-            self.is_value_of(field.descriptor, place)
+        let passed = if field.flags & ACC_STATIC == ACC_STATIC {
+            self.is_value_of(field.descriptor, index)
         } else {
-            self.is_value(place)
+            self.is_value(index)
         };
         unless(passed, ClassWhy::Index)
     }

@@ -1,9 +1,7 @@
 pub mod Ranges
-pub mod Readers
+pub mod NumberLaws
 pub mod PoolLaws
 pub mod AttributeLaws
 pub mod FileLaws
-pub mod ValueLaws
-pub mod LoopLaws
 pub mod SoundLaws
-pub mod JudgingLaws
+pub mod OutcomeLaws

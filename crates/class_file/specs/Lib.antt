@@ -1,6 +1,5 @@
-pub mod Reading
+pub mod Numbers
 pub mod Constants
 pub mod Attributes
-pub mod FirstPass
-pub mod Refusal
-pub mod Judging
+pub mod AttributeNames
+pub mod File

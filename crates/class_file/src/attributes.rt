@@ -1,22 +1,23 @@
 //! The attributes of a class, a field or a method (JVMS 4.7).
 
 ghost use Rattle.std.specs.Prelude.{◌≡◌, false};
+ghost use Rattle.byte_reader.specs.Reader.{Reads, map_value};
 ghost use Rattle.class_model.specs.declared.attribute.Body.TheVariants as bodies;
-ghost use Rattle.class_file.specs.Reading.{Gives, number_at, mapped, sized};
-ghost use Rattle.class_file.specs.Attributes.{sized_bytes_at, known_at, attribute_at, next_attribute, attributes_at};
+ghost use Rattle.class_file.specs.Numbers.{sized_bytes_at, sized_value_at, u2_at};
+ghost use Rattle.class_file.specs.Attributes as spec;
 
 use crate::code::sized_code_of;
-use crate::names::{is_known, name_of};
-use crate::numbers::{sized_bytes_of, u2_of, u4_of};
-use crate::stop::Stop;
+use crate::names::{is_recognized, name_of};
+use crate::numbers::sized_bytes_of;
+use byte_reader::{Stop, u2_of, u4_of};
 use class_grammar::{ClassWhy, Holder};
 use class_model::{Attribute, Body, Const};
 use items::Items;
 use std::alloc::Global;
 
-// A length in four bytes, and the place of a value (JVMS 4.7.2).
-fn sized_value_of(bytes: &[u8]) -> Result<(u16, &[u8]), Stop>
-    ensures { Gives (λ x. (x.0, x.1.now)) result (sized (number_at 2) bytes.now) }
+// The body of a ConstantValue after its length: the index of the value (JVMS 4.7.2).
+fn sized_value_of(bytes: &[u8]) -> Result<(u16, &[u8]), Stop<ClassWhy>>
+    ensures { Reads result (sized_value_at u2_at bytes.now) }
 {
     let (size, front) = u4_of(bytes)?;
     let (value, rest) = u2_of(front)?;
@@ -26,26 +27,24 @@ fn sized_value_of(bytes: &[u8]) -> Result<(u16, &[u8]), Stop>
     Ok((value, rest))
 }
 
-// A length in four bytes, and the bytes of an attribute that means nothing.
-fn other_of(alloc: Global, bytes: &[u8]) -> Result<(Body, &[u8]), Stop>
-    ensures { Gives (λ x. (x.0, x.1.now)) result (mapped bodies.Other sized_bytes_at bytes.now) }
+// The bytes of an attribute that isn't recognized, after their length.
+fn other_body_of(alloc: Global, bytes: &[u8]) -> Result<(Body, &[u8]), Stop<ClassWhy>>
+    ensures { Reads result (map_value bodies.Other sized_bytes_at bytes.now) }
 {
     let (body, rest) = sized_bytes_of(bytes)?;
-    Ok((
-        Body::Other(Items::from(Vec::from_slice(alloc, body)?)),
-        rest,
-    ))
+    let body = Body::Other(Items::from(Vec::from_slice(alloc, body)?));
+    Ok((body, rest))
 }
 
-// An attribute that means something there.
-fn known_of<'a>(
+// A recognized attribute of the holder.
+fn recognized_of<'a>(
     alloc: Global,
     pool: &[Const],
     holder: Holder,
     name: u16,
     bytes: &'a [u8],
-) -> Result<(Attribute, &'a [u8]), Stop>
-    ensures { Gives (λ x. (x.0, x.1.now)) result (known_at pool.now holder name bytes.now) }
+) -> Result<(Attribute, &'a [u8]), Stop<ClassWhy>>
+    ensures { Reads result (spec.recognized_at pool.now holder name bytes.now) }
 {
     match holder {
         Holder::Method => {
@@ -59,13 +58,13 @@ fn known_of<'a>(
             Ok((Attribute { name, body }, rest))
         }
         Holder::Class => {
-            let (body, rest) = other_of(alloc, bytes)?;
+            let (body, rest) = other_body_of(alloc, bytes)?;
             Ok((Attribute { name, body }, rest))
         }
     }
 }
 
-// An attribute, where one that means something has been seen or has not.
+// An attribute. `seen` says that the holder has a recognized one before it.
 #[tactic(auto, unfolding(crate::specs::Attributes::attribute_at))]
 fn attribute_of<'a>(
     alloc: Global,
@@ -73,23 +72,24 @@ fn attribute_of<'a>(
     holder: Holder,
     seen: bool,
     bytes: &'a [u8],
-) -> Result<(Attribute, &'a [u8]), Stop>
-    ensures { Gives (λ x. (x.0, x.1.now)) result (attribute_at pool.now holder seen bytes.now) }
+) -> Result<(Attribute, &'a [u8]), Stop<ClassWhy>>
+    ensures { Reads result (spec.attribute_at pool.now holder seen bytes.now) }
 {
-    let ((name, text), rest) = name_of(pool, bytes)?;
-    if !is_known(holder, text) {
-        let (body, rest) = other_of(alloc, rest)?;
+    let (name, rest) = name_of(pool, bytes)?;
+    if !is_recognized(holder, name.text) {
+        let (body, rest) = other_body_of(alloc, rest)?;
+        let name = name.index;
         return Ok((Attribute { name, body }, rest));
     }
     if seen {
         return Err(Stop::at(bytes, ClassWhy::Duplicate));
     }
-    known_of(alloc, pool, holder, name, rest)
+    recognized_of(alloc, pool, holder, name.index, rest)
 }
 
-// Whether one that means something has been seen, behind one more attribute.
+// Whether there is a recognized attribute up to this one.
 fn is_one_seen(seen: bool, attribute: &Attribute) -> bool
-    ensures { result ≡ next_attribute seen attribute.now }
+    ensures { result ≡ spec.next_attribute seen attribute.now }
 {
     seen || !matches!(attribute.body, Body::Other(_))
 }
@@ -101,8 +101,8 @@ pub fn attributes_of<'a>(
     holder: Holder,
     count: u16,
     bytes: &'a [u8],
-) -> Result<(Vec<Attribute>, &'a [u8]), Stop>
-    ensures { Gives (λ x. (x.0.items, x.1.now)) result (attributes_at pool.now holder false count bytes.now) }
+) -> Result<(Items<Attribute>, &'a [u8]), Stop<ClassWhy>>
+    ensures { Reads result (spec.attributes_at pool.now holder false count bytes.now) }
 {
     let most = usize::from(count).min(bytes.len() / 6);
     let mut attributes = Vec::with_capacity(alloc, most)?;
@@ -114,5 +114,5 @@ pub fn attributes_of<'a>(
         attributes.push(attribute)?;
         rest = after;
     }
-    Ok((attributes, rest))
+    Ok((Items::from(attributes), rest))
 }

@@ -1,29 +1,33 @@
 //! A Code attribute (JVMS 4.7.3).
 
 ghost use Rattle.std.specs.Prelude.{◌≡◌, false};
-ghost use Rattle.class_file.specs.Reading.{Gives, sized};
+ghost use Rattle.byte_reader.specs.Reader.{Reads, ReadsBytes};
+ghost use Rattle.class_file.specs.Numbers.{sized_value_at};
 ghost use Rattle.class_file.specs.Attributes.{extra_at, next_extra, extras_at, row_at, rows_at, code_bytes_at, code_at};
 
-use crate::names::{is_known_extra, name_of};
-use crate::numbers::{bytes_of, pair_of, sized_bytes_of, u2_of, u4_of};
-use crate::stop::Stop;
+use crate::names::{is_stack_map_name, name_of};
+use crate::numbers::sized_bytes_of;
+use byte_reader::{Stop, bytes_of, pair_of, u2_of, u4_of};
 use class_grammar::ClassWhy;
 use class_model::{CodeAttribute, CodeBody, CodeExtra, Const, Row};
 use items::Items;
 use std::alloc::Global;
 
-// An attribute of a Code, where a StackMapTable has been seen or has not (JVMS 4.7.4).
+/// The greatest length of code, in bytes (JVMS 4.7.3).
+const MOST_CODE: u32 = 0xffff;
+
+// An attribute of a Code. `seen` says that there is a StackMapTable before it (JVMS 4.7.4).
 #[tactic(auto, unfolding(crate::specs::Attributes::extra_at))]
 fn extra_of<'a>(
     alloc: Global,
     pool: &[Const],
     seen: bool,
     bytes: &'a [u8],
-) -> Result<(CodeAttribute, &'a [u8]), Stop>
-    ensures { Gives (λ x. (x.0, x.1.now)) result (extra_at pool.now seen bytes.now) }
+) -> Result<(CodeAttribute, &'a [u8]), Stop<ClassWhy>>
+    ensures { Reads result (extra_at pool.now seen bytes.now) }
 {
-    let ((name, text), rest) = name_of(pool, bytes)?;
-    let is_map = is_known_extra(text);
+    let (name, rest) = name_of(pool, bytes)?;
+    let is_map = is_stack_map_name(name.text);
     if is_map && seen {
         return Err(Stop::at(bytes, ClassWhy::Duplicate));
     }
@@ -34,10 +38,11 @@ fn extra_of<'a>(
     } else {
         CodeExtra::Other(body)
     };
+    let name = name.index;
     Ok((CodeAttribute { name, body }, rest))
 }
 
-// Whether a StackMapTable has been seen, behind one more attribute.
+// Whether there is a StackMapTable up to this attribute.
 fn is_map_seen(seen: bool, extra: &CodeAttribute) -> bool
     ensures { result ≡ next_extra seen extra.now }
 {
@@ -50,8 +55,8 @@ fn extras_of<'a>(
     pool: &[Const],
     count: u16,
     bytes: &'a [u8],
-) -> Result<(Vec<CodeAttribute>, &'a [u8]), Stop>
-    ensures { Gives (λ x. (x.0.items, x.1.now)) result (extras_at pool.now false count bytes.now) }
+) -> Result<(Items<CodeAttribute>, &'a [u8]), Stop<ClassWhy>>
+    ensures { Reads result (extras_at pool.now false count bytes.now) }
 {
     let most = usize::from(count).min(bytes.len() / 6);
     let mut extras = Vec::with_capacity(alloc, most)?;
@@ -63,13 +68,13 @@ fn extras_of<'a>(
         extras.push(extra)?;
         rest = after;
     }
-    Ok((extras, rest))
+    Ok((Items::from(extras), rest))
 }
 
 // A row of the exception table.
 #[tactic(auto, unfolding(crate::specs::Attributes::row_at))]
-fn row_of(bytes: &[u8]) -> Result<(Row, &[u8]), Stop>
-    ensures { Gives (λ x. (x.0, x.1.now)) result (row_at bytes.now) }
+fn row_of(bytes: &[u8]) -> Result<(Row, &[u8]), Stop<ClassWhy>>
+    ensures { Reads result (row_at bytes.now) }
 {
     let ((start, end), rest) = pair_of(bytes)?;
     let ((handler, catch_type), rest) = pair_of(rest)?;
@@ -83,8 +88,8 @@ fn row_of(bytes: &[u8]) -> Result<(Row, &[u8]), Stop>
 }
 
 // That many rows of the exception table.
-fn rows_of(alloc: Global, count: u16, bytes: &[u8]) -> Result<(Vec<Row>, &[u8]), Stop>
-    ensures { Gives (λ x. (x.0.items, x.1.now)) result (rows_at count bytes.now) }
+fn rows_of(alloc: Global, count: u16, bytes: &[u8]) -> Result<(Items<Row>, &[u8]), Stop<ClassWhy>>
+    ensures { Reads result (rows_at count bytes.now) }
 {
     let most = usize::from(count).min(bytes.len() / 8);
     let mut rows = Vec::with_capacity(alloc, most)?;
@@ -94,25 +99,29 @@ fn rows_of(alloc: Global, count: u16, bytes: &[u8]) -> Result<(Vec<Row>, &[u8]),
         rows.push(row)?;
         rest = after;
     }
-    Ok((rows, rest))
+    Ok((Items::from(rows), rest))
 }
 
-// The bytes of the code behind their number.
+// The bytes of the code after their number.
 #[tactic(auto, unfolding(crate::specs::Attributes::code_bytes_at))]
-fn code_bytes_of(bytes: &[u8]) -> Result<(&[u8], &[u8]), Stop>
-    ensures { Gives (λ x. (x.0.now, x.1.now)) result (code_bytes_at bytes.now) }
+fn code_bytes_of(bytes: &[u8]) -> Result<(&[u8], &[u8]), Stop<ClassWhy>>
+    ensures { ReadsBytes result (code_bytes_at bytes.now) }
 {
     let (count, rest) = u4_of(bytes)?;
-    if count < 1 || 0xffff < count {
+    if count < 1 || MOST_CODE < count {
         return Err(Stop::at(bytes, ClassWhy::Length));
     }
     bytes_of(count as usize, rest)
 }
 
-// A Code behind its length.
+// A Code after its length.
 #[tactic(auto, unfolding(crate::specs::Attributes::code_at))]
-fn code_of<'a>(alloc: Global, pool: &[Const], bytes: &'a [u8]) -> Result<(CodeBody, &'a [u8]), Stop>
-    ensures { Gives (λ x. (x.0, x.1.now)) result (code_at pool.now bytes.now) }
+fn code_of<'a>(
+    alloc: Global,
+    pool: &[Const],
+    bytes: &'a [u8],
+) -> Result<(CodeBody, &'a [u8]), Stop<ClassWhy>>
+    ensures { Reads result (code_at pool.now bytes.now) }
 {
     let ((max_stack, max_locals), rest) = pair_of(bytes)?;
     let (code, rest) = code_bytes_of(rest)?;
@@ -124,8 +133,8 @@ fn code_of<'a>(alloc: Global, pool: &[Const], bytes: &'a [u8]) -> Result<(CodeBo
         max_stack,
         max_locals,
         code: Items::from(Vec::from_slice(alloc, code)?),
-        rows: Items::from(rows),
-        attributes: Items::from(attributes),
+        rows,
+        attributes,
     };
     Ok((body, rest))
 }
@@ -135,8 +144,8 @@ pub fn sized_code_of<'a>(
     alloc: Global,
     pool: &[Const],
     bytes: &'a [u8],
-) -> Result<(CodeBody, &'a [u8]), Stop>
-    ensures { Gives (λ x. (x.0, x.1.now)) result (sized (code_at pool.now) bytes.now) }
+) -> Result<(CodeBody, &'a [u8]), Stop<ClassWhy>>
+    ensures { Reads result (sized_value_at (code_at pool.now) bytes.now) }
 {
     let (size, front) = u4_of(bytes)?;
     let (code, rest) = code_of(alloc, pool, front)?;

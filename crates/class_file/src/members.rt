@@ -1,25 +1,25 @@
 //! Interfaces, fields and methods (JVMS 4.1, 4.5, 4.6).
 
-ghost use Rattle.class_file.specs.Reading.{Gives, number_at, many};
-ghost use Rattle.class_file.specs.FirstPass.{member_at, members_at};
+ghost use Rattle.byte_reader.specs.Reader.{Reads, many};
+ghost use Rattle.class_file.specs.Numbers.{u2_at};
+ghost use Rattle.class_file.specs.File.{member_at, members_at};
 
 use crate::attributes::attributes_of;
-use crate::numbers::{pair_of, u2_of};
-use crate::stop::Stop;
-use class_grammar::Holder;
+use byte_reader::{Stop, pair_of, u2_of};
+use class_grammar::{ClassWhy, Holder};
 use class_model::{Const, Member};
 use items::Items;
 use std::alloc::Global;
 
 // A field or a method.
-#[tactic(auto, unfolding(crate::specs::FirstPass::member_at))]
+#[tactic(auto, unfolding(crate::specs::File::member_at))]
 fn member_of<'a>(
     alloc: Global,
     pool: &[Const],
     holder: Holder,
     bytes: &'a [u8],
-) -> Result<(Member, &'a [u8]), Stop>
-    ensures { Gives (λ x. (x.0, x.1.now)) result (member_at pool.now holder bytes.now) }
+) -> Result<(Member, &'a [u8]), Stop<ClassWhy>>
+    ensures { Reads result (member_at pool.now holder bytes.now) }
 {
     let (flags, rest) = u2_of(bytes)?;
     let ((name, descriptor), rest) = pair_of(rest)?;
@@ -29,7 +29,7 @@ fn member_of<'a>(
         flags,
         name,
         descriptor,
-        attributes: Items::from(attributes),
+        attributes,
     };
     Ok((member, rest))
 }
@@ -41,8 +41,8 @@ fn all_of<'a>(
     holder: Holder,
     count: u16,
     bytes: &'a [u8],
-) -> Result<(Vec<Member>, &'a [u8]), Stop>
-    ensures { Gives (λ x. (x.0.items, x.1.now)) result (many (member_at pool.now holder) count bytes.now) }
+) -> Result<(Items<Member>, &'a [u8]), Stop<ClassWhy>>
+    ensures { Reads result (many (member_at pool.now holder) count bytes.now) }
 {
     let most = usize::from(count).min(bytes.len() / 8);
     let mut members = Vec::with_capacity(alloc, most)?;
@@ -52,35 +52,38 @@ fn all_of<'a>(
         members.push(member)?;
         rest = after;
     }
-    Ok((members, rest))
+    Ok((Items::from(members), rest))
 }
 
-/// The fields or the methods behind their number (JVMS 4.5, 4.6).
-#[tactic(auto, unfolding(crate::specs::FirstPass::members_at))]
+/// The fields or the methods after their number (JVMS 4.5, 4.6).
+#[tactic(auto, unfolding(crate::specs::File::members_at))]
 pub fn members_of<'a>(
     alloc: Global,
     pool: &[Const],
     holder: Holder,
     bytes: &'a [u8],
-) -> Result<(Items<Member>, &'a [u8]), Stop>
-    ensures { Gives (λ x. (x.0, x.1.now)) result (members_at pool.now holder bytes.now) }
+) -> Result<(Items<Member>, &'a [u8]), Stop<ClassWhy>>
+    ensures { Reads result (members_at pool.now holder bytes.now) }
 {
     let (count, rest) = u2_of(bytes)?;
-    let (members, rest) = all_of(alloc, pool, holder, count, rest)?;
-    Ok((Items::from(members), rest))
+    all_of(alloc, pool, holder, count, rest)
 }
 
-/// That many interfaces, each a place of the pool (JVMS 4.1).
-pub fn interfaces_of(alloc: Global, count: u16, bytes: &[u8]) -> Result<(Vec<u16>, &[u8]), Stop>
-    ensures { Gives (λ x. (x.0.items, x.1.now)) result (many (number_at 2) count bytes.now) }
+/// That many interfaces, each by its index in the constant pool (JVMS 4.1).
+pub fn interfaces_of(
+    alloc: Global,
+    count: u16,
+    bytes: &[u8],
+) -> Result<(Items<u16>, &[u8]), Stop<ClassWhy>>
+    ensures { Reads result (many u2_at count bytes.now) }
 {
     let most = usize::from(count).min(bytes.len() / 2);
     let mut interfaces = Vec::with_capacity(alloc, most)?;
     let mut rest = bytes;
     for _ in 0..count {
-        let (place, after) = u2_of(rest)?;
-        interfaces.push(place)?;
+        let (index, after) = u2_of(rest)?;
+        interfaces.push(index)?;
         rest = after;
     }
-    Ok((interfaces, rest))
+    Ok((Items::from(interfaces), rest))
 }

@@ -1,20 +1,25 @@
 //! The names of attributes (JVMS 4.7).
 
 ghost use Rattle.std.specs.Prelude.{◌≡◌};
-ghost use Rattle.std.specs.Option.{option_map};
-ghost use Rattle.class_grammar.specs.Placing as placing;
-ghost use Rattle.class_grammar.specs.Pool.{text_at};
-ghost use Rattle.class_file.specs.Reading.{Gives};
+ghost use Rattle.byte_reader.specs.Reader.{GivesBy};
+ghost use Rattle.class_grammar.specs.Attributes as spec;
 ghost use Rattle.class_file.specs.Attributes.{name_at};
+ghost use Rattle.class_file.specs.AttributeNames.{name_and_rest};
 
-use crate::numbers::u2_of;
-use crate::stop::Stop;
-use class_grammar::{ClassWhy, Holder, is_same};
+use byte_reader::{Stop, u2_of};
+use class_grammar::{ClassWhy, Holder, is_same, text_at};
 use class_model::Const;
 
-/// Whether an attribute of this name means something there.
-pub fn is_known(holder: Holder, name: &[u16]) -> bool
-    ensures { result ≡ placing.is_known holder name.now }
+/// The name of an attribute: its index in the constant pool, and the text there.
+#[derive(Clone, Copy, Debug)]
+pub struct Name<'a> {
+    pub index: u16,
+    pub text: &'a [u16],
+}
+
+/// Whether an attribute of this name is recognized in the holder (JVMS 4.7).
+pub fn is_recognized(holder: Holder, name: &[u16]) -> bool
+    ensures { result ≡ spec.is_recognized holder name.now }
 {
     match holder {
         Holder::Class => false,
@@ -23,34 +28,24 @@ pub fn is_known(holder: Holder, name: &[u16]) -> bool
     }
 }
 
-/// Whether an attribute of a Code of this name means something.
-pub fn is_known_extra(name: &[u16]) -> bool
-    ensures { result ≡ placing.is_known_extra name.now }
+/// Whether an attribute of a Code is a StackMapTable by its name (JVMS 4.7.4).
+pub fn is_stack_map_name(name: &[u16]) -> bool
+    ensures { result ≡ spec.is_stack_map_name name.now }
 {
     is_same(name, b"StackMapTable")
 }
 
-// The text at a place of the pool.
-fn text_of(pool: &[Const], place: u16) -> Option<&[u16]>
-    ensures { option_map (λ text. text.now) result ≡ text_at pool.now place }
-{
-    match pool.get(usize::from(place)) {
-        Some(Const::Utf8(units)) => Some(units.as_slice()),
-        _ => None,
-    }
-}
-
-/// The name of an attribute: its place in the pool, and its text.
+/// The name of an attribute, and the bytes after it.
 #[tactic(auto, unfolding(crate::specs::Attributes::name_at))]
 pub fn name_of<'p, 'a>(
     pool: &'p [Const],
     bytes: &'a [u8],
-) -> Result<((u16, &'p [u16]), &'a [u8]), Stop>
-    ensures { Gives (λ x. ((x.0.0, x.0.1.now), x.1.now)) result (name_at pool.now bytes.now) }
+) -> Result<(Name<'p>, &'a [u8]), Stop<ClassWhy>>
+    ensures { GivesBy name_and_rest result (name_at pool.now bytes.now) }
 {
-    let (place, rest) = u2_of(bytes)?;
-    match text_of(pool, place) {
-        Some(name) => Ok(((place, name), rest)),
+    let (index, rest) = u2_of(bytes)?;
+    match text_at(pool, index) {
+        Some(text) => Ok((Name { index, text }, rest)),
         None => Err(Stop::at(bytes, ClassWhy::Index)),
     }
 }

@@ -1,44 +1,46 @@
-ghost use Rattle.std.specs.Prelude.{◌≡◌, ◌<◌, ◌^◌, Some, length, IfOk};
+ghost use Rattle.std.specs.Prelude.{◌≡◌, ◌<◌, ◌^◌, ℕ, Some, Err, length, IfOk};
+ghost use Rattle.items.specs.Memory.{OkUnless};
+ghost use Rattle.byte_reader.specs.Reader.{Gives};
 ghost use Rattle.class_model.specs.declared.class_file.ClassFile.{ClassFile as AnyFile};
-ghost use Rattle.class_grammar.specs.Spelling.{Spells};
-ghost use Rattle.class_file.specs.Reading.{Gives};
-ghost use Rattle.class_file.specs.Judging as spec;
-ghost use Rattle.class_file.specs.Refusal.{first_bad, OnBad, IsAnswered};
+ghost use Rattle.class_grammar.specs.Grammar.{Spells};
+ghost use Rattle.class_grammar.specs.declared.class_why.ClassWhy.{ClassWhy as AnyReason};
+ghost use Rattle.class_file.specs.File as spec;
+ghost use Rattle.class_file.specs.File.{first_bad};
 
 use crate::ReadError;
-use crate::first_pass::file_of;
-use crate::stop::Stop;
+use crate::layout::layout_of;
+use byte_reader::Stop;
 use class_checks::check;
+use class_grammar::ClassWhy;
 use class_model::ClassFile;
 use std::alloc::Global;
 
-// The class file, or the first failing check.
-#[tactic(auto, unfolding(crate::specs::Judging::judged))]
-fn judged(alloc: Global, bytes: &[u8]) -> Result<ClassFile, Stop>
-    ensures { Gives (λ file. file) result (spec.judged bytes.now) }
+// The class file, or the first check that fails.
+#[tactic(auto, unfolding(crate::specs::File::file_of))]
+fn file_of(alloc: Global, bytes: &[u8]) -> Result<ClassFile, Stop<ClassWhy>>
+    ensures { Gives result (spec.file_of bytes.now) }
 {
-    let file = file_of(alloc, bytes)?;
-    match check(alloc, &file, bytes.len()) {
-        Ok(None) => Ok(file),
-        Ok(Some(fault)) => Err(Stop::Wrong(fault)),
-        Err(_) => Err(Stop::NoMemory),
-    }
+    let file = layout_of(alloc, bytes)?;
+    check(alloc, &file, bytes.len())?;
+    Ok(file)
 }
 
 /// Reads a class file (JVMS 4.1 to 4.9).
 pub fn read(alloc: Global, bytes: &[u8]) -> Result<ClassFile, ReadError>
     requires { length bytes.now < 2 ^ 32 }
-    // What is read is spelled so.
-    ensures found { IfOk result (λ f. Spells bytes.now f) }
-    // What is spelled so is read, unless memory runs out.
-    ensures only { (f : AnyFile) → Spells bytes.now f → IsAnswered result f }
-    // A refusal is the first failing check.
-    ensures bad { OnBad result (λ at why. first_bad bytes.now ≡ Some (at, why)) }
+    // The bytes spell what is read.
+    ensures found { IfOk result (Spells bytes.now) }
+    // A value that the bytes spell is read, unless memory runs out.
+    ensures only { (f : AnyFile) → Spells bytes.now f →
+        OkUnless result ReadError.NoMemory (λ file. file ≡ f) }
+    // A refusal is the first check that fails.
+    ensures bad { (at : ℕ) (why : AnyReason) → result ≡ Err (ReadError.Bad at why) →
+        first_bad bytes.now ≡ Some (at, why) }
 {
-    match judged(alloc, bytes) {
+    match file_of(alloc, bytes) {
         Ok(file) => Ok(file),
-        Err(Stop::Wrong(fault)) => Err(ReadError::Bad {
-            at: bytes.len().saturating_sub(fault.left) as u32,
+        Err(Stop::Fault(fault)) => Err(ReadError::Bad {
+            at: fault.offset(bytes),
             why: fault.why,
         }),
         Err(Stop::NoMemory) => Err(ReadError::NoMemory),

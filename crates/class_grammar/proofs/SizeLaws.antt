@@ -14,7 +14,7 @@ use Rattle.class_model.specs.declared.member.Member.{Member}
 use Rattle.class_model.specs.declared.class_file.ClassFile.{ClassFile}
 use Rattle.jvm_utf8.specs.Text.{unit, text}
 use Rattle.class_grammar.specs.Layout.{u2, u4, table, sized, constant, row, code_attribute, code, body, attribute, member, class_file}
-use Rattle.class_grammar.specs.Checks.{Item, sound, checked, class_fault, constant_items, class_items, row_items, extra_items, code_items, body_items, attribute_items, attributes_items, field_items, method_items, member_items, pool_items, items, size_of}
+use Rattle.class_grammar.specs.Checks.{Item, sound_bytes, u2_item, class_fault, constant_items, class_items, row_items, extra_items, code_items, body_items, attribute_items, attributes_items, field_items, method_items, member_items, pool_items, items, size_of}
 
 size_of-append : (a b : List Item) → size_of (a ++ b) ≡ size_of a + size_of b
 size_of-append [] b = omega arith
@@ -24,7 +24,7 @@ flat_size : {X : Type 0} (f : X → List Item) (g : X → List ℕ) → ((x : X)
 flat_size f g each [] = refl
 flat_size f g each (x ∷ xs) = omega (arith, size_of-append (f x) (flat_map f xs), length-append (g x) (flat_map g xs), each x, flat_size f g each xs)
 
-units_size : (us : List ℕ) → size_of (map (λ u. sound (length (unit u))) us) ≡ length (text us)
+units_size : (us : List ℕ) → size_of (map (λ u. sound_bytes (length (unit u))) us) ≡ length (text us)
 units_size [] = refl
 units_size (u ∷ us) = omega (arith, length-append (unit u) (text us), units_size us)
 
@@ -32,9 +32,9 @@ constant_size : (pool : List Const) (c : Const) → size_of (constant_items pool
 constant_size pool (Utf8 us) = omega (arith, units_size us)
 constant_size pool c = omega arith
 
-places_size : (pool : List Const) (places : List ℕ) → size_of (map (λ place. checked (class_fault pool place)) places) ≡ length (flat_map u2 places)
-places_size pool [] = refl
-places_size pool (p ∷ ps) = omega (arith, places_size pool ps)
+entries_size : (pool : List Const) (entries : List ℕ) → size_of (map (λ index. u2_item (class_fault pool index)) entries) ≡ length (flat_map u2 entries)
+entries_size pool [] = refl
+entries_size pool (p ∷ ps) = omega (arith, entries_size pool ps)
 
 extra_size : (a : CodeAttribute) → size_of (extra_items a) ≡ length (code_attribute a)
 extra_size a = omega arith
@@ -45,7 +45,7 @@ code_size pool c =
     let extras = flat_map code_attribute c.attributes in
     omega (
       arith,
-      size_of-append (flat_map (row_items pool (length c.code)) c.rows) (sound 2 ∷ flat_map extra_items c.attributes),
+      size_of-append (flat_map (row_items pool (length c.code)) c.rows) (sound_bytes 2 ∷ flat_map extra_items c.attributes),
       flat_size (row_items pool (length c.code)) row (λ r. omega arith) c.rows,
       flat_size extra_items code_attribute extra_size c.attributes,
       length-append ((u2 c.max_stack ++ u2 c.max_locals ++ sized c.code) ++ table row c.rows) (table code_attribute c.attributes),
@@ -73,14 +73,14 @@ member_size : (f : ClassFile) → size_of (member_items f) ≡ length (table mem
 member_size f =
     omega (
       arith,
-      size_of-append (flat_map (field_items f.pool) f.fields) (sound 2 ∷ flat_map (method_items f.pool) f.methods),
+      size_of-append (flat_map (field_items f.pool) f.fields) (sound_bytes 2 ∷ flat_map (method_items f.pool) f.methods),
       flat_size (field_items f.pool) member (field_size f.pool) f.fields,
       flat_size (method_items f.pool) member (method_size f.pool) f.methods,
       length-append (table member f.fields) (table member f.methods),
     )
 
 class_size : (f : ClassFile) → size_of (class_items f) ≡ 6 + length (table u2 f.interfaces)
-class_size f = omega (arith, places_size f.pool f.interfaces)
+class_size f = omega (arith, entries_size f.pool f.interfaces)
 
 pool_size : (f : ClassFile) → size_of (pool_items f) ≡ 8 + length (table constant f.pool)
 pool_size f = omega (arith, flat_size (constant_items f.pool) constant (constant_size f.pool) f.pool)

@@ -3,6 +3,7 @@
 use Rattle.std.specs.Prelude.{ℕ, List, [], ◌∷◌, ◌++◌, length}
 use Rattle.std.specs.Int.{w16, w32, w64, to_be_bytes, cast_unsigned}
 use Rattle.std.specs.List.{flat_map}
+use Rattle.class_model.specs.declared.tags.TheConstants.{TAG_UTF8, TAG_INTEGER, TAG_FLOAT, TAG_LONG, TAG_DOUBLE, TAG_CLASS, TAG_STRING, TAG_FIELDREF, TAG_METHODREF, TAG_INTERFACE_METHODREF, TAG_NAME_AND_TYPE, TAG_METHOD_HANDLE, TAG_METHOD_TYPE, TAG_DYNAMIC, TAG_INVOKE_DYNAMIC, TAG_MODULE, TAG_PACKAGE}
 use Rattle.class_model.specs.declared.constant.Const.{Const}
 use Rattle.class_model.specs.declared.constant.Const.TheVariants.{Unused, Utf8, Integer, Float, Long, Double, Class, Text, Fieldref, Methodref, InterfaceMethodref, NameAndType, MethodHandle, MethodType, Dynamic, InvokeDynamic, Module, Package}
 use Rattle.class_model.specs.declared.attribute.Attribute.{Attribute}
@@ -44,23 +45,23 @@ string bytes = u2 (length bytes) ++ bytes
 -- an entry of the constant pool: its tag and its body (JVMS 4.4)
 abbrev pub constant : Const → List ℕ
 constant Unused = []
-constant (Utf8 units) = u1 1 ++ string (text units)
-constant (Integer n) = u1 3 ++ u4 (cast_unsigned w32 n)
-constant (Float bits) = u1 4 ++ u4 bits
-constant (Long n) = u1 5 ++ u8 (cast_unsigned w64 n)
-constant (Double bits) = u1 6 ++ u8 bits
-constant (Class name) = u1 7 ++ u2 name
-constant (Text units) = u1 8 ++ u2 units
-constant (Fieldref class member) = u1 9 ++ u2 class ++ u2 member
-constant (Methodref class member) = u1 10 ++ u2 class ++ u2 member
-constant (InterfaceMethodref class member) = u1 11 ++ u2 class ++ u2 member
-constant (NameAndType name descriptor) = u1 12 ++ u2 name ++ u2 descriptor
-constant (MethodHandle kind member) = u1 15 ++ u1 kind ++ u2 member
-constant (MethodType descriptor) = u1 16 ++ u2 descriptor
-constant (Dynamic bootstrap member) = u1 17 ++ u2 bootstrap ++ u2 member
-constant (InvokeDynamic bootstrap member) = u1 18 ++ u2 bootstrap ++ u2 member
-constant (Module name) = u1 19 ++ u2 name
-constant (Package name) = u1 20 ++ u2 name
+constant (Utf8 units) = u1 TAG_UTF8 ++ string (text units)
+constant (Integer n) = u1 TAG_INTEGER ++ u4 (cast_unsigned w32 n)
+constant (Float bits) = u1 TAG_FLOAT ++ u4 bits
+constant (Long n) = u1 TAG_LONG ++ u8 (cast_unsigned w64 n)
+constant (Double bits) = u1 TAG_DOUBLE ++ u8 bits
+constant (Class name) = u1 TAG_CLASS ++ u2 name
+constant (Text units) = u1 TAG_STRING ++ u2 units
+constant (Fieldref class member) = u1 TAG_FIELDREF ++ u2 class ++ u2 member
+constant (Methodref class member) = u1 TAG_METHODREF ++ u2 class ++ u2 member
+constant (InterfaceMethodref class member) = u1 TAG_INTERFACE_METHODREF ++ u2 class ++ u2 member
+constant (NameAndType name descriptor) = u1 TAG_NAME_AND_TYPE ++ u2 name ++ u2 descriptor
+constant (MethodHandle kind member) = u1 TAG_METHOD_HANDLE ++ u1 kind ++ u2 member
+constant (MethodType descriptor) = u1 TAG_METHOD_TYPE ++ u2 descriptor
+constant (Dynamic bootstrap member) = u1 TAG_DYNAMIC ++ u2 bootstrap ++ u2 member
+constant (InvokeDynamic bootstrap member) = u1 TAG_INVOKE_DYNAMIC ++ u2 bootstrap ++ u2 member
+constant (Module name) = u1 TAG_MODULE ++ u2 name
+constant (Package name) = u1 TAG_PACKAGE ++ u2 name
 
 -- a row of an exception table (JVMS 4.7.3)
 abbrev pub row : Row → List ℕ
@@ -90,8 +91,16 @@ attribute a = u2 a.name ++ sized (body a.body)
 abbrev pub member : Member → List ℕ
 member m = u2 m.flags ++ u2 m.name ++ u2 m.descriptor ++ table attribute m.attributes
 
+-- the first bytes of every class file (JVMS 4.1)
+abbrev pub magic : ℕ
+magic = 0xcafebabe
+
+-- what precedes the flags of the class
+abbrev pub head : ClassFile → List ℕ
+head f = u4 magic ++ u2 f.minor ++ u2 f.major ++ table constant f.pool
+
 -- the whole file (JVMS 4.1)
 abbrev pub class_file : ClassFile → List ℕ
 class_file f =
-    u4 0xcafebabe ++ u2 f.minor ++ u2 f.major ++ table constant f.pool ++ u2 f.flags ++ u2 f.own ++ u2 f.parent
+    head f ++ u2 f.flags ++ u2 f.own ++ u2 f.parent
     ++ table u2 f.interfaces ++ table member f.fields ++ table member f.methods ++ table attribute f.attributes

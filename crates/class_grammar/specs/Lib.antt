@@ -3,6 +3,6 @@ pub mod Names
 pub mod Layout
 pub mod Ranges
 pub mod Pool
-pub mod Placing
+pub mod Attributes
 pub mod Checks
-pub mod Spelling
+pub mod Grammar

@@ -1,17 +1,17 @@
 -- Names of fields, methods and classes (JVMS 4.2).
-use Rattle.std.specs.Prelude.{ℕ, Bool, true, false, not, List, [], ◌∷◌, codes, ◌==◌, ◌&&◌, ◌||◌}
+use Rattle.std.specs.Prelude.{ℕ, Bool, true, false, not, List, [], ◌∷◌, codes, ◌&&◌, ◌||◌}
 use Rattle.std.specs.List.{list_all}
 use Rattle.descriptors.specs.Descriptors.{are_parts}
-use Rattle.descriptors.specs.Recognizing.{is_field}
-use Rattle.class_grammar.specs.Text.{same_text}
+use Rattle.descriptors.specs.States.{is_field}
+use Rattle.class_grammar.specs.Text.{same_text, is_one_of}
 
--- none of . ; [ /
+-- no unit of a name: . ; [ /
 abbrev pub is_name_unit : ℕ → Bool
-is_name_unit u = not (u == 46 || u == 59 || u == 91 || u == 47)
+is_name_unit u = not (is_one_of (codes ".;[/") u)
 
--- none of . ; [ / < >
+-- nor, in a name of a method, < >
 abbrev pub is_method_unit : ℕ → Bool
-is_method_unit u = is_name_unit u && not (u == 60 || u == 62)
+is_method_unit u = is_name_unit u && not (is_one_of (codes "<>") u)
 
 abbrev pub is_some_text : List ℕ → Bool
 is_some_text [] = false
@@ -21,24 +21,27 @@ is_some_text (u ∷ us) = true
 abbrev pub is_field_name : List ℕ → Bool
 is_field_name units = is_some_text units && list_all is_name_unit units
 
--- a name of a method, an initializer's too (JVMS 4.2.2, 2.9)
+-- the names with angle brackets that a method may have (JVMS 2.9)
+abbrev pub is_initializer : List ℕ → Bool
+is_initializer units = same_text units (codes "<init>") || same_text units (codes "<clinit>")
+
+-- a name of a method (JVMS 4.2.2, 2.9)
 abbrev pub is_method_name : List ℕ → Bool
 is_method_name units =
-    same_text units (codes "<init>") || same_text units (codes "<clinit>")
-    || (is_some_text units && list_all is_method_unit units)
+    is_initializer units || (is_some_text units && list_all is_method_unit units)
 
--- whether a text begins with this unit
-abbrev pub begins_with : ℕ → List ℕ → Bool
-begins_with unit [] = false
-begins_with unit (u ∷ us) = u == unit
+-- whether a text begins with one of these characters
+abbrev pub begins_with : List ℕ → List ℕ → Bool
+begins_with chars [] = false
+begins_with chars (u ∷ us) = is_one_of chars u
 
 -- a name of a class, its packages before it, or the descriptor of an array class (JVMS 4.2.1, 4.4.1)
 abbrev pub is_class_text : List ℕ → Bool
-is_class_text units = are_parts false units || (begins_with 91 units && is_field units)
+is_class_text units = are_parts false units || (begins_with (codes "[") units && is_field units)
 
--- a text with a parenthesis in front, which is judged as the descriptor of a method
+-- a text that begins as the descriptor of a method does, and is checked as one
 abbrev pub is_like_method : List ℕ → Bool
-is_like_method units = begins_with 40 units
+is_like_method units = begins_with (codes "(") units
 
 abbrev pub object_class : List ℕ
 object_class = codes "java/lang/Object"

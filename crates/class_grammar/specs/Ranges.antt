@@ -1,4 +1,4 @@
--- The numbers that fit their fields: a count, a length or a place beyond its field has no spelling.
+-- The numbers that fit their fields: a count, a length or an index beyond its field has no spelling.
 use Rattle.std.specs.Prelude.{◌≡◌, ℕ, Bool, true, false, ◌<◌, ◌≤◌, ◌^◌, List, [], ◌∷◌, length, FitsSigned}
 use Rattle.std.specs.Int.{w32, w64}
 use Rattle.std.specs.List.{AllByRecursion}
@@ -52,23 +52,23 @@ IsConstant (InvokeDynamic bootstrap member) = IsU2 bootstrap × IsU2 member
 IsConstant (Module name) = IsU2 name
 IsConstant (Package name) = IsU2 name
 
--- a constant that takes two places (JVMS 4.4.5)
+-- a constant that takes two entries of the pool (JVMS 4.4.5)
 abbrev pub is_wide : Const → Bool
 is_wide (Long n) = true
 is_wide (Double bits) = true
 is_wide c = false
 
--- Each place is used, but the one after a Long or a Double, where `behind` says that such a one stands before.
-abbrev pub ArePlaces : Bool → List Const → Type 0
-ArePlaces behind [] = behind ≡ false
-ArePlaces true (Unused ∷ cs) = ArePlaces false cs
-ArePlaces true (c ∷ cs) = ⊥
-ArePlaces false (Unused ∷ cs) = ⊥
-ArePlaces false (c ∷ cs) = ArePlaces (is_wide c) cs
+-- Each entry is a constant, but the one after a Long or a Double; `behind` says that the list follows such a constant.
+abbrev pub AreEntries : Bool → List Const → Type 0
+AreEntries behind [] = behind ≡ false
+AreEntries true (Unused ∷ cs) = AreEntries false cs
+AreEntries true (c ∷ cs) = ⊥
+AreEntries false (Unused ∷ cs) = ⊥
+AreEntries false (c ∷ cs) = AreEntries (is_wide c) cs
 
--- place 0 isn't used, and the places after it hold constants
+-- entry 0 isn't used, and the entries after it are constants
 abbrev pub IsPool : List Const → Type 0
-IsPool (Unused ∷ cs) = IsTable IsConstant (Unused ∷ cs) × ArePlaces false cs
+IsPool (Unused ∷ cs) = IsTable IsConstant (Unused ∷ cs) × AreEntries false cs
 IsPool pool = ⊥
 
 pub record IsRow (r : Row) : Type 0 where
@@ -105,7 +105,7 @@ pub record IsMember (m : Member) : Type 0 where
   pub descriptor : IsU2 m.descriptor
   pub attributes : IsTable IsAttribute m.attributes
 
--- the versions that are taken: Java 7 to 25, and from version 56 on without a preview's mark (JVMS 4.1; own)
+-- the supported versions: Java 7 to 25, and from version 56 on without a preview's mark (JVMS 4.1; own)
 abbrev pub IsVersion : ℕ → ℕ → Type 0
 IsVersion minor major = IsU2 minor × (51 ≤ major) × (major ≤ 69) × (56 ≤ major → minor ≡ 0)
 

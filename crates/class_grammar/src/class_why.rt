@@ -1,19 +1,22 @@
+ghost use Rattle.class_grammar.specs.declared.class_why.ClassWhy.TheVariants as whys;
+
+use byte_reader::{Fault, Reason};
 use thiserror::Error;
 
-/// What is wrong with a class file (JVMS 4; own).
+/// What is wrong with a class file (JVMS 4).
 #[derive(Clone, Copy, Debug, PartialEq, Eq, Error)]
 pub enum ClassWhy {
-    /// A field passes the end of the file.
-    #[error("a field passes the end")]
+    /// The file ends before the field does.
+    #[error("the file ends too soon")]
     Short,
     /// The first four bytes aren't `ca fe ba be`.
     #[error("no magic number")]
     Magic,
-    /// The version isn't one that is taken.
-    #[error("a version that isn't taken")]
+    /// The version isn't supported.
+    #[error("an unsupported version")]
     Version,
-    /// The pool has no place 0, or a Long or Double has no second place.
-    #[error("too few places in the pool")]
+    /// The pool has no entry 0, or there is no second entry for a Long or Double.
+    #[error("too few entries in the constant pool")]
     Count,
     /// No constant has this tag.
     #[error("an unknown tag")]
@@ -21,19 +24,19 @@ pub enum ClassWhy {
     /// A text isn't modified UTF-8.
     #[error("no modified UTF-8")]
     Utf8,
-    /// A place of the pool isn't the constant that it should be.
-    #[error("a wrong place of the pool")]
+    /// An index isn't that of a constant of the right kind.
+    #[error("a wrong index of the constant pool")]
     Index,
-    /// A length isn't that of what it counts, or a code is empty or too long.
+    /// A length isn't that of what it counts, or code is empty or too long.
     #[error("a wrong length")]
     Length,
-    /// An attribute comes a second time.
+    /// A recognized attribute occurs a second time.
     #[error("a second attribute of its kind")]
     Duplicate,
-    /// Bytes stand behind the last attribute.
+    /// Bytes follow the last attribute.
     #[error("bytes behind the end")]
     Trailing,
-    /// A name isn't one that a class or member may have.
+    /// A class or member may not have this name.
     #[error("a bad name")]
     Name,
     /// A text isn't the descriptor that it should be.
@@ -50,9 +53,13 @@ pub enum ClassWhy {
     Unsupported,
 }
 
-/// What is wrong, and how many bytes of the file were left there.
-#[derive(Clone, Copy, Debug, PartialEq, Eq)]
-pub struct Fault {
-    pub left: usize,
-    pub why: ClassWhy,
+/// What is wrong with a class file, and how many of its bytes were left there.
+pub type ClassFault = Fault<ClassWhy>;
+
+impl Reason for ClassWhy {
+    ghost short = { whys.Short };
+
+    fn short() -> Self {
+        ClassWhy::Short
+    }
 }

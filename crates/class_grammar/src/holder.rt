@@ -1,4 +1,4 @@
-/// What an attribute stands at (JVMS 4.7). A name of an attribute means something in its place alone.
+/// What has an attribute (JVMS 4.7). An attribute's name is recognized in certain holders only.
 #[derive(Clone, Copy, Debug, PartialEq, Eq)]
 pub enum Holder {
     Class,

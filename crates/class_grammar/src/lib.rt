@@ -1,12 +1,14 @@
-//! The grammar of class files (JVMS 4), which its reader and its writer cite. The definitions stand in `specs/`.
+//! The grammar of class files (JVMS 4), which its reader and its writer cite. The definitions are in `specs/`.
 #![tactic(auto)]
 
 mod class_why;
 mod holder;
 mod laws;
+mod pool;
 mod text;
 
-pub use class_why::{ClassWhy, Fault};
+pub use class_why::{ClassFault, ClassWhy};
 pub use holder::Holder;
 pub use laws::{items_are_whole, one_spelling};
+pub use pool::{class_name_at, has_text, is_class_named, text_at};
 pub use text::is_same;

@@ -1,20 +1,20 @@
 use items::Items;
 
-/// An attribute of a class, a field or a method (JVMS 4.7). The name is a place of the pool.
+/// An attribute of a class, a field or a method (JVMS 4.7). The name is an index of the constant pool.
 #[derive(Clone, Debug, Drop, PartialEq, Eq)]
 pub struct Attribute {
     pub name: u16,
     pub body: Body,
 }
 
-/// What an attribute holds.
+/// The contents of an attribute.
 #[derive(Clone, Debug, Drop, PartialEq, Eq)]
 pub enum Body {
     /// A method's Code (JVMS 4.7.3).
     Code(CodeBody),
-    /// A field's ConstantValue, a place of the pool (JVMS 4.7.2).
+    /// A field's ConstantValue, by its index in the constant pool (JVMS 4.7.2).
     Constant(u16),
-    /// The bytes of any other attribute, which mean nothing here (own).
+    /// The bytes of an attribute that is not recognized (JVMS 4.7.1).
     Other(Items<u8>),
 }
 
@@ -31,8 +31,8 @@ pub struct CodeBody {
     pub attributes: Items<CodeAttribute>,
 }
 
-/// A row of an exception table: places in the code, in bytes from its start, and the class caught, a place of
-/// the pool or 0 for every throwable (JVMS 4.7.3).
+/// A row of an exception table (JVMS 4.7.3): three pcs, and the class that is caught, by its index in the constant pool, or 0
+/// for every throwable.
 #[derive(Clone, Copy, Debug, PartialEq, Eq)]
 pub struct Row {
     pub start: u16,
@@ -41,18 +41,18 @@ pub struct Row {
     pub catch_type: u16,
 }
 
-/// An attribute of a Code attribute (JVMS 4.7). The name is a place of the pool.
+/// An attribute of a Code attribute (JVMS 4.7). The name is an index of the constant pool.
 #[derive(Clone, Debug, Drop, PartialEq, Eq)]
 pub struct CodeAttribute {
     pub name: u16,
     pub body: CodeExtra,
 }
 
-/// What an attribute of a Code attribute holds.
+/// The contents of an attribute of a Code attribute.
 #[derive(Clone, Debug, Drop, PartialEq, Eq)]
 pub enum CodeExtra {
     /// The bytes of a StackMapTable (JVMS 4.7.4).
     StackMap(Items<u8>),
-    /// The bytes of any other attribute, which mean nothing here (own).
+    /// The bytes of an attribute that is not recognized (JVMS 4.7.1).
     Other(Items<u8>),
 }

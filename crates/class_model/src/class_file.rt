@@ -1,8 +1,8 @@
 use crate::{Attribute, Const, Member};
 use items::Items;
 
-/// A class file (JVMS 4.1). `own`, `parent` and each of `interfaces` are places of the pool. The list `pool`
-/// has a place for each index, so the first is `Const::Unused`.
+/// A class file (JVMS 4.1). `own` is its this_class and `parent` its super_class; these and `interfaces` are indices of the
+/// constant pool. `pool` has an entry for each index from 0 on, so the first is `Const::Unused`.
 #[derive(Clone, Debug, Drop, PartialEq, Eq)]
 pub struct ClassFile {
     pub minor: u16,

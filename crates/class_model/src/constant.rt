@@ -1,10 +1,10 @@
 use items::Items;
 
-/// An entry of the constant pool (JVMS 4.4). A number names another place of the pool, unless the variant's
-/// line says otherwise.
+/// An entry of the constant pool (JVMS 4.4). A number is the index of another entry, unless the variant's line says
+/// otherwise.
 #[derive(Clone, Debug, Drop, PartialEq, Eq)]
 pub enum Const {
-    /// Place 0, and the place after a Long or a Double (JVMS 4.1, 4.4.5).
+    /// The entry at index 0, and the one after a Long or a Double (JVMS 4.1, 4.4.5).
     Unused,
     /// A text in the units of UTF-16 (JVMS 4.4.7).
     Utf8(Items<u16>),
@@ -28,13 +28,13 @@ pub enum Const {
     InterfaceMethodref(u16, u16),
     /// A name and a descriptor (JVMS 4.4.6).
     NameAndType(u16, u16),
-    /// A kind, which is no place of the pool, and a member (JVMS 4.4.8).
+    /// A kind of method handle, which is no index, and a member (JVMS 4.4.8).
     MethodHandle(u8, u16),
     /// A method's descriptor (JVMS 4.4.9).
     MethodType(u16),
-    /// A bootstrap method, which is no place of the pool, and a name with a descriptor (JVMS 4.4.10).
+    /// A bootstrap method, which is no index of the pool, and a name with a descriptor (JVMS 4.4.10).
     Dynamic(u16, u16),
-    /// A bootstrap method, which is no place of the pool, and a name with a descriptor (JVMS 4.4.10).
+    /// A bootstrap method, which is no index of the pool, and a name with a descriptor (JVMS 4.4.10).
     InvokeDynamic(u16, u16),
     /// The name of a module (JVMS 4.4.11).
     Module(u16),

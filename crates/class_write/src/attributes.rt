@@ -6,9 +6,9 @@ ghost use Rattle.class_grammar.specs.Ranges.{IsU2, IsU4, IsTable, IsAttribute, I
 
 use crate::numbers::{fill_u4, u2, u4};
 use class_model::{Attribute, Body, CodeAttribute, CodeBody, CodeExtra, Row};
-use jvm_utf8::NoMemory;
+use items::NoMemory;
 
-// Bytes behind their number.
+// Bytes after their number.
 fn sized(out: &mut Vec<u8>, bytes: &[u8]) -> Result<(), NoMemory>
     requires { IsU4 (length bytes.now) }
     ensures { OnOk result (out.new.items ≡ out.old.items ++ spec.sized bytes.now) }
@@ -52,7 +52,8 @@ fn code_attribute(out: &mut Vec<u8>, attribute: &CodeAttribute) -> Result<(), No
 
 fn code_attributes(out: &mut Vec<u8>, attributes: &[CodeAttribute]) -> Result<(), NoMemory>
     requires { IsTable IsCodeAttribute attributes.now }
-    ensures { OnOk result (out.new.items ≡ out.old.items ++ spec.table spec.code_attribute attributes.now) }
+    ensures { OnOk result (out.new.items ≡
+        out.old.items ++ spec.table spec.code_attribute attributes.now) }
 {
     u2(out, attributes.len() as u16)?;
     for attribute in attributes {
@@ -99,7 +100,7 @@ fn attribute(out: &mut Vec<u8>, attribute: &Attribute) -> Result<(), NoMemory>
     Ok(())
 }
 
-/// The attributes of a class or a member behind their number (JVMS 4.7).
+/// The attributes of a class or a member after their number (JVMS 4.7).
 pub fn attributes(out: &mut Vec<u8>, table: &[Attribute]) -> Result<(), NoMemory>
     requires { IsTable IsAttribute table.now }
     ensures { OnOk result (out.new.items ≡ out.old.items ++ spec.table spec.attribute table.now) }

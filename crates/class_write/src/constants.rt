@@ -6,10 +6,14 @@ ghost use Rattle.class_grammar.specs.Ranges.{IsConstant, IsTable};
 
 use crate::numbers::{u2, u4};
 use crate::text::string;
-use class_model::Const;
-use jvm_utf8::NoMemory;
+use class_model::{
+    Const, TAG_CLASS, TAG_DOUBLE, TAG_DYNAMIC, TAG_FIELDREF, TAG_FLOAT, TAG_INTEGER,
+    TAG_INTERFACE_METHODREF, TAG_INVOKE_DYNAMIC, TAG_LONG, TAG_METHOD_HANDLE, TAG_METHOD_TYPE,
+    TAG_METHODREF, TAG_MODULE, TAG_NAME_AND_TYPE, TAG_PACKAGE, TAG_STRING, TAG_UTF8,
+};
+use items::NoMemory;
 
-// A tag and a number in two bytes.
+// A tag, and a number in two bytes.
 fn tagged(out: &mut Vec<u8>, tag: u8, n: u16) -> Result<(), NoMemory>
     ensures { OnOk result (out.new.items ≡ out.old.items ++ spec.u1 tag ++ spec.u2 n) }
 {
@@ -18,7 +22,8 @@ fn tagged(out: &mut Vec<u8>, tag: u8, n: u16) -> Result<(), NoMemory>
 }
 
 fn pair(out: &mut Vec<u8>, tag: u8, first: u16, second: u16) -> Result<(), NoMemory>
-    ensures { OnOk result (out.new.items ≡ out.old.items ++ spec.u1 tag ++ spec.u2 first ++ spec.u2 second) }
+    ensures { OnOk result (out.new.items ≡
+        out.old.items ++ spec.u1 tag ++ spec.u2 first ++ spec.u2 second) }
 {
     tagged(out, tag, first)?;
     u2(out, second)
@@ -46,39 +51,49 @@ fn constant(out: &mut Vec<u8>, constant: &Const) -> Result<(), NoMemory>
     match constant {
         Const::Unused => Ok(()),
         Const::Utf8(units) => {
-            out.push(1)?;
+            out.push(TAG_UTF8)?;
             string(out, units)
         }
-        Const::Integer(n) => word(out, 3, n.cast_unsigned()),
-        Const::Float(bits) => word(out, 4, *bits),
-        Const::Long(n) => double_word(out, 5, n.cast_unsigned()),
-        Const::Double(bits) => double_word(out, 6, *bits),
-        Const::Class(name) => tagged(out, 7, *name),
-        Const::Text(units) => tagged(out, 8, *units),
-        Const::Fieldref(class, member) => pair(out, 9, *class, *member),
-        Const::Methodref(class, member) => pair(out, 10, *class, *member),
-        Const::InterfaceMethodref(class, member) => pair(out, 11, *class, *member),
-        Const::NameAndType(name, descriptor) => pair(out, 12, *name, *descriptor),
+        Const::Integer(n) => word(out, TAG_INTEGER, n.cast_unsigned()),
+        Const::Float(bits) => word(out, TAG_FLOAT, *bits),
+        Const::Long(n) => double_word(out, TAG_LONG, n.cast_unsigned()),
+        Const::Double(bits) => double_word(out, TAG_DOUBLE, *bits),
+        Const::Class(name) => tagged(out, TAG_CLASS, *name),
+        Const::Text(units) => tagged(out, TAG_STRING, *units),
+        Const::Fieldref(class, member) => pair(out, TAG_FIELDREF, *class, *member),
+        Const::Methodref(class, member) => pair(out, TAG_METHODREF, *class, *member),
+        Const::InterfaceMethodref(class, member) => pair(
+            out,
+            TAG_INTERFACE_METHODREF,
+            *class,
+            *member,
+        ),
+        Const::NameAndType(name, descriptor) => pair(out, TAG_NAME_AND_TYPE, *name, *descriptor),
         Const::MethodHandle(kind, member) => {
-            out.push(15)?;
+            out.push(TAG_METHOD_HANDLE)?;
             tagged(out, *kind, *member)
         }
-        Const::MethodType(descriptor) => tagged(out, 16, *descriptor),
-        Const::Dynamic(bootstrap, member) => pair(out, 17, *bootstrap, *member),
-        Const::InvokeDynamic(bootstrap, member) => pair(out, 18, *bootstrap, *member),
-        Const::Module(name) => tagged(out, 19, *name),
-        Const::Package(name) => tagged(out, 20, *name),
+        Const::MethodType(descriptor) => tagged(out, TAG_METHOD_TYPE, *descriptor),
+        Const::Dynamic(bootstrap, member) => pair(out, TAG_DYNAMIC, *bootstrap, *member),
+        Const::InvokeDynamic(bootstrap, member) => pair(
+            out,
+            TAG_INVOKE_DYNAMIC,
+            *bootstrap,
+            *member,
+        ),
+        Const::Module(name) => tagged(out, TAG_MODULE, *name),
+        Const::Package(name) => tagged(out, TAG_PACKAGE, *name),
     }
 }
 
-/// The constant pool behind the number of its places, place 0 too (JVMS 4.1).
-pub fn pool(out: &mut Vec<u8>, places: &[Const]) -> Result<(), NoMemory>
-    requires { IsTable IsConstant places.now }
-    ensures { OnOk result (out.new.items ≡ out.old.items ++ spec.table spec.constant places.now) }
+/// The constant pool after the number of its entries, entry 0 included (JVMS 4.1).
+pub fn pool(out: &mut Vec<u8>, entries: &[Const]) -> Result<(), NoMemory>
+    requires { IsTable IsConstant entries.now }
+    ensures { OnOk result (out.new.items ≡ out.old.items ++ spec.table spec.constant entries.now) }
 {
-    u2(out, places.len() as u16)?;
-    for place in places {
-        constant(out, place)?;
+    u2(out, entries.len() as u16)?;
+    for entry in entries {
+        constant(out, entry)?;
     }
     Ok(())
 }

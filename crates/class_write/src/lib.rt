@@ -8,8 +8,5 @@ mod numbers;
 mod text;
 mod writer;
 
-pub use jvm_utf8::NoMemory;
+pub use items::NoMemory;
 pub use writer::write;
-
-#[cfg(test)]
-mod tests;

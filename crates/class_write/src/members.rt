@@ -7,7 +7,7 @@ ghost use Rattle.class_grammar.specs.Ranges.{IsMember, IsTable};
 use crate::attributes::attributes;
 use crate::numbers::u2;
 use class_model::Member;
-use jvm_utf8::NoMemory;
+use items::NoMemory;
 
 fn member(out: &mut Vec<u8>, member: &Member) -> Result<(), NoMemory>
     requires { IsMember member.now }
@@ -19,7 +19,7 @@ fn member(out: &mut Vec<u8>, member: &Member) -> Result<(), NoMemory>
     attributes(out, &member.attributes)
 }
 
-/// Fields or methods behind their number (JVMS 4.1).
+/// Fields or methods after their number (JVMS 4.1).
 pub fn members(out: &mut Vec<u8>, table: &[Member]) -> Result<(), NoMemory>
     requires { IsTable IsMember table.now }
     ensures { OnOk result (out.new.items ≡ out.old.items ++ spec.table spec.member table.now) }

@@ -1,9 +1,9 @@
-//! Numbers with their highest byte first (JVMS 4), and lengths that are filled in once their bytes stand.
+//! Numbers with their highest byte first (JVMS 4), and lengths that are filled in after their bytes.
 
 ghost use Rattle.std.specs.Prelude.{◌≡◌, ◌+◌, ◌<◌, ◌≤◌, ◌^◌, ◌++◌, length, take, drop, OnOk};
 ghost use Rattle.class_grammar.specs.Layout as spec;
 
-use jvm_utf8::NoMemory;
+use items::NoMemory;
 
 /// A number in two bytes (JVMS 4).
 pub fn u2(out: &mut Vec<u8>, n: u16) -> Result<(), NoMemory>
@@ -21,7 +21,7 @@ pub fn u4(out: &mut Vec<u8>, n: u32) -> Result<(), NoMemory>
     Ok(())
 }
 
-/// Puts into the two bytes at `at` how many bytes stand behind them (own).
+/// Puts into the two bytes at the offset `at` how many bytes follow them.
 pub fn fill_u2(out: &mut Vec<u8>, at: usize)
     requires in_out { at + 2 ≤ length out.old.items }
     requires in_range { length (drop (at + 2) out.old.items) < 2 ^ 16 }
@@ -32,7 +32,7 @@ pub fn fill_u2(out: &mut Vec<u8>, at: usize)
     out[at..behind].copy_from_slice(&len.to_be_bytes());
 }
 
-/// Puts into the four bytes at `at` how many bytes stand behind them (own).
+/// Puts into the four bytes at the offset `at` how many bytes follow them.
 pub fn fill_u4(out: &mut Vec<u8>, at: usize)
     requires in_out { at + 4 ≤ length out.old.items }
     requires in_range { length (drop (at + 4) out.old.items) < 2 ^ 32 }

@@ -6,9 +6,10 @@ ghost use Rattle.class_grammar.specs.Layout as layout;
 ghost use Rattle.class_grammar.specs.Ranges.{IsU2};
 
 use crate::numbers::{fill_u2, u2};
-use jvm_utf8::{NoMemory, append};
+use items::NoMemory;
+use jvm_utf8::append;
 
-/// A text behind the number of its bytes (JVMS 4.4.7).
+/// A text after the number of its bytes (JVMS 4.4.7).
 pub fn string(out: &mut Vec<u8>, units: &[u16]) -> Result<(), NoMemory>
     requires { IsU2 (length (text units.now)) }
     ensures { OnOk result (out.new.items ≡ out.old.items ++ layout.string (text units.now)) }

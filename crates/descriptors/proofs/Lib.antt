@@ -1,6 +1,7 @@
 pub mod KindLaws
-pub mod FieldLaws
-pub mod MethodLaws
+pub mod FirstBad
 pub mod OneKind
-pub mod RecognizingLaws
 pub mod OneSignature
+pub mod StateLaws
+pub mod FrontKind
+pub mod ArgsLaws

@@ -1,13 +1,10 @@
--- A text is the descriptor of at most one kind, and has at most one first bad unit.
-use Rattle.std.proofs.Common.{◌≡◌, ◌≢◌, ℕ, ◌+◌, ◌<◌, ◌≤◌, List, [], ◌∷◌, ◌++◌, take, drop, refl, sym, ap, subst, ◌∙◌, append_assoc, arith, inl, inr}
+-- A text is the descriptor of at most one kind.
+use Rattle.std.proofs.Common.{◌≡◌, ◌≢◌, ℕ, ◌≤◌, List, [], ◌∷◌, ◌++◌, refl, sym, ap, subst, ◌∙◌, arith, inl, inr}
 use Rattle.std.specs.Prelude.{◌==◌, if◌then◌else◌}
-use Rattle.std.proofs.lemmas.Bool.{cases_lt}
-use Rattle.std.proofs.lemmas.List.{take-append-drop, take-take}
 use Rattle.descriptors.specs.declared.kind.Kind.{Kind}
 use Rattle.descriptors.specs.declared.kind.Kind.TheVariants.{Byte, Char, Double, Float, Int, Long, Short, Class, Array'}
 use Rattle.descriptors.specs.declared.kind.Kind.TheVariants as kinds
 use Rattle.descriptors.specs.Descriptors.{brackets, spelling, AreSame, IsElement, IsKind}
-use Rattle.descriptors.specs.Refusal.{Begins, IsFirstBad}
 use Rattle.descriptors.proofs.KindLaws.{differ}
 
 without_last : List ℕ → List ℕ
@@ -89,28 +86,3 @@ one_kind (Array' m p a) (Array' n q b) f g e =
 one_kind (Array' m p a) b f g e = absurd (array_alone m a b f.0 f.2 g e)
 one_kind a (Array' n q b) f g e = absurd (array_alone n b a g.0 g.2 f (sym e))
 one_kind a b f g e = same_element a b f g e
-
--- ---- places
-
-shorter : (P : List ℕ → Type 0) (units : List ℕ) (a b : ℕ) → a ≤ b → Begins P (take b units) → Begins P (take a units)
-shorter P units a b h begins =
-    let parts : take a (take b units) ++ drop a (take b units) ≡ take b units = take-append-drop a (take b units) in
-    let front : take a (take b units) ≡ take a units = take-take a b units h in (
-      drop a (take b units) ++ begins.0,
-      subst P (
-          ap (λ (x : List ℕ). x ++ begins.0) (sym parts) ∙ append_assoc (take a (take b units)) (drop a (take b units)) begins.0
-          ∙ ap (λ (x : List ℕ). x ++ (drop a (take b units) ++ begins.0)) front) begins.1,
-    )
-
-not_before : (P : List ℕ → Type 0) (units : List ℕ) (a b : ℕ) → IsFirstBad P units a → IsFirstBad P units b → a < b → ⊥
-not_before P units a b bad_a bad_b less = bad_a.stops (omega (arith, less, bad_b.inside)) (shorter P units (a + 1) b (omega (arith, less)) bad_b.begins)
-
-pub one_place : (P : List ℕ → Type 0) (units : List ℕ) (a b : ℕ) → IsFirstBad P units a → IsFirstBad P units b → a ≡ b
-one_place P units a b bad_a bad_b =
-    elim (cases_lt a b) [
-      | inl less ↦ absurd (not_before P units a b bad_a bad_b less)
-      | inr most ↦ elim (cases_lt b a) [
-        | inl less ↦ absurd (not_before P units b a bad_b bad_a less)
-        | inr least ↦ omega (arith, most, least)
-      ]
-    ]

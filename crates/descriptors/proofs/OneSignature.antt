@@ -6,8 +6,7 @@ use Rattle.std.proofs.lemmas.List.{append-nil, append_cancel_right}
 use Rattle.descriptors.specs.declared.kind.Kind.{Kind}
 use Rattle.descriptors.specs.declared.kind.Signature.{Signature}
 use Rattle.descriptors.specs.Descriptors.{spelling, result_spelling, method_spelling, AreSame, AreSameResult, AreSameSignature, IsKind, IsResult, IsSignature}
-use Rattle.descriptors.proofs.KindLaws.{same_behind, starts}
-use Rattle.descriptors.proofs.MethodLaws.{regrouped}
+use Rattle.descriptors.proofs.KindLaws.{same_behind, starts, regrouped}
 use Rattle.descriptors.proofs.OneKind.{one_kind}
 
 -- two kinds at the front of one text are one kind

@@ -1,35 +1,71 @@
 -- The descriptor of a field and of a method (JVMS 4.3.2, 4.3.3).
-use Rattle.std.specs.Prelude.{ℕ, ◌≡◌, ◌≤◌, Bool, true, false, not, List, [], ◌∷◌, ◌++◌, Option, Some, None, ◌==◌, ◌&&◌, ◌||◌, if◌then◌else◌}
-use Rattle.std.specs.List.{flat_map, repeat, sum_by, AllByRecursion, AllZip}
+use Rattle.std.specs.Prelude.{ℕ, ◌≡◌, ◌≤◌, Bool, true, false, not, List, [], ◌∷◌, ◌++◌, Option, Some, None, ◌==◌, ◌&&◌, ◌||◌, if◌then◌else◌, codes}
+use Rattle.std.specs.List.{flat_map, list_any, repeat, sum_by, AllByRecursion, AllZip}
 use Rattle.descriptors.specs.declared.kind.Kind.{Kind}
 use Rattle.descriptors.specs.declared.kind.Kind.TheVariants.{Byte, Char, Double, Float, Int, Long, Short, Class, Array'}
 use Rattle.descriptors.specs.declared.kind.Kind.TheVariants as kinds
 use Rattle.descriptors.specs.declared.kind.Signature.{Signature}
 
+-- ---- the characters of descriptors, as units
+
+abbrev pub dot : ℕ
+dot = 46  -- .
+
+abbrev pub slash : ℕ
+slash = 47  -- /
+
+abbrev pub semicolon : ℕ
+semicolon = 59  -- ;
+
+abbrev pub bracket : ℕ
+bracket = 91  -- [
+
+abbrev pub opening : ℕ
+opening = 40  -- (
+
+abbrev pub closing : ℕ
+closing = 41  -- )
+
+abbrev pub class_letter : ℕ
+class_letter = 76  -- L
+
+abbrev pub void_letter : ℕ
+void_letter = 86  -- V
+
+abbrev pub double_letter : ℕ
+double_letter = 68  -- D
+
+abbrev pub long_letter : ℕ
+long_letter = 74  -- J
+
+-- ---- descriptors of fields
+
 -- this many `[`
 abbrev pub brackets : ℕ → List ℕ
-brackets n = repeat n (91 ∷ [])
+brackets n = repeat n (bracket ∷ [])
 
+-- the descriptor of a kind
 abbrev pub spelling : Kind → List ℕ
-spelling Byte = 66 ∷ []
-spelling Char = 67 ∷ []
-spelling Double = 68 ∷ []
-spelling Float = 70 ∷ []
-spelling Int = 73 ∷ []
-spelling Long = 74 ∷ []
-spelling Short = 83 ∷ []
-spelling kinds.Bool = 90 ∷ []
-spelling (Class name) = 76 ∷ (name ++ 59 ∷ [])
+spelling Byte = codes "B"
+spelling Char = codes "C"
+spelling Double = codes "D"
+spelling Float = codes "F"
+spelling Int = codes "I"
+spelling Long = codes "J"
+spelling Short = codes "S"
+spelling kinds.Bool = codes "Z"
+spelling (Class name) = class_letter ∷ (name ++ semicolon ∷ [])
 spelling (Array' n p element) = brackets n ++ spelling element
 
 -- a unit of a name but the slash: none of . ; [
 abbrev pub is_name_unit : ℕ → Bool
-is_name_unit u = not (u == 46 || u == 59 || u == 91)
+is_name_unit u = not (u == dot || u == semicolon || u == bracket)
 
 -- Whether each part between slashes has a unit, where `begun` says that the first part has one already.
 abbrev pub are_parts : Bool → List ℕ → Bool
 are_parts begun [] = begun
-are_parts begun (u ∷ us) = if u == 47 then begun && are_parts false us else is_name_unit u && are_parts true us
+are_parts begun (u ∷ us) =
+    if u == slash then begun && are_parts false us else is_name_unit u && are_parts true us
 
 -- a name of a class, its packages before it (JVMS 4.2.1)
 abbrev pub IsClassName : List ℕ → Type 0
@@ -46,36 +82,36 @@ abbrev pub IsKind : Kind → Type 0
 IsKind (Array' n p element) = (1 ≤ n) × (n ≤ 255) × IsElement element
 IsKind kind = IsElement kind
 
--- how many of the 255 places of arguments the kind takes
+-- how many of the 255 slots of arguments the kind takes
 abbrev pub slots : Kind → ℕ
 slots Long = 2
 slots Double = 2
 slots kind = 1
 
 -- the same of a kind by its first unit
-abbrev pub unit_places : ℕ → ℕ
-unit_places u = if u == 68 || u == 74 then 2 else 1
+abbrev pub unit_slots : ℕ → ℕ
+unit_slots u = if u == double_letter || u == long_letter then 2 else 1
 
 abbrev pub result_spelling : Option Kind → List ℕ
-result_spelling None = 86 ∷ []
+result_spelling None = void_letter ∷ []
 result_spelling (Some kind) = spelling kind
 
 abbrev pub method_spelling : Signature → List ℕ
-method_spelling s = 40 ∷ (flat_map spelling s.args ++ 41 ∷ result_spelling s.result)
+method_spelling s = opening ∷ (flat_map spelling s.args ++ closing ∷ result_spelling s.result)
 
 abbrev pub IsResult : Option Kind → Type 0
 IsResult None = Unit {0}
 IsResult (Some kind) = IsKind kind
 
--- a signature that has a descriptor: its arguments take at most 255 places
+-- a signature that has a descriptor: its arguments take at most 255 slots
 pub record IsSignature (s : Signature) : Type 0 where
   pub args : AllByRecursion IsKind s.args
-  pub places : sum_by slots s.args ≤ 255
+  pub slots_fit : sum_by slots s.args ≤ 255
   pub result : IsResult s.result
 
 -- the units that are a kind by themselves
 abbrev pub is_base : ℕ → Bool
-is_base u = u == 66 || u == 67 || u == 68 || u == 70 || u == 73 || u == 74 || u == 83 || u == 90
+is_base u = list_any (λ b. u == b) (codes "BCDFIJSZ")
 
 -- one kind, wherever its parts lie in memory
 abbrev pub AreSame : Kind → Kind → Type 0

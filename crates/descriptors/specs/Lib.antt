@@ -1,5 +1,3 @@
 pub mod Descriptors
 pub mod Refusal
-pub mod Parts
-pub mod Recognizing
-pub mod Fronts
+pub mod States

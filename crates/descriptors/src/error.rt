@@ -7,8 +7,8 @@ use thiserror::Error;
 /// Why a descriptor was not read.
 #[derive(Clone, Copy, Debug, PartialEq, Eq, Error)]
 pub enum DescriptorError {
-    /// The units aren't a descriptor. `at` is the first unit that can't stand there, or their number where they
-    /// end too early.
+    /// The units are no descriptor (JVMS 4.3). `at` is the offset of the first unit that is not
+    /// allowed, in units, or their number where they end too early.
     #[error("no descriptor at {at}")]
     Bad { at: u32 },
     /// Memory ran out.

@@ -13,7 +13,8 @@ pub enum Kind {
     Bool,
     /// A class or an interface, by its name (JVMS 4.2.1).
     Class(Items<u16>),
-    /// An array: how many dimensions there are in all, from 1 on, and what stands in the last. That is no array.
+    /// An array: the number of its dimensions, from 1 on, and the kind of its last elements,
+    /// which is no array.
     Array(u8, Box<Kind>),
 }
 

@@ -2,19 +2,14 @@
 #![tactic(auto)]
 
 mod error;
+mod fields;
+mod fronts;
 mod kind;
 mod laws;
-mod part;
-mod reading;
-mod recognizing;
-mod signature;
+mod methods;
 
 pub use error::DescriptorError;
+pub use fields::{field_kind, is_field_descriptor};
 pub use kind::{Kind, Signature};
 pub use laws::{one_first_bad, one_kind, one_signature, tests_decide};
-pub use reading::field_kind;
-pub use recognizing::{is_field_descriptor, is_method_descriptor};
-pub use signature::method_kind;
-
-#[cfg(test)]
-mod tests;
+pub use methods::{is_method_descriptor, method_kind};

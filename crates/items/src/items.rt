@@ -4,8 +4,8 @@ use std::alloc::{AllocError, Global};
 use std::marker::Model;
 use std::ops::DerefSlice;
 
-/// A vector that contracts see as the list of its items (own). A definition that takes a struct with such a
-/// field speaks of lists alone: neither room nor place in memory is part of the value.
+/// A vector that contracts see as the list of its items. So a definition that takes a struct with such a field speaks of a
+/// list alone: neither the capacity nor where it lies in memory is part of the value.
 #[derive(Debug, Drop)]
 pub struct Items<T> {
     vec: Vec<T>,
@@ -18,7 +18,7 @@ impl<T> Model for Items<T> {
 }
 
 impl<T> Items<T> {
-    /// No items. It takes no memory.
+    /// No items. This takes no memory.
     pub fn new(alloc: Global) -> Self
         ensures { result ≡ [] }
     {
@@ -27,7 +27,7 @@ impl<T> Items<T> {
         }
     }
 
-    /// Gives the vector back. It takes no memory.
+    /// The vector itself. This takes no memory.
     pub fn into_vec(self) -> Vec<T>
         ensures { result.items ≡ self }
     {
@@ -56,7 +56,7 @@ impl<T> Items<T> {
         self.vec.is_empty()
     }
 
-    /// Puts an item behind the others. Without memory for it nothing changes.
+    /// Appends an item. Where memory runs out nothing changes.
     pub fn push(&mut self, item: T) -> Result<(), AllocError>
     where
         T: Drop,
@@ -71,7 +71,7 @@ impl<T> Items<T> {
 impl<T> From<Vec<T>> for Items<T> {
     ghost from_gives = { λ v items. items ≡ v.items };
 
-    /// Takes no memory.
+    /// This takes no memory.
     fn from(vec: Vec<T>) -> Self {
         Items { vec }
     }

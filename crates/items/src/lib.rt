@@ -1,9 +1,10 @@
-//! A vector that contracts see as the list of its items.
+//! Values in memory of their own, as contracts see them: a vector is the list of its items, and a box is the value in it.
 #![tactic(auto)]
 
+mod boxed;
 mod items;
+mod no_memory;
 
+pub use boxed::Boxed;
 pub use items::Items;
-
-#[cfg(test)]
-mod tests;
+pub use no_memory::NoMemory;

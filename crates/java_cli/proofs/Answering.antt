@@ -14,76 +14,84 @@ use Rattle.jvm_edges.specs.Files as store
 use Rattle.ref_model.specs.declared.entry.Entry.{Entry}
 use Rattle.ref_model.specs.Program.{Method}
 use Rattle.ref_model.specs.Alone.{alone}
-use Rattle.java_cli.specs.declared.output.PartWritten.{PartWritten}
+use Rattle.jvm_edges.specs.declared.output.PartWritten.{PartWritten}
+use Rattle.java_cli.specs.declared.errors.LoadError.{LoadError}
+use Rattle.java_cli.specs.declared.errors.LoadError.TheVariants as load
+use Rattle.java_cli.specs.declared.errors.LinkError.{LinkError}
+use Rattle.java_cli.specs.declared.errors.LinkError.TheVariants as link
 use Rattle.java_cli.specs.declared.report.LinkWhy.TheVariants.{Unsupported}
 use Rattle.java_cli.specs.declared.report.Report.{Report}
 use Rattle.java_cli.specs.declared.report.Which.TheVariants.{Files}
 use Rattle.java_cli.specs.declared.report.Why.{Why}
-use Rattle.java_cli.specs.declared.report.Why.TheVariants.{Ended, Usage, Limit, Missing, SourceFault, BadClass, NoMain, LinkFault, SinkFault, NoMemory}
-use Rattle.java_cli.specs.Words.{Command, named}
-use Rattle.java_cli.specs.Answers.{line_of}
+use Rattle.java_cli.specs.declared.report.Why.TheVariants.{Ended, Usage, Limit, NoMain, LinkFault, SinkFault, NoMemory}
+use Rattle.java_cli.specs.Limits.{most_files}
+use Rattle.java_cli.specs.Errors.{load_answer, link_answer}
+use Rattle.java_cli.specs.Words.{Command}
+use Rattle.java_cli.specs.Answers.{line_of, line_for, usage_line}
 use Rattle.java_cli.specs.MainClass.{class_named, has_main}
-use Rattle.java_cli.specs.Programs.{IsLinked, IsProgram}
-use Rattle.java_cli.specs.Causes.{most_files, Held, Holds, AreHeld, IsClass, AreClasses, IsBad, IsWrong, FirstWrong, IsFirstName, IsJudged, IsDue, too_many, wrong, judged, HasCause, IsReached, held_by, IsExact, IsRefusal}
-use Rattle.java_cli.specs.Reading.{IsRead, HoldsWrong, NotRead, IsStopped}
-use Rattle.java_cli.specs.Linking.{IsSpelled, NotLinked, first_name}
+use Rattle.plain_program.specs.Programs.{IsSpelled, IsLinked}
+use Rattle.java_cli.specs.Programs.{IsProgram}
+use Rattle.java_cli.specs.Causes.{Contents, HasContents, HaveContents, IsClass, AreClasses, IsBad, IsWrong, FirstWrong, IsFirstName, IsLinkAnswer, IsDue, too_many, wrong, by_linking, HasCause, IsReached, contents_of, IsExact, IsRefusal, StoreFaults}
+use Rattle.java_cli.specs.Reading.{IsRead, IsWrongFile, NotRead, IsStopped}
+use Rattle.java_cli.specs.Linking.{NotLinked, first_name}
 use Rattle.java_cli.proofs.Naming.{first_is}
-use Rattle.java_cli.specs.Runs.{IsRun, RanCommand}
-use Rattle.java_cli.specs.Headline.{IsTaken, IsIdle, DidRun, IsKept, Ran, TellsLine}
+use Rattle.plain_program.specs.Runs.{IsRun}
+use Rattle.java_cli.specs.Runs.{RanCommand}
+use Rattle.java_cli.specs.Headline.{IsTaken, OnRun, OnNoRun, OutFaults, IsKept, Ran, TakesLine}
 
--- ---- what the store holds
+-- ---- the contents of files
 
 -- what it tells of a name
-abbrev told_file : Option store.Files → List ℕ → Held
-told_file None name = None
-told_file (Some files) name = file_named name files
+abbrev known_file : Option store.Files → List ℕ → Contents
+known_file None name = None
+known_file (Some files) name = file_named name files
 
-told_holds : (told : Option store.Files) (name : List ℕ) → Holds told name (told_file told name)
+told_holds : (known : Option store.Files) (name : List ℕ) → HasContents known name (known_file known name)
 told_holds None name = tt
 told_holds (Some files) name = refl
 
-all_held : (told : Option store.Files) (names : List (List ℕ)) → AreHeld told names (map (told_file told) names)
-all_held told [] = tt
-all_held told (name ∷ names) = (told_holds told name, all_held told names)
+all_held : (known : Option store.Files) (names : List (List ℕ)) → HaveContents known names (map (known_file known) names)
+all_held known [] = tt
+all_held known (name ∷ names) = (told_holds known name, all_held known names)
 
-held_is : (files : store.Files) (names : List (List ℕ)) (held : List Held) → AreHeld (Some files) names held → held ≡ held_by files names
-held_is files names held holds = AllZip-map (λ (name : List ℕ). file_named name files) names held holds
+held_is : (files : store.Files) (names : List (List ℕ)) (contents : List Contents) → HaveContents (Some files) names contents → contents ≡ contents_of files names
+held_is files names contents holds = AllZip-map (λ (name : List ℕ). file_named name files) names contents holds
 
--- ---- a wrong file has one answer
+-- ---- a wrong file has one error
 
-one_bad : (n : ℕ) (bytes : List ℕ) (a b : Why) → IsBad n bytes a → IsBad n bytes b → a ≡ b
+one_bad : (n : ℕ) (bytes : List ℕ) (a b : LoadError) → IsBad n bytes a → IsBad n bytes b → a ≡ b
 one_bad n bytes a b x y =
     let same : Some (x.at, x.reason) ≡ Some (y.at, y.reason) = sym x.first ∙ y.first in
-    x.answer ∙ ap (λ (o : Option (ℕ × ClassWhy)). of o) same ∙ sym y.answer
+    x.is_error ∙ ap (λ (o : Option (ℕ × ClassWhy)). of o) same ∙ sym y.is_error
   where
-    of : Option (ℕ × ClassWhy) → Why
-    of None = NoMemory
-    of (Some p) = BadClass n p.0 p.1
+    of : Option (ℕ × ClassWhy) → LoadError
+    of None = load.NoMemory
+    of (Some p) = load.BadClass n p.0 p.1
 
-one_wrong_here : (n : ℕ) (held : Held) (a b : Why) → IsWrong n held a → IsWrong n held b → a ≡ b
+one_wrong_here : (n : ℕ) (contents : Contents) (a b : LoadError) → IsWrong n contents a → IsWrong n contents b → a ≡ b
 one_wrong_here n None a b x y = x ∙ sym y
 one_wrong_here n (Some bytes) a b (inl x) (inl y) = x.1 ∙ sym y.1
 one_wrong_here n (Some bytes) a b (inl x) (inr y) = absurd (omega (arith, x.0, y.small))
 one_wrong_here n (Some bytes) a b (inr x) (inl y) = absurd (omega (arith, x.small, y.0))
 one_wrong_here n (Some bytes) a b (inr x) (inr y) = one_bad n bytes a b x y
 
-wrong_or_class : (n : ℕ) (held : Held) (a : Why) (f : ClassFile) → IsWrong n held a → IsClass held f → ⊥
+wrong_or_class : (n : ℕ) (contents : Contents) (a : LoadError) (f : ClassFile) → IsWrong n contents a → IsClass contents f → ⊥
 wrong_or_class n None a f x is = is
 wrong_or_class n (Some bytes) a f (inl x) is = omega (arith, x.0, is.0)
 wrong_or_class n (Some bytes) a f (inr x) is = x.none f is.1
 
-one_wrong : (n : ℕ) (held : List Held) (a b : Why) → FirstWrong n held a → FirstWrong n held b → a ≡ b
+pub one_wrong : (n : ℕ) (contents : List Contents) (a b : LoadError) → FirstWrong n contents a → FirstWrong n contents b → a ≡ b
 one_wrong n [] a b x y = absurd x
-one_wrong n (h ∷ held) a b (inl x) (inl y) = one_wrong_here n h a b x y
-one_wrong n (h ∷ held) a b (inl x) (inr y) = absurd (wrong_or_class n h a y.0 x y.1)
-one_wrong n (h ∷ held) a b (inr x) (inl y) = absurd (wrong_or_class n h b x.0 y x.1)
-one_wrong n (h ∷ held) a b (inr x) (inr y) = one_wrong (n + 1) held a b x.2 y.2
+one_wrong n (h ∷ contents) a b (inl x) (inl y) = one_wrong_here n h a b x y
+one_wrong n (h ∷ contents) a b (inl x) (inr y) = absurd (wrong_or_class n h a y.0 x y.1)
+one_wrong n (h ∷ contents) a b (inr x) (inl y) = absurd (wrong_or_class n h b x.0 y x.1)
+one_wrong n (h ∷ contents) a b (inr x) (inr y) = one_wrong (n + 1) contents a b x.2 y.2
 
-wrong_or_classes : (n : ℕ) (held : List Held) (a : Why) (classes : List ClassFile) → FirstWrong n held a → AreClasses held classes → ⊥
+pub wrong_or_classes : (n : ℕ) (contents : List Contents) (a : LoadError) (classes : List ClassFile) → FirstWrong n contents a → AreClasses contents classes → ⊥
 wrong_or_classes n [] a classes x are = x
-wrong_or_classes n (h ∷ held) a [] x are = are
-wrong_or_classes n (h ∷ held) a (f ∷ classes) (inl x) are = wrong_or_class n h a f x are.0
-wrong_or_classes n (h ∷ held) a (f ∷ classes) (inr x) are = wrong_or_classes (n + 1) held a classes x.2 are.1
+wrong_or_classes n (h ∷ contents) a [] x are = are
+wrong_or_classes n (h ∷ contents) a (f ∷ classes) (inl x) are = wrong_or_class n h a f x are.0
+wrong_or_classes n (h ∷ contents) a (f ∷ classes) (inr x) are = wrong_or_classes (n + 1) contents a classes x.2 are.1
 
 -- ---- classes have one answer
 
@@ -91,126 +99,121 @@ one_first : (classes : List ClassFile) (a b : List ℕ) → IsFirstName classes 
 one_first [] a b x y = absurd x
 one_first (f ∷ classes) a b x y = same_Some a b (sym x ∙ y)
 
-one_judgement : (name : List ℕ) (classes : List ClassFile) (a b : Why) → IsJudged name classes a → IsJudged name classes b → a ≡ b
-one_judgement name classes NoMain NoMain x y = refl
-one_judgement name classes NoMain (LinkFault class reason) x y = let no : false ≡ true = sym x ∙ y.main in absurd cc
-one_judgement name classes NoMain Ended x y = let no : false ≡ true = sym x ∙ y.1.main in absurd cc
-one_judgement name classes (LinkFault class reason) NoMain x y = let no : false ≡ true = sym y ∙ x.main in absurd cc
-one_judgement name classes (LinkFault class reason) (LinkFault other again) x y =
+pub one_link_answer : (name : List ℕ) (classes : List ClassFile) (a b : Why) → IsLinkAnswer name classes a → IsLinkAnswer name classes b → a ≡ b
+one_link_answer name classes NoMain NoMain x y = refl
+one_link_answer name classes NoMain (LinkFault class reason) x y = let no : false ≡ true = sym x ∙ y.main in absurd cc
+one_link_answer name classes NoMain Ended x y = let no : false ≡ true = sym x ∙ y.1.main in absurd cc
+one_link_answer name classes NoMain b x y = absurd y
+one_link_answer name classes (LinkFault class reason) NoMain x y = let no : false ≡ true = sym y ∙ x.main in absurd cc
+one_link_answer name classes (LinkFault class reason) (LinkFault other again) x y =
     let names : class ≡ other = one_first classes class other x.first y.first in
     let reasons : reason ≡ again = x.unsupported ∙ sym y.unsupported in
     cc
-one_judgement name classes (LinkFault class reason) Ended x y = absurd (x.none y.0 y.1)
-one_judgement name classes Ended NoMain x y = let no : false ≡ true = sym y ∙ x.1.main in absurd cc
-one_judgement name classes Ended (LinkFault class reason) x y = absurd (y.none x.0 x.1)
-one_judgement name classes Ended Ended x y = refl
-one_judgement name classes Usage b x y = absurd x
-one_judgement name classes (Limit which number) b x y = absurd x
-one_judgement name classes (Missing file) b x y = absurd x
-one_judgement name classes (SourceFault file) b x y = absurd x
-one_judgement name classes (BadClass file at reason) b x y = absurd x
-one_judgement name classes (SinkFault which written) b x y = absurd x
-one_judgement name classes NoMemory b x y = absurd x
-one_judgement name classes a Usage x y = absurd y
-one_judgement name classes a (Limit which number) x y = absurd y
-one_judgement name classes a (Missing file) x y = absurd y
-one_judgement name classes a (SourceFault file) x y = absurd y
-one_judgement name classes a (BadClass file at reason) x y = absurd y
-one_judgement name classes a (SinkFault which written) x y = absurd y
-one_judgement name classes a NoMemory x y = absurd y
+one_link_answer name classes (LinkFault class reason) Ended x y = absurd (x.none y.0 y.1)
+one_link_answer name classes (LinkFault class reason) b x y = absurd y
+one_link_answer name classes Ended NoMain x y = let no : false ≡ true = sym y ∙ x.1.main in absurd cc
+one_link_answer name classes Ended (LinkFault class reason) x y = absurd (y.none x.0 x.1)
+one_link_answer name classes Ended Ended x y = refl
+one_link_answer name classes Ended b x y = absurd y
+one_link_answer name classes a b x y = absurd x
 
 -- ---- too many files
 
-pub too_many_exact : (told : Option store.Files) (faulty : Type 0) (c : Command) → most_files < length c.files → IsExact told faulty c (Limit Files most_files)
-too_many_exact told faulty c many = record {
-  cause = record { held = map (told_file told) c.files; holds = all_held told c.files; due = too_many many refl };
+pub too_many_exact : (known : Option store.Files) (faulty : Type 0) (c : Command) → most_files < length c.files → IsExact known faulty c (Limit Files most_files)
+too_many_exact known faulty c many = record {
+  cause = record { contents = map (known_file known) c.files; holds = all_held known c.files; due = too_many many refl };
   due = λ files answer is due. by due;
 }
   where
-    by : {held : List Held} {answer : Why} → IsDue c held answer → answer ≡ Limit Files most_files
+    by : {contents : List Contents} {answer : Why} → IsDue c contents answer → answer ≡ Limit Files most_files
     by (too_many lt e) = e
-    by (wrong few x) = absurd (omega (arith, many, few))
-    by (judged few classes are x) = absurd (omega (arith, many, few))
+    by (wrong few error x is) = absurd (omega (arith, many, few))
+    by (by_linking few classes are x) = absurd (omega (arith, many, few))
 
 -- ---- a file that was not read
 
--- files that were read, and what they held
-pub record AreRead (told : Option store.Files) (names : List (List ℕ)) (classes : List ClassFile) : Type 0 where
-  pub held : List Held
-  pub holds : AreHeld told names held
-  pub read : AreClasses held classes
-  pub only : (others : List ClassFile) → AreClasses held others → others ≡ classes
+-- files that were read, and their contents
+pub record AreRead (known : Option store.Files) (names : List (List ℕ)) (classes : List ClassFile) : Type 0 where
+  pub contents : List Contents
+  pub holds : HaveContents known names contents
+  pub read : AreClasses contents classes
+  pub only : (others : List ClassFile) → AreClasses contents others → others ≡ classes
 
-pub all_read : (told : Option store.Files) (names : List (List ℕ)) (classes : List ClassFile) → AllZip (IsRead told) names classes → AreRead told names classes
-all_read told [] [] read = record { held = []; holds = tt; read = tt; only = none }
+pub all_read : (known : Option store.Files) (names : List (List ℕ)) (classes : List ClassFile) → AllZip (IsRead known) names classes → AreRead known names classes
+all_read known [] [] read = record { contents = []; holds = tt; read = tt; only = none }
   where
     none : (others : List ClassFile) → AreClasses [] others → others ≡ []
     none [] are = refl
     none (f ∷ others) are = absurd are
-all_read told [] (f ∷ classes) read = absurd read
-all_read told (name ∷ names) [] read = absurd read
-all_read told (name ∷ names) (f ∷ classes) read =
-    let more = all_read told names classes read.1 in
+all_read known [] (f ∷ classes) read = absurd read
+all_read known (name ∷ names) [] read = absurd read
+all_read known (name ∷ names) (f ∷ classes) read =
+    let more = all_read known names classes read.1 in
     record {
-      held = read.0.held ∷ more.held;
+      contents = read.0.contents ∷ more.contents;
       holds = (read.0.holds, more.holds);
       read = (read.0.class, more.read);
-      only = one read.0.held more.held read.0.only more.only;
+      only = one read.0.contents more.contents read.0.only more.only;
     }
   where
-    one : (h : Held) (held : List Held) → ((g : ClassFile) → IsClass h g → g ≡ f) → ((others : List ClassFile) → AreClasses held others → others ≡ classes)
-        → (others : List ClassFile) → AreClasses (h ∷ held) others → others ≡ f ∷ classes
-    one h held first behind [] are = absurd are
-    one h held first behind (g ∷ others) are = let a : g ≡ f = first g are.0 in let b : others ≡ classes = behind others are.1 in cc
+    one : (h : Contents) (contents : List Contents) → ((g : ClassFile) → IsClass h g → g ≡ f) → ((others : List ClassFile) → AreClasses contents others → others ≡ classes)
+        → (others : List ClassFile) → AreClasses (h ∷ contents) others → others ≡ f ∷ classes
+    one h contents first behind [] are = absurd are
+    one h contents first behind (g ∷ others) are = let a : g ≡ f = first g are.0 in let b : others ≡ classes = behind others are.1 in cc
 
-wrong_behind : (n : ℕ) (front : List Held) (classes : List ClassFile) (x : Held) (back : List Held) (why : Why) → AreClasses front classes → IsWrong (n + length front) x why → FirstWrong n (front ++ x ∷ back) why
-wrong_behind n [] [] x back why are is = inl (subst (λ (k : ℕ). IsWrong k x why) (add-zero n) is)
-wrong_behind n [] (f ∷ classes) x back why are is = absurd are
-wrong_behind n (h ∷ front) [] x back why are is = absurd are
-wrong_behind n (h ∷ front) (f ∷ classes) x back why are is =
+wrong_behind : (n : ℕ) (front : List Contents) (classes : List ClassFile) (x : Contents) (back : List Contents) (error : LoadError) → AreClasses front classes → IsWrong (n + length front) x error → FirstWrong n (front ++ x ∷ back) error
+wrong_behind n [] [] x back error are is = inl (subst (λ (k : ℕ). IsWrong k x error) (add-zero n) is)
+wrong_behind n [] (f ∷ classes) x back error are is = absurd are
+wrong_behind n (h ∷ front) [] x back error are is = absurd are
+wrong_behind n (h ∷ front) (f ∷ classes) x back error are is =
     let place : n + suc (length front) ≡ (n + 1) + length front = omega arith in
-    inr (f, are.0, wrong_behind (n + 1) front classes x back why are.1 (subst (λ (k : ℕ). IsWrong k x why) place is))
+    inr (f, are.0, wrong_behind (n + 1) front classes x back error are.1 (subst (λ (k : ℕ). IsWrong k x error) place is))
 
-held_with : (told : Option store.Files) (front : List (List ℕ)) (held : List Held) (name : List ℕ) (x : Held) (back : List (List ℕ)) → AreHeld told front held → Holds told name x
-    → AreHeld told (front ++ name ∷ back) (held ++ x ∷ map (told_file told) back)
-held_with told [] [] name x back are here = (here, all_held told back)
-held_with told [] (h ∷ held) name x back are here = absurd are
-held_with told (n ∷ front) [] name x back are here = absurd are
-held_with told (n ∷ front) (h ∷ held) name x back are here = (are.0, held_with told front held name x back are.1 here)
+held_with : (known : Option store.Files) (front : List (List ℕ)) (contents : List Contents) (name : List ℕ) (x : Contents) (back : List (List ℕ)) → HaveContents known front contents → HasContents known name x
+    → HaveContents known (front ++ name ∷ back) (contents ++ x ∷ map (known_file known) back)
+held_with known [] [] name x back are here = (here, all_held known back)
+held_with known [] (h ∷ contents) name x back are here = absurd are
+held_with known (n ∷ front) [] name x back are here = absurd are
+held_with known (n ∷ front) (h ∷ contents) name x back are here = (are.0, held_with known front contents name x back are.1 here)
 
 -- the first wrong file of a command
-record FindsWrong (told : Option store.Files) (c : Command) (why : Why) : Type 0 where
-  held : List Held
-  holds : AreHeld told c.files held
-  first : FirstWrong 0 held why
+record FindsWrong (known : Option store.Files) (c : Command) (error : LoadError) : Type 0 where
+  contents : List Contents
+  holds : HaveContents known c.files contents
+  first : FirstWrong 0 contents error
 
-finds_wrong : (told : Option store.Files) (faulty : Type 0) (c : Command) (why : Why) (s : IsStopped told faulty c.files why) → HoldsWrong told (length s.front) s.name why → FindsWrong told c why
-finds_wrong told faulty c why s here =
-    let read = all_read told s.front s.classes s.read in
-    let long : length read.held ≡ length s.front = AllZip-long (Holds told) s.front read.held read.holds in
-    let place : length s.front ≡ 0 + length read.held = omega (arith, long) in
+finds_wrong : (known : Option store.Files) (faulty : Type 0) (c : Command) (error : LoadError) (s : IsStopped known faulty c.files error) → IsWrongFile known (length s.front) s.name error → FindsWrong known c error
+finds_wrong known faulty c error s here =
+    let read = all_read known s.front s.classes s.read in
+    let long : length read.contents ≡ length s.front = AllZip-long (HasContents known) s.front read.contents read.holds in
+    let place : length s.front ≡ 0 + length read.contents = omega (arith, long) in
     record {
-      held = read.held ++ here.held ∷ map (told_file told) s.back;
-      holds = subst (λ (names : List (List ℕ)). AreHeld told names (read.held ++ here.held ∷ map (told_file told) s.back)) (sym s.parts) (held_with told s.front read.held s.name here.held s.back read.holds here.holds);
-      first = wrong_behind 0 read.held s.classes here.held (map (told_file told) s.back) why read.read (subst (λ (n : ℕ). IsWrong n here.held why) place here.wrong);
+      contents = read.contents ++ here.contents ∷ map (known_file known) s.back;
+      holds = subst (λ (names : List (List ℕ)). HaveContents known names (read.contents ++ here.contents ∷ map (known_file known) s.back)) (sym s.parts) (held_with known s.front read.contents s.name here.contents s.back read.holds here.holds);
+      first = wrong_behind 0 read.contents s.classes here.contents (map (known_file known) s.back) error read.read (subst (λ (n : ℕ). IsWrong n here.contents error) place here.wrong);
     }
 
-wrong_due : (told : Option store.Files) (c : Command) (why : Why) → length c.files ≤ most_files → FindsWrong told c why → (files : store.Files) (answer : Why) → told ≡ Some files → IsDue c (held_by files c.files) answer → answer ≡ why
-wrong_due told c why few x files answer is due = by due
+wrong_due : (known : Option store.Files) (c : Command) (error : LoadError) → length c.files ≤ most_files → FindsWrong known c error → (files : store.Files) (answer : Why) → known ≡ Some files → IsDue c (contents_of files c.files) answer
+    → answer ≡ load_answer error
+wrong_due known c error few x files answer is due = by due
   where
-    same : x.held ≡ held_by files c.files
-    same = held_is files c.files x.held (subst (λ (t : Option store.Files). AreHeld t c.files x.held) is x.holds)
+    same : x.contents ≡ contents_of files c.files
+    same = held_is files c.files x.contents (subst (λ (t : Option store.Files). HaveContents t c.files x.contents) is x.holds)
 
-    first : FirstWrong 0 (held_by files c.files) why
-    first = subst (λ (held : List Held). FirstWrong 0 held why) same x.first
+    first : FirstWrong 0 (contents_of files c.files) error
+    first = subst (λ (contents : List Contents). FirstWrong 0 contents error) same x.first
 
-    by : IsDue c (held_by files c.files) answer → answer ≡ why
+    by : IsDue c (contents_of files c.files) answer → answer ≡ load_answer error
     by (too_many many e) = absurd (omega (arith, few, many))
-    by (wrong f y) = one_wrong 0 (held_by files c.files) answer why y first
-    by (judged f classes are y) = absurd (wrong_or_classes 0 (held_by files c.files) why classes first are)
+    by (wrong f other y is) = is ∙ ap load_answer (one_wrong 0 (contents_of files c.files) other error y first)
+    by (by_linking f classes are y) = absurd (wrong_or_classes 0 (contents_of files c.files) error classes first are)
 
-wrong_cause : (told : Option store.Files) (c : Command) (why : Why) → length c.files ≤ most_files → FindsWrong told c why → HasCause told c why
-wrong_cause told c why few x = record { held = x.held; holds = x.holds; due = wrong few x.first }
+wrong_cause : (known : Option store.Files) (c : Command) (error : LoadError) → length c.files ≤ most_files → FindsWrong known c error → HasCause known c (load_answer error)
+wrong_cause known c error few x = record { contents = x.contents; holds = x.holds; due = wrong few error x.first refl }
+
+wrong_exact : (known : Option store.Files) (faulty : Type 0) (c : Command) (error : LoadError) → length c.files ≤ most_files → (s : IsStopped known faulty c.files error) → IsWrongFile known (length s.front) s.name error
+    → HasCause known c (load_answer error) × ((files : store.Files) (answer : Why) → known ≡ Some files → IsDue c (contents_of files c.files) answer → answer ≡ load_answer error)
+wrong_exact known faulty c error few s here = let x = finds_wrong known faulty c error s here in (wrong_cause known c error few x, wrong_due known c error few x)
 
 take_front : (front back : List (List ℕ)) (name : List ℕ) → take (length front) (front ++ name ∷ back) ≡ front
 take_front [] back name = refl
@@ -220,187 +223,159 @@ front_within : (front back : List (List ℕ)) (name : List ℕ) → length front
 front_within [] back name = omega arith
 front_within (x ∷ front) back name = let more = front_within front back name in omega (arith, more)
 
-reached : (told : Option store.Files) (faulty : Type 0) (c : Command) (why : Why) → length c.files ≤ most_files → (s : IsStopped told faulty c.files why) → IsReached told c (length s.front)
-reached told faulty c why few s =
-    let read = all_read told s.front s.classes s.read in
+reached : (known : Option store.Files) (faulty : Type 0) (c : Command) (error : LoadError) → length c.files ≤ most_files → (s : IsStopped known faulty c.files error) → IsReached known c (length s.front)
+reached known faulty c error few s =
+    let read = all_read known s.front s.classes s.read in
     record {
-      held = read.held;
+      contents = read.contents;
       classes = s.classes;
       few = few;
       within = subst (λ (names : List (List ℕ)). length s.front < length names) (sym s.parts) (front_within s.front s.back s.name);
-      holds = subst (λ (names : List (List ℕ)). AreHeld told names read.held) (sym (ap (take (length s.front)) s.parts ∙ take_front s.front s.back s.name)) read.holds;
+      holds = subst (λ (names : List (List ℕ)). HaveContents known names read.contents) (sym (ap (take (length s.front)) s.parts ∙ take_front s.front s.back s.name)) read.holds;
       read = read.read;
     }
 
-pub stopped_exact : (told : Option store.Files) (faulty : Type 0) (c : Command) (why : Why) → length c.files ≤ most_files → IsStopped told faulty c.files why → IsExact told faulty c why
-stopped_exact told faulty c why few s = by why s s.cause
+pub stopped_exact : (known : Option store.Files) (faulty : Type 0) (c : Command) (error : LoadError) → length c.files ≤ most_files → IsStopped known faulty c.files error → IsExact known faulty c (load_answer error)
+stopped_exact known faulty c error few s = by error s s.cause
   where
-    by : (why : Why) (s : IsStopped told faulty c.files why) → NotRead told faulty (length s.front) s.name why → IsExact told faulty c why
-    by NoMemory s cause = record { cause = tt; due = λ files answer is due. tt }
-    by (SourceFault file) s cause =
-        record { cause = (cause.1, subst (λ (n : ℕ). IsReached told c n) (sym cause.0) (reached told faulty c (SourceFault file) few s)); due = λ files answer is due. tt }
-    by (Missing file) s cause = let x = finds_wrong told faulty c (Missing file) s cause in record { cause = wrong_cause told c (Missing file) few x; due = wrong_due told c (Missing file) few x }
-    by (Limit which number) s cause = let x = finds_wrong told faulty c (Limit which number) s cause in record { cause = wrong_cause told c (Limit which number) few x; due = wrong_due told c (Limit which number) few x }
-    by (BadClass file at reason) s cause =
-        let x = finds_wrong told faulty c (BadClass file at reason) s cause in
-        record { cause = wrong_cause told c (BadClass file at reason) few x; due = wrong_due told c (BadClass file at reason) few x }
-    by Ended s cause = absurd cause
-    by Usage s cause = absurd cause
-    by NoMain s cause = absurd cause
-    by (LinkFault class reason) s cause = absurd cause
-    by (SinkFault which written) s cause = absurd cause
+    by : (error : LoadError) (s : IsStopped known faulty c.files error) → NotRead known faulty (length s.front) s.name error → IsExact known faulty c (load_answer error)
+    by load.NoMemory s cause = record { cause = tt; due = λ files answer is due. tt }
+    by (load.SourceFault file) s cause =
+        record { cause = (cause.1, subst (λ (n : ℕ). IsReached known c n) (sym cause.0) (reached known faulty c (load.SourceFault file) few s)); due = λ files answer is due. tt }
+    by error s cause = let x = wrong_exact known faulty c error few s cause in record { cause = x.0; due = x.1 }
 
--- a reading that stopped is no end and no fault of a sink
-pub stopped_refusal : (told : Option store.Files) (faulty : Type 0) (names : List (List ℕ)) (why : Why) → IsStopped told faulty names why → IsRefusal why
-stopped_refusal told faulty names why s = by why s.cause
+-- an error of loading is no end and no fault of a sink
+pub load_refusal : (error : LoadError) → IsRefusal (load_answer error)
+load_refusal (load.Missing file) = tt
+load_refusal (load.SourceFault file) = tt
+load_refusal load.TooLarge = tt
+load_refusal (load.BadClass file at why) = tt
+load_refusal load.NoMemory = tt
+
+-- ---- classes that were linked, or not
+
+link_due : (known : Option store.Files) (c : Command) (classes : List ClassFile) (why : Why) → length c.files ≤ most_files → AreRead known c.files classes → IsLinkAnswer (class_named c.main) classes why
+    → (files : store.Files) (answer : Why) → known ≡ Some files → IsDue c (contents_of files c.files) answer → answer ≡ why
+link_due known c classes why few read link_answer_is files answer is due = by due
   where
-    by : (why : Why) → NotRead told faulty (length s.front) s.name why → IsRefusal why
-    by NoMemory cause = tt
-    by (SourceFault file) cause = tt
-    by (Missing file) cause = tt
-    by (Limit which number) cause = tt
-    by (BadClass file at reason) cause = tt
-    by Ended cause = absurd cause
-    by Usage cause = absurd cause
-    by NoMain cause = tt
-    by (LinkFault class reason) cause = tt
-    by (SinkFault which written) cause = absurd cause
+    same : read.contents ≡ contents_of files c.files
+    same = held_is files c.files read.contents (subst (λ (t : Option store.Files). HaveContents t c.files read.contents) is read.holds)
 
--- ---- classes that were judged
+    are : AreClasses (contents_of files c.files) classes
+    are = subst (λ (contents : List Contents). AreClasses contents classes) same read.read
 
-judged_due : (told : Option store.Files) (c : Command) (classes : List ClassFile) (why : Why) → length c.files ≤ most_files → AreRead told c.files classes → IsJudged (class_named c.main) classes why
-    → (files : store.Files) (answer : Why) → told ≡ Some files → IsDue c (held_by files c.files) answer → answer ≡ why
-judged_due told c classes why few read is_judged files answer is due = by due
-  where
-    same : read.held ≡ held_by files c.files
-    same = held_is files c.files read.held (subst (λ (t : Option store.Files). AreHeld t c.files read.held) is read.holds)
-
-    are : AreClasses (held_by files c.files) classes
-    are = subst (λ (held : List Held). AreClasses held classes) same read.read
-
-    by : IsDue c (held_by files c.files) answer → answer ≡ why
+    by : IsDue c (contents_of files c.files) answer → answer ≡ why
     by (too_many many e) = absurd (omega (arith, few, many))
-    by (wrong f y) = absurd (wrong_or_classes 0 (held_by files c.files) answer classes y are)
-    by (judged f others others_are y) =
-        let one : others ≡ classes = read.only others (subst (λ (held : List Held). AreClasses held others) (sym same) others_are) in
-        one_judgement (class_named c.main) classes answer why (subst (λ (cs : List ClassFile). IsJudged (class_named c.main) cs answer) one y) is_judged
+    by (wrong f error y is) = absurd (wrong_or_classes 0 (contents_of files c.files) error classes y are)
+    by (by_linking f others others_are y) =
+        let one : others ≡ classes = read.only others (subst (λ (contents : List Contents). AreClasses contents others) (sym same) others_are) in
+        one_link_answer (class_named c.main) classes answer why (subst (λ (cs : List ClassFile). IsLinkAnswer (class_named c.main) cs answer) one y) link_answer_is
 
-judged_cause : (told : Option store.Files) (c : Command) (classes : List ClassFile) (why : Why) → length c.files ≤ most_files → AreRead told c.files classes → IsJudged (class_named c.main) classes why → HasCause told c why
-judged_cause told c classes why few read is_judged = record { held = read.held; holds = read.holds; due = judged few classes read.read is_judged }
+link_cause : (known : Option store.Files) (c : Command) (classes : List ClassFile) (why : Why) → length c.files ≤ most_files → AreRead known c.files classes → IsLinkAnswer (class_named c.main) classes why → HasCause known c why
+link_cause known c classes why few read link_answer_is = record { contents = read.contents; holds = read.holds; due = by_linking few classes read.read link_answer_is }
 
-pub unlinked_exact : (told : Option store.Files) (faulty : Type 0) (c : Command) (classes : List ClassFile) (why : Why) → length c.files ≤ most_files → AllZip (IsRead told) c.files classes → NotLinked (class_named c.main) classes why
-    → IsExact told faulty c why
-unlinked_exact told faulty c classes why few all is = by why is
+pub unlinked_exact : (known : Option store.Files) (faulty : Type 0) (c : Command) (classes : List ClassFile) (error : LinkError) → length c.files ≤ most_files → AllZip (IsRead known) c.files classes
+    → NotLinked (class_named c.main) classes error → IsExact known faulty c (link_answer error)
+unlinked_exact known faulty c classes error few all is = by error is
   where
-    read : AreRead told c.files classes
-    read = all_read told c.files classes all
+    read : AreRead known c.files classes
+    read = all_read known c.files classes all
 
-    by : (why : Why) → NotLinked (class_named c.main) classes why → IsExact told faulty c why
-    by NoMemory is = record { cause = tt; due = λ files answer is due. tt }
-    by NoMain is = record { cause = judged_cause told c classes NoMain few read is; due = judged_due told c classes NoMain few read is }
-    by (LinkFault class reason) is = record { cause = judged_cause told c classes (LinkFault class reason) few read is; due = judged_due told c classes (LinkFault class reason) few read is }
-    by Ended is = absurd is
-    by Usage is = absurd is
-    by (Limit which number) is = absurd is
-    by (Missing file) is = absurd is
-    by (SourceFault file) is = absurd is
-    by (BadClass file at reason) is = absurd is
-    by (SinkFault which written) is = absurd is
+    by : (error : LinkError) → NotLinked (class_named c.main) classes error → IsExact known faulty c (link_answer error)
+    by link.NoMemory is = record { cause = tt; due = λ files answer is due. tt }
+    by link.NoMain is = record { cause = link_cause known c classes NoMain few read is; due = link_due known c classes NoMain few read is }
+    by (link.Fault class reason) is = record { cause = link_cause known c classes (LinkFault class reason) few read is; due = link_due known c classes (LinkFault class reason) few read is }
 
-pub unlinked_refusal : (name : List ℕ) (classes : List ClassFile) (why : Why) → NotLinked name classes why → IsRefusal why
-unlinked_refusal name classes NoMemory is = tt
-unlinked_refusal name classes NoMain is = tt
-unlinked_refusal name classes (LinkFault class reason) is = tt
-unlinked_refusal name classes Ended is = absurd is
-unlinked_refusal name classes Usage is = absurd is
-unlinked_refusal name classes (Limit which number) is = tt
-unlinked_refusal name classes (Missing file) is = tt
-unlinked_refusal name classes (SourceFault file) is = tt
-unlinked_refusal name classes (BadClass file at reason) is = tt
-unlinked_refusal name classes (SinkFault which written) is = absurd is
+-- an error of linking is no end and no fault of a sink, and comes after no fault of the store
+pub link_refusal : (error : LinkError) → IsRefusal (link_answer error)
+link_refusal link.NoMain = tt
+link_refusal (link.Fault class why) = tt
+link_refusal link.NoMemory = tt
+
+pub link_faults : (error : LinkError) (before now : ℕ) → now ≡ before → StoreFaults (link_answer error) before now
+link_faults link.NoMain before now kept = kept
+link_faults (link.Fault class why) before now kept = kept
+link_faults link.NoMemory before now kept = tt
 
 -- without a method there is no program
-pub unlinked_is : (name : List ℕ) (classes : List ClassFile) (why : Why) → has_main name classes ≡ true → ((m : Method) → IsLinked classes m → ⊥) → AllByRecursion IsSpelled classes → why ≡ LinkFault (first_name classes) Unsupported → NotLinked name classes why
-unlinked_is name classes why main none spelled is =
-    subst (λ (w : Why). NotLinked name classes w) (sym is) (record { main = main; none = λ p program. none program.method program.linked; first = first_is name classes main spelled; unsupported = refl })
+pub unlinked_is : (name : List ℕ) (classes : List ClassFile) (error : LinkError) → has_main name classes ≡ true → ((m : Method) → IsLinked classes m → ⊥) → AllByRecursion IsSpelled classes
+    → error ≡ link.Fault (first_name classes) Unsupported → NotLinked name classes error
+unlinked_is name classes error main none spelled is =
+    subst (λ (e : LinkError). NotLinked name classes e) (sym is) (record { main = main; none = λ p program. none program.method program.linked; first = first_is name classes main spelled; unsupported = refl })
 
 -- files that were read are spelled
-pub all_spelled : (told : Option store.Files) (names : List (List ℕ)) (classes : List ClassFile) → AllZip (IsRead told) names classes → AllByRecursion IsSpelled classes
-all_spelled told [] [] read = tt
-all_spelled told [] (f ∷ classes) read = absurd read
-all_spelled told (name ∷ names) [] read = absurd read
-all_spelled told (name ∷ names) (f ∷ classes) read = (by read.0.held read.0.class, all_spelled told names classes read.1)
+pub all_spelled : (known : Option store.Files) (names : List (List ℕ)) (classes : List ClassFile) → AllZip (IsRead known) names classes → AllByRecursion IsSpelled classes
+all_spelled known [] [] read = tt
+all_spelled known [] (f ∷ classes) read = absurd read
+all_spelled known (name ∷ names) [] read = absurd read
+all_spelled known (name ∷ names) (f ∷ classes) read = (by read.0.contents read.0.class, all_spelled known names classes read.1)
   where
-    by : (held : Held) → IsClass held f → IsSpelled f
+    by : (contents : Contents) → IsClass contents f → IsSpelled f
     by None is = absurd is
     by (Some bytes) is = (bytes, is.1)
 
-program_is : (name : List ℕ) (classes : List ClassFile) (m : Method) → has_main name classes ≡ true → IsLinked classes m → IsProgram name classes (alone m)
+pub program_is : (name : List ℕ) (classes : List ClassFile) (m : Method) → has_main name classes ≡ true → IsLinked classes m → IsProgram name classes (alone m)
 program_is name classes m main linked = record { method = m; main = main; linked = linked; is_program = refl }
 
-pub ended_exact : (told : Option store.Files) (faulty : Type 0) (c : Command) (classes : List ClassFile) (m : Method) → length c.files ≤ most_files → AllZip (IsRead told) c.files classes → has_main (class_named c.main) classes ≡ true
-    → IsLinked classes m → IsExact told faulty c Ended
-ended_exact told faulty c classes m few all main linked =
-    let read = all_read told c.files classes all in
+pub ended_exact : (known : Option store.Files) (faulty : Type 0) (c : Command) (classes : List ClassFile) (m : Method) → length c.files ≤ most_files → AllZip (IsRead known) c.files classes → has_main (class_named c.main) classes ≡ true
+    → IsLinked classes m → IsExact known faulty c Ended
+ended_exact known faulty c classes m few all main linked =
+    let read = all_read known c.files classes all in
     let is = program_is (class_named c.main) classes m main linked in
-    record { cause = judged_cause told c classes Ended few read (alone m, is); due = judged_due told c classes Ended few read (alone m, is) }
+    record { cause = link_cause known c classes Ended few read (alone m, is); due = link_due known c classes Ended few read (alone m, is) }
 
-pub memory_exact : (told : Option store.Files) (faulty : Type 0) (c : Command) → IsExact told faulty c NoMemory
-memory_exact told faulty c = record { cause = tt; due = λ files answer is due. tt }
+pub memory_exact : (known : Option store.Files) (faulty : Type 0) (c : Command) → IsExact known faulty c NoMemory
+memory_exact known faulty c = record { cause = tt; due = λ files answer is due. tt }
 
-pub ran_command : (told : Option store.Files) (c : Command) (classes : List ClassFile) (m : Method) (history : List Entry) (out : List ℕ) → AllZip (IsRead told) c.files classes → has_main (class_named c.main) classes ≡ true
-    → IsLinked classes m → IsRun (alone m) history out → RanCommand told c history out
-ran_command told c classes m history out all main linked run_is =
-    let read = all_read told c.files classes all in
+pub ran_command : (known : Option store.Files) (c : Command) (classes : List ClassFile) (m : Method) (history : List Entry) (out : List ℕ) → AllZip (IsRead known) c.files classes → has_main (class_named c.main) classes ≡ true
+    → IsLinked classes m → IsRun (alone m) history out → RanCommand known c history out
+ran_command known c classes m history out all main linked run_is =
+    let read = all_read known c.files classes all in
     record {
       program = alone m;
-      given = record { held = read.held; classes = classes; holds = read.holds; read = read.read; accepted = program_is (class_named c.main) classes m main linked };
+      given = record { contents = read.contents; classes = classes; holds = read.holds; read = read.read; accepted = program_is (class_named c.main) classes m main linked };
       run_is = run_is;
     }
 
 -- ---- the lines
 
 -- a line that was put, or its front
-pub tells : (before after : Option (List ℕ)) (f g : ℕ) (line : List ℕ) (r : Result (Unit {0}) PartWritten) → OnOk r (Appends before line after) → IfErr r (λ e. Appends before (take e.taken line) after) → OnErr r (Rose f g)
-    → TellsLine before after f g line
-tells before after f g line (Ok x) ok part cause = record { told = length line; written = rw (take_all (length line) line (omega arith)) ok; whole = λ lt. absurd (omega arith) }
-tells before after f g line (Err e) ok part cause = record { told = e.taken; written = part; whole = λ lt. cause }
+pub takes : {E : Type 0} (contents : E → Option (List ℕ)) (faults : E → ℕ) (old new : E) (line : List ℕ) (r : Result (Unit {0}) PartWritten) → OnOk r (Appends (contents old) line (contents new))
+    → IfErr r (λ e. Appends (contents old) (take e.taken line) (contents new)) → OnErr r (Rose (faults old) (faults new)) → TakesLine contents faults old new line
+takes contents faults old new line (Ok x) ok part cause = record { taken = length line; written = rw (take_all (length line) line (omega arith)) ok; whole = λ lt. absurd (omega arith) }
+takes contents faults old new line (Err e) ok part cause = record { taken = e.taken; written = part; whole = λ lt. cause }
 
 -- ---- the answer of the call
 
 -- an answer that stays, or that found no memory for its line
-pub kept_exact : (told : Option store.Files) (faulty : Type 0) (c : Command) (before after : Why) → IsKept before after → IsExact told faulty c before → IsExact told faulty c after
-kept_exact told faulty c before after (inl e) exact = subst (λ (w : Why). IsExact told faulty c w) (sym e) exact
-kept_exact told faulty c before after (inr e) exact = subst (λ (w : Why). IsExact told faulty c w) (sym e.1) (memory_exact told faulty c)
+pub kept_exact : (known : Option store.Files) (faulty : Type 0) (c : Command) (before after : Why) → IsKept before after → IsExact known faulty c before → IsExact known faulty c after
+kept_exact known faulty c before after (inl e) exact = subst (λ (w : Why). IsExact known faulty c w) (sym e) exact
+kept_exact known faulty c before after (inr e) exact = subst (λ (w : Why). IsExact known faulty c w) (sym e.1) (memory_exact known faulty c)
 
 -- an answer after a run
-pub ran_exact : (told : Option store.Files) (faulty : Type 0) (c : Command) (why : Why) (taken size : ℕ) → IsTaken why taken size → IsExact told faulty c Ended → IsExact told faulty c why
-ran_exact told faulty c Ended taken size is exact = exact
-ran_exact told faulty c (SinkFault which written) taken size is exact = record { cause = exact.cause; due = exact.due }
-ran_exact told faulty c Usage taken size is exact = absurd is
-ran_exact told faulty c NoMemory taken size is exact = absurd is
-ran_exact told faulty c NoMain taken size is exact = absurd is
-ran_exact told faulty c (Limit which number) taken size is exact = absurd is
-ran_exact told faulty c (Missing file) taken size is exact = absurd is
-ran_exact told faulty c (SourceFault file) taken size is exact = absurd is
-ran_exact told faulty c (BadClass file at why) taken size is exact = absurd is
-ran_exact told faulty c (LinkFault class why) taken size is exact = absurd is
+pub ran_exact : (known : Option store.Files) (faulty : Type 0) (c : Command) (why : Why) (taken size : ℕ) → IsTaken why taken size → IsExact known faulty c Ended → IsExact known faulty c why
+ran_exact known faulty c Ended taken size is exact = exact
+ran_exact known faulty c (SinkFault which written) taken size is exact = record { cause = exact.cause; due = exact.due }
+ran_exact known faulty c why taken size is exact = absurd is
 
-did_run : (X Y : Type 0) (why : Why) (taken size : ℕ) → IsTaken why taken size → X → DidRun why X Y
-did_run X Y Ended taken size is x = x
-did_run X Y (SinkFault which written) taken size is x = x
-did_run X Y Usage taken size is x = absurd is
-did_run X Y NoMemory taken size is x = absurd is
-did_run X Y NoMain taken size is x = absurd is
-did_run X Y (Limit which number) taken size is x = absurd is
-did_run X Y (Missing file) taken size is x = absurd is
-did_run X Y (SourceFault file) taken size is x = absurd is
-did_run X Y (BadClass file at why) taken size is x = absurd is
-did_run X Y (LinkFault class why) taken size is x = absurd is
+pub ran_faults : (why : Why) (taken size before now : ℕ) → IsTaken why taken size → StoreFaults Ended before now → StoreFaults why before now
+ran_faults Ended taken size before now is kept = kept
+ran_faults (SinkFault which written) taken size before now is kept = kept
+ran_faults why taken size before now is kept = absurd is
 
-ran_is : (c : Command) (told : Option store.Files) (before after : Option (List ℕ)) (r : Report) (history : List Entry) (out : List ℕ) → RanCommand told c history out → r.history.items ≡ history
-    → Appends before (take r.out_written out) after → IsTaken r.why r.out_written (length out) → Ran c told before after r
-ran_is c told before after r history out ran same written taken =
+on_run : (X : Type 0) (why : Why) → X → OnRun why X
+on_run X Ended x = x
+on_run X (SinkFault which written) x = x
+on_run X why x = tt
+
+pub ran_idle : (Y : Type 0) (why : Why) (taken size : ℕ) → IsTaken why taken size → OnNoRun why Y
+ran_idle Y Ended taken size is = tt
+ran_idle Y (SinkFault which written) taken size is = tt
+ran_idle Y why taken size is = absurd is
+
+ran_is : (c : Command) (known : Option store.Files) (before after : Option (List ℕ)) (r : Report) (history : List Entry) (out : List ℕ) → RanCommand known c history out → r.history.items ≡ history
+    → Appends before (take r.out_written out) after → IsTaken r.why r.out_written (length out) → Ran c known before after r
+ran_is c known before after r history out ran same written taken =
     let run_is = ran.run_is in
     record {
       program = ran.program;
@@ -414,32 +389,43 @@ ran_is c told before after r history out ran same written taken =
       taken = rw run_is.prints taken;
     }
 
-pub headline_is : (command : Option Command) (c : Command) (told : Option store.Files) (before after : Option (List ℕ)) (r : Report) (history : List Entry) (out : List ℕ) → Some c ≡ command → RanCommand told c history out
+pub headline_is : (command : Option Command) (c : Command) (known : Option store.Files) (before after : Option (List ℕ)) (r : Report) (history : List Entry) (out : List ℕ) → Some c ≡ command → RanCommand known c history out
     → r.history.items ≡ history → Appends before (take r.out_written out) after → IsTaken r.why r.out_written (length out)
-    → DidRun r.why (IsSomeAnd command (λ d. Ran d told before after r)) (IsIdle before after r)
-headline_is command c told before after r history out is ran same written taken =
-    let here : IsSomeAnd command (λ d. Ran d told before after r) = rw (← is) (ran_is c told before after r history out ran same written taken) in
-    did_run (IsSomeAnd command (λ d. Ran d told before after r)) (IsIdle before after r) r.why r.out_written (length out) taken here
+    → OnRun r.why (IsSomeAnd command (λ d. Ran d known before after r))
+headline_is command c known before after r history out is ran same written taken =
+    on_run (IsSomeAnd command (λ d. Ran d known before after r)) r.why (rw (← is) (ran_is c known before after r history out ran same written taken))
 
-refusal_idle : (X Y : Type 0) (why : Why) → IsRefusal why → Y → DidRun why X Y
-refusal_idle X Y Ended is y = absurd is
-refusal_idle X Y (SinkFault which written) is y = absurd is
-refusal_idle X Y Usage is y = y
-refusal_idle X Y NoMemory is y = y
-refusal_idle X Y NoMain is y = y
-refusal_idle X Y (Limit which number) is y = y
-refusal_idle X Y (Missing file) is y = y
-refusal_idle X Y (SourceFault file) is y = y
-refusal_idle X Y (BadClass file at why) is y = y
-refusal_idle X Y (LinkFault class why) is y = y
+no_run : (X : Type 0) (why : Why) → IsRefusal why → OnRun why X
+no_run X Ended is = absurd is
+no_run X (SinkFault which written) is = absurd is
+no_run X why is = tt
+
+on_no_run : (Y : Type 0) (why : Why) → Y → OnNoRun why Y
+on_no_run Y Ended y = tt
+on_no_run Y (SinkFault which written) y = tt
+on_no_run Y why y = y
+
+no_out_fault : (why : Why) (n : ℕ) → IsRefusal why → OutFaults why n n
+no_out_fault (SinkFault which written) n is = absurd is
+no_out_fault why n is = refl
 
 kept_refusal : (before after : Why) → IsKept before after → IsRefusal before → IsRefusal after
 kept_refusal before after (inl e) is = subst IsRefusal (sym e) is
 kept_refusal before after (inr e) is = subst IsRefusal (sym e.1) tt
 
--- a refusal runs nothing
-pub idle_is : (X Y : Type 0) (before after : Why) → IsKept before after → IsRefusal before → Y → DidRun after X Y
-idle_is X Y before after kept is y = refusal_idle X Y after (kept_refusal before after kept is) y
+-- a refusal runs nothing, and leaves the out sink
+pub refused_headline : (X : Type 0) (before after : Why) → IsKept before after → IsRefusal before → OnRun after X
+refused_headline X before after kept is = no_run X after (kept_refusal before after kept is)
+
+pub refused_idle : (Y : Type 0) (why : Why) → Y → OnNoRun why Y
+refused_idle Y why y = on_no_run Y why y
+
+pub refused_out : (before after : Why) (n : ℕ) → IsKept before after → IsRefusal before → OutFaults after n n
+refused_out before after n kept is = no_out_fault after n (kept_refusal before after kept is)
+
+pub refused_store : (before after : Why) (m n : ℕ) → IsKept before after → StoreFaults before m n → StoreFaults after m n
+refused_store before after m n (inl e) faults = subst (λ (w : Why). StoreFaults w m n) (sym e) faults
+refused_store before after m n (inr e) faults = subst (λ (w : Why). StoreFaults w m n) (sym e.1) tt
 
 -- a refusal is no Usage
 pub not_usage : (before after : Why) → IsKept before after → IsRefusal before → after ≡ Usage → ⊥
@@ -450,5 +436,11 @@ pub of_command : (command : Option Command) (c : Command) (P : Command → Type 
 of_command command c P is p = rw (← is) p
 
 -- the line names the words of that command
-pub line_named : (command : Option Command) (c : Command) (before after : Option (List ℕ)) (f g : ℕ) (why : Why) → Some c ≡ command → TellsLine before after f g (line_of c why) → TellsLine before after f g (line_of (named command) why)
-line_named command c before after f g why is told = subst (λ (o : Option Command). TellsLine before after f g (line_of (named o) why)) is told
+pub line_named : {E : Type 0} (contents : E → Option (List ℕ)) (faults : E → ℕ) (old new : E) (command : Option Command) (c : Command) (why : Why) → Some c ≡ command → TakesLine contents faults old new (line_of c why)
+    → TakesLine contents faults old new (line_for command why)
+line_named contents faults old new command c why is line = subst (λ (o : Option Command). TakesLine contents faults old new (line_for o why)) is line
+
+-- where there is no command, the line is that of Usage
+pub line_of_none : {E : Type 0} (contents : E → Option (List ℕ)) (faults : E → ℕ) (old new : E) (command : Option Command) (why : Why) → None ≡ command → TakesLine contents faults old new usage_line
+    → TakesLine contents faults old new (line_for command why)
+line_of_none contents faults old new command why is line = subst (λ (o : Option Command). TakesLine contents faults old new (line_for o why)) is line

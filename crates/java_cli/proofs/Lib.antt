@@ -1,9 +1,4 @@
-pub mod DecodingLaws
-pub mod Running
-pub mod Loops
-pub mod Putting
-pub mod Preparing
-pub mod TableLaws
 pub mod Reading
 pub mod Naming
 pub mod Answering
+pub mod Due

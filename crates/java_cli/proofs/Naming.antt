@@ -1,7 +1,8 @@
 -- A class file that is spelled has a name: nothing is wrong with its own class and with that class's text.
 use Rattle.std.proofs.Common.{◌≡◌, ℕ, zero, suc, Bool, true, false, List, [], ◌∷◌, ◌++◌, Option, Some, None, refl, sym, ap, subst, ◌∙◌}
-use Rattle.std.specs.Prelude.{slice_get, unwrap_or}
-use Rattle.std.specs.Option.{option_map_or, option_and_then}
+use Rattle.std.specs.Prelude.{slice_get, unwrap_or, is_some}
+use Rattle.std.specs.Option.{option_map_or, option_and_then, option_copied}
+use Rattle.std.specs.Borrow.{Bor}
 use Rattle.std.specs.List.{flat_map, AllByRecursion}
 use Rattle.std.proofs.lemmas.List.Concat.{flat_map-cons}
 use Rattle.std.proofs.lemmas.Option.{same_Some}
@@ -12,8 +13,9 @@ use Rattle.class_grammar.specs.declared.class_why.ClassWhy.{ClassWhy}
 use Rattle.class_grammar.specs.declared.class_why.ClassWhy.TheVariants.{Index}
 use Rattle.class_grammar.specs.Checks.{Item, unless, is_class, class_fault, text_fault, constant_items, pool_items, class_items, member_items}
 use Rattle.class_grammar.specs.Pool.{text_at, class_name_of, class_name_at}
-use Rattle.class_grammar.specs.Spelling.{IsSound}
-use Rattle.java_cli.specs.Linking.{IsSpelled, first_name}
+use Rattle.class_grammar.specs.Grammar.{IsSound}
+use Rattle.plain_program.specs.Programs.{IsSpelled}
+use Rattle.java_cli.specs.Linking.{first_name}
 use Rattle.java_cli.specs.MainClass.{has_main}
 use Rattle.java_cli.specs.Causes.{IsFirstName}
 
@@ -28,25 +30,25 @@ all_right (x ∷ xs) ys all = all_right xs ys all.1
 apart : (part : Const → List Item) (c : Const) (cs : List Const) → AllByRecursion IsSound (flat_map part (c ∷ cs)) → AllByRecursion IsSound (part c ++ flat_map part cs)
 apart part c cs all = subst (λ (is : List Item). AllByRecursion IsSound is) (flat_map-cons part c cs) all
 
--- nothing is wrong with the constant at a place
+-- nothing is wrong with the constant at an index
 all_at : (part : Const → List Item) (cs : List Const) (i : ℕ) (c : Const) → AllByRecursion IsSound (flat_map part cs) → slice_get cs i ≡ Some c → AllByRecursion IsSound (part c)
 all_at part [] i c all e = absurd cc
 all_at part (x ∷ cs) zero c all e =
     subst (λ (k : Const). AllByRecursion IsSound (part k)) (same_Some x c e) (all_left (part x) (flat_map part cs) (apart part x cs all))
 all_at part (x ∷ cs) (suc i) c all e = all_at part cs i c (all_right (part x) (flat_map part cs) (apart part x cs all)) e
 
-class_is : (pool : List Const) (place : ℕ) → class_fault pool place ≡ None → (name : ℕ) × (slice_get pool place ≡ Some (Class name))
-class_is pool place sound = by (slice_get pool place) refl sound
+class_is : (pool : List Const) (index : ℕ) → class_fault pool index ≡ None → (name : ℕ) × (slice_get pool index ≡ Some (Class name))
+class_is pool index sound = by (slice_get pool index) refl sound
   where
-    by : (o : Option Const) → slice_get pool place ≡ o → unless (option_map_or is_class o false) Index ≡ None → (name : ℕ) × (slice_get pool place ≡ Some (Class name))
+    by : (o : Option Const) → slice_get pool index ≡ o → unless (option_map_or is_class o false) Index ≡ None → (name : ℕ) × (slice_get pool index ≡ Some (Class name))
     by None is e = absurd cc
     by (Some (Class name)) is e = (name, is)
     by (Some c) is e = absurd cc
 
-text_is : (test : List ℕ → Bool) (why : ClassWhy) (pool : List Const) (place : ℕ) → text_fault test why pool place ≡ None → (units : List ℕ) × (text_at pool place ≡ Some units)
-text_is test why pool place sound = by (text_at pool place) refl sound
+text_is : (test : List ℕ → Bool) (why : ClassWhy) (pool : List Const) (index : ℕ) → text_fault test why pool index ≡ None → (units : List ℕ) × (text_at pool index ≡ Some units)
+text_is test why pool index sound = by (text_at pool index) refl sound
   where
-    by : (o : Option (List ℕ)) → text_at pool place ≡ o → option_map_or (λ units. unless (test units) why) o (Some Index) ≡ None → (units : List ℕ) × (text_at pool place ≡ Some units)
+    by : (o : Option (List ℕ)) → text_at pool index ≡ o → option_map_or (λ units. unless (test units) why) o (Some Index) ≡ None → (units : List ℕ) × (text_at pool index ≡ Some units)
     by None is e = absurd cc
     by (Some units) is e = (units, is)
 
@@ -66,3 +68,8 @@ first_is name [] main all = let no : false ≡ true = main in absurd cc
 first_is name (f ∷ classes) main all =
     let n = named_is f all.0 in
     n.1 ∙ ap (λ (o : Option (List ℕ)). Some (unwrap_or o [])) (sym n.1)
+
+-- what a found reference points to is there
+pub some_copied : {A : Type 0} (o : Option (Bor A)) (found : Option A) → option_copied o ≡ found → is_some o ≡ true → is_some found ≡ true
+some_copied None found e some = let no : false ≡ true = some in absurd cc
+some_copied (Some x) found e some = ap is_some (sym e)

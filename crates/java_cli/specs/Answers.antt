@@ -1,6 +1,6 @@
 -- What each answer says to the outside (own): the exit status, as sysexits has it from 64 on, and the line on
 -- the fault output.
-use Rattle.std.specs.Prelude.{ℕ, List, [], ◌∷◌, ◌++◌, codes, map, unwrap_or, slice_get}
+use Rattle.std.specs.Prelude.{ℕ, List, [], ◌∷◌, ◌++◌, Option, Some, None, codes, map, unwrap_or, slice_get}
 use Rattle.std.specs.Fmt.{decimal}
 use Rattle.std.specs.Str.{encode_utf8_all}
 use Rattle.std.specs.Char.Utf16.{utf16_chars}
@@ -14,6 +14,7 @@ use Rattle.java_cli.specs.declared.report.Why.{Why}
 use Rattle.java_cli.specs.declared.report.Why.TheVariants.{Ended, Usage, Limit, Missing, SourceFault, BadClass, NoMain, LinkFault, SinkFault, NoMemory}
 use Rattle.java_cli.specs.Words.{Command}
 
+-- This table and those of names and lines list every case, so that a new answer is refused until it has a row.
 abbrev pub status_of : Why → ℕ
 status_of Ended = 0
 status_of Usage = 64
@@ -55,7 +56,7 @@ which_name FileSize = codes "FileSize"
 abbrev pub utf8_of : List ℕ → List ℕ
 utf8_of units = encode_utf8_all (map (λ c. unwrap_or c 63) (utf16_chars units))
 
--- the word of the file at a place
+-- the word of the file of index n
 abbrev pub file_word : Command → ℕ → List ℕ
 file_word c n = unwrap_or (slice_get c.files n) []
 
@@ -72,10 +73,16 @@ bad_class_line file at why = codes "jvt: bad class " ++ file ++ codes " at " ++ 
 abbrev pub link_line : List ℕ → LinkWhy → List ℕ
 link_line class why = codes "jvt: link " ++ utf8_of class ++ codes ": " ++ link_why_name why ++ 10 ∷ []
 
+abbrev pub usage_line : List ℕ
+usage_line = codes "jvt: usage\n"
+
+abbrev pub memory_line : List ℕ
+memory_line = codes "jvt: no memory\n"
+
 -- the line of an answer to this command
 abbrev pub line_of : Command → Why → List ℕ
 line_of c Ended = []
-line_of c Usage = codes "jvt: usage\n"
+line_of c Usage = usage_line
 line_of c (Limit which number) = limit_line which number
 line_of c (Missing file) = line_with (codes "jvt: missing ") (file_word c file)
 line_of c (SourceFault file) = line_with (codes "jvt: cannot read ") (file_word c file)
@@ -83,9 +90,14 @@ line_of c (BadClass file at why) = bad_class_line (file_word c file) at why
 line_of c NoMain = line_with (codes "jvt: no main in ") c.main
 line_of c (LinkFault class why) = link_line class why
 line_of c (SinkFault which written) = codes "jvt: cannot write\n"
-line_of c NoMemory = codes "jvt: no memory\n"
+line_of c NoMemory = memory_line
 
--- the line of this answer names something, and so is made in memory
+-- the line of an answer to words, which may spell no command
+abbrev pub line_for : Option Command → Why → List ℕ
+line_for None why = usage_line
+line_for (Some c) why = line_of c why
+
+-- the line of this answer names something, so memory is taken for it
 abbrev pub NamesSomething : Why → Type 0
 NamesSomething Ended = ⊥
 NamesSomething Usage = ⊥

@@ -13,7 +13,8 @@ use Rattle.java_cli.specs.declared.report.SinkName.TheVariants.{Out}
 use Rattle.java_cli.specs.declared.report.Why.{Why}
 use Rattle.java_cli.specs.declared.report.Why.TheVariants.{Ended, SinkFault, NoMemory}
 use Rattle.java_cli.specs.Words.{Command}
-use Rattle.java_cli.specs.Runs.{IsMainEntry, IsGiven}
+use Rattle.plain_program.specs.Runs.{IsMainEntry}
+use Rattle.java_cli.specs.Runs.{IsGiven}
 use Rattle.java_cli.specs.Answers.{NamesSomething}
 
 -- how much the out sink took: all that the program printed, or less after a fault
@@ -25,10 +26,10 @@ IsTaken why taken size = ⊥
 -- The history of the report, without its mount and unmount entries, is a history of the reference machine for the
 -- program that the command's files are, up to the program's end; and what the out sink took is that history's
 -- output, or its front after a fault of the sink.
-pub record Ran (c : Command) (told : Option Files) (before after : Option (List ℕ)) (r : Report) : Type 0 where
+pub record Ran (c : Command) (known : Option Files) (before after : Option (List ℕ)) (r : Report) : Type 0 where
   pub program : Program
   pub state : State
-  pub given : IsGiven told c program
+  pub given : IsGiven known c program
   pub runs : run program (java r.history.items) ≡ Some state
   pub ended : ending state ≡ Some endings.Ended
   pub tells : state.err ≡ []
@@ -42,19 +43,30 @@ pub record IsIdle (before after : Option (List ℕ)) (r : Report) : Type 0 where
   pub out_written : r.out_written ≡ 0
   pub same : after ≡ before
 
--- a program was run where the answer is its end or a fault of a sink, and none in any other case
-abbrev pub DidRun : Why → Type 0 → Type 0 → Type 0
-DidRun Ended ran idle = ran
-DidRun (SinkFault which written) ran idle = ran
-DidRun why ran idle = idle
+-- the fact holds where the answer is the end of a run or a fault of the out sink in it
+abbrev pub OnRun : Why → Type 0 → Type 0
+OnRun Ended fact = fact
+OnRun (SinkFault which written) fact = fact
+OnRun why fact = Unit {0}
 
--- The err sink took no fault output of the program, which has none, and then the answer's line: all of it unless
--- the sink failed.
-pub record TellsLine (before after : Option (List ℕ)) (faults_before faults_after : ℕ) (line : List ℕ) : Type 0 where
-  pub told : ℕ
-  pub written : Appends before (take told line) after
-  pub whole : told < length line → Rose faults_before faults_after
+-- the fact holds where nothing was run
+abbrev pub OnNoRun : Why → Type 0 → Type 0
+OnNoRun Ended fact = Unit {0}
+OnNoRun (SinkFault which written) fact = Unit {0}
+OnNoRun why fact = fact
 
--- an answer stays as it is, or was to name something and found no memory for that
+-- the count of faults of the out sink rose exactly where the answer names its fault
+abbrev pub OutFaults : Why → ℕ → ℕ → Type 0
+OutFaults (SinkFault which written) before now = Rose before now
+OutFaults why before now = now ≡ before
+
+-- The err sink took no fault output of the program, which has none, and then the answer's line: all of it, unless the
+-- sink failed.
+pub record TakesLine {E : Type 0} (contents : E → Option (List ℕ)) (faults : E → ℕ) (old new : E) (line : List ℕ) : Type 0 where
+  pub taken : ℕ
+  pub written : Appends (contents old) (take taken line) (contents new)
+  pub whole : taken < length line → Rose (faults old) (faults new)
+
+-- an answer is as before, or its line names something and there was no memory for it
 abbrev pub IsKept : Why → Why → Type 0
 IsKept before after = (after ≡ before) ⊎ (NamesSomething before × (after ≡ NoMemory))

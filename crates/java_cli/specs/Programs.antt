@@ -1,34 +1,10 @@
 -- Which program class files are.
-use Rattle.std.specs.Prelude.{◌≡◌, ℕ, true, List, [], ◌∷◌, Some}
-use Rattle.std.specs.List.{flat_map, AllByRecursion}
+use Rattle.std.specs.Prelude.{◌≡◌, ℕ, true, List}
 use Rattle.class_model.specs.declared.class_file.ClassFile.{ClassFile}
-use Rattle.class_model.specs.declared.attribute.CodeBody.{CodeBody}
-use Rattle.ref_model.specs.declared.instruction.Op.{Op}
-use Rattle.ref_model.specs.Instructions.{encoding, placed, IsOp}
 use Rattle.ref_model.specs.Program.{Method, Program}
 use Rattle.ref_model.specs.Alone.{alone}
-use Rattle.java_cli.specs.Methods.{only_code}
+use Rattle.plain_program.specs.Programs.{IsLinked}
 use Rattle.java_cli.specs.MainClass.{has_main}
-use Rattle.java_cli.specs.PlainForm.{is_plain}
-use Rattle.java_cli.specs.Typing.{is_typed}
-
--- The method is the one of the class: its code is these four instructions alone, and each finds its operands
--- (JVMS 4.10.1).
-pub record IsMethod (file : ClassFile) (m : Method) : Type 0 where
-  pub body : CodeBody
-  pub ops : List Op
-  pub code : only_code file.methods ≡ Some body
-  pub encoded : body.code ≡ flat_map encoding ops
-  pub fit : AllByRecursion IsOp ops
-  pub prepared : m ≡ record { pool = file.pool; max_stack = body.max_stack; max_locals = body.max_locals; code = placed 0 ops }
-  pub typed : is_typed m [] m.code ≡ true
-
--- The classes are one of the plain form, and the method is its own.
-pub record IsLinked (classes : List ClassFile) (m : Method) : Type 0 where
-  pub file : ClassFile
-  pub only : classes ≡ file ∷ []
-  pub plain : is_plain file ≡ true
-  pub is_method : IsMethod file m
 
 -- The classes have main in the class of this name, and the program is that method (own).
 pub record IsProgram (name : List ℕ) (classes : List ClassFile) (p : Program) : Type 0 where

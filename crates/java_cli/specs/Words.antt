@@ -1,5 +1,5 @@
 -- The command that a list of words spells (own).
-use Rattle.std.specs.Prelude.{ℕ, List, [], ◌∷◌, Option, Some, None, map, codes, String, unwrap_or, if◌then◌else◌}
+use Rattle.std.specs.Prelude.{ℕ, List, ◌∷◌, Option, Some, None, map, codes, String, if◌then◌else◌}
 use Rattle.std.specs.String.{string_bytes}
 use Rattle.std.specs.Global.{Global}
 use Rattle.class_grammar.specs.Text.{same_text}
@@ -16,7 +16,3 @@ texts words = map (λ (w : String Global). string_bytes w) words
 abbrev pub command_of : List (List ℕ) → Option Command
 command_of (program ∷ verb ∷ main ∷ file ∷ files) = if same_text verb (codes "run") then Some (record { main = main; files = file ∷ files }) else None
 command_of words = None
-
--- the words that an answer's line may name: those of the command, if there is one
-abbrev pub named : Option Command → Command
-named command = unwrap_or command (record { main = []; files = [] })

@@ -10,6 +10,10 @@ use class_file::ClassWhy;
 use itoa::Buffer;
 use std::alloc::{AllocError, Global};
 
+/// The line of `Why::Usage`.
+pub const USAGE: &[u8] = b"jvt: usage\n";
+
+/// The line of `Why::NoMemory`.
 pub const NO_MEMORY: &[u8] = b"jvt: no memory\n";
 
 /// A line for the fault output.
@@ -30,14 +34,15 @@ impl Line {
     }
 }
 
-/// The line that an answer to this command writes, with LF.
+/// The line that an answer to this command writes, with LF. Every case is listed, so that a new answer gets a line of
+/// its own.
 pub fn make_line(alloc: Global, why: &Why, command: &Command) -> Result<Line, AllocError>
     ensures line { IfOk result (λ line. bytes_of line ≡ line_of (spelled command.now) why.now) }
     ensures memory { OnErr result (NamesSomething why.now) }
 {
     let bytes = match why {
         Why::Ended => return Ok(Line::Fixed(b"")),
-        Why::Usage => return Ok(Line::Fixed(b"jvt: usage\n")),
+        Why::Usage => return Ok(Line::Fixed(USAGE)),
         Why::SinkFault { .. } => return Ok(Line::Fixed(b"jvt: cannot write\n")),
         Why::NoMemory => return Ok(Line::Fixed(NO_MEMORY)),
         Why::Limit { which, number } => limit(alloc, *which, *number)?,
@@ -58,7 +63,7 @@ pub fn make_line(alloc: Global, why: &Why, command: &Command) -> Result<Line, Al
     Ok(Line::Made(bytes))
 }
 
-/// The word of the file at a place.
+// The word of the file of this index.
 fn file_word<'a>(command: &Command<'a>, file: u32) -> &'a str
     ensures { result.now ≡ file_word_of (spelled command.now) file }
 {

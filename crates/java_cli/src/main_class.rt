@@ -1,13 +1,16 @@
 //! The class of main (JLS 12.1.4).
 
-ghost use Rattle.std.specs.Prelude.{◌≡◌, IfOk};
-ghost use Rattle.std.specs.List.{list_any};
+ghost use Rattle.std.specs.Prelude.{◌≡◌, find, IfOk};
+ghost use Rattle.std.specs.Option.{option_copied};
 ghost use Rattle.std.specs.Char.Escape.{encode_utf16};
 ghost use Rattle.java_cli.specs.MainClass as spec;
 
-use crate::names::{class_name_at, holds_text};
+use class_grammar::{has_text, is_class_named};
 use class_model::{ClassFile, Const, Member};
 use std::alloc::{AllocError, Global};
+
+/// `ACC_PUBLIC` and `ACC_STATIC` (JVMS 4.6).
+const PUBLIC_STATIC: u16 = 0x0001 | 0x0008;
 
 /// The name of the class that a word names, in units of UTF-16: its dots are slashes.
 pub fn class_named(alloc: Global, word: &str) -> Result<Vec<u16>, AllocError>
@@ -27,39 +30,42 @@ fn with_slash(c: char) -> char
     if c == '.' { '/' } else { c }
 }
 
-/// Whether one of the classes has this name and declares `public static void main(String[])`.
-pub fn has_main(name: &[u16], classes: &[ClassFile]) -> bool
-    ensures { result ≡ spec.has_main name.now classes.now }
+/// The method `public static void main(String[])` of the first class of this name that declares it.
+pub fn main_method<'a>(name: &[u16], classes: &'a [ClassFile]) -> Option<&'a Member>
+    ensures { option_copied result ≡ spec.main_method name.now classes.now }
 {
-    classes.iter().any(|class| is_main_class(name, class))
-}
-
-fn is_main_class(name: &[u16], class: &ClassFile) -> bool
-    ensures { result ≡ spec.is_main_class name.now class.now }
-{
-    is_class_named(name, &class.pool, class.own) && declares_main(&class.pool, &class.methods)
-}
-
-// Whether the class at the place has this name.
-fn is_class_named(name: &[u16], pool: &[Const], place: u16) -> bool
-    ensures { result ≡ spec.is_class_named name.now pool.now place }
-{
-    match class_name_at(pool, place) {
-        Some(units) => units == name,
-        None => false,
+    for class in classes {
+        if let Some(method) = main_in(name, class) {
+            return Some(method);
+        }
     }
+    None
 }
 
-fn declares_main(pool: &[Const], methods: &[Member]) -> bool
-    ensures { result ≡ list_any (spec.is_main_method pool.now) methods.now }
+fn main_in<'a>(name: &[u16], class: &'a ClassFile) -> Option<&'a Member>
+    ensures { option_copied result ≡ spec.main_in name.now class.now }
 {
-    methods.iter().any(|method| is_main_method(pool, method))
+    if !is_class_named(&class.pool, class.own, name) {
+        return None;
+    }
+    main_among(&class.pool, &class.methods)
+}
+
+fn main_among<'a>(pool: &[Const], methods: &'a [Member]) -> Option<&'a Member>
+    ensures { option_copied result ≡ find (spec.is_main_method pool.now) methods.now }
+{
+    for method in methods {
+        if is_main_method(pool, method) {
+            return Some(method);
+        }
+    }
+    None
 }
 
 fn is_main_method(pool: &[Const], method: &Member) -> bool
     ensures { result ≡ spec.is_main_method pool.now method.now }
 {
-    method.flags & 0x0009 == 0x0009
-        && holds_text(pool, method.name, b"main")
-        && holds_text(pool, method.descriptor, b"([Ljava/lang/String;)V")
+    method.flags & PUBLIC_STATIC == PUBLIC_STATIC
+        && has_text(pool, method.name, b"main")
+        && has_text(pool, method.descriptor, b"([Ljava/lang/String;)V")
 }

@@ -3,7 +3,7 @@ ghost use Rattle.std.specs.Prelude.{◌≡◌};
 use class_file::ClassWhy;
 use items::Items;
 use ref_model::Entry;
-use std::alloc::{AllocError, AllocFailed};
+use std::alloc::AllocError;
 
 /// Which sink (own).
 #[derive(Clone, Copy, Debug, PartialEq, Eq)]
@@ -12,7 +12,7 @@ pub enum SinkName {
     Err,
 }
 
-/// What there may be only so much of (own).
+/// What has a limit (own).
 #[derive(Clone, Copy, Debug, PartialEq, Eq)]
 pub enum Which {
     /// The FILE words of a command.
@@ -28,26 +28,26 @@ pub enum LinkWhy {
     Unsupported,
 }
 
-/// Why the call returned. `file` is the place of a file among the FILE words, from 0.
+/// Why the call returned. `file` is the index of a file among the FILE words, from 0.
 #[derive(Debug, Drop, PartialEq, Eq)]
 pub enum Why {
     /// The program ran to its end.
     Ended,
     /// The words are no command.
     Usage,
-    /// There is more than is taken: more than this number.
+    /// A limit is passed. `number` is the limit.
     Limit { which: Which, number: u32 },
     /// There is no such file.
     Missing { file: u32 },
     /// The store failed.
     SourceFault { file: u32 },
-    /// The file is no class file; `at` is the byte of the first check that fails.
+    /// The file is no class file. `at` is the offset in it of the first check that fails, in bytes.
     BadClass { file: u32, at: u32, why: ClassWhy },
     /// No file's class is the main class with a `main` (JLS 12.1.4).
     NoMain,
     /// The class of this name could not be linked (JVMS 5.4).
     LinkFault { class: Items<u16>, why: LinkWhy },
-    /// The sink failed, and had taken so many bytes of what was to be written.
+    /// The sink failed after it had taken so many bytes of what was to be written.
     SinkFault { which: SinkName, written: u64 },
     /// Memory ran out.
     NoMemory,
@@ -56,7 +56,7 @@ pub enum Why {
 impl Why {
     ghost use Rattle.java_cli.specs.Answers.{status_of};
 
-    /// The exit status.
+    /// The exit status. Every case is listed, so that a new answer gets a status of its own.
     pub fn status(&self) -> u8
         ensures { result ≡ status_of self.now }
     {
@@ -85,18 +85,8 @@ impl From<AllocError> for Why {
     }
 }
 
-impl<T: Drop> From<AllocFailed<T>> for Why {
-    ghost use Rattle.java_cli.specs.declared.report.Why.TheVariants as whys;
-
-    ghost from_gives = { λ _ e. e ≡ whys.NoMemory };
-
-    fn from(_: AllocFailed<T>) -> Self {
-        Why::NoMemory
-    }
-}
-
-/// What a call did: why it returned, the one history that the run kept, and how many bytes of the program's
-/// output and of its fault output the sinks took.
+/// What a call did: why it returned, the one history that the run left, and how many bytes of the program's output and
+/// of its fault output the sinks took.
 #[derive(Debug, Drop)]
 pub struct Report {
     pub why: Why,

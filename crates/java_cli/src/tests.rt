@@ -1,9 +1,10 @@
-use crate::{Report, SinkName, Which, Why, jvt};
+use crate::{Report, SinkName, Which, Why, jvt, no_memory};
 use class_file::ClassWhy;
-use jvm_edges::{ListClock, MapStore, MemSink, OpenGate};
+use jvm_edges::{Gate, ListClock, MapStore, MemSink, OpenGate};
 use ref_model::{Entry, What};
 use std::alloc::{AllocError, Global};
 use std::process::Abort;
+use std::sync::atomic::{AtomicU64, Ordering};
 use std::test::Fail;
 
 /// `class A`, whose main prints 42: what an assembler makes of it without debugging information.
@@ -34,7 +35,7 @@ const FIELD_STARTS: [u32; 76] = [
     204, 206, 208, 210, 212, 214, 218, 220, 222, 226, 235, 237, 239,
 ];
 
-/// A call: its words, the files of the store by name, and the calls of the store and of the out sink that fail.
+/// A call: its words, the files of the store by name, and which calls of the store and of the out sink fail.
 #[derive(Drop)]
 struct Case<'a> {
     words: &'a str,
@@ -43,7 +44,7 @@ struct Case<'a> {
     out_fails: &'a [u64],
 }
 
-/// What a call left: its report, and what the sinks hold.
+/// What a call left: its report, and the sinks.
 #[derive(Drop)]
 struct Outcome {
     report: Report,
@@ -61,8 +62,44 @@ fn split(alloc: Global, text: &str) -> Result<Vec<String>, AllocError> {
     Ok(words)
 }
 
-/// Makes the call, with an out sink that takes two bytes a put.
+/// A gate that counts how often thread 0 passes it on carrier 0, and how often any other does on any carrier.
+#[derive(Drop)]
+struct CountingGate {
+    main: AtomicU64,
+    others: AtomicU64,
+}
+
+impl CountingGate {
+    fn new() -> Self {
+        CountingGate {
+            main: AtomicU64::new(0),
+            others: AtomicU64::new(0),
+        }
+    }
+}
+
+impl Gate for CountingGate {
+    fn local(&self, carrier: u32, thread: u32) {
+        let count = if carrier == 0 && thread == 0 {
+            &self.main
+        } else {
+            &self.others
+        };
+        count.fetch_add(1, Ordering::SeqCst);
+    }
+}
+
+/// The outcome of a call, with an out sink that takes two bytes a put and a gate at which nobody waits.
 fn call(alloc: Global, case: &Case) -> Result<Outcome, AllocError> {
+    call_through(alloc, case, &OpenGate::new())
+}
+
+/// The outcome of a call through this gate.
+fn call_through<G: Gate + Sync>(
+    alloc: Global,
+    case: &Case,
+    gate: &G,
+) -> Result<Outcome, AllocError> {
     let mut files = Vec::new(alloc);
     for (name, bytes) in case.files {
         files.push((
@@ -75,15 +112,7 @@ fn call(alloc: Global, case: &Case) -> Result<Outcome, AllocError> {
     let mut err = MemSink::new(alloc, 4096, 4096, Vec::new(alloc))?;
     let clock = ListClock::new(vec![in alloc; 0]?);
     let words = split(alloc, case.words)?;
-    let report = jvt(
-        alloc,
-        &words,
-        &mut store,
-        &mut out,
-        &mut err,
-        &clock,
-        &OpenGate::new(),
-    );
+    let report = jvt(alloc, &words, &mut store, &mut out, &mut err, &clock, gate);
     Ok(Outcome { report, out, err })
 }
 
@@ -121,17 +150,17 @@ fn javac_variant(alloc: Global) -> Result<Vec<u8>, AllocError> {
     Ok(bytes)
 }
 
-/// The first bytes, so many, with some of them replaced.
+/// The first `size` bytes, with those at these offsets replaced.
 fn replaced(
     alloc: Global,
     bytes: &[u8],
     size: usize,
-    places: &[(usize, u8)],
+    changes: &[(usize, u8)],
 ) -> Result<Vec<u8>, AllocError> {
     let mut made = Vec::from_slice(alloc, &bytes[..size.min(bytes.len())])?;
-    for (place, byte) in places {
-        if *place < made.len() {
-            made[*place] = *byte;
+    for (offset, byte) in changes {
+        if *offset < made.len() {
+            made[*offset] = *byte;
         }
     }
     Ok(made)
@@ -164,6 +193,31 @@ fn the_smallest_program_prints_and_has_three_entries(rt: HostRuntime) -> Result<
         let entries = [main_steps(1), main_steps(2), main_steps(1)];
         assert_eq!(rt; outcome.report.history.as_slice(), entries.as_slice());
     }
+    Ok(())
+}
+
+#[test]
+fn the_gate_is_passed_before_each_run_of_local_instructions(rt: HostRuntime) -> Result<(), Fail> {
+    let gate = CountingGate::new();
+    let case = Case {
+        words: "run A A.class",
+        files: &[("A.class", &A_CLASS)],
+        store_fails: &[],
+        out_fails: &[],
+    };
+    let outcome = call_through(rt.alloc(), &case, &gate)?;
+    assert_eq!(rt; outcome.report.history.len(), 3);
+    assert_eq!(rt; gate.main.load(Ordering::SeqCst), 3);
+    assert_eq!(rt; gate.others.load(Ordering::SeqCst), 0);
+    Ok(())
+}
+
+#[test]
+fn want_of_memory_for_the_words_has_its_line(rt: HostRuntime) -> Result<(), Fail> {
+    let mut err = MemSink::new(rt.alloc(), 4096, 4096, Vec::new(rt.alloc()))?;
+    let report = no_memory(rt.alloc(), &mut err);
+    assert_eq!(rt; report.why.status(), 75);
+    assert_eq!(rt; err.bytes(), b"jvt: no memory\n".as_slice());
     Ok(())
 }
 
@@ -270,7 +324,7 @@ fn classes_that_make_no_program_are_refused(rt: HostRuntime) -> Result<(), Fail>
 }
 
 #[test]
-fn a_bad_class_is_told_with_its_first_failing_check(rt: HostRuntime) -> Result<(), Fail> {
+fn a_bad_class_is_named_with_its_first_failing_check(rt: HostRuntime) -> Result<(), Fail> {
     let mut longer = Vec::from_slice(rt.alloc(), &A_CLASS)?;
     longer.push(0)?;
     let table = [
@@ -329,8 +383,8 @@ fn each_hostile_file_is_refused_where_it_is_wrong(rt: HostRuntime) -> Result<(),
         ),
         (v, 271, &[(268, 1)], 270, ClassWhy::Trailing),
     ];
-    for (bytes, size, places, at, why) in table {
-        let made = replaced(rt.alloc(), bytes, size, places)?;
+    for (bytes, size, changes, at, why) in table {
+        let made = replaced(rt.alloc(), bytes, size, changes)?;
         let outcome = call_on(rt.alloc(), &made)?;
         let file = 0;
         assert_eq!(rt; outcome.report.why, Why::BadClass { file, at, why });
@@ -353,7 +407,7 @@ fn a_file_that_is_cut_is_short_where_its_last_field_begins(rt: HostRuntime) -> R
 }
 
 #[test]
-fn a_sink_that_fails_is_told_on_the_other(rt: HostRuntime) -> Result<(), Fail> {
+fn a_sink_that_fails_has_its_line_on_the_other(rt: HostRuntime) -> Result<(), Fail> {
     for (fails_at, written) in [(1, 0), (2, 2)] {
         let case = Case {
             words: "run A A.class",

@@ -12,7 +12,7 @@ pub struct Command<'a> {
     pub files: &'a [String],
 }
 
-/// The command that the words spell, the program's name first. `None`: they spell none.
+/// The command that the words spell, the program's name first. `None`: they spell no command.
 pub fn read_command(words: &[String]) -> Option<Command<'_>>
     ensures { option_map spelled result ≡ command_of (texts words.now) }
 {

@@ -1,7 +1,7 @@
--- The bytes that a sink holds, where it tells them (own).
+-- The bytes that a sink took (own).
 use Rattle.std.specs.Prelude.{◌≡◌, ℕ, List, ◌++◌, Option}
 use Rattle.std.specs.Option.{option_map}
 
--- after is before with this piece at the end, where they are told
+-- after is before with this piece at its end, where the bytes are known
 abbrev pub Appends : Option (List ℕ) → List ℕ → Option (List ℕ) → Type 0
-Appends before piece after = after ≡ option_map (λ (held : List ℕ). held ++ piece) before
+Appends before piece after = after ≡ option_map (λ (bytes : List ℕ). bytes ++ piece) before

@@ -1,6 +1,6 @@
 pub mod Bytes
 pub mod Causes
 pub mod Files
-pub mod Held
 pub mod Nanos
 pub mod Plan
+pub mod States

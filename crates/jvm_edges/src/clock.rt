@@ -1,8 +1,8 @@
 ghost use Rattle.std.specs.Prelude.{ℕ, Bool, IsTrue};
 
-/// A clock that counts nanoseconds. It may fall, and it never fails.
+/// A clock that counts nanoseconds. A reading may be less than the one before. No call fails.
 pub trait Clock {
-    /// Whether the clock may give that number. No call changes this.
+    /// Whether the clock may give that number. No call changes which ones it may give.
     ghost gives: { Self → ℕ → Bool };
 
     /// The time, in nanoseconds.

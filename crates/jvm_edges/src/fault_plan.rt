@@ -3,8 +3,8 @@ ghost use Rattle.jvm_edges.specs.Plan.{Plan, FailsNext, new_plan, after_call, af
 
 use std::marker::Model;
 
-/// Which calls of a fake fail, how many calls there were and how many faults. Calls are counted from 1, and
-/// each count stops at the greatest u64.
+/// Which calls of a store or a sink in memory fail, how many calls there were and how many of them failed. Calls
+/// are counted from 1, and each count stops at the greatest u64.
 #[derive(Debug, Drop)]
 pub(crate) struct FaultPlan {
     fail_at: Vec<u64>,
@@ -15,7 +15,8 @@ pub(crate) struct FaultPlan {
 impl Model for FaultPlan {
     ghost Value = { Plan };
 
-    ghost view = { λ plan. record { fail_at = plan.fail_at.items; calls = plan.calls; faults = plan.faults } };
+    ghost view = { λ plan.
+        record { fail_at = plan.fail_at.items; calls = plan.calls; faults = plan.faults } };
 }
 
 impl FaultPlan {
@@ -29,14 +30,14 @@ impl FaultPlan {
         }
     }
 
-    /// How many faults were counted.
+    /// How many calls failed, at most the greatest u64.
     pub(crate) fn faults(&self) -> u64
         ensures { result ≡ self.now.faults }
     {
         self.faults
     }
 
-    /// Counts a call, and answers whether it is to fail.
+    /// Counts a call, and answers whether it fails.
     pub(crate) fn count_call(&mut self) -> bool
         ensures fails { IsTrue result ↔ FailsNext self.old }
         ensures counted { self.new ≡ after_call self.old }

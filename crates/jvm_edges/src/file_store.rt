@@ -10,7 +10,8 @@ use std::io::{ErrorKind, Read};
 use std::marker::Model;
 use std::rt::Files;
 
-/// The files of the system, by their paths. It tells nothing of them. Clauses see it as its count of faults.
+/// The files of the system, by their paths. No clause says what they hold. Clauses see the store as its count of
+/// faults.
 #[derive(Drop)]
 pub struct FileStore<'a, R: Files> {
     rt: &'a R,
@@ -23,7 +24,7 @@ impl<'a, R: Files> Model for FileStore<'a, R> {
     ghost view = { λ store. store.faults };
 }
 
-/// The first bytes of a file, at most `most` of them. It reads no more than that.
+// The first bytes of a file, at most `most` of them. It reads no more than that.
 fn read_front<R: Files>(rt: &R, alloc: Global, path: &str, most: usize) -> io::Result<Vec<u8>>
     ensures { IfOk result (λ bytes. vec_len bytes ≤ most) }
 {
@@ -37,7 +38,7 @@ fn read_front<R: Files>(rt: &R, alloc: Global, path: &str, most: usize) -> io::R
 }
 
 impl<'a, R: Files> FileStore<'a, R> {
-    /// The files that this runtime reaches.
+    /// The files that the runtime reaches.
     pub fn new(rt: &'a R) -> Self
         ensures { result ≡ 0 }
     {
@@ -51,13 +52,17 @@ impl<'a, R: Files> FileStore<'a, R> {
         self.faults
     }
 
-    /// What a reading comes to: there is no such file where the system says that it is not found, and each other
-    /// error is a fault, but for want of memory.
-    fn settle(&mut self, read: io::Result<Vec<u8>>) -> Result<Option<Vec<u8>>, StoreError>
+    // The answer to a reading. There is no such file where the system says that it is not found. Each other error
+    // is a fault, but for want of memory.
+    fn answer(&mut self, read: io::Result<Vec<u8>>) -> Result<Option<Vec<u8>>, StoreError>
         ensures found { IfOk read (λ bytes. result ≡ Ok (Some bytes)) }
-        ensures missing { IfErr read (λ error. error_kind error ≡ ErrorKind.NotFound → result ≡ Ok None) }
-        ensures memory { IfErr read (λ error. error_kind error ≡ ErrorKind.OutOfMemory → result ≡ Err StoreError.NoMemory) }
-        ensures failed { IfErr read (λ error. error_kind error ≢ ErrorKind.NotFound → error_kind error ≢ ErrorKind.OutOfMemory → result ≡ Err StoreError.Failed) }
+        ensures missing { IfErr read (λ error.
+            error_kind error ≡ ErrorKind.NotFound → result ≡ Ok None) }
+        ensures memory { IfErr read (λ error.
+            error_kind error ≡ ErrorKind.OutOfMemory → result ≡ Err StoreError.NoMemory) }
+        ensures failed { IfErr read (λ error.
+            error_kind error ≢ ErrorKind.NotFound → error_kind error ≢ ErrorKind.OutOfMemory
+            → result ≡ Err StoreError.Failed) }
         ensures cause { StoreHasCause self.old self.new result }
     {
         match read {
@@ -86,6 +91,6 @@ impl<'a, R: Files> Store for FileStore<'a, R> {
         most: usize,
     ) -> Result<Option<Vec<u8>>, StoreError> {
         let read = read_front(self.rt, alloc, name, most);
-        self.settle(read)
+        self.answer(read)
     }
 }

@@ -1,5 +1,5 @@
-//! What the machine reaches outside: files, sinks for its output, a clock and a gate, each a trait with a
-//! written meaning and a count of faults, with a fake in memory and an adapter over the real thing.
+//! What the machine reaches outside: files, sinks for its output, a clock and a gate. Each is a trait with a
+//! contract, with an implementation in memory for tests and one over the system.
 #![tactic(auto)]
 
 mod clock;
@@ -10,6 +10,7 @@ mod list_clock;
 mod map_store;
 mod mem_sink;
 mod open_gate;
+mod output;
 mod real_clock;
 mod sink;
 mod std_sink;
@@ -23,11 +24,9 @@ pub use list_clock::ListClock;
 pub use map_store::MapStore;
 pub use mem_sink::MemSink;
 pub use open_gate::OpenGate;
+pub use output::{PartWritten, put_all};
 pub use real_clock::RealClock;
 pub use sink::{Failed, Sink};
 pub use std_sink::StdSink;
 pub use step_clock::StepClock;
 pub use store::{Store, StoreError};
-
-#[cfg(test)]
-mod tests;

@@ -11,7 +11,7 @@ use std::sync::atomic::{AtomicUsize, Ordering};
 #[derive(Debug, Drop)]
 pub struct ListClock {
     readings: Vec<u64>,
-    place: CachePadded<AtomicUsize>,
+    index: CachePadded<AtomicUsize>,
 }
 
 impl Model for ListClock {
@@ -30,32 +30,32 @@ impl ListClock {
     {
         ListClock {
             readings,
-            place: CachePadded::new(AtomicUsize::new(0)),
+            index: CachePadded::new(AtomicUsize::new(0)),
         }
     }
 
-    /// The place of the next reading. It stands still at the last one.
-    fn next_place(&self) -> usize
+    // The index of the next reading, which is that of the last one from there on.
+    fn next_index(&self) -> usize
         ensures { result < length self.now }
     {
         let last = self.readings.len() - 1;
         let moved = self
-            .place
-            .fetch_update(Ordering::SeqCst, Ordering::SeqCst, |place| {
-                if place < last { Some(place + 1) } else { None }
+            .index
+            .fetch_update(Ordering::SeqCst, Ordering::SeqCst, |index| {
+                if index < last { Some(index + 1) } else { None }
             });
         match moved {
-            Ok(place) | Err(place) => place.min(last),
+            Ok(index) | Err(index) => index.min(last),
         }
     }
 }
 
 impl Clock for ListClock {
-    /// The numbers of its list.
+    /// The numbers of the list.
     ghost gives = { λ readings reading. list_any (nat_eq reading) readings };
 
     fn now(&self) -> u64 {
-        self.readings[self.next_place()]
+        self.readings[self.next_index()]
     }
 
     /// Does nothing.

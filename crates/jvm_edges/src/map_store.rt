@@ -1,7 +1,7 @@
-ghost use Rattle.std.specs.Prelude.{◌≡◌, ◌↔◌, ◌≤◌, Some, IsErrOf, IfOk, IfSome, option_map, vec_len};
+ghost use Rattle.std.specs.Prelude.{◌≡◌, ◌↔◌, ◌≤◌, Some, IsErrOf, IsSome, IfOk, IfSome, option_map, vec_len};
 ghost use Rattle.jvm_edges.specs.Causes.{StoreHasCause};
 ghost use Rattle.jvm_edges.specs.Files.{file_named, first_bytes, found_bytes};
-ghost use Rattle.jvm_edges.specs.Held.{HeldFiles, named_files, new_files};
+ghost use Rattle.jvm_edges.specs.States.{StoreState, named_files, new_store};
 ghost use Rattle.jvm_edges.specs.Plan.{FailsNext, after_call, after_failed_call};
 
 use crate::fault_plan::FaultPlan;
@@ -17,7 +17,7 @@ pub struct MapStore {
 }
 
 impl Model for MapStore {
-    ghost Value = { HeldFiles };
+    ghost Value = { StoreState };
 
     ghost view = { λ store. record { files = named_files store.files.items; plan = store.plan } };
 }
@@ -26,8 +26,8 @@ impl Model for MapStore {
 fn find_file<'a>(files: &'a [(String, Vec<u8>)], name: &str) -> Option<&'a [u8]>
     ensures { option_map (λ bytes. bytes.now) result ≡ file_named name.now (named_files files.now) }
 {
-    for (held, bytes) in files {
-        if held.as_str() == name {
+    for (file_name, bytes) in files {
+        if file_name.as_str() == name {
             return Some(bytes.as_slice());
         }
     }
@@ -35,9 +35,9 @@ fn find_file<'a>(files: &'a [(String, Vec<u8>)], name: &str) -> Option<&'a [u8]>
 }
 
 impl MapStore {
-    /// A store with these files, each with its name, of which the calls of these numbers fail, counted from 1.
+    /// A store with these files, each after its name. The calls of these numbers fail, counted from 1.
     pub fn new(files: Vec<(String, Vec<u8>)>, fail_at: Vec<u64>) -> Self
-        ensures { result ≡ new_files (named_files files.items) fail_at.items }
+        ensures { result ≡ new_store (named_files files.items) fail_at.items }
     {
         MapStore {
             files,
@@ -58,7 +58,8 @@ impl Store for MapStore {
 
     ghost faults = { λ store. store.plan.faults };
 
-    /// It fails only where the number of the call is one of those given to `new`, and it may want memory for the bytes.
+    /// It fails exactly where the number of the call is one of those given to `new`. It wants memory only for the
+    /// bytes of a file that there is.
     fn read(
         &mut self,
         alloc: Global,
@@ -66,11 +67,16 @@ impl Store for MapStore {
         most: usize,
     ) -> Result<Option<Vec<u8>>, StoreError>
         ensures most { IfOk result (λ found. IfSome found (λ bytes. vec_len bytes ≤ most)) }
-        ensures found { IfOk result (λ found. found_bytes found ≡ first_bytes most (file_named name.now self.old.files)) }
+        ensures found { IfOk result (λ found.
+            found_bytes found ≡ first_bytes most (file_named name.now self.old.files)) }
+        ensures memory { result ≡ Err StoreError.NoMemory
+            → IsSome (file_named name.now self.old.files) }
         ensures files { self.new.files ≡ self.old.files }
         ensures fails { IsErrOf result StoreError.Failed ↔ FailsNext self.old.plan }
-        ensures plan_failed { IsErrOf result StoreError.Failed → self.new.plan ≡ after_failed_call self.old.plan }
-        ensures plan { ¬ IsErrOf result StoreError.Failed → self.new.plan ≡ after_call self.old.plan }
+        ensures plan_failed { IsErrOf result StoreError.Failed
+            → self.new.plan ≡ after_failed_call self.old.plan }
+        ensures plan { ¬ IsErrOf result StoreError.Failed
+            → self.new.plan ≡ after_call self.old.plan }
         ensures cause { StoreHasCause self.old.plan.faults self.new.plan.faults result }
     {
         if self.plan.count_call() {

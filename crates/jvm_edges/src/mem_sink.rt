@@ -1,6 +1,6 @@
 ghost use Rattle.std.specs.Prelude.{◌≡◌, ◌↔◌, ◌⊎◌, ◌++◌, Some, IsErr, IfOk, OnOk, OnErr, length, take};
 ghost use Rattle.jvm_edges.specs.Causes.{SinkHasCause};
-ghost use Rattle.jvm_edges.specs.Held.{new_bytes, next_taken, FindsNoRoom};
+ghost use Rattle.jvm_edges.specs.States.{new_sink, next_taken, FindsNoRoom};
 ghost use Rattle.jvm_edges.specs.Plan.{FailsNext, after_call, after_failed_call};
 
 use crate::fault_plan::FaultPlan;
@@ -19,13 +19,19 @@ pub struct MemSink {
 
 impl Model for MemSink {
     ghost use Rattle.std.specs.Prelude.{◌≤◌, vec_len, vec_capacity};
-    ghost use Rattle.jvm_edges.specs.Held.{HeldBytes};
+    ghost use Rattle.jvm_edges.specs.States.{SinkState};
 
-    ghost Value = { HeldBytes };
+    ghost Value = { SinkState };
 
-    ghost view = { λ sink. record { bytes = sink.bytes.items; most = sink.most; room = sink.room; plan = sink.plan } };
+    ghost view = { λ sink. record {
+      bytes = sink.bytes.items;
+      most = sink.most;
+      room = sink.room;
+      plan = sink.plan;
+    } };
 
-    ghost invariant = { λ sink. (vec_len sink.bytes ≤ sink.room) × (sink.room ≤ vec_capacity sink.bytes) };
+    ghost invariant = { λ sink.
+        (vec_len sink.bytes ≤ sink.room) × (sink.room ≤ vec_capacity sink.bytes) };
 }
 
 impl MemSink {
@@ -37,7 +43,7 @@ impl MemSink {
         room: usize,
         fail_at: Vec<u64>,
     ) -> Result<Self, AllocError>
-        ensures { IfOk result (λ sink. sink ≡ new_bytes most room fail_at.items) }
+        ensures { IfOk result (λ sink. sink ≡ new_sink most room fail_at.items) }
     {
         Ok(MemSink {
             bytes: Vec::with_capacity(alloc, room)?,
@@ -67,11 +73,13 @@ impl Sink for MemSink {
 
     ghost faults = { λ sink. sink.plan.faults };
 
-    /// It fails only where the number of the put is one of those given to `new`, or its room is used up.
+    /// It fails exactly where the number of the put is one of those given to `new`, or its room is used up.
     fn put(&mut self, bytes: &[u8]) -> Result<usize, Failed>
-        ensures fails { IsErr result ↔ (FailsNext self.old.plan ⊎ FindsNoRoom self.old (length bytes.now)) }
+        ensures fails { IsErr result
+            ↔ (FailsNext self.old.plan ⊎ FindsNoRoom self.old (length bytes.now)) }
         ensures count { IfOk result (λ taken. taken ≡ next_taken self.old (length bytes.now)) }
-        ensures taken { IfOk result (λ taken. self.new.bytes ≡ self.old.bytes ++ take taken bytes.now) }
+        ensures taken { IfOk result (λ taken.
+            self.new.bytes ≡ self.old.bytes ++ take taken bytes.now) }
         ensures refused { OnErr result (self.new.bytes ≡ self.old.bytes) }
         ensures most { self.new.most ≡ self.old.most }
         ensures room { self.new.room ≡ self.old.room }

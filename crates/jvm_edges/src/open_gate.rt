@@ -1,11 +1,11 @@
 use crate::gate::Gate;
 
-/// A gate that holds nobody.
+/// A gate at which nobody waits.
 #[derive(Clone, Copy, Debug, Default, PartialEq, Eq)]
 pub struct OpenGate;
 
 impl OpenGate {
-    /// A gate that lets every carrier pass.
+    /// A gate that every carrier passes at once.
     pub fn new() -> Self {
         OpenGate
     }

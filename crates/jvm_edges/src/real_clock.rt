@@ -6,24 +6,24 @@ use crate::clock::Clock;
 use std::time::{Duration, Instant};
 use std::{rt, thread};
 
-/// What a nap of no length takes, in nanoseconds (own).
+/// How long a nap of no length takes, in nanoseconds (own).
 const SHORT_NAP: u64 = 50_000;
 
-/// The clock of the system, in nanoseconds since it was made. Where the system's clock fails it gives 0.
+/// The clock of the system, in nanoseconds since `new` was called. It gives 0 where the system's clock fails.
 #[derive(Drop)]
 pub struct RealClock<'a, R: rt::Clock> {
     rt: &'a R,
     start: Option<Instant>,
 }
 
-/// The nanoseconds of a time, at most the greatest u64.
+// The nanoseconds of a time, at most the greatest u64.
 fn clock_nanos(elapsed: Duration) -> u64
     ensures { result ≡ clock_nanos (as_nanos elapsed) }
 {
     u64::try_from(elapsed.as_nanos()).unwrap_or(u64::MAX)
 }
 
-/// How long a nap of so many nanoseconds is.
+// How long a nap of so many nanoseconds takes.
 fn nap_length(nanos: u64) -> Duration
     ensures { as_nanos result ≡ nap_nanos SHORT_NAP nanos }
 {
@@ -39,7 +39,7 @@ impl<'a, R: rt::Clock> RealClock<'a, R> {
         }
     }
 
-    /// The time since the clock was made, where the system tells it.
+    // The time since `new` was called, where the system gives it.
     fn elapsed(&self) -> Option<Duration> {
         self.start?.elapsed(self.rt).ok()
     }

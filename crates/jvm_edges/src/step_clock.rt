@@ -5,8 +5,8 @@ use crossbeam_utils::CachePadded;
 use std::marker::Model;
 use std::sync::atomic::{AtomicU64, Ordering};
 
-/// A clock that moves only where somebody naps. Its word is the nanoseconds since its first reading, so that it
-/// never falls below that. Clauses see the clock as its first reading.
+/// A clock that moves on only by naps. It counts the nanoseconds since its first reading, so no reading is less
+/// than that one. Clauses see the clock as its first reading.
 #[derive(Debug, Drop)]
 pub struct StepClock {
     first: u64,
@@ -32,7 +32,7 @@ impl StepClock {
 }
 
 impl Clock for StepClock {
-    /// Each number from its first reading on.
+    /// Each number from the first reading on.
     ghost gives = { λ first reading. nat_le first reading };
 
     fn now(&self) -> u64 {
@@ -40,7 +40,8 @@ impl Clock for StepClock {
         self.first.saturating_add(since_first)
     }
 
-    /// Raises the clock to at least its reading at the call and so many nanoseconds, and at most the greatest u64.
+    /// Moves the clock on, to so many nanoseconds after its reading at the call or later, and at most to the
+    /// greatest u64.
     fn nap(&self, nanos: u64) {
         let since_first = self.since_first.load(Ordering::SeqCst);
         self.since_first

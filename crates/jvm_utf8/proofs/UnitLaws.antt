@@ -6,7 +6,7 @@ use Rattle.std.proofs.lemmas.Bool.Decides.{nat_tests}
 use Rattle.std.proofs.lemmas.Bool.{cases_lt}
 use Rattle.std.proofs.lemmas.Option.{same_Some}
 use Rattle.jvm_utf8.specs.Text.{unit}
-use Rattle.jvm_utf8.specs.Reading.{is_later, two_at, three_at, unit_at}
+use Rattle.jvm_utf8.specs.Units.{is_later, two_at, three_at, unit_at}
 
 one_again : (u : ℕ) (rest : List ℕ) → 1 ≤ u → u ≤ 127 → unit_at (unit u ++ rest) ≡ Some (u, rest)
 one_again u rest low high = grind (arith, nat_tests)
@@ -57,7 +57,7 @@ three_takes a (b ∷ c ∷ rest) x first e =
       | inr p ↦ absurd cc
     ]
 
--- the unit that is found at the front stands there
+-- the unit that is found at the front is there
 pub unit_takes : (bytes : List ℕ) (x : ℕ × List ℕ) → unit_at bytes ≡ Some x → Takes bytes x
 unit_takes [] x e = absurd cc
 unit_takes (a ∷ rest) x e =
@@ -72,7 +72,7 @@ unit_takes (a ∷ rest) x e =
       ]
     ]
 
--- the unit that stands at the front is found there
+-- the unit at the front is found there
 pub unit_again : (u : ℕ) (rest : List ℕ) → u < 2 ^ 16 → unit_at (unit u ++ rest) ≡ Some (u, rest)
 unit_again zero rest fit = refl
 unit_again (suc n) rest fit =

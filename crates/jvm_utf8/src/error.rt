@@ -4,10 +4,11 @@ ghost use Rattle.jvm_utf8.specs.declared.error.Utf8Error.TheVariants as errors;
 use std::alloc::{AllocError, AllocFailed};
 use thiserror::Error;
 
-/// Why bytes were not decoded.
+/// Why `decode` gave no units.
 #[derive(Clone, Copy, Debug, PartialEq, Eq, Error)]
 pub enum Utf8Error {
-    /// The bytes aren't a text. `at` is the first byte of the first unit that isn't in the grammar (JVMS 4.4.7).
+    /// The bytes are no text (JVMS 4.4.7). `at` is the offset of the first byte at which no unit
+    /// begins, in bytes.
     #[error("no modified UTF-8 at {at}")]
     Bad { at: u32 },
     /// Memory ran out.
@@ -28,22 +29,5 @@ impl<T: Drop> From<AllocFailed<T>> for Utf8Error {
 
     fn from(_: AllocFailed<T>) -> Self {
         Utf8Error::NoMemory
-    }
-}
-
-/// Memory ran out (own).
-#[derive(Clone, Copy, Debug, PartialEq, Eq, Error)]
-#[error("out of memory")]
-pub struct NoMemory;
-
-impl From<AllocError> for NoMemory {
-    fn from(_: AllocError) -> Self {
-        NoMemory
-    }
-}
-
-impl<T: Drop> From<AllocFailed<T>> for NoMemory {
-    fn from(_: AllocFailed<T>) -> Self {
-        NoMemory
     }
 }

@@ -9,7 +9,7 @@ pub fn one_text()
     ensures { (a b : List ℕ) → AreUnits a → AreUnits b → text a ≡ text b → a ≡ b }
 {}
 
-/// Bytes have at most one first place where no unit stands, and none if they are a text.
+/// Bytes have at most one first offset at which no unit begins, and a text has none.
 pub fn one_first_bad()
     ensures one { (bytes : List ℕ) (a b : ℕ) → IsFirstBad bytes a → IsFirstBad bytes b → a ≡ b }
     ensures no_text { (units : List ℕ) (at : ℕ) → AreUnits units → IsFirstBad (text units) at → ⊥ }

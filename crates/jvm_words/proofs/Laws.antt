@@ -1,4 +1,4 @@
--- What the methods of the integers leave is what the definitions say.
+-- The results of the integers' methods are those of the definitions.
 use Rattle.std.proofs.Common.{◌≡◌, ℕ, zero, suc, ◌-◌, ◌/◌, ◌%◌, ◌^◌, ◌<◌, ◌≤◌, w8, w16, w32, w64, ℤ, pos, negsuc, neg_ℤ, ◌*ℤ◌, FitsSigned, to_z, of_z, bit_and, false, cond, Some, None, refl, sym, ap, ◌∙◌, arith}
 use Rattle.std.proofs.Math.Nat.{mod-eq_of_lt, div-le_self}
 use Rattle.std.specs.Int.{Width, cast_signed, cast_unsigned, int_wrap, int_shl, int_wrapping_div}
@@ -35,15 +35,15 @@ shl_is w a k half fits lt =
     ∙ ap (λ (z : ℤ). int_wrap w (a *ℤ z)) factor
     ∙ int_wrap-mul_right w a (pos (2 ^ k))
 
-pub int_shifted : (a b : ℤ) (u : ℕ) (r : ℤ) → FitsSigned w32 a → FitsSigned w32 b → FitsSigned w32 r → u ≡ of_z w32 (to_z w32 (of_z w32 b)) → r ≡ int_shl w32 (to_z w32 (of_z w32 a)) (u % 32)
+pub int_shl_result : (a b : ℤ) (u : ℕ) (r : ℤ) → FitsSigned w32 a → FitsSigned w32 b → FitsSigned w32 r → u ≡ of_z w32 (to_z w32 (of_z w32 b)) → r ≡ int_shl w32 (to_z w32 (of_z w32 a)) (u % 32)
     → to_z w32 (of_z w32 r) ≡ int_wrap w32 (a *ℤ pos (2 ^ low_bits 5 b))
-int_shifted a b u r fa fb fr eu er =
+int_shl_result a b u r fa fb fr eu er =
     let count : u % 32 ≡ low_bits 5 b = ap (λ (n : ℕ). n % 32) (eu ∙ ap (of_z w32) (to_z-of_z w32 b fb)) ∙ low_five b fb in
     to_z-of_z w32 r fr ∙ er ∙ (λ i. int_shl w32 (to_z-of_z w32 a fa i) (count i)) ∙ shl_is w32 a (low_bits 5 b) (omega arith) fa (omega (arith, count))
 
-pub long_shifted_left : (a b : ℤ) (u : ℕ) (r : ℤ) → FitsSigned w64 a → FitsSigned w32 b → FitsSigned w64 r → u ≡ of_z w32 (to_z w32 (of_z w32 b)) → r ≡ int_shl w64 (to_z w64 (of_z w64 a)) (u % 64)
+pub long_shl_result : (a b : ℤ) (u : ℕ) (r : ℤ) → FitsSigned w64 a → FitsSigned w32 b → FitsSigned w64 r → u ≡ of_z w32 (to_z w32 (of_z w32 b)) → r ≡ int_shl w64 (to_z w64 (of_z w64 a)) (u % 64)
     → to_z w64 (of_z w64 r) ≡ int_wrap w64 (a *ℤ pos (2 ^ low_bits 6 b))
-long_shifted_left a b u r fa fb fr eu er =
+long_shl_result a b u r fa fb fr eu er =
     let count : u % 64 ≡ low_bits 6 b = ap (λ (n : ℕ). n % 64) (eu ∙ ap (of_z w32) (to_z-of_z w32 b fb)) ∙ low_six b fb in
     to_z-of_z w64 r fr ∙ er ∙ (λ i. int_shl w64 (to_z-of_z w64 a fa i) (count i)) ∙ shl_is w64 a (low_bits 6 b) (omega arith) fa (omega (arith, count))
 

@@ -6,6 +6,3 @@ mod words;
 
 pub use operation::{IntOp, LongOp, Narrow, ShiftOp};
 pub use words::{i_binary, l_binary, l_compare, l_shift, narrow};
-
-#[cfg(test)]
-mod tests;

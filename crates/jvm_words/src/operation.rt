@@ -35,7 +35,7 @@ pub enum ShiftOp {
     Ushr,
 }
 
-/// A kind that is an int on the operand stack and is stored in fewer bits (JVMS 2.11.1).
+/// A type whose values are ints on the operand stack, and take fewer bits in a variable (JVMS 2.11.1).
 #[derive(Clone, Copy, Debug, PartialEq, Eq)]
 pub enum Narrow {
     /// One bit.

@@ -1,9 +1,10 @@
 ghost use Rattle.std.specs.Prelude.{◌≡◌};
-ghost use Rattle.jvm_words.specs.Words.{int_result, long_result, long_shifted, long_order, narrowed};
+ghost use Rattle.jvm_words.specs.Words.{int_result, long_result, long_shift_result, long_order, narrow_result};
 
 use crate::{IntOp, LongOp, Narrow, ShiftOp};
 
-/// An operation on two ints (JVMS 6.5: iadd to irem, ishl to iushr, iand, ior, ixor). `None` is a division by 0.
+/// The result of an operation on two ints (JVMS 6.5: iadd to irem, ishl to iushr, iand, ior, ixor). `None` is a
+/// division by 0.
 pub fn i_binary(op: IntOp, a: i32, b: i32) -> Option<i32>
     ensures { result ≡ int_result op a b }
 {
@@ -38,7 +39,7 @@ pub fn i_binary(op: IntOp, a: i32, b: i32) -> Option<i32>
     }
 }
 
-/// An operation on two longs (JVMS 6.5: ladd to lrem, land, lor, lxor). `None` is a division by 0.
+/// The result of an operation on two longs (JVMS 6.5: ladd to lrem, land, lor, lxor). `None` is a division by 0.
 pub fn l_binary(op: LongOp, a: i64, b: i64) -> Option<i64>
     ensures { result ≡ long_result op a b }
 {
@@ -66,9 +67,9 @@ pub fn l_binary(op: LongOp, a: i64, b: i64) -> Option<i64>
     }
 }
 
-/// A shift of a long (JVMS 6.5: lshl, lshr, lushr).
+/// The result of a shift of a long (JVMS 6.5: lshl, lshr, lushr). The low six bits of `count` are how far it goes.
 pub fn l_shift(op: ShiftOp, a: i64, count: i32) -> i64
-    ensures { result ≡ long_shifted op a count }
+    ensures { result ≡ long_shift_result op a count }
 {
     let count = count.cast_unsigned();
     match op {
@@ -91,11 +92,12 @@ pub fn l_compare(a: i64, b: i64) -> i32
     }
 }
 
-/// What a field, an array element or a returned value of the kind keeps of an int (JVMS 2.11.1, 6.5).
-pub fn narrow(kind: Narrow, a: i32) -> i32
-    ensures { result ≡ narrowed kind a }
+/// What a field, an array element or a result of the type keeps of an int (JVMS 2.11.1, 6.5: i2b, i2c, i2s, putfield,
+/// bastore, castore, sastore, ireturn).
+pub fn narrow(to: Narrow, a: i32) -> i32
+    ensures { result ≡ narrow_result to a }
 {
-    match kind {
+    match to {
         Narrow::Bool => a & 1,
         Narrow::Byte => i32::from(((a & 0xff) as u8).cast_signed()),
         Narrow::Char => a & 0xffff,

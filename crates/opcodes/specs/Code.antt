@@ -1,56 +1,52 @@
--- A code is a list of instructions, one behind the other (JVMS 4.9), and the place of each.
+-- A code is a list of instructions, one behind the other (JVMS 4.9), each with its pc.
 use Rattle.std.specs.Prelude.{◌≡◌, ℕ, ◌+◌, ◌<◌, List, [], ◌∷◌, ◌++◌, length, Err}
+use Rattle.byte_reader.specs.declared.fault.Fault.{Fault}
+use Rattle.byte_reader.specs.declared.fault.Stop.{Stop}
+use Rattle.byte_reader.specs.declared.fault.Stop.TheVariants as stops
 use Rattle.opcodes.specs.declared.error.CodeWhy.{CodeWhy}
 use Rattle.opcodes.specs.declared.error.CodeError.{CodeError}
 use Rattle.opcodes.specs.declared.error.CodeError.TheVariants.{Bad, NoMemory}
-use Rattle.opcodes.specs.declared.error.Refusal.{Refusal}
-use Rattle.opcodes.specs.declared.error.Refusal.TheVariants as refusals
 use Rattle.opcodes.specs.declared.op.Op.{Op}
 use Rattle.opcodes.specs.declared.op.Instr.{Instr}
 use Rattle.opcodes.specs.Encoding.{IsEncoded}
-use Rattle.opcodes.specs.Reading.{op_at}
+use Rattle.opcodes.specs.Operands.{op_at}
 
--- the bytes of an instruction, and the bytes behind it
-pub record Begins (pc : ℕ) (code : List ℕ) (i : Instr) (rest : List ℕ) : Type 0 where
+-- the code from pc on begins with the instruction, and behind it is the rest
+pub record BeginsWith (pc : ℕ) (code : List ℕ) (i : Instr) (rest : List ℕ) : Type 0 where
   pub bytes : List ℕ
   pub parts : code ≡ bytes ++ rest
-  pub encoded : IsEncoded pc i.op bytes
+  pub encoding : IsEncoded pc i.op bytes
   pub here : i.pc ≡ pc
   pub next : i.next ≡ pc + length bytes
 
--- these instructions stand at the front of the code from pc on, one behind the other, and then the rest
-abbrev pub Stand : ℕ → List ℕ → List Instr → List ℕ → Type 0
-Stand pc code [] rest = code ≡ rest
-Stand pc code (i ∷ is) rest = (behind : List ℕ) × Begins pc code i behind × Stand i.next behind is rest
+-- the code from pc on begins with these instructions, one behind the other, and behind them is the rest
+abbrev pub BeginsWithAll : ℕ → List ℕ → List Instr → List ℕ → Type 0
+BeginsWithAll pc code [] rest = code ≡ rest
+BeginsWithAll pc code (i ∷ is) rest =
+    (behind : List ℕ) × BeginsWith pc code i behind × BeginsWithAll i.next behind is rest
 
 -- the code is these instructions and nothing else
 abbrev pub IsCode : List ℕ → List Instr → Type 0
-IsCode code is = Stand 0 code is []
+IsCode code is = BeginsWithAll 0 code is []
 
--- no instruction stands at the front of the code from pc on
-abbrev pub NoneStands : ℕ → List ℕ → Type 0
-NoneStands pc code = (op : Op) (bytes rest : List ℕ) → code ≡ bytes ++ rest → IsEncoded pc op bytes → ⊥
+-- the code from pc on begins with no instruction
+abbrev pub BeginsWithNone : ℕ → List ℕ → Type 0
+BeginsWithNone pc code =
+    (op : Op) (bytes rest : List ℕ) → code ≡ bytes ++ rest → IsEncoded pc op bytes → ⊥
 
 -- before pc are whole instructions, at pc is none, and that is why
 pub record IsFirstBad (code : List ℕ) (pc : ℕ) (why : CodeWhy) : Type 0 where
   pub front : List Instr
   pub rest : List ℕ
-  pub before : Stand 0 code front rest
-  pub place : pc + length rest ≡ length code
+  pub before : BeginsWithAll 0 code front rest
+  pub at : pc + length rest ≡ length code
   pub some : 0 < length rest
-  pub none : NoneStands pc rest
-  pub cause : op_at pc rest ≡ Err why
+  pub none : BeginsWithNone pc rest
+  pub fault : Fault CodeWhy
+  pub first : op_at pc rest ≡ Err fault
+  pub reason : fault.why ≡ why
 
--- a refusal of the instruction at pc
-abbrev pub error_at : ℕ → Refusal → CodeError
-error_at pc (refusals.Bad why) = Bad pc why
-error_at pc refusals.NoMemory = NoMemory
-
--- what is said of a refusal
-abbrev pub IsRefusal : List ℕ → CodeError → Type 0
-IsRefusal code NoMemory = Unit {0}
-IsRefusal code (Bad pc why) = IsFirstBad code pc why
-
--- only for want of memory
-abbrev pub IsNoMemory : CodeError → Type 0
-IsNoMemory e = e ≡ NoMemory
+-- the error where an instruction at pc was not read
+abbrev pub error_at : ℕ → Stop CodeWhy → CodeError
+error_at pc (stops.Fault fault) = Bad pc fault.why
+error_at pc stops.NoMemory = NoMemory

@@ -1,13 +1,13 @@
--- The bytes of each instruction (JVMS 6.5), by cases of the opcode.
-use Rattle.std.specs.Prelude.{◌≡◌, ℕ, ◌+◌, ◌-◌, ◌%◌, ◌<◌, ◌≤◌, ◌^◌, ℤ, pos, ◌+ℤ◌, ◌-ℤ◌, ◌<ℤ◌, ◌≤ℤ◌, unsigned_abs, FitsSigned, List, [], ◌∷◌, ◌++◌, length, map, get_or}
+-- The bytes of each instruction (JVMS 6.5), by cases of its row.
+use Rattle.std.specs.Prelude.{◌≡◌, ℕ, ◌+◌, ◌-◌, ◌%◌, ◌<◌, ◌≤◌, ◌^◌, ℤ, pos, ◌-ℤ◌, ◌<ℤ◌, ◌≤ℤ◌, unsigned_abs, FitsSigned, List, [], ◌∷◌, ◌++◌, length, get_or}
 use Rattle.std.specs.List.{flat_map, AllByRecursion}
 use Rattle.std.specs.Int.{w8, w16, w32, to_be_bytes, cast_unsigned}
 use Rattle.opcodes.specs.declared.op.Op.{Op}
-use Rattle.opcodes.specs.declared.op.Op.TheVariants.{PushInt, PushConstant, Increment, TableSwitch, LookupSwitch, InvokeInterface, InvokeDynamic, NewPrimitives, NewArrays}
+use Rattle.opcodes.specs.declared.op.Op.TheVariants.{PushInt, PushConstant, Increment, TableSwitch, LookupSwitch, InvokeInterface, InvokeDynamic, NewArray, MultiANewArray}
 use Rattle.opcodes.specs.declared.op.Primitive.{Primitive}
 use Rattle.opcodes.specs.declared.op.Primitive.TheVariants.{Boolean, Char, Float, Double, Byte, Short, Int, Long}
 use Rattle.opcodes.specs.declared.switch.Match.{Match}
-use Rattle.opcodes.specs.Rows.{Row, undefined, plain, byte, short, constant, place, local, increment, branch, far, table, lookup, interface, dynamic, primitives, dimensions, wide, row}
+use Rattle.opcodes.specs.Rows.{Row, undefined, plain, byte, short, constant, index, local, increment, branch, far_branch, table, lookup, interface, dynamic, primitive, dimensions, wide, row}
 
 -- ---- numbers, the highest byte first
 
@@ -26,158 +26,176 @@ s2 n = to_be_bytes w16 (cast_unsigned w16 n)
 abbrev pub s4 : ℤ → List ℕ
 s4 n = to_be_bytes w32 (cast_unsigned w32 n)
 
+abbrev pub IsU1 : ℕ → Type 0
+IsU1 n = n < 2 ^ 8
+
+abbrev pub IsU2 : ℕ → Type 0
+IsU2 n = n < 2 ^ 16
+
 -- ---- operands
 
--- a local and what is added to it
-pub record Addition : Type 0 where
-  pub local : ℕ
-  pub by : ℤ
-
--- a place of the pool, and a number behind it
-pub record Counted : Type 0 where
-  pub place : ℕ
-  pub count : ℕ
-
 -- newarray's codes, from 4 on
-abbrev pub primitive_codes : List Primitive
-primitive_codes = Boolean ∷ Char ∷ Float ∷ Double ∷ Byte ∷ Short ∷ Int ∷ Long ∷ []
+abbrev pub primitives : List Primitive
+primitives = Boolean ∷ Char ∷ Float ∷ Double ∷ Byte ∷ Short ∷ Int ∷ Long ∷ []
 
 abbrev pub primitive_of : ℕ → Primitive
-primitive_of code = get_or primitive_codes (code - 4) Int
+primitive_of code = get_or primitives (code - 4) Int
 
--- where a branch by this offset goes, from the instruction's own place
-abbrev pub target : ℕ → ℤ → ℤ
-target pc offset = pos pc +ℤ offset
+-- the offset of a target from the instruction's own pc, and its bytes in two bytes and in four
+abbrev pub offset_to : ℕ → ℤ → ℤ
+offset_to pc target = target -ℤ pos pc
+
+abbrev pub near_offset : ℕ → ℤ → List ℕ
+near_offset pc target = s2 (offset_to pc target)
+
+abbrev pub IsNear : ℕ → ℤ → Type 0
+IsNear pc target = FitsSigned w16 (offset_to pc target)
+
+abbrev pub far_offset : ℕ → ℤ → List ℕ
+far_offset pc target = s4 (offset_to pc target)
+
+abbrev pub IsFar : ℕ → ℤ → Type 0
+IsFar pc target = FitsSigned w32 (offset_to pc target)
+
+-- how many bytes pad a switch, so that the next is at a multiple of 4 from the code's start
+abbrev pub padding_of : ℕ → ℕ
+padding_of pc = 3 - pc % 4
 
 -- the operands of tableswitch, with the bytes that pad it
-pub record TableText : Type 0 where
+pub record Table : Type 0 where
   pub padding : List ℕ
   pub default : ℤ
   pub low : ℤ
   pub high : ℤ
-  pub offsets : List ℤ
+  pub targets : List ℤ
 
-abbrev pub table_text : TableText → List ℕ
-table_text t = t.padding ++ (s4 t.default ++ (s4 t.low ++ (s4 t.high ++ flat_map s4 t.offsets)))
+abbrev pub table_bytes : ℕ → Table → List ℕ
+table_bytes pc t =
+    t.padding
+    ++ (far_offset pc t.default ++ (s4 t.low ++ (s4 t.high ++ flat_map (far_offset pc) t.targets)))
 
--- so many that the next byte is at a multiple of 4 from the code's start
-abbrev pub padding_of : ℕ → ℕ
-padding_of pc = 3 - pc % 4
+-- how many targets a tableswitch has
+abbrev pub count_of : ℤ → ℤ → ℕ
+count_of low high = unsigned_abs (high -ℤ low) + 1
 
-pub record IsTable (pc : ℕ) (t : TableText) : Type 0 where
-  pub padded : length t.padding ≡ padding_of pc
-  pub default_fits : FitsSigned w32 t.default
-  pub low_fits : FitsSigned w32 t.low
-  pub high_fits : FitsSigned w32 t.high
-  pub ordered : t.low ≤ℤ t.high
-  pub counted : length t.offsets ≡ unsigned_abs (t.high -ℤ t.low) + 1
-  pub offsets_fit : AllByRecursion (FitsSigned w32) t.offsets
+pub record IsTable (pc : ℕ) (t : Table) : Type 0 where
+  pub padding : length t.padding ≡ padding_of pc
+  pub default : IsFar pc t.default
+  pub low : FitsSigned w32 t.low
+  pub high : FitsSigned w32 t.high
+  pub order : t.low ≤ℤ t.high
+  pub count : length t.targets ≡ count_of t.low t.high
+  pub targets : AllByRecursion (IsFar pc) t.targets
 
-abbrev pub table_op : ℕ → TableText → Op
-table_op pc t = TableSwitch (record { default = target pc t.default; low = t.low; targets = map (target pc) t.offsets })
+abbrev pub table_op : Table → Op
+table_op t = TableSwitch (record { default = t.default; low = t.low; targets = t.targets })
 
--- a match of lookupswitch, and the offset for it
-pub record Pair : Type 0 where
-  pub value : ℤ
-  pub offset : ℤ
+-- a match of lookupswitch, with the offset of its target
+abbrev pub match_bytes : ℕ → Match → List ℕ
+match_bytes pc m = s4 m.value ++ far_offset pc m.target
 
-abbrev pub pair_text : Pair → List ℕ
-pair_text p = s4 p.value ++ s4 p.offset
+abbrev pub IsMatch : ℕ → Match → Type 0
+IsMatch pc m = FitsSigned w32 m.value × IsFar pc m.target
 
-pub record IsPair (p : Pair) : Type 0 where
-  pub value_fits : FitsSigned w32 p.value
-  pub offset_fits : FitsSigned w32 p.offset
-
--- each is above this one and above those before it
-abbrev pub AreAbove : ℤ → List Pair → Type 0
+-- each value is above this number and above the values before it
+abbrev pub AreAbove : ℤ → List Match → Type 0
 AreAbove floor [] = Unit {0}
-AreAbove floor (p ∷ ps) = (floor <ℤ p.value) × AreAbove p.value ps
+AreAbove floor (m ∷ ms) = (floor <ℤ m.value) × AreAbove m.value ms
 
-abbrev pub AreRising : List Pair → Type 0
+abbrev pub AreRising : List Match → Type 0
 AreRising [] = Unit {0}
-AreRising (p ∷ ps) = AreAbove p.value ps
+AreRising (m ∷ ms) = AreAbove m.value ms
 
 -- the operands of lookupswitch, with the bytes that pad it
-pub record LookupText : Type 0 where
+pub record Lookup : Type 0 where
   pub padding : List ℕ
   pub default : ℤ
-  pub pairs : List Pair
+  pub matches : List Match
 
-abbrev pub lookup_text : LookupText → List ℕ
-lookup_text t = t.padding ++ (s4 t.default ++ (s4 (pos (length t.pairs)) ++ flat_map pair_text t.pairs))
+abbrev pub lookup_bytes : ℕ → Lookup → List ℕ
+lookup_bytes pc t =
+    t.padding
+    ++ (far_offset pc t.default ++ (s4 (pos (length t.matches)) ++ flat_map (match_bytes pc) t.matches))
 
-pub record IsLookup (pc : ℕ) (t : LookupText) : Type 0 where
-  pub padded : length t.padding ≡ padding_of pc
-  pub default_fits : FitsSigned w32 t.default
-  pub counted : FitsSigned w32 (pos (length t.pairs))
-  pub pairs_fit : AllByRecursion IsPair t.pairs
-  pub rising : AreRising t.pairs
+pub record IsLookup (pc : ℕ) (t : Lookup) : Type 0 where
+  pub padding : length t.padding ≡ padding_of pc
+  pub default : IsFar pc t.default
+  pub count : FitsSigned w32 (pos (length t.matches))
+  pub matches : AllByRecursion (IsMatch pc) t.matches
+  pub rising : AreRising t.matches
 
-abbrev pub match_of : ℕ → Pair → Match
-match_of pc p = record { value = p.value; target = target pc p.offset }
-
-abbrev pub lookup_op : ℕ → LookupText → Op
-lookup_op pc t = LookupSwitch (record { default = target pc t.default; matches = map (match_of pc) t.pairs })
+abbrev pub lookup_op : Lookup → Op
+lookup_op t = LookupSwitch (record { default = t.default; matches = t.matches })
 
 -- ---- instructions
 
 -- these bytes are operands that fit, and this is what the instruction does with them
-pub record IsOf {A : Type 0} (Fits : A → Type 0) (text : A → List ℕ) (made : A → Op) (bytes : List ℕ) (op : Op) : Type 0 where
+pub record IsOf {A : Type 0} (Fits : A → Type 0) (spell : A → List ℕ) (op_of : A → Op) (bytes : List ℕ) (op : Op) : Type 0 where
   pub operand : A
   pub fits : Fits operand
-  pub spelled : bytes ≡ text operand
-  pub same : made operand ≡ op
+  pub spelling : bytes ≡ spell operand
+  pub same : op_of operand ≡ op
 
-abbrev pub IsByte : ℕ → Type 0
-IsByte n = n < 256
+-- the index of a local variable, and what is added to it
+abbrev pub AreIncrement : ℕ × ℤ → Type 0
+AreIncrement x = IsU1 x.0 × FitsSigned w8 x.1
 
-abbrev pub IsPlace : ℕ → Type 0
-IsPlace n = n < 2 ^ 16
+abbrev pub AreWideIncrement : ℕ × ℤ → Type 0
+AreWideIncrement x = IsU2 x.0 × FitsSigned w16 x.1
 
--- iinc's operands, and behind wide
-abbrev pub addition_op : Addition → Op
-addition_op x = Increment x.local x.by
+abbrev pub increment_op : ℕ × ℤ → Op
+increment_op x = Increment x.0 x.1
 
-abbrev pub IsAddition : Addition → Type 0
-IsAddition x = IsByte x.local × FitsSigned w8 x.by
+-- the index of an entry of the constant pool, and a number
+abbrev pub AreIndexAndNumber : ℕ × ℕ → Type 0
+AreIndexAndNumber x = IsU2 x.0 × IsU1 x.1
 
-abbrev pub IsWideAddition : Addition → Type 0
-IsWideAddition x = IsPlace x.local × FitsSigned w16 x.by
+abbrev pub index_and_number : ℕ × ℕ → List ℕ
+index_and_number x = u2 x.0 ++ u1 x.1
 
-abbrev pub IsCounted : Counted → Type 0
-IsCounted x = IsPlace x.place × IsByte x.count
+abbrev pub interface_op : ℕ × ℕ → Op
+interface_op x = InvokeInterface x.0 x.1
 
--- the operands of an opcode that stands behind wide
-abbrev pub IsWide : Row → List ℕ → Op → Type 0
-IsWide (local made) bytes op = IsOf IsPlace u2 made bytes op
-IsWide increment bytes op = IsOf IsWideAddition (λ x. u2 x.local ++ s2 x.by) addition_op bytes op
-IsWide other bytes op = ⊥
+abbrev pub dimensions_op : ℕ × ℕ → Op
+dimensions_op x = MultiANewArray x.0 x.1
 
-abbrev pub IsWidened : List ℕ → Op → Type 0
-IsWidened [] op = ⊥
-IsWidened (opcode ∷ bytes) op = IsWide (row opcode) bytes op
+abbrev pub primitive_op : ℕ → Op
+primitive_op code = NewArray (primitive_of code)
+
+-- the operands of an opcode behind wide
+abbrev pub AreWideOperands : Row → List ℕ → Op → Type 0
+AreWideOperands (local op_of) bytes op = IsOf IsU2 u2 op_of bytes op
+AreWideOperands increment bytes op =
+    IsOf AreWideIncrement (λ x. u2 x.0 ++ s2 x.1) increment_op bytes op
+AreWideOperands other bytes op = ⊥
+
+-- an opcode, and its operands behind it
+abbrev pub BehindOpcode : (ℕ → List ℕ → Op → Type 0) → List ℕ → Op → Type 0
+BehindOpcode Are [] op = ⊥
+BehindOpcode Are (opcode ∷ bytes) op = Are opcode bytes op
 
 -- the operands of an instruction at pc
-abbrev pub IsBehind : ℕ → Row → List ℕ → Op → Type 0
-IsBehind pc undefined bytes op = ⊥
-IsBehind pc (plain made) bytes op = IsOf (λ (x : Unit {0}). Unit {0}) (λ x. []) (λ x. made) bytes op
-IsBehind pc byte bytes op = IsOf (FitsSigned w8) s1 PushInt bytes op
-IsBehind pc short bytes op = IsOf (FitsSigned w16) s2 PushInt bytes op
-IsBehind pc constant bytes op = IsOf IsByte u1 PushConstant bytes op
-IsBehind pc (place made) bytes op = IsOf IsPlace u2 made bytes op
-IsBehind pc (local made) bytes op = IsOf IsByte u1 made bytes op
-IsBehind pc increment bytes op = IsOf IsAddition (λ x. u1 x.local ++ s1 x.by) addition_op bytes op
-IsBehind pc (branch made) bytes op = IsOf (FitsSigned w16) s2 (λ offset. made (target pc offset)) bytes op
-IsBehind pc (far made) bytes op = IsOf (FitsSigned w32) s4 (λ offset. made (target pc offset)) bytes op
-IsBehind pc table bytes op = IsOf (IsTable pc) table_text (table_op pc) bytes op
-IsBehind pc lookup bytes op = IsOf (IsLookup pc) lookup_text (lookup_op pc) bytes op
-IsBehind pc interface bytes op = IsOf IsCounted (λ x. (u2 x.place ++ u1 x.count) ++ 0 ∷ []) (λ x. InvokeInterface x.place x.count) bytes op
-IsBehind pc dynamic bytes op = IsOf IsPlace (λ n. (u2 n ++ 0 ∷ []) ++ 0 ∷ []) InvokeDynamic bytes op
-IsBehind pc primitives bytes op = IsOf (λ n. (4 ≤ n) × (n < 12)) u1 (λ n. NewPrimitives (primitive_of n)) bytes op
-IsBehind pc dimensions bytes op = IsOf (λ x. IsCounted x × (0 < x.count)) (λ x. u2 x.place ++ u1 x.count) (λ x. NewArrays x.place x.count) bytes op
-IsBehind pc wide bytes op = IsWidened bytes op
+abbrev pub AreOperands : ℕ → Row → List ℕ → Op → Type 0
+AreOperands pc undefined bytes op = ⊥
+AreOperands pc (plain row_op) bytes op = (bytes ≡ []) × (row_op ≡ op)
+AreOperands pc byte bytes op = IsOf (FitsSigned w8) s1 PushInt bytes op
+AreOperands pc short bytes op = IsOf (FitsSigned w16) s2 PushInt bytes op
+AreOperands pc constant bytes op = IsOf IsU1 u1 PushConstant bytes op
+AreOperands pc (index op_of) bytes op = IsOf IsU2 u2 op_of bytes op
+AreOperands pc (local op_of) bytes op = IsOf IsU1 u1 op_of bytes op
+AreOperands pc increment bytes op = IsOf AreIncrement (λ x. u1 x.0 ++ s1 x.1) increment_op bytes op
+AreOperands pc (branch op_of) bytes op = IsOf (IsNear pc) (near_offset pc) op_of bytes op
+AreOperands pc (far_branch op_of) bytes op = IsOf (IsFar pc) (far_offset pc) op_of bytes op
+AreOperands pc table bytes op = IsOf (IsTable pc) (table_bytes pc) table_op bytes op
+AreOperands pc lookup bytes op = IsOf (IsLookup pc) (lookup_bytes pc) lookup_op bytes op
+AreOperands pc interface bytes op =
+    IsOf AreIndexAndNumber (λ x. index_and_number x ++ 0 ∷ []) interface_op bytes op
+AreOperands pc dynamic bytes op = IsOf IsU2 (λ n. (u2 n ++ 0 ∷ []) ++ 0 ∷ []) InvokeDynamic bytes op
+AreOperands pc primitive bytes op = IsOf (λ code. (4 ≤ code) × (code < 12)) u1 primitive_op bytes op
+AreOperands pc dimensions bytes op =
+    IsOf (λ x. AreIndexAndNumber x × (0 < x.1)) index_and_number dimensions_op bytes op
+AreOperands pc wide bytes op = BehindOpcode (λ opcode. AreWideOperands (row opcode)) bytes op
 
 -- these bytes are one encoding of an instruction at pc; an instruction may have several
 abbrev pub IsEncoded : ℕ → Op → List ℕ → Type 0
-IsEncoded pc op [] = ⊥
-IsEncoded pc op (opcode ∷ bytes) = IsBehind pc (row opcode) bytes op
+IsEncoded pc op bytes = BehindOpcode (λ opcode. AreOperands pc (row opcode)) bytes op

@@ -1,6 +1,6 @@
 pub mod Rows
 pub mod Encoding
-pub mod Reading
+pub mod Operands
 pub mod Forms
 pub mod Code
-pub mod Places
+pub mod Indexes

@@ -1,15 +1,18 @@
--- What stands behind each opcode (JVMS 6.5): the operands, and what the instruction does with them.
+-- What the operands of each opcode are, and what its instruction does with them (JVMS 6.5). The groups are those of JVMS 7.
 use Rattle.std.specs.Prelude.{ℕ, ℤ, pos, negsuc, List, [], ◌∷◌, ◌++◌, get_or}
+use Rattle.jvm_words.specs.declared.operation.IntOp.TheVariants as ints
+use Rattle.jvm_words.specs.declared.operation.LongOp.TheVariants as longs
+use Rattle.jvm_words.specs.declared.operation.ShiftOp.TheVariants as shifts
+use Rattle.jvm_words.specs.declared.operation.Narrow.TheVariants as narrows
 use Rattle.opcodes.specs.declared.op.Op.{Op}
-use Rattle.opcodes.specs.declared.op.Op.TheVariants.{Nop, PushNull, PushInt, PushLong, PushConstant, PushWideConstant, Load, ArrayLoad, Store, ArrayStore, Pop, Pop2, Dup, DupX1, DupX2, Dup2, Dup2X1, Dup2X2, Swap, IntArithmetic, LongArithmetic, IntNegate, LongNegate, IntShift, LongShift, IntBitwise, LongBitwise, IntToLong, LongToInt, IntNarrow, LongCompare, IfZero, IfInts, IfReferences, IfNull, Goto, ReturnValue, Return, GetStatic, PutStatic, GetField, PutField, InvokeVirtual, InvokeSpecial, InvokeStatic, New, NewReferences, ArrayLength, Throw, CheckCast, InstanceOf, MonitorEnter, MonitorExit, Subroutine, ReturnFrom, Floating}
+use Rattle.opcodes.specs.declared.op.Op.TheVariants as ops
+use Rattle.opcodes.specs.declared.op.Op.TheVariants.{PushInt, PushLong, PushConstant, PushWideConstant, Load, Store, IfZero, IfInts, IfReferences, IfNull, Goto, GetStatic, PutStatic, GetField, PutField, InvokeVirtual, InvokeSpecial, InvokeStatic, New, ANewArray, CheckCast, InstanceOf, Jsr, Ret, Floating}
+use Rattle.opcodes.specs.declared.op.Simple.{Simple}
+use Rattle.opcodes.specs.declared.op.Simple.TheVariants.{Nop, PushNull, ArrayLoad, ArrayStore, Pop, Pop2, Dup, DupX1, DupX2, Dup2, Dup2X1, Dup2X2, Swap, IntBinary, LongBinary, LongShift, IntNegate, LongNegate, IntToLong, LongToInt, IntNarrow, LongCompare, ReturnValue, Return, ArrayLength, Throw, MonitorEnter, MonitorExit}
 use Rattle.opcodes.specs.declared.op.Kind.TheVariants as kinds
 use Rattle.opcodes.specs.declared.op.Element.TheVariants as elements
-use Rattle.opcodes.specs.declared.op.Narrow.TheVariants as narrow
-use Rattle.opcodes.specs.declared.op.Arithmetic.TheVariants.{Add, Subtract, Multiply, Divide, Remainder}
-use Rattle.opcodes.specs.declared.op.Shift.TheVariants.{Left, Right, UnsignedRight}
-use Rattle.opcodes.specs.declared.op.Bitwise.TheVariants.{And, Or, Xor}
-use Rattle.opcodes.specs.declared.op.Comparison.TheVariants.{Equal, Unequal, Less, GreaterOrEqual, Greater, LessOrEqual}
-use Rattle.opcodes.specs.declared.op.Sameness.TheVariants.{Same, Different}
+use Rattle.opcodes.specs.declared.op.Comparison.TheVariants as orders
+use Rattle.opcodes.specs.declared.op.Sameness.TheVariants as samenesses
 
 -- the operands of an opcode
 pub data Row : Type 0 where
@@ -17,122 +20,288 @@ pub data Row : Type 0 where
   undefined : Row
   -- no operand
   plain : Op → Row
-  -- a signed number in one byte, and in two
+  -- a number with a sign in one byte, and in two
   byte : Row
   short : Row
-  -- a place of the pool in one byte
+  -- the index of a constant in one byte
   constant : Row
-  -- a place of the pool in two bytes
-  place : (ℕ → Op) → Row
-  -- a local in one byte, or in two behind wide
+  -- the index of an entry of the constant pool in two bytes
+  index : (ℕ → Op) → Row
+  -- the index of a local variable in one byte, or in two behind wide
   local : (ℕ → Op) → Row
-  -- a local, and what is added to it
+  -- the index of a local variable, and what is added to it
   increment : Row
   -- the offset of a target in two bytes, and in four
   branch : (ℤ → Op) → Row
-  far : (ℤ → Op) → Row
+  far_branch : (ℤ → Op) → Row
   -- those with operands of their own
   table : Row
   lookup : Row
   interface : Row
   dynamic : Row
-  primitives : Row
+  primitive : Row
   dimensions : Row
   wide : Row
+
+abbrev pub simple : Simple → Row
+simple s = plain (ops.Simple s)
 
 -- opcodes 0 to 20
 abbrev pub constants : List Row
 constants =
-    plain Nop ∷ plain PushNull ∷ plain (PushInt (negsuc 0)) ∷ plain (PushInt (pos 0)) ∷ plain (PushInt (pos 1)) ∷
-    plain (PushInt (pos 2)) ∷ plain (PushInt (pos 3)) ∷ plain (PushInt (pos 4)) ∷ plain (PushInt (pos 5)) ∷
-    plain (PushLong (pos 0)) ∷ plain (PushLong (pos 1)) ∷ plain (Floating 11) ∷ plain (Floating 12) ∷
-    plain (Floating 13) ∷ plain (Floating 14) ∷ plain (Floating 15) ∷ byte ∷ short ∷ constant ∷
-    place (λ n. PushConstant n) ∷ place (λ n. PushWideConstant n) ∷ []
+    simple Nop ∷  -- 0 nop
+    simple PushNull ∷  -- 1 aconst_null
+    plain (PushInt (negsuc 0)) ∷  -- 2 iconst_m1
+    plain (PushInt (pos 0)) ∷  -- 3 iconst_0
+    plain (PushInt (pos 1)) ∷  -- 4 iconst_1
+    plain (PushInt (pos 2)) ∷  -- 5 iconst_2
+    plain (PushInt (pos 3)) ∷  -- 6 iconst_3
+    plain (PushInt (pos 4)) ∷  -- 7 iconst_4
+    plain (PushInt (pos 5)) ∷  -- 8 iconst_5
+    plain (PushLong (pos 0)) ∷  -- 9 lconst_0
+    plain (PushLong (pos 1)) ∷  -- 10 lconst_1
+    plain (Floating 11) ∷  -- 11 fconst_0
+    plain (Floating 12) ∷  -- 12 fconst_1
+    plain (Floating 13) ∷  -- 13 fconst_2
+    plain (Floating 14) ∷  -- 14 dconst_0
+    plain (Floating 15) ∷  -- 15 dconst_1
+    byte ∷  -- 16 bipush
+    short ∷  -- 17 sipush
+    constant ∷  -- 18 ldc
+    index PushConstant ∷  -- 19 ldc_w
+    index PushWideConstant ∷  -- 20 ldc2_w
+    []
 
 -- opcodes 21 to 53
 abbrev pub loads : List Row
 loads =
-    local (λ n. Load kinds.Int n) ∷ local (λ n. Load kinds.Long n) ∷ local (λ n. Floating 23) ∷
-    local (λ n. Floating 24) ∷ local (λ n. Load kinds.Reference n) ∷ plain (Load kinds.Int 0) ∷
-    plain (Load kinds.Int 1) ∷ plain (Load kinds.Int 2) ∷ plain (Load kinds.Int 3) ∷ plain (Load kinds.Long 0) ∷
-    plain (Load kinds.Long 1) ∷ plain (Load kinds.Long 2) ∷ plain (Load kinds.Long 3) ∷ plain (Floating 34) ∷
-    plain (Floating 35) ∷ plain (Floating 36) ∷ plain (Floating 37) ∷ plain (Floating 38) ∷ plain (Floating 39) ∷
-    plain (Floating 40) ∷ plain (Floating 41) ∷ plain (Load kinds.Reference 0) ∷ plain (Load kinds.Reference 1) ∷
-    plain (Load kinds.Reference 2) ∷ plain (Load kinds.Reference 3) ∷ plain (ArrayLoad elements.Int) ∷
-    plain (ArrayLoad elements.Long) ∷ plain (Floating 48) ∷ plain (Floating 49) ∷
-    plain (ArrayLoad elements.Reference) ∷ plain (ArrayLoad elements.Byte) ∷ plain (ArrayLoad elements.Char) ∷
-    plain (ArrayLoad elements.Short) ∷ []
+    local (Load kinds.Int) ∷  -- 21 iload
+    local (Load kinds.Long) ∷  -- 22 lload
+    local (λ n. Floating 23) ∷  -- 23 fload
+    local (λ n. Floating 24) ∷  -- 24 dload
+    local (Load kinds.Reference) ∷  -- 25 aload
+    plain (Load kinds.Int 0) ∷  -- 26 iload_0
+    plain (Load kinds.Int 1) ∷  -- 27 iload_1
+    plain (Load kinds.Int 2) ∷  -- 28 iload_2
+    plain (Load kinds.Int 3) ∷  -- 29 iload_3
+    plain (Load kinds.Long 0) ∷  -- 30 lload_0
+    plain (Load kinds.Long 1) ∷  -- 31 lload_1
+    plain (Load kinds.Long 2) ∷  -- 32 lload_2
+    plain (Load kinds.Long 3) ∷  -- 33 lload_3
+    plain (Floating 34) ∷  -- 34 fload_0
+    plain (Floating 35) ∷  -- 35 fload_1
+    plain (Floating 36) ∷  -- 36 fload_2
+    plain (Floating 37) ∷  -- 37 fload_3
+    plain (Floating 38) ∷  -- 38 dload_0
+    plain (Floating 39) ∷  -- 39 dload_1
+    plain (Floating 40) ∷  -- 40 dload_2
+    plain (Floating 41) ∷  -- 41 dload_3
+    plain (Load kinds.Reference 0) ∷  -- 42 aload_0
+    plain (Load kinds.Reference 1) ∷  -- 43 aload_1
+    plain (Load kinds.Reference 2) ∷  -- 44 aload_2
+    plain (Load kinds.Reference 3) ∷  -- 45 aload_3
+    simple (ArrayLoad elements.Int) ∷  -- 46 iaload
+    simple (ArrayLoad elements.Long) ∷  -- 47 laload
+    plain (Floating 48) ∷  -- 48 faload
+    plain (Floating 49) ∷  -- 49 daload
+    simple (ArrayLoad elements.Reference) ∷  -- 50 aaload
+    simple (ArrayLoad elements.Byte) ∷  -- 51 baload
+    simple (ArrayLoad elements.Char) ∷  -- 52 caload
+    simple (ArrayLoad elements.Short) ∷  -- 53 saload
+    []
 
 -- opcodes 54 to 86
 abbrev pub stores : List Row
 stores =
-    local (λ n. Store kinds.Int n) ∷ local (λ n. Store kinds.Long n) ∷ local (λ n. Floating 56) ∷
-    local (λ n. Floating 57) ∷ local (λ n. Store kinds.Reference n) ∷ plain (Store kinds.Int 0) ∷
-    plain (Store kinds.Int 1) ∷ plain (Store kinds.Int 2) ∷ plain (Store kinds.Int 3) ∷ plain (Store kinds.Long 0) ∷
-    plain (Store kinds.Long 1) ∷ plain (Store kinds.Long 2) ∷ plain (Store kinds.Long 3) ∷ plain (Floating 67) ∷
-    plain (Floating 68) ∷ plain (Floating 69) ∷ plain (Floating 70) ∷ plain (Floating 71) ∷ plain (Floating 72) ∷
-    plain (Floating 73) ∷ plain (Floating 74) ∷ plain (Store kinds.Reference 0) ∷ plain (Store kinds.Reference 1) ∷
-    plain (Store kinds.Reference 2) ∷ plain (Store kinds.Reference 3) ∷ plain (ArrayStore elements.Int) ∷
-    plain (ArrayStore elements.Long) ∷ plain (Floating 81) ∷ plain (Floating 82) ∷
-    plain (ArrayStore elements.Reference) ∷ plain (ArrayStore elements.Byte) ∷ plain (ArrayStore elements.Char) ∷
-    plain (ArrayStore elements.Short) ∷ []
+    local (Store kinds.Int) ∷  -- 54 istore
+    local (Store kinds.Long) ∷  -- 55 lstore
+    local (λ n. Floating 56) ∷  -- 56 fstore
+    local (λ n. Floating 57) ∷  -- 57 dstore
+    local (Store kinds.Reference) ∷  -- 58 astore
+    plain (Store kinds.Int 0) ∷  -- 59 istore_0
+    plain (Store kinds.Int 1) ∷  -- 60 istore_1
+    plain (Store kinds.Int 2) ∷  -- 61 istore_2
+    plain (Store kinds.Int 3) ∷  -- 62 istore_3
+    plain (Store kinds.Long 0) ∷  -- 63 lstore_0
+    plain (Store kinds.Long 1) ∷  -- 64 lstore_1
+    plain (Store kinds.Long 2) ∷  -- 65 lstore_2
+    plain (Store kinds.Long 3) ∷  -- 66 lstore_3
+    plain (Floating 67) ∷  -- 67 fstore_0
+    plain (Floating 68) ∷  -- 68 fstore_1
+    plain (Floating 69) ∷  -- 69 fstore_2
+    plain (Floating 70) ∷  -- 70 fstore_3
+    plain (Floating 71) ∷  -- 71 dstore_0
+    plain (Floating 72) ∷  -- 72 dstore_1
+    plain (Floating 73) ∷  -- 73 dstore_2
+    plain (Floating 74) ∷  -- 74 dstore_3
+    plain (Store kinds.Reference 0) ∷  -- 75 astore_0
+    plain (Store kinds.Reference 1) ∷  -- 76 astore_1
+    plain (Store kinds.Reference 2) ∷  -- 77 astore_2
+    plain (Store kinds.Reference 3) ∷  -- 78 astore_3
+    simple (ArrayStore elements.Int) ∷  -- 79 iastore
+    simple (ArrayStore elements.Long) ∷  -- 80 lastore
+    plain (Floating 81) ∷  -- 81 fastore
+    plain (Floating 82) ∷  -- 82 dastore
+    simple (ArrayStore elements.Reference) ∷  -- 83 aastore
+    simple (ArrayStore elements.Byte) ∷  -- 84 bastore
+    simple (ArrayStore elements.Char) ∷  -- 85 castore
+    simple (ArrayStore elements.Short) ∷  -- 86 sastore
+    []
 
 -- opcodes 87 to 95
-abbrev pub stack_moves : List Row
-stack_moves =
-    plain Pop ∷ plain Pop2 ∷ plain Dup ∷ plain DupX1 ∷ plain DupX2 ∷ plain Dup2 ∷ plain Dup2X1 ∷ plain Dup2X2 ∷
-    plain Swap ∷ []
+abbrev pub stack : List Row
+stack =
+    simple Pop ∷  -- 87 pop
+    simple Pop2 ∷  -- 88 pop2
+    simple Dup ∷  -- 89 dup
+    simple DupX1 ∷  -- 90 dup_x1
+    simple DupX2 ∷  -- 91 dup_x2
+    simple Dup2 ∷  -- 92 dup2
+    simple Dup2X1 ∷  -- 93 dup2_x1
+    simple Dup2X2 ∷  -- 94 dup2_x2
+    simple Swap ∷  -- 95 swap
+    []
 
 -- opcodes 96 to 132
-abbrev pub arithmetic : List Row
-arithmetic =
-    plain (IntArithmetic Add) ∷ plain (LongArithmetic Add) ∷ plain (Floating 98) ∷ plain (Floating 99) ∷
-    plain (IntArithmetic Subtract) ∷ plain (LongArithmetic Subtract) ∷ plain (Floating 102) ∷ plain (Floating 103) ∷
-    plain (IntArithmetic Multiply) ∷ plain (LongArithmetic Multiply) ∷ plain (Floating 106) ∷ plain (Floating 107) ∷
-    plain (IntArithmetic Divide) ∷ plain (LongArithmetic Divide) ∷ plain (Floating 110) ∷ plain (Floating 111) ∷
-    plain (IntArithmetic Remainder) ∷ plain (LongArithmetic Remainder) ∷ plain (Floating 114) ∷
-    plain (Floating 115) ∷ plain IntNegate ∷ plain LongNegate ∷ plain (Floating 118) ∷ plain (Floating 119) ∷
-    plain (IntShift Left) ∷ plain (LongShift Left) ∷ plain (IntShift Right) ∷ plain (LongShift Right) ∷
-    plain (IntShift UnsignedRight) ∷ plain (LongShift UnsignedRight) ∷ plain (IntBitwise And) ∷
-    plain (LongBitwise And) ∷ plain (IntBitwise Or) ∷ plain (LongBitwise Or) ∷ plain (IntBitwise Xor) ∷
-    plain (LongBitwise Xor) ∷ increment ∷ []
+abbrev pub math : List Row
+math =
+    simple (IntBinary ints.Add) ∷  -- 96 iadd
+    simple (LongBinary longs.Add) ∷  -- 97 ladd
+    plain (Floating 98) ∷  -- 98 fadd
+    plain (Floating 99) ∷  -- 99 dadd
+    simple (IntBinary ints.Sub) ∷  -- 100 isub
+    simple (LongBinary longs.Sub) ∷  -- 101 lsub
+    plain (Floating 102) ∷  -- 102 fsub
+    plain (Floating 103) ∷  -- 103 dsub
+    simple (IntBinary ints.Mul) ∷  -- 104 imul
+    simple (LongBinary longs.Mul) ∷  -- 105 lmul
+    plain (Floating 106) ∷  -- 106 fmul
+    plain (Floating 107) ∷  -- 107 dmul
+    simple (IntBinary ints.Div) ∷  -- 108 idiv
+    simple (LongBinary longs.Div) ∷  -- 109 ldiv
+    plain (Floating 110) ∷  -- 110 fdiv
+    plain (Floating 111) ∷  -- 111 ddiv
+    simple (IntBinary ints.Rem) ∷  -- 112 irem
+    simple (LongBinary longs.Rem) ∷  -- 113 lrem
+    plain (Floating 114) ∷  -- 114 frem
+    plain (Floating 115) ∷  -- 115 drem
+    simple IntNegate ∷  -- 116 ineg
+    simple LongNegate ∷  -- 117 lneg
+    plain (Floating 118) ∷  -- 118 fneg
+    plain (Floating 119) ∷  -- 119 dneg
+    simple (IntBinary ints.Shl) ∷  -- 120 ishl
+    simple (LongShift shifts.Shl) ∷  -- 121 lshl
+    simple (IntBinary ints.Shr) ∷  -- 122 ishr
+    simple (LongShift shifts.Shr) ∷  -- 123 lshr
+    simple (IntBinary ints.Ushr) ∷  -- 124 iushr
+    simple (LongShift shifts.Ushr) ∷  -- 125 lushr
+    simple (IntBinary ints.And) ∷  -- 126 iand
+    simple (LongBinary longs.And) ∷  -- 127 land
+    simple (IntBinary ints.Or) ∷  -- 128 ior
+    simple (LongBinary longs.Or) ∷  -- 129 lor
+    simple (IntBinary ints.Xor) ∷  -- 130 ixor
+    simple (LongBinary longs.Xor) ∷  -- 131 lxor
+    increment ∷  -- 132 iinc
+    []
 
--- opcodes 133 to 152
+-- opcodes 133 to 147
 abbrev pub conversions : List Row
 conversions =
-    plain IntToLong ∷ plain (Floating 134) ∷ plain (Floating 135) ∷ plain LongToInt ∷ plain (Floating 137) ∷
-    plain (Floating 138) ∷ plain (Floating 139) ∷ plain (Floating 140) ∷ plain (Floating 141) ∷
-    plain (Floating 142) ∷ plain (Floating 143) ∷ plain (Floating 144) ∷ plain (IntNarrow narrow.Byte) ∷
-    plain (IntNarrow narrow.Char) ∷ plain (IntNarrow narrow.Short) ∷ plain LongCompare ∷ plain (Floating 149) ∷
-    plain (Floating 150) ∷ plain (Floating 151) ∷ plain (Floating 152) ∷ []
+    simple IntToLong ∷  -- 133 i2l
+    plain (Floating 134) ∷  -- 134 i2f
+    plain (Floating 135) ∷  -- 135 i2d
+    simple LongToInt ∷  -- 136 l2i
+    plain (Floating 137) ∷  -- 137 l2f
+    plain (Floating 138) ∷  -- 138 l2d
+    plain (Floating 139) ∷  -- 139 f2i
+    plain (Floating 140) ∷  -- 140 f2l
+    plain (Floating 141) ∷  -- 141 f2d
+    plain (Floating 142) ∷  -- 142 d2i
+    plain (Floating 143) ∷  -- 143 d2l
+    plain (Floating 144) ∷  -- 144 d2f
+    simple (IntNarrow narrows.Byte) ∷  -- 145 i2b
+    simple (IntNarrow narrows.Char) ∷  -- 146 i2c
+    simple (IntNarrow narrows.Short) ∷  -- 147 i2s
+    []
 
--- opcodes 153 to 177
+-- opcodes 148 to 166
+abbrev pub comparisons : List Row
+comparisons =
+    simple LongCompare ∷  -- 148 lcmp
+    plain (Floating 149) ∷  -- 149 fcmpl
+    plain (Floating 150) ∷  -- 150 fcmpg
+    plain (Floating 151) ∷  -- 151 dcmpl
+    plain (Floating 152) ∷  -- 152 dcmpg
+    branch (IfZero orders.Equal) ∷  -- 153 ifeq
+    branch (IfZero orders.Unequal) ∷  -- 154 ifne
+    branch (IfZero orders.Less) ∷  -- 155 iflt
+    branch (IfZero orders.GreaterOrEqual) ∷  -- 156 ifge
+    branch (IfZero orders.Greater) ∷  -- 157 ifgt
+    branch (IfZero orders.LessOrEqual) ∷  -- 158 ifle
+    branch (IfInts orders.Equal) ∷  -- 159 if_icmpeq
+    branch (IfInts orders.Unequal) ∷  -- 160 if_icmpne
+    branch (IfInts orders.Less) ∷  -- 161 if_icmplt
+    branch (IfInts orders.GreaterOrEqual) ∷  -- 162 if_icmpge
+    branch (IfInts orders.Greater) ∷  -- 163 if_icmpgt
+    branch (IfInts orders.LessOrEqual) ∷  -- 164 if_icmple
+    branch (IfReferences samenesses.Same) ∷  -- 165 if_acmpeq
+    branch (IfReferences samenesses.Different) ∷  -- 166 if_acmpne
+    []
+
+-- opcodes 167 to 177
 abbrev pub control : List Row
 control =
-    branch (λ target. IfZero Equal target) ∷ branch (λ target. IfZero Unequal target) ∷
-    branch (λ target. IfZero Less target) ∷ branch (λ target. IfZero GreaterOrEqual target) ∷
-    branch (λ target. IfZero Greater target) ∷ branch (λ target. IfZero LessOrEqual target) ∷
-    branch (λ target. IfInts Equal target) ∷ branch (λ target. IfInts Unequal target) ∷
-    branch (λ target. IfInts Less target) ∷ branch (λ target. IfInts GreaterOrEqual target) ∷
-    branch (λ target. IfInts Greater target) ∷ branch (λ target. IfInts LessOrEqual target) ∷
-    branch (λ target. IfReferences Same target) ∷ branch (λ target. IfReferences Different target) ∷
-    branch (λ target. Goto target) ∷ branch (λ target. Subroutine target) ∷ local (λ n. ReturnFrom n) ∷ table ∷
-    lookup ∷ plain (ReturnValue kinds.Int) ∷ plain (ReturnValue kinds.Long) ∷ plain (Floating 174) ∷
-    plain (Floating 175) ∷ plain (ReturnValue kinds.Reference) ∷ plain Return ∷ []
+    branch Goto ∷  -- 167 goto
+    branch Jsr ∷  -- 168 jsr
+    local Ret ∷  -- 169 ret
+    table ∷  -- 170 tableswitch
+    lookup ∷  -- 171 lookupswitch
+    simple (ReturnValue kinds.Int) ∷  -- 172 ireturn
+    simple (ReturnValue kinds.Long) ∷  -- 173 lreturn
+    plain (Floating 174) ∷  -- 174 freturn
+    plain (Floating 175) ∷  -- 175 dreturn
+    simple (ReturnValue kinds.Reference) ∷  -- 176 areturn
+    simple Return ∷  -- 177 return
+    []
 
--- opcodes 178 to 201
+-- opcodes 178 to 195
 abbrev pub references : List Row
 references =
-    place (λ n. GetStatic n) ∷ place (λ n. PutStatic n) ∷ place (λ n. GetField n) ∷ place (λ n. PutField n) ∷
-    place (λ n. InvokeVirtual n) ∷ place (λ n. InvokeSpecial n) ∷ place (λ n. InvokeStatic n) ∷ interface ∷
-    dynamic ∷ place (λ n. New n) ∷ primitives ∷ place (λ n. NewReferences n) ∷ plain ArrayLength ∷ plain Throw ∷
-    place (λ n. CheckCast n) ∷ place (λ n. InstanceOf n) ∷ plain MonitorEnter ∷ plain MonitorExit ∷ wide ∷
-    dimensions ∷ branch (λ target. IfNull Same target) ∷ branch (λ target. IfNull Different target) ∷
-    far (λ target. Goto target) ∷ far (λ target. Subroutine target) ∷ []
+    index GetStatic ∷  -- 178 getstatic
+    index PutStatic ∷  -- 179 putstatic
+    index GetField ∷  -- 180 getfield
+    index PutField ∷  -- 181 putfield
+    index InvokeVirtual ∷  -- 182 invokevirtual
+    index InvokeSpecial ∷  -- 183 invokespecial
+    index InvokeStatic ∷  -- 184 invokestatic
+    interface ∷  -- 185 invokeinterface
+    dynamic ∷  -- 186 invokedynamic
+    index New ∷  -- 187 new
+    primitive ∷  -- 188 newarray
+    index ANewArray ∷  -- 189 anewarray
+    simple ArrayLength ∷  -- 190 arraylength
+    simple Throw ∷  -- 191 athrow
+    index CheckCast ∷  -- 192 checkcast
+    index InstanceOf ∷  -- 193 instanceof
+    simple MonitorEnter ∷  -- 194 monitorenter
+    simple MonitorExit ∷  -- 195 monitorexit
+    []
+
+-- opcodes 196 to 201
+abbrev pub extended : List Row
+extended =
+    wide ∷  -- 196 wide
+    dimensions ∷  -- 197 multianewarray
+    branch (IfNull samenesses.Same) ∷  -- 198 ifnull
+    branch (IfNull samenesses.Different) ∷  -- 199 ifnonnull
+    far_branch Goto ∷  -- 200 goto_w
+    far_branch Jsr ∷  -- 201 jsr_w
+    []
 
 abbrev pub rows : List Row
-rows = constants ++ loads ++ stores ++ stack_moves ++ arithmetic ++ conversions ++ control ++ references
+rows =
+    constants ++ loads ++ stores ++ stack ++ math ++ conversions ++ comparisons ++ control ++ references ++ extended
 
--- the operands behind an opcode
+-- the operands of the opcode
 unfoldable pub row : ℕ → Row
 row opcode = get_or rows opcode undefined

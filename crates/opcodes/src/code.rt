@@ -1,31 +1,36 @@
-ghost use Rattle.std.specs.Prelude.{◌≡◌, ◌<◌, ◌^◌, List, length, MatchResult, IfOk, IfErr};
+ghost use Rattle.std.specs.Prelude.{◌≡◌, ℕ, ◌<◌, ◌^◌, List, length, IfOk};
+ghost use Rattle.items.specs.Memory.{OkUnless};
+ghost use Rattle.opcodes.specs.declared.error.CodeWhy.{CodeWhy};
 ghost use Rattle.opcodes.specs.declared.op.Instr.{Instr};
-ghost use Rattle.opcodes.specs.Code.{IsCode, IsRefusal, IsNoMemory};
+ghost use Rattle.opcodes.specs.Code.{IsCode, IsFirstBad, error_at};
 
-use crate::error::CodeError;
+use crate::error::{CodeError, CodeWhy};
 use crate::op::Instr;
-use crate::operands::first_op;
+use crate::operands::op_of;
+use byte_reader::Stop;
 use std::alloc::Global;
 
-/// The instructions of a code (JVMS 4.9, 6.5). Where it isn't a list of instructions, the first that isn't one
-/// is named: of its fields, from the first to the last, the first that passes the end (`Short`) or isn't as it
-/// must be (`Opcode`, `Operand`).
+/// The instructions of a code array (JVMS 4.9, 6.5). Where it isn't a list of instructions, the error names the first
+/// that is bad, by its pc, and of its fields the first that passes the end (`Short`) or isn't allowed (`Opcode`,
+/// `Operand`).
 pub fn decode(alloc: Global, code: &[u8]) -> Result<Vec<Instr>, CodeError>
     requires { length code.now < 2 ^ 32 }
-    // What is decoded is the code.
-    ensures found { IfOk result (λ is. IsCode code.now is.items) }
-    // What the code is, is decoded, unless memory runs out.
-    ensures only { (is : List Instr) → IsCode code.now is → MatchResult result (λ found. found.items ≡ is) IsNoMemory }
-    // What is refused isn't an instruction, and all before it are.
-    ensures bad { IfErr result (λ e. IsRefusal code.now e) }
+    // The code is the instructions that are answered.
+    ensures found { IfOk result (λ v. IsCode code.now v.items) }
+    // The instructions that the code is are answered, unless memory ran out.
+    ensures only { (is : List Instr) → IsCode code.now is
+        → OkUnless result CodeError.NoMemory (λ v. v.items ≡ is) }
+    // What is refused at `pc` is no instruction, and all before it are.
+    ensures bad { (pc : ℕ) (why : CodeWhy) → result ≡ Err (CodeError.Bad pc why)
+        → IsFirstBad code.now pc why }
 {
     let mut instrs = Vec::new(alloc);
     let mut rest = code;
     let mut pc = 0u32;
     while !rest.is_empty() {
-        let (op, behind) = match first_op(alloc, pc, rest) {
+        let (op, behind) = match op_of(alloc, pc, rest) {
             Ok(found) => found,
-            Err(refusal) => return Err(refusal.at(pc)),
+            Err(stop) => return Err(error_at(pc, stop)),
         };
         let next = pc + (rest.len() - behind.len()) as u32;
         instrs.push(Instr { pc, next, op })?;
@@ -33,4 +38,14 @@ pub fn decode(alloc: Global, code: &[u8]) -> Result<Vec<Instr>, CodeError>
         pc = next;
     }
     Ok(instrs)
+}
+
+// The error where the instruction at `pc` was not read.
+fn error_at(pc: u32, stop: Stop<CodeWhy>) -> CodeError
+    ensures { result ≡ error_at pc stop }
+{
+    match stop {
+        Stop::Fault(fault) => CodeError::Bad { pc, why: fault.why },
+        Stop::NoMemory => CodeError::NoMemory,
+    }
 }

@@ -1,10 +1,11 @@
 ghost use Rattle.std.specs.Prelude.{◌≡◌};
 
+use byte_reader::Reason;
 use std::alloc::{AllocError, AllocFailed};
 use thiserror::Error;
 
-/// What is wrong with an instruction (JVMS 4.9.1, 6.5). Its fields are looked at from the first to the last, and
-/// each is first there (`Short`) and then as it must be (`Opcode`, `Operand`), before the next is looked at.
+/// What is wrong with an instruction (JVMS 4.9.1, 6.5). Its fields are read from the first to the last, and the first
+/// that is cut off (`Short`) or isn't allowed (`Opcode`, `Operand`) is the reason.
 #[derive(Clone, Copy, Debug, PartialEq, Eq, Error)]
 pub enum CodeWhy {
     /// No instruction has this opcode.
@@ -18,10 +19,20 @@ pub enum CodeWhy {
     Operand,
 }
 
-/// Why a code was not decoded.
+impl Reason for CodeWhy {
+    ghost use Rattle.opcodes.specs.declared.error.CodeWhy.TheVariants as reasons;
+
+    ghost short = { reasons.Short };
+
+    fn short() -> Self {
+        CodeWhy::Short
+    }
+}
+
+/// Why a code array was not decoded.
 #[derive(Clone, Copy, Debug, PartialEq, Eq, Error)]
 pub enum CodeError {
-    /// The first instruction that isn't one stands at `pc`.
+    /// The first bad instruction starts at `pc`, in bytes from the start of the code.
     #[error("bad instruction at {pc}: {why}")]
     Bad { pc: u32, why: CodeWhy },
     /// Memory ran out.
@@ -30,9 +41,9 @@ pub enum CodeError {
 }
 
 impl From<AllocError> for CodeError {
-    ghost use Rattle.opcodes.specs.declared.error.CodeError.TheVariants.{NoMemory};
+    ghost use Rattle.opcodes.specs.declared.error.CodeError.TheVariants as errors;
 
-    ghost from_gives = { λ _ e. e ≡ NoMemory };
+    ghost from_gives = { λ _ e. e ≡ errors.NoMemory };
 
     fn from(_: AllocError) -> Self {
         CodeError::NoMemory
@@ -40,52 +51,11 @@ impl From<AllocError> for CodeError {
 }
 
 impl<T: Drop> From<AllocFailed<T>> for CodeError {
-    ghost use Rattle.opcodes.specs.declared.error.CodeError.TheVariants.{NoMemory};
+    ghost use Rattle.opcodes.specs.declared.error.CodeError.TheVariants as errors;
 
-    ghost from_gives = { λ _ e. e ≡ NoMemory };
+    ghost from_gives = { λ _ e. e ≡ errors.NoMemory };
 
     fn from(_: AllocFailed<T>) -> Self {
         CodeError::NoMemory
-    }
-}
-
-/// Why an instruction was not read, wherever it stands (own).
-#[derive(Clone, Copy)]
-pub enum Refusal {
-    Bad(CodeWhy),
-    NoMemory,
-}
-
-impl Refusal {
-    ghost use Rattle.opcodes.specs.Code.{error_at};
-
-    /// The error, for an instruction at `pc` (own).
-    pub fn at(self, pc: u32) -> CodeError
-        ensures { result ≡ error_at pc self }
-    {
-        match self {
-            Refusal::Bad(why) => CodeError::Bad { pc, why },
-            Refusal::NoMemory => CodeError::NoMemory,
-        }
-    }
-}
-
-impl From<AllocError> for Refusal {
-    ghost use Rattle.opcodes.specs.declared.error.Refusal.TheVariants.{NoMemory};
-
-    ghost from_gives = { λ _ e. e ≡ NoMemory };
-
-    fn from(_: AllocError) -> Self {
-        Refusal::NoMemory
-    }
-}
-
-impl<T: Drop> From<AllocFailed<T>> for Refusal {
-    ghost use Rattle.opcodes.specs.declared.error.Refusal.TheVariants.{NoMemory};
-
-    ghost from_gives = { λ _ e. e ≡ NoMemory };
-
-    fn from(_: AllocFailed<T>) -> Self {
-        Refusal::NoMemory
     }
 }

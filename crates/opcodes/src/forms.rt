@@ -1,69 +1,24 @@
-//! What stands behind each opcode, as a table.
+//! The operands that each opcode has, as a table.
 
 ghost use Rattle.std.specs.Prelude.{◌≡◌, ◌<◌};
 ghost use Rattle.opcodes.specs.Forms.{meaning};
 ghost use Rattle.opcodes.specs.Rows.{row};
 
-use crate::op::{Arithmetic, Bitwise, Comparison, Element, Kind, Narrow, Sameness, Shift};
+use crate::op::{Comparison, Element, Kind, Sameness, Simple};
+use jvm_words::{IntOp, LongOp, Narrow, ShiftOp};
 
-/// Constants, locals, items of arrays and moves on the stack, without operands (own).
-#[derive(Clone, Copy)]
-pub enum StackForm {
-    Nop,
-    PushNull,
-    PushInt(i16),
-    PushLong(i8),
-    Load(Kind, u16),
-    ArrayLoad(Element),
-    Store(Kind, u16),
-    ArrayStore(Element),
-    Pop,
-    Pop2,
-    Dup,
-    DupX1,
-    DupX2,
-    Dup2,
-    Dup2X1,
-    Dup2X2,
-    Swap,
-}
-
-/// Arithmetic, and the others without operands (own).
-#[derive(Clone, Copy)]
-pub enum ComputeForm {
-    IntArithmetic(Arithmetic),
-    LongArithmetic(Arithmetic),
-    IntNegate,
-    LongNegate,
-    IntShift(Shift),
-    LongShift(Shift),
-    IntBitwise(Bitwise),
-    LongBitwise(Bitwise),
-    IntToLong,
-    LongToInt,
-    IntNarrow(Narrow),
-    LongCompare,
-    ReturnValue(Kind),
-    Return,
-    ArrayLength,
-    Throw,
-    MonitorEnter,
-    MonitorExit,
-    Floating(u8),
-}
-
-/// What is done with a local whose number stands behind the opcode (own).
+/// What an instruction does with the local variable whose index is its operand.
 #[derive(Clone, Copy)]
 pub enum LocalForm {
     Load(Kind),
     Store(Kind),
-    ReturnFrom,
+    Ret,
     Floating(u8),
 }
 
-/// What is done with a place of the constant pool (own).
+/// What an instruction does with the entry of the constant pool whose index is its operand.
 #[derive(Clone, Copy)]
-pub enum PlaceForm {
+pub enum IndexForm {
     PushConstant,
     PushWideConstant,
     GetStatic,
@@ -74,12 +29,12 @@ pub enum PlaceForm {
     InvokeSpecial,
     InvokeStatic,
     New,
-    NewReferences,
+    ANewArray,
     CheckCast,
     InstanceOf,
 }
 
-/// When control goes to a target (own).
+/// When a branch goes to its target.
 #[derive(Clone, Copy)]
 pub enum BranchForm {
     IfZero(Comparison),
@@ -87,239 +42,251 @@ pub enum BranchForm {
     IfReferences(Sameness),
     IfNull(Sameness),
     Goto,
-    Subroutine,
+    Jsr,
 }
 
-/// What stands behind an opcode (own).
+/// The operands of an opcode, and what its instruction does with them.
 #[derive(Clone, Copy)]
 pub enum Form {
+    /// No instruction has the opcode.
     Undefined,
-    Stack(StackForm),
-    Compute(ComputeForm),
+    /// No operand.
+    Simple(Simple),
+    /// No operand in the code: the opcode itself says what is pushed, or which local variable it is.
+    PushInt(i16),
+    PushLong(i8),
+    LocalAt(LocalForm, u16),
+    /// No operand, for float or double.
+    Floating(u8),
+    /// A number with a sign in one byte, and in two.
     Byte,
     Short,
-    Constant,
-    Place(PlaceForm),
+    /// The index of a constant in one byte.
+    Ldc,
+    /// The index of an entry of the constant pool in two bytes.
+    Index(IndexForm),
+    /// The index of a local variable in one byte, or in two behind wide.
     Local(LocalForm),
     Increment,
+    /// The offset of a target in two bytes, and in four.
     Branch(BranchForm),
     FarBranch(BranchForm),
-    Table,
-    Lookup,
-    Interface,
-    Dynamic,
-    Primitives,
-    Dimensions,
+    TableSwitch,
+    LookupSwitch,
+    InvokeInterface,
+    InvokeDynamic,
+    NewArray,
+    MultiANewArray,
     Wide,
 }
 
-/// What stands behind each opcode that has an instruction (JVMS 6.5).
+/// The form of each opcode that has an instruction (JVMS 6.5, 7).
 static FORMS: [Form; 202] = [
-    Form::Stack(StackForm::Nop),
-    Form::Stack(StackForm::PushNull),
-    Form::Stack(StackForm::PushInt(-1)),
-    Form::Stack(StackForm::PushInt(0)),
-    Form::Stack(StackForm::PushInt(1)),
-    Form::Stack(StackForm::PushInt(2)),
-    Form::Stack(StackForm::PushInt(3)),
-    Form::Stack(StackForm::PushInt(4)),
-    Form::Stack(StackForm::PushInt(5)),
-    Form::Stack(StackForm::PushLong(0)),
-    Form::Stack(StackForm::PushLong(1)),
-    Form::Compute(ComputeForm::Floating(11)),
-    Form::Compute(ComputeForm::Floating(12)),
-    Form::Compute(ComputeForm::Floating(13)),
-    Form::Compute(ComputeForm::Floating(14)),
-    Form::Compute(ComputeForm::Floating(15)),
-    Form::Byte,
-    Form::Short,
-    Form::Constant,
-    Form::Place(PlaceForm::PushConstant),
-    Form::Place(PlaceForm::PushWideConstant),
-    Form::Local(LocalForm::Load(Kind::Int)),
-    Form::Local(LocalForm::Load(Kind::Long)),
-    Form::Local(LocalForm::Floating(23)),
-    Form::Local(LocalForm::Floating(24)),
-    Form::Local(LocalForm::Load(Kind::Reference)),
-    Form::Stack(StackForm::Load(Kind::Int, 0)),
-    Form::Stack(StackForm::Load(Kind::Int, 1)),
-    Form::Stack(StackForm::Load(Kind::Int, 2)),
-    Form::Stack(StackForm::Load(Kind::Int, 3)),
-    Form::Stack(StackForm::Load(Kind::Long, 0)),
-    Form::Stack(StackForm::Load(Kind::Long, 1)),
-    Form::Stack(StackForm::Load(Kind::Long, 2)),
-    Form::Stack(StackForm::Load(Kind::Long, 3)),
-    Form::Compute(ComputeForm::Floating(34)),
-    Form::Compute(ComputeForm::Floating(35)),
-    Form::Compute(ComputeForm::Floating(36)),
-    Form::Compute(ComputeForm::Floating(37)),
-    Form::Compute(ComputeForm::Floating(38)),
-    Form::Compute(ComputeForm::Floating(39)),
-    Form::Compute(ComputeForm::Floating(40)),
-    Form::Compute(ComputeForm::Floating(41)),
-    Form::Stack(StackForm::Load(Kind::Reference, 0)),
-    Form::Stack(StackForm::Load(Kind::Reference, 1)),
-    Form::Stack(StackForm::Load(Kind::Reference, 2)),
-    Form::Stack(StackForm::Load(Kind::Reference, 3)),
-    Form::Stack(StackForm::ArrayLoad(Element::Int)),
-    Form::Stack(StackForm::ArrayLoad(Element::Long)),
-    Form::Compute(ComputeForm::Floating(48)),
-    Form::Compute(ComputeForm::Floating(49)),
-    Form::Stack(StackForm::ArrayLoad(Element::Reference)),
-    Form::Stack(StackForm::ArrayLoad(Element::Byte)),
-    Form::Stack(StackForm::ArrayLoad(Element::Char)),
-    Form::Stack(StackForm::ArrayLoad(Element::Short)),
-    Form::Local(LocalForm::Store(Kind::Int)),
-    Form::Local(LocalForm::Store(Kind::Long)),
-    Form::Local(LocalForm::Floating(56)),
-    Form::Local(LocalForm::Floating(57)),
-    Form::Local(LocalForm::Store(Kind::Reference)),
-    Form::Stack(StackForm::Store(Kind::Int, 0)),
-    Form::Stack(StackForm::Store(Kind::Int, 1)),
-    Form::Stack(StackForm::Store(Kind::Int, 2)),
-    Form::Stack(StackForm::Store(Kind::Int, 3)),
-    Form::Stack(StackForm::Store(Kind::Long, 0)),
-    Form::Stack(StackForm::Store(Kind::Long, 1)),
-    Form::Stack(StackForm::Store(Kind::Long, 2)),
-    Form::Stack(StackForm::Store(Kind::Long, 3)),
-    Form::Compute(ComputeForm::Floating(67)),
-    Form::Compute(ComputeForm::Floating(68)),
-    Form::Compute(ComputeForm::Floating(69)),
-    Form::Compute(ComputeForm::Floating(70)),
-    Form::Compute(ComputeForm::Floating(71)),
-    Form::Compute(ComputeForm::Floating(72)),
-    Form::Compute(ComputeForm::Floating(73)),
-    Form::Compute(ComputeForm::Floating(74)),
-    Form::Stack(StackForm::Store(Kind::Reference, 0)),
-    Form::Stack(StackForm::Store(Kind::Reference, 1)),
-    Form::Stack(StackForm::Store(Kind::Reference, 2)),
-    Form::Stack(StackForm::Store(Kind::Reference, 3)),
-    Form::Stack(StackForm::ArrayStore(Element::Int)),
-    Form::Stack(StackForm::ArrayStore(Element::Long)),
-    Form::Compute(ComputeForm::Floating(81)),
-    Form::Compute(ComputeForm::Floating(82)),
-    Form::Stack(StackForm::ArrayStore(Element::Reference)),
-    Form::Stack(StackForm::ArrayStore(Element::Byte)),
-    Form::Stack(StackForm::ArrayStore(Element::Char)),
-    Form::Stack(StackForm::ArrayStore(Element::Short)),
-    Form::Stack(StackForm::Pop),
-    Form::Stack(StackForm::Pop2),
-    Form::Stack(StackForm::Dup),
-    Form::Stack(StackForm::DupX1),
-    Form::Stack(StackForm::DupX2),
-    Form::Stack(StackForm::Dup2),
-    Form::Stack(StackForm::Dup2X1),
-    Form::Stack(StackForm::Dup2X2),
-    Form::Stack(StackForm::Swap),
-    Form::Compute(ComputeForm::IntArithmetic(Arithmetic::Add)),
-    Form::Compute(ComputeForm::LongArithmetic(Arithmetic::Add)),
-    Form::Compute(ComputeForm::Floating(98)),
-    Form::Compute(ComputeForm::Floating(99)),
-    Form::Compute(ComputeForm::IntArithmetic(Arithmetic::Subtract)),
-    Form::Compute(ComputeForm::LongArithmetic(Arithmetic::Subtract)),
-    Form::Compute(ComputeForm::Floating(102)),
-    Form::Compute(ComputeForm::Floating(103)),
-    Form::Compute(ComputeForm::IntArithmetic(Arithmetic::Multiply)),
-    Form::Compute(ComputeForm::LongArithmetic(Arithmetic::Multiply)),
-    Form::Compute(ComputeForm::Floating(106)),
-    Form::Compute(ComputeForm::Floating(107)),
-    Form::Compute(ComputeForm::IntArithmetic(Arithmetic::Divide)),
-    Form::Compute(ComputeForm::LongArithmetic(Arithmetic::Divide)),
-    Form::Compute(ComputeForm::Floating(110)),
-    Form::Compute(ComputeForm::Floating(111)),
-    Form::Compute(ComputeForm::IntArithmetic(Arithmetic::Remainder)),
-    Form::Compute(ComputeForm::LongArithmetic(Arithmetic::Remainder)),
-    Form::Compute(ComputeForm::Floating(114)),
-    Form::Compute(ComputeForm::Floating(115)),
-    Form::Compute(ComputeForm::IntNegate),
-    Form::Compute(ComputeForm::LongNegate),
-    Form::Compute(ComputeForm::Floating(118)),
-    Form::Compute(ComputeForm::Floating(119)),
-    Form::Compute(ComputeForm::IntShift(Shift::Left)),
-    Form::Compute(ComputeForm::LongShift(Shift::Left)),
-    Form::Compute(ComputeForm::IntShift(Shift::Right)),
-    Form::Compute(ComputeForm::LongShift(Shift::Right)),
-    Form::Compute(ComputeForm::IntShift(Shift::UnsignedRight)),
-    Form::Compute(ComputeForm::LongShift(Shift::UnsignedRight)),
-    Form::Compute(ComputeForm::IntBitwise(Bitwise::And)),
-    Form::Compute(ComputeForm::LongBitwise(Bitwise::And)),
-    Form::Compute(ComputeForm::IntBitwise(Bitwise::Or)),
-    Form::Compute(ComputeForm::LongBitwise(Bitwise::Or)),
-    Form::Compute(ComputeForm::IntBitwise(Bitwise::Xor)),
-    Form::Compute(ComputeForm::LongBitwise(Bitwise::Xor)),
-    Form::Increment,
-    Form::Compute(ComputeForm::IntToLong),
-    Form::Compute(ComputeForm::Floating(134)),
-    Form::Compute(ComputeForm::Floating(135)),
-    Form::Compute(ComputeForm::LongToInt),
-    Form::Compute(ComputeForm::Floating(137)),
-    Form::Compute(ComputeForm::Floating(138)),
-    Form::Compute(ComputeForm::Floating(139)),
-    Form::Compute(ComputeForm::Floating(140)),
-    Form::Compute(ComputeForm::Floating(141)),
-    Form::Compute(ComputeForm::Floating(142)),
-    Form::Compute(ComputeForm::Floating(143)),
-    Form::Compute(ComputeForm::Floating(144)),
-    Form::Compute(ComputeForm::IntNarrow(Narrow::Byte)),
-    Form::Compute(ComputeForm::IntNarrow(Narrow::Char)),
-    Form::Compute(ComputeForm::IntNarrow(Narrow::Short)),
-    Form::Compute(ComputeForm::LongCompare),
-    Form::Compute(ComputeForm::Floating(149)),
-    Form::Compute(ComputeForm::Floating(150)),
-    Form::Compute(ComputeForm::Floating(151)),
-    Form::Compute(ComputeForm::Floating(152)),
-    Form::Branch(BranchForm::IfZero(Comparison::Equal)),
-    Form::Branch(BranchForm::IfZero(Comparison::Unequal)),
-    Form::Branch(BranchForm::IfZero(Comparison::Less)),
-    Form::Branch(BranchForm::IfZero(Comparison::GreaterOrEqual)),
-    Form::Branch(BranchForm::IfZero(Comparison::Greater)),
-    Form::Branch(BranchForm::IfZero(Comparison::LessOrEqual)),
-    Form::Branch(BranchForm::IfInts(Comparison::Equal)),
-    Form::Branch(BranchForm::IfInts(Comparison::Unequal)),
-    Form::Branch(BranchForm::IfInts(Comparison::Less)),
-    Form::Branch(BranchForm::IfInts(Comparison::GreaterOrEqual)),
-    Form::Branch(BranchForm::IfInts(Comparison::Greater)),
-    Form::Branch(BranchForm::IfInts(Comparison::LessOrEqual)),
-    Form::Branch(BranchForm::IfReferences(Sameness::Same)),
-    Form::Branch(BranchForm::IfReferences(Sameness::Different)),
-    Form::Branch(BranchForm::Goto),
-    Form::Branch(BranchForm::Subroutine),
-    Form::Local(LocalForm::ReturnFrom),
-    Form::Table,
-    Form::Lookup,
-    Form::Compute(ComputeForm::ReturnValue(Kind::Int)),
-    Form::Compute(ComputeForm::ReturnValue(Kind::Long)),
-    Form::Compute(ComputeForm::Floating(174)),
-    Form::Compute(ComputeForm::Floating(175)),
-    Form::Compute(ComputeForm::ReturnValue(Kind::Reference)),
-    Form::Compute(ComputeForm::Return),
-    Form::Place(PlaceForm::GetStatic),
-    Form::Place(PlaceForm::PutStatic),
-    Form::Place(PlaceForm::GetField),
-    Form::Place(PlaceForm::PutField),
-    Form::Place(PlaceForm::InvokeVirtual),
-    Form::Place(PlaceForm::InvokeSpecial),
-    Form::Place(PlaceForm::InvokeStatic),
-    Form::Interface,
-    Form::Dynamic,
-    Form::Place(PlaceForm::New),
-    Form::Primitives,
-    Form::Place(PlaceForm::NewReferences),
-    Form::Compute(ComputeForm::ArrayLength),
-    Form::Compute(ComputeForm::Throw),
-    Form::Place(PlaceForm::CheckCast),
-    Form::Place(PlaceForm::InstanceOf),
-    Form::Compute(ComputeForm::MonitorEnter),
-    Form::Compute(ComputeForm::MonitorExit),
-    Form::Wide,
-    Form::Dimensions,
-    Form::Branch(BranchForm::IfNull(Sameness::Same)),
-    Form::Branch(BranchForm::IfNull(Sameness::Different)),
-    Form::FarBranch(BranchForm::Goto),
-    Form::FarBranch(BranchForm::Subroutine),
+    Form::Simple(Simple::Nop), // 0 nop
+    Form::Simple(Simple::PushNull), // 1 aconst_null
+    Form::PushInt(-1), // 2 iconst_m1
+    Form::PushInt(0), // 3 iconst_0
+    Form::PushInt(1), // 4 iconst_1
+    Form::PushInt(2), // 5 iconst_2
+    Form::PushInt(3), // 6 iconst_3
+    Form::PushInt(4), // 7 iconst_4
+    Form::PushInt(5), // 8 iconst_5
+    Form::PushLong(0), // 9 lconst_0
+    Form::PushLong(1), // 10 lconst_1
+    Form::Floating(11), // 11 fconst_0
+    Form::Floating(12), // 12 fconst_1
+    Form::Floating(13), // 13 fconst_2
+    Form::Floating(14), // 14 dconst_0
+    Form::Floating(15), // 15 dconst_1
+    Form::Byte, // 16 bipush
+    Form::Short, // 17 sipush
+    Form::Ldc, // 18 ldc
+    Form::Index(IndexForm::PushConstant), // 19 ldc_w
+    Form::Index(IndexForm::PushWideConstant), // 20 ldc2_w
+    Form::Local(LocalForm::Load(Kind::Int)), // 21 iload
+    Form::Local(LocalForm::Load(Kind::Long)), // 22 lload
+    Form::Local(LocalForm::Floating(23)), // 23 fload
+    Form::Local(LocalForm::Floating(24)), // 24 dload
+    Form::Local(LocalForm::Load(Kind::Reference)), // 25 aload
+    Form::LocalAt(LocalForm::Load(Kind::Int), 0), // 26 iload_0
+    Form::LocalAt(LocalForm::Load(Kind::Int), 1), // 27 iload_1
+    Form::LocalAt(LocalForm::Load(Kind::Int), 2), // 28 iload_2
+    Form::LocalAt(LocalForm::Load(Kind::Int), 3), // 29 iload_3
+    Form::LocalAt(LocalForm::Load(Kind::Long), 0), // 30 lload_0
+    Form::LocalAt(LocalForm::Load(Kind::Long), 1), // 31 lload_1
+    Form::LocalAt(LocalForm::Load(Kind::Long), 2), // 32 lload_2
+    Form::LocalAt(LocalForm::Load(Kind::Long), 3), // 33 lload_3
+    Form::Floating(34), // 34 fload_0
+    Form::Floating(35), // 35 fload_1
+    Form::Floating(36), // 36 fload_2
+    Form::Floating(37), // 37 fload_3
+    Form::Floating(38), // 38 dload_0
+    Form::Floating(39), // 39 dload_1
+    Form::Floating(40), // 40 dload_2
+    Form::Floating(41), // 41 dload_3
+    Form::LocalAt(LocalForm::Load(Kind::Reference), 0), // 42 aload_0
+    Form::LocalAt(LocalForm::Load(Kind::Reference), 1), // 43 aload_1
+    Form::LocalAt(LocalForm::Load(Kind::Reference), 2), // 44 aload_2
+    Form::LocalAt(LocalForm::Load(Kind::Reference), 3), // 45 aload_3
+    Form::Simple(Simple::ArrayLoad(Element::Int)), // 46 iaload
+    Form::Simple(Simple::ArrayLoad(Element::Long)), // 47 laload
+    Form::Floating(48), // 48 faload
+    Form::Floating(49), // 49 daload
+    Form::Simple(Simple::ArrayLoad(Element::Reference)), // 50 aaload
+    Form::Simple(Simple::ArrayLoad(Element::Byte)), // 51 baload
+    Form::Simple(Simple::ArrayLoad(Element::Char)), // 52 caload
+    Form::Simple(Simple::ArrayLoad(Element::Short)), // 53 saload
+    Form::Local(LocalForm::Store(Kind::Int)), // 54 istore
+    Form::Local(LocalForm::Store(Kind::Long)), // 55 lstore
+    Form::Local(LocalForm::Floating(56)), // 56 fstore
+    Form::Local(LocalForm::Floating(57)), // 57 dstore
+    Form::Local(LocalForm::Store(Kind::Reference)), // 58 astore
+    Form::LocalAt(LocalForm::Store(Kind::Int), 0), // 59 istore_0
+    Form::LocalAt(LocalForm::Store(Kind::Int), 1), // 60 istore_1
+    Form::LocalAt(LocalForm::Store(Kind::Int), 2), // 61 istore_2
+    Form::LocalAt(LocalForm::Store(Kind::Int), 3), // 62 istore_3
+    Form::LocalAt(LocalForm::Store(Kind::Long), 0), // 63 lstore_0
+    Form::LocalAt(LocalForm::Store(Kind::Long), 1), // 64 lstore_1
+    Form::LocalAt(LocalForm::Store(Kind::Long), 2), // 65 lstore_2
+    Form::LocalAt(LocalForm::Store(Kind::Long), 3), // 66 lstore_3
+    Form::Floating(67), // 67 fstore_0
+    Form::Floating(68), // 68 fstore_1
+    Form::Floating(69), // 69 fstore_2
+    Form::Floating(70), // 70 fstore_3
+    Form::Floating(71), // 71 dstore_0
+    Form::Floating(72), // 72 dstore_1
+    Form::Floating(73), // 73 dstore_2
+    Form::Floating(74), // 74 dstore_3
+    Form::LocalAt(LocalForm::Store(Kind::Reference), 0), // 75 astore_0
+    Form::LocalAt(LocalForm::Store(Kind::Reference), 1), // 76 astore_1
+    Form::LocalAt(LocalForm::Store(Kind::Reference), 2), // 77 astore_2
+    Form::LocalAt(LocalForm::Store(Kind::Reference), 3), // 78 astore_3
+    Form::Simple(Simple::ArrayStore(Element::Int)), // 79 iastore
+    Form::Simple(Simple::ArrayStore(Element::Long)), // 80 lastore
+    Form::Floating(81), // 81 fastore
+    Form::Floating(82), // 82 dastore
+    Form::Simple(Simple::ArrayStore(Element::Reference)), // 83 aastore
+    Form::Simple(Simple::ArrayStore(Element::Byte)), // 84 bastore
+    Form::Simple(Simple::ArrayStore(Element::Char)), // 85 castore
+    Form::Simple(Simple::ArrayStore(Element::Short)), // 86 sastore
+    Form::Simple(Simple::Pop), // 87 pop
+    Form::Simple(Simple::Pop2), // 88 pop2
+    Form::Simple(Simple::Dup), // 89 dup
+    Form::Simple(Simple::DupX1), // 90 dup_x1
+    Form::Simple(Simple::DupX2), // 91 dup_x2
+    Form::Simple(Simple::Dup2), // 92 dup2
+    Form::Simple(Simple::Dup2X1), // 93 dup2_x1
+    Form::Simple(Simple::Dup2X2), // 94 dup2_x2
+    Form::Simple(Simple::Swap), // 95 swap
+    Form::Simple(Simple::IntBinary(IntOp::Add)), // 96 iadd
+    Form::Simple(Simple::LongBinary(LongOp::Add)), // 97 ladd
+    Form::Floating(98), // 98 fadd
+    Form::Floating(99), // 99 dadd
+    Form::Simple(Simple::IntBinary(IntOp::Sub)), // 100 isub
+    Form::Simple(Simple::LongBinary(LongOp::Sub)), // 101 lsub
+    Form::Floating(102), // 102 fsub
+    Form::Floating(103), // 103 dsub
+    Form::Simple(Simple::IntBinary(IntOp::Mul)), // 104 imul
+    Form::Simple(Simple::LongBinary(LongOp::Mul)), // 105 lmul
+    Form::Floating(106), // 106 fmul
+    Form::Floating(107), // 107 dmul
+    Form::Simple(Simple::IntBinary(IntOp::Div)), // 108 idiv
+    Form::Simple(Simple::LongBinary(LongOp::Div)), // 109 ldiv
+    Form::Floating(110), // 110 fdiv
+    Form::Floating(111), // 111 ddiv
+    Form::Simple(Simple::IntBinary(IntOp::Rem)), // 112 irem
+    Form::Simple(Simple::LongBinary(LongOp::Rem)), // 113 lrem
+    Form::Floating(114), // 114 frem
+    Form::Floating(115), // 115 drem
+    Form::Simple(Simple::IntNegate), // 116 ineg
+    Form::Simple(Simple::LongNegate), // 117 lneg
+    Form::Floating(118), // 118 fneg
+    Form::Floating(119), // 119 dneg
+    Form::Simple(Simple::IntBinary(IntOp::Shl)), // 120 ishl
+    Form::Simple(Simple::LongShift(ShiftOp::Shl)), // 121 lshl
+    Form::Simple(Simple::IntBinary(IntOp::Shr)), // 122 ishr
+    Form::Simple(Simple::LongShift(ShiftOp::Shr)), // 123 lshr
+    Form::Simple(Simple::IntBinary(IntOp::Ushr)), // 124 iushr
+    Form::Simple(Simple::LongShift(ShiftOp::Ushr)), // 125 lushr
+    Form::Simple(Simple::IntBinary(IntOp::And)), // 126 iand
+    Form::Simple(Simple::LongBinary(LongOp::And)), // 127 land
+    Form::Simple(Simple::IntBinary(IntOp::Or)), // 128 ior
+    Form::Simple(Simple::LongBinary(LongOp::Or)), // 129 lor
+    Form::Simple(Simple::IntBinary(IntOp::Xor)), // 130 ixor
+    Form::Simple(Simple::LongBinary(LongOp::Xor)), // 131 lxor
+    Form::Increment, // 132 iinc
+    Form::Simple(Simple::IntToLong), // 133 i2l
+    Form::Floating(134), // 134 i2f
+    Form::Floating(135), // 135 i2d
+    Form::Simple(Simple::LongToInt), // 136 l2i
+    Form::Floating(137), // 137 l2f
+    Form::Floating(138), // 138 l2d
+    Form::Floating(139), // 139 f2i
+    Form::Floating(140), // 140 f2l
+    Form::Floating(141), // 141 f2d
+    Form::Floating(142), // 142 d2i
+    Form::Floating(143), // 143 d2l
+    Form::Floating(144), // 144 d2f
+    Form::Simple(Simple::IntNarrow(Narrow::Byte)), // 145 i2b
+    Form::Simple(Simple::IntNarrow(Narrow::Char)), // 146 i2c
+    Form::Simple(Simple::IntNarrow(Narrow::Short)), // 147 i2s
+    Form::Simple(Simple::LongCompare), // 148 lcmp
+    Form::Floating(149), // 149 fcmpl
+    Form::Floating(150), // 150 fcmpg
+    Form::Floating(151), // 151 dcmpl
+    Form::Floating(152), // 152 dcmpg
+    Form::Branch(BranchForm::IfZero(Comparison::Equal)), // 153 ifeq
+    Form::Branch(BranchForm::IfZero(Comparison::Unequal)), // 154 ifne
+    Form::Branch(BranchForm::IfZero(Comparison::Less)), // 155 iflt
+    Form::Branch(BranchForm::IfZero(Comparison::GreaterOrEqual)), // 156 ifge
+    Form::Branch(BranchForm::IfZero(Comparison::Greater)), // 157 ifgt
+    Form::Branch(BranchForm::IfZero(Comparison::LessOrEqual)), // 158 ifle
+    Form::Branch(BranchForm::IfInts(Comparison::Equal)), // 159 if_icmpeq
+    Form::Branch(BranchForm::IfInts(Comparison::Unequal)), // 160 if_icmpne
+    Form::Branch(BranchForm::IfInts(Comparison::Less)), // 161 if_icmplt
+    Form::Branch(BranchForm::IfInts(Comparison::GreaterOrEqual)), // 162 if_icmpge
+    Form::Branch(BranchForm::IfInts(Comparison::Greater)), // 163 if_icmpgt
+    Form::Branch(BranchForm::IfInts(Comparison::LessOrEqual)), // 164 if_icmple
+    Form::Branch(BranchForm::IfReferences(Sameness::Same)), // 165 if_acmpeq
+    Form::Branch(BranchForm::IfReferences(Sameness::Different)), // 166 if_acmpne
+    Form::Branch(BranchForm::Goto), // 167 goto
+    Form::Branch(BranchForm::Jsr), // 168 jsr
+    Form::Local(LocalForm::Ret), // 169 ret
+    Form::TableSwitch, // 170 tableswitch
+    Form::LookupSwitch, // 171 lookupswitch
+    Form::Simple(Simple::ReturnValue(Kind::Int)), // 172 ireturn
+    Form::Simple(Simple::ReturnValue(Kind::Long)), // 173 lreturn
+    Form::Floating(174), // 174 freturn
+    Form::Floating(175), // 175 dreturn
+    Form::Simple(Simple::ReturnValue(Kind::Reference)), // 176 areturn
+    Form::Simple(Simple::Return), // 177 return
+    Form::Index(IndexForm::GetStatic), // 178 getstatic
+    Form::Index(IndexForm::PutStatic), // 179 putstatic
+    Form::Index(IndexForm::GetField), // 180 getfield
+    Form::Index(IndexForm::PutField), // 181 putfield
+    Form::Index(IndexForm::InvokeVirtual), // 182 invokevirtual
+    Form::Index(IndexForm::InvokeSpecial), // 183 invokespecial
+    Form::Index(IndexForm::InvokeStatic), // 184 invokestatic
+    Form::InvokeInterface, // 185 invokeinterface
+    Form::InvokeDynamic, // 186 invokedynamic
+    Form::Index(IndexForm::New), // 187 new
+    Form::NewArray, // 188 newarray
+    Form::Index(IndexForm::ANewArray), // 189 anewarray
+    Form::Simple(Simple::ArrayLength), // 190 arraylength
+    Form::Simple(Simple::Throw), // 191 athrow
+    Form::Index(IndexForm::CheckCast), // 192 checkcast
+    Form::Index(IndexForm::InstanceOf), // 193 instanceof
+    Form::Simple(Simple::MonitorEnter), // 194 monitorenter
+    Form::Simple(Simple::MonitorExit), // 195 monitorexit
+    Form::Wide, // 196 wide
+    Form::MultiANewArray, // 197 multianewarray
+    Form::Branch(BranchForm::IfNull(Sameness::Same)), // 198 ifnull
+    Form::Branch(BranchForm::IfNull(Sameness::Different)), // 199 ifnonnull
+    Form::FarBranch(BranchForm::Goto), // 200 goto_w
+    Form::FarBranch(BranchForm::Jsr), // 201 jsr_w
 ];
 
-/// What stands behind the opcode (JVMS 6.5).
+/// The form of the opcode (JVMS 6.5).
 pub fn form_of(opcode: u8) -> Form
     ensures { meaning result ≡ row opcode }
 {

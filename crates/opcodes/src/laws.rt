@@ -4,7 +4,7 @@ ghost use Rattle.std.specs.Prelude.{◌≡◌, ℕ, List};
 ghost use Rattle.opcodes.specs.declared.op.Instr.{Instr};
 ghost use Rattle.opcodes.specs.Code.{IsCode};
 
-/// A code is of one list of instructions at most (own).
+/// Bytes are the code of one list of instructions at most.
 pub fn one_decoding()
     ensures { (code : List ℕ) (is js : List Instr) → IsCode code is → IsCode code js → is ≡ js }
 {}

@@ -1,29 +1,21 @@
-//! The instructions of a method's code (JVMS 6.5).
+//! The instructions of a method's code array (JVMS 6.5).
 #![tactic(auto)]
 
-mod boxed;
 mod code;
 mod error;
-mod fields;
 mod forms;
 mod laws;
 mod op;
 mod operands;
-mod place_table;
+mod pc_table;
 mod switch;
-mod switches;
+mod switch_operands;
 
-pub use boxed::Boxed;
 pub use code::decode;
 pub use error::{CodeError, CodeWhy};
 pub use laws::one_decoding;
-pub use op::{
-    Arithmetic, Bitwise, Comparison, Element, Instr, Kind, Narrow, Op, Primitive, Sameness, Shift,
-};
-pub use place_table::{NO_INSTR, places};
+pub use op::{Comparison, Element, Instr, Kind, Op, Primitive, Sameness, Simple};
+pub use pc_table::{NO_INSTR, index_by_pc};
 pub use switch::{LookupSwitch, Match, TableSwitch};
 
 const _: () = prove!(size_of::<Op>() == 16);
-
-#[cfg(test)]
-mod tests;

@@ -1,6 +1,8 @@
-use crate::{Boxed, LookupSwitch, TableSwitch};
+use crate::{LookupSwitch, TableSwitch};
+use items::Boxed;
+use jvm_words::{IntOp, LongOp, Narrow, ShiftOp};
 
-/// The kind of a value in a local or a result, but for float and double (JVMS 2.11.1).
+/// The kind of a value in a local variable or of a result, but for float and double (JVMS 2.11.1).
 #[derive(Clone, Copy, Debug, PartialEq, Eq)]
 pub enum Kind {
     Int,
@@ -8,7 +10,7 @@ pub enum Kind {
     Reference,
 }
 
-/// What an array instruction takes the items for (JVMS 6.5). `Byte` serves boolean too.
+/// The type of the elements that an array instruction loads or stores (JVMS 6.5). `Byte` is for boolean too.
 #[derive(Clone, Copy, Debug, PartialEq, Eq)]
 pub enum Element {
     Int,
@@ -19,7 +21,7 @@ pub enum Element {
     Short,
 }
 
-/// What `newarray` makes an array of (JVMS 6.5).
+/// The type of the elements of an array that `newarray` creates (JVMS 6.5).
 #[derive(Clone, Copy, Debug, PartialEq, Eq)]
 pub enum Primitive {
     Boolean,
@@ -30,40 +32,6 @@ pub enum Primitive {
     Short,
     Int,
     Long,
-}
-
-/// An operation on two numbers (JVMS 6.5).
-#[derive(Clone, Copy, Debug, PartialEq, Eq)]
-pub enum Arithmetic {
-    Add,
-    Subtract,
-    Multiply,
-    Divide,
-    Remainder,
-}
-
-/// A shift, to the right with the sign or with zeros (JVMS 6.5).
-#[derive(Clone, Copy, Debug, PartialEq, Eq)]
-pub enum Shift {
-    Left,
-    Right,
-    UnsignedRight,
-}
-
-/// An operation on each bit (JVMS 6.5).
-#[derive(Clone, Copy, Debug, PartialEq, Eq)]
-pub enum Bitwise {
-    And,
-    Or,
-    Xor,
-}
-
-/// What an int is cut to (JVMS 6.5).
-#[derive(Clone, Copy, Debug, PartialEq, Eq)]
-pub enum Narrow {
-    Byte,
-    Char,
-    Short,
 }
 
 /// How two ints compare (JVMS 6.5).
@@ -84,30 +52,15 @@ pub enum Sameness {
     Different,
 }
 
-/// What an instruction does (JVMS 6.5). Opcodes that differ only in how they spell an operand share a variant, as
-/// iload_1, iload 1 and wide iload 1; so do those that differ only in the kind or the operation that the variant
-/// names. A `u16` is a local or a place of the constant pool. An `i64` is the place that a branch goes to, counted
-/// from the code's start; it may lie outside the code.
-#[derive(Debug, Drop)]
-pub enum Op {
+/// An instruction without operands (JVMS 6.5).
+#[derive(Clone, Copy, Debug, PartialEq, Eq)]
+pub enum Simple {
     /// nop.
     Nop,
     /// aconst_null.
     PushNull,
-    /// iconst_m1 to iconst_5, bipush and sipush, by what they push.
-    PushInt(i16),
-    /// lconst_0 and lconst_1.
-    PushLong(i8),
-    /// ldc and ldc_w.
-    PushConstant(u16),
-    /// ldc2_w.
-    PushWideConstant(u16),
-    /// iload, lload and aload, in each of their forms.
-    Load(Kind, u16),
     /// iaload, laload, aaload, baload, caload and saload.
     ArrayLoad(Element),
-    /// istore, lstore and astore, in each of their forms.
-    Store(Kind, u16),
     /// iastore, lastore, aastore, bastore, castore and sastore.
     ArrayStore(Element),
     Pop,
@@ -119,32 +72,55 @@ pub enum Op {
     Dup2X1,
     Dup2X2,
     Swap,
-    /// iadd, isub, imul, idiv and irem.
-    IntArithmetic(Arithmetic),
-    /// ladd, lsub, lmul, ldiv and lrem.
-    LongArithmetic(Arithmetic),
+    /// iadd to irem, ishl to iushr, iand, ior and ixor.
+    IntBinary(IntOp),
+    /// ladd to lrem, land, lor and lxor.
+    LongBinary(LongOp),
+    /// lshl, lshr and lushr.
+    LongShift(ShiftOp),
     /// ineg.
     IntNegate,
     /// lneg.
     LongNegate,
-    /// ishl, ishr and iushr.
-    IntShift(Shift),
-    /// lshl, lshr and lushr.
-    LongShift(Shift),
-    /// iand, ior and ixor.
-    IntBitwise(Bitwise),
-    /// land, lor and lxor.
-    LongBitwise(Bitwise),
-    /// iinc: the local, and what is added to it.
-    Increment(u16, i16),
     /// i2l.
     IntToLong,
     /// l2i.
     LongToInt,
-    /// i2b, i2c and i2s.
+    /// i2b, i2c and i2s; no instruction narrows to a bool.
     IntNarrow(Narrow),
     /// lcmp.
     LongCompare,
+    /// ireturn, lreturn and areturn.
+    ReturnValue(Kind),
+    Return,
+    ArrayLength,
+    /// athrow.
+    Throw,
+    MonitorEnter,
+    MonitorExit,
+}
+
+/// What an instruction does (JVMS 6.5). Opcodes that differ only in how they encode an operand share a variant, as
+/// iload_1, iload 1 and wide iload 1; so do those that differ only in the kind or the operation that the variant
+/// names. A `u16` is the index of a local variable or of an entry of the constant pool. An `i64` is the pc that a branch
+/// goes to, which may lie outside the code.
+#[derive(Debug, Drop)]
+pub enum Op {
+    Simple(Simple),
+    /// iconst_m1 to iconst_5, bipush and sipush, by what they push.
+    PushInt(i16),
+    /// lconst_0 and lconst_1.
+    PushLong(i8),
+    /// ldc and ldc_w.
+    PushConstant(u16),
+    /// ldc2_w.
+    PushWideConstant(u16),
+    /// iload, lload and aload, in each of their forms.
+    Load(Kind, u16),
+    /// istore, lstore and astore, in each of their forms.
+    Store(Kind, u16),
+    /// iinc: the local variable, and what is added to it.
+    Increment(u16, i16),
     /// ifeq to ifle: an int against 0.
     IfZero(Comparison, i64),
     /// if_icmpeq to if_icmple.
@@ -157,9 +133,6 @@ pub enum Op {
     Goto(i64),
     TableSwitch(Boxed<TableSwitch>),
     LookupSwitch(Boxed<LookupSwitch>),
-    /// ireturn, lreturn and areturn.
-    ReturnValue(Kind),
-    Return,
     GetStatic(u16),
     PutStatic(u16),
     GetField(u16),
@@ -167,32 +140,27 @@ pub enum Op {
     InvokeVirtual(u16),
     InvokeSpecial(u16),
     InvokeStatic(u16),
-    /// invokeinterface: the place, and the number of argument slots with the receiver.
+    /// invokeinterface: the index, and the number of argument slots with the receiver.
     InvokeInterface(u16, u8),
     InvokeDynamic(u16),
     New(u16),
     /// newarray.
-    NewPrimitives(Primitive),
+    NewArray(Primitive),
     /// anewarray.
-    NewReferences(u16),
-    ArrayLength,
-    /// athrow.
-    Throw,
+    ANewArray(u16),
+    /// multianewarray: the index, and the number of dimensions.
+    MultiANewArray(u16, u8),
     CheckCast(u16),
     InstanceOf(u16),
-    MonitorEnter,
-    MonitorExit,
-    /// multianewarray: the place, and the number of dimensions.
-    NewArrays(u16, u8),
     /// jsr and jsr_w, which later layers refuse.
-    Subroutine(i64),
+    Jsr(i64),
     /// ret, which later layers refuse.
-    ReturnFrom(u16),
-    /// An instruction of float or double, by its opcode. No layer runs it, so its local isn't kept.
+    Ret(u16),
+    /// An instruction of float or double, by its opcode. No layer executes it, so its operand isn't kept.
     Floating(u8),
 }
 
-/// An instruction, its place in the code and the place behind it, in bytes from the code's start (JVMS 4.9).
+/// An instruction, its pc and the pc of the instruction behind it (JVMS 4.9).
 #[derive(Debug, Drop)]
 pub struct Instr {
     pub pc: u32,

@@ -1,191 +1,158 @@
 //! The operands behind each opcode.
 
 ghost use Rattle.std.specs.Prelude.{◌≡◌, ℕ, ◌≤◌, ◌<◌};
-ghost use Rattle.opcodes.specs.Forms.{meaning, stack_op, compute_op, local_op, place_op, branch_op};
-ghost use Rattle.opcodes.specs.Encoding.{target, primitive_of};
-ghost use Rattle.opcodes.specs.Reading.{Gives, op_at, behind_at, wide_at, widened_at};
-ghost use Rattle.opcodes.specs.Rows.{byte, short, constant, place, local, increment, branch, far, interface, dynamic, primitives, dimensions};
+ghost use Rattle.byte_reader.specs.Reader.{Reads, GivesBy};
+ghost use Rattle.opcodes.specs.Encoding.{primitive_of};
+ghost use Rattle.opcodes.specs.Forms.{meaning, local_op, index_op, branch_op};
+ghost use Rattle.opcodes.specs.Operands.{target_at, zero_at, op_at, operands_at, wide_operands_at, wide_at};
+ghost use Rattle.opcodes.specs.Rows.{byte, short, constant, index, local, increment, branch, far_branch, interface, dynamic, primitive, dimensions};
 
-use crate::error::{CodeWhy, Refusal};
-use crate::fields::{OPERAND, far_target, s1, s2, skip_zero, u1, u2};
-use crate::forms::{BranchForm, ComputeForm, Form, LocalForm, PlaceForm, StackForm, form_of};
-use crate::switches::{lookup_switch, table_switch};
+use crate::error::CodeWhy;
+use crate::forms::{BranchForm, Form, IndexForm, LocalForm, form_of};
+use crate::switch_operands::{lookup_switch_of, table_switch_of};
 use crate::{Op, Primitive};
+use byte_reader::{Stop, i1_of, i2_of, i4_of, u1_of, u2_of};
 use std::alloc::Global;
 
-/// The instruction at the front of the code from `pc` on, and the bytes behind it (JVMS 6.5).
-#[tactic(auto, unfolding(crate::specs::Reading::op_at))]
-pub fn first_op(alloc: Global, pc: u32, code: &[u8]) -> Result<(Op, &[u8]), Refusal>
-    ensures { Gives (λ x. (x.0, x.1.now)) result (op_at pc code.now) }
+// The instruction at the front of the code from `pc` on (JVMS 6.5).
+#[tactic(auto, unfolding(crate::specs::Operands::op_at))]
+pub fn op_of(alloc: Global, pc: u32, code: &[u8]) -> Result<(Op, &[u8]), Stop<CodeWhy>>
+    ensures { Reads result (op_at pc code.now) }
 {
-    let (opcode, rest) = u1(code)?;
-    operands(alloc, pc, form_of(opcode), rest)
+    let (opcode, rest) = u1_of(code)?;
+    operands_of(alloc, pc, form_of(opcode), rest)
 }
 
-fn operands(alloc: Global, pc: u32, form: Form, rest: &[u8]) -> Result<(Op, &[u8]), Refusal>
-    ensures { Gives (λ x. (x.0, x.1.now)) result (behind_at pc (meaning form) rest.now) }
+fn operands_of(
+    alloc: Global,
+    pc: u32,
+    form: Form,
+    rest: &[u8],
+) -> Result<(Op, &[u8]), Stop<CodeWhy>>
+    ensures { Reads result (operands_at pc (meaning form) rest.now) }
 {
     match form {
-        Form::Undefined => Err(Refusal::Bad(CodeWhy::Opcode)),
-        Form::Stack(form) => Ok((stack(form), rest)),
-        Form::Compute(form) => Ok((compute(form), rest)),
-        Form::Byte => push_byte(rest),
-        Form::Short => push_short(rest),
-        Form::Constant => near_constant(rest),
-        Form::Place(form) => with_place(form, rest),
-        Form::Local(form) => with_local(form, rest),
-        Form::Increment => near_increment(rest),
-        Form::Branch(form) => near_branch(pc, form, rest),
-        Form::FarBranch(form) => far_branch(pc, form, rest),
-        Form::Table => table_switch(alloc, pc, rest),
-        Form::Lookup => lookup_switch(alloc, pc, rest),
-        Form::Interface => invoke_interface(rest),
-        Form::Dynamic => invoke_dynamic(rest),
-        Form::Primitives => new_primitives(rest),
-        Form::Dimensions => new_arrays(rest),
-        Form::Wide => wide_form(rest),
+        Form::Undefined => Err(Stop::at(rest, CodeWhy::Opcode)),
+        Form::Simple(simple) => Ok((Op::Simple(simple), rest)),
+        Form::PushInt(value) => Ok((Op::PushInt(value), rest)),
+        Form::PushLong(value) => Ok((Op::PushLong(value), rest)),
+        Form::LocalAt(form, index) => Ok((local_op(form, index), rest)),
+        Form::Floating(opcode) => Ok((Op::Floating(opcode), rest)),
+        Form::Byte => bipush_of(rest),
+        Form::Short => sipush_of(rest),
+        Form::Ldc => ldc_of(rest),
+        Form::Index(form) => index_of(form, rest),
+        Form::Local(form) => local_of(form, rest),
+        Form::Increment => iinc_of(rest),
+        Form::Branch(form) => branch_of(pc, form, rest),
+        Form::FarBranch(form) => far_branch_of(pc, form, rest),
+        Form::TableSwitch => table_switch_of(alloc, pc, rest),
+        Form::LookupSwitch => lookup_switch_of(alloc, pc, rest),
+        Form::InvokeInterface => invoke_interface_of(rest),
+        Form::InvokeDynamic => invoke_dynamic_of(rest),
+        Form::NewArray => new_array_of(rest),
+        Form::MultiANewArray => multi_a_new_array_of(rest),
+        Form::Wide => wide_of(rest),
     }
 }
 
-fn stack(form: StackForm) -> Op
-    ensures { result ≡ stack_op form }
+fn bipush_of(rest: &[u8]) -> Result<(Op, &[u8]), Stop<CodeWhy>>
+    ensures { Reads result (operands_at 0 byte rest.now) }
 {
-    match form {
-        StackForm::Nop => Op::Nop,
-        StackForm::PushNull => Op::PushNull,
-        StackForm::PushInt(value) => Op::PushInt(value),
-        StackForm::PushLong(value) => Op::PushLong(value),
-        StackForm::Load(kind, local) => Op::Load(kind, local),
-        StackForm::ArrayLoad(element) => Op::ArrayLoad(element),
-        StackForm::Store(kind, local) => Op::Store(kind, local),
-        StackForm::ArrayStore(element) => Op::ArrayStore(element),
-        StackForm::Pop => Op::Pop,
-        StackForm::Pop2 => Op::Pop2,
-        StackForm::Dup => Op::Dup,
-        StackForm::DupX1 => Op::DupX1,
-        StackForm::DupX2 => Op::DupX2,
-        StackForm::Dup2 => Op::Dup2,
-        StackForm::Dup2X1 => Op::Dup2X1,
-        StackForm::Dup2X2 => Op::Dup2X2,
-        StackForm::Swap => Op::Swap,
-    }
-}
-
-fn compute(form: ComputeForm) -> Op
-    ensures { result ≡ compute_op form }
-{
-    match form {
-        ComputeForm::IntArithmetic(operation) => Op::IntArithmetic(operation),
-        ComputeForm::LongArithmetic(operation) => Op::LongArithmetic(operation),
-        ComputeForm::IntNegate => Op::IntNegate,
-        ComputeForm::LongNegate => Op::LongNegate,
-        ComputeForm::IntShift(shift) => Op::IntShift(shift),
-        ComputeForm::LongShift(shift) => Op::LongShift(shift),
-        ComputeForm::IntBitwise(operation) => Op::IntBitwise(operation),
-        ComputeForm::LongBitwise(operation) => Op::LongBitwise(operation),
-        ComputeForm::IntToLong => Op::IntToLong,
-        ComputeForm::LongToInt => Op::LongToInt,
-        ComputeForm::IntNarrow(to) => Op::IntNarrow(to),
-        ComputeForm::LongCompare => Op::LongCompare,
-        ComputeForm::ReturnValue(kind) => Op::ReturnValue(kind),
-        ComputeForm::Return => Op::Return,
-        ComputeForm::ArrayLength => Op::ArrayLength,
-        ComputeForm::Throw => Op::Throw,
-        ComputeForm::MonitorEnter => Op::MonitorEnter,
-        ComputeForm::MonitorExit => Op::MonitorExit,
-        ComputeForm::Floating(opcode) => Op::Floating(opcode),
-    }
-}
-
-fn push_byte(rest: &[u8]) -> Result<(Op, &[u8]), Refusal>
-    ensures { Gives (λ x. (x.0, x.1.now)) result (behind_at 0 byte rest.now) }
-{
-    let (value, rest) = s1(rest)?;
+    let (value, rest) = i1_of(rest)?;
     Ok((Op::PushInt(i16::from(value)), rest))
 }
 
-fn push_short(rest: &[u8]) -> Result<(Op, &[u8]), Refusal>
-    ensures { Gives (λ x. (x.0, x.1.now)) result (behind_at 0 short rest.now) }
+fn sipush_of(rest: &[u8]) -> Result<(Op, &[u8]), Stop<CodeWhy>>
+    ensures { Reads result (operands_at 0 short rest.now) }
 {
-    let (value, rest) = s2(rest)?;
+    let (value, rest) = i2_of(rest)?;
     Ok((Op::PushInt(value), rest))
 }
 
-fn near_constant(rest: &[u8]) -> Result<(Op, &[u8]), Refusal>
-    ensures { Gives (λ x. (x.0, x.1.now)) result (behind_at 0 constant rest.now) }
+fn ldc_of(rest: &[u8]) -> Result<(Op, &[u8]), Stop<CodeWhy>>
+    ensures { Reads result (operands_at 0 constant rest.now) }
 {
-    let (place, rest) = u1(rest)?;
-    Ok((Op::PushConstant(u16::from(place)), rest))
+    let (index, rest) = u1_of(rest)?;
+    Ok((Op::PushConstant(u16::from(index)), rest))
 }
 
-fn with_place(form: PlaceForm, rest: &[u8]) -> Result<(Op, &[u8]), Refusal>
-    ensures { Gives (λ x. (x.0, x.1.now)) result (behind_at 0 (place (place_op form)) rest.now) }
+fn index_of(form: IndexForm, rest: &[u8]) -> Result<(Op, &[u8]), Stop<CodeWhy>>
+    ensures { Reads result (operands_at 0 (index (index_op form)) rest.now) }
 {
-    let (place, rest) = u2(rest)?;
-    Ok((place_form(form, place), rest))
+    let (index, rest) = u2_of(rest)?;
+    Ok((index_op(form, index), rest))
 }
 
-fn place_form(form: PlaceForm, place: u16) -> Op
-    ensures { result ≡ place_op form place }
+fn index_op(form: IndexForm, index: u16) -> Op
+    ensures { result ≡ index_op form index }
 {
     match form {
-        PlaceForm::PushConstant => Op::PushConstant(place),
-        PlaceForm::PushWideConstant => Op::PushWideConstant(place),
-        PlaceForm::GetStatic => Op::GetStatic(place),
-        PlaceForm::PutStatic => Op::PutStatic(place),
-        PlaceForm::GetField => Op::GetField(place),
-        PlaceForm::PutField => Op::PutField(place),
-        PlaceForm::InvokeVirtual => Op::InvokeVirtual(place),
-        PlaceForm::InvokeSpecial => Op::InvokeSpecial(place),
-        PlaceForm::InvokeStatic => Op::InvokeStatic(place),
-        PlaceForm::New => Op::New(place),
-        PlaceForm::NewReferences => Op::NewReferences(place),
-        PlaceForm::CheckCast => Op::CheckCast(place),
-        PlaceForm::InstanceOf => Op::InstanceOf(place),
+        IndexForm::PushConstant => Op::PushConstant(index),
+        IndexForm::PushWideConstant => Op::PushWideConstant(index),
+        IndexForm::GetStatic => Op::GetStatic(index),
+        IndexForm::PutStatic => Op::PutStatic(index),
+        IndexForm::GetField => Op::GetField(index),
+        IndexForm::PutField => Op::PutField(index),
+        IndexForm::InvokeVirtual => Op::InvokeVirtual(index),
+        IndexForm::InvokeSpecial => Op::InvokeSpecial(index),
+        IndexForm::InvokeStatic => Op::InvokeStatic(index),
+        IndexForm::New => Op::New(index),
+        IndexForm::ANewArray => Op::ANewArray(index),
+        IndexForm::CheckCast => Op::CheckCast(index),
+        IndexForm::InstanceOf => Op::InstanceOf(index),
     }
 }
 
-fn with_local(form: LocalForm, rest: &[u8]) -> Result<(Op, &[u8]), Refusal>
-    ensures { Gives (λ x. (x.0, x.1.now)) result (behind_at 0 (local (local_op form)) rest.now) }
+fn local_of(form: LocalForm, rest: &[u8]) -> Result<(Op, &[u8]), Stop<CodeWhy>>
+    ensures { Reads result (operands_at 0 (local (local_op form)) rest.now) }
 {
-    let (local, rest) = u1(rest)?;
-    Ok((local_form(form, u16::from(local)), rest))
+    let (index, rest) = u1_of(rest)?;
+    Ok((local_op(form, u16::from(index)), rest))
 }
 
-fn local_form(form: LocalForm, local: u16) -> Op
-    ensures { result ≡ local_op form local }
+fn local_op(form: LocalForm, index: u16) -> Op
+    ensures { result ≡ local_op form index }
 {
     match form {
-        LocalForm::Load(kind) => Op::Load(kind, local),
-        LocalForm::Store(kind) => Op::Store(kind, local),
-        LocalForm::ReturnFrom => Op::ReturnFrom(local),
+        LocalForm::Load(kind) => Op::Load(kind, index),
+        LocalForm::Store(kind) => Op::Store(kind, index),
+        LocalForm::Ret => Op::Ret(index),
         LocalForm::Floating(opcode) => Op::Floating(opcode),
     }
 }
 
-fn near_increment(rest: &[u8]) -> Result<(Op, &[u8]), Refusal>
-    ensures { Gives (λ x. (x.0, x.1.now)) result (behind_at 0 increment rest.now) }
+fn iinc_of(rest: &[u8]) -> Result<(Op, &[u8]), Stop<CodeWhy>>
+    ensures { Reads result (operands_at 0 increment rest.now) }
 {
-    let (local, rest) = u1(rest)?;
-    let (by, rest) = s1(rest)?;
-    Ok((Op::Increment(u16::from(local), i16::from(by)), rest))
+    let (index, rest) = u1_of(rest)?;
+    let (amount, rest) = i1_of(rest)?;
+    Ok((Op::Increment(u16::from(index), i16::from(amount)), rest))
 }
 
-fn near_branch(pc: u32, form: BranchForm, rest: &[u8]) -> Result<(Op, &[u8]), Refusal>
-    ensures { Gives (λ x. (x.0, x.1.now)) result (behind_at pc (branch (branch_op form)) rest.now) }
+fn branch_of(pc: u32, form: BranchForm, rest: &[u8]) -> Result<(Op, &[u8]), Stop<CodeWhy>>
+    ensures { Reads result (operands_at pc (branch (branch_op form)) rest.now) }
 {
-    let (offset, rest) = s2(rest)?;
-    Ok((branch_form(form, i64::from(pc) + i64::from(offset)), rest))
+    let (offset, rest) = i2_of(rest)?;
+    Ok((branch_op(form, i64::from(pc) + i64::from(offset)), rest))
 }
 
-fn far_branch(pc: u32, form: BranchForm, rest: &[u8]) -> Result<(Op, &[u8]), Refusal>
-    ensures { Gives (λ x. (x.0, x.1.now)) result (behind_at pc (far (branch_op form)) rest.now) }
+fn far_branch_of(pc: u32, form: BranchForm, rest: &[u8]) -> Result<(Op, &[u8]), Stop<CodeWhy>>
+    ensures { Reads result (operands_at pc (far_branch (branch_op form)) rest.now) }
 {
-    let (target, rest) = far_target(pc, rest)?;
-    Ok((branch_form(form, target), rest))
+    let (target, rest) = target_of(pc, rest)?;
+    Ok((branch_op(form, target), rest))
 }
 
-fn branch_form(form: BranchForm, target: i64) -> Op
+// A target at the offset from `pc` that is in four bytes.
+pub fn target_of(pc: u32, bytes: &[u8]) -> Result<(i64, &[u8]), Stop<CodeWhy>>
+    ensures { Reads result (target_at pc bytes.now) }
+{
+    let (offset, rest) = i4_of(bytes)?;
+    Ok((i64::from(pc) + i64::from(offset), rest))
+}
+
+fn branch_op(form: BranchForm, target: i64) -> Op
     ensures { result ≡ branch_op form target }
 {
     match form {
@@ -194,39 +161,51 @@ fn branch_form(form: BranchForm, target: i64) -> Op
         BranchForm::IfReferences(sameness) => Op::IfReferences(sameness, target),
         BranchForm::IfNull(sameness) => Op::IfNull(sameness, target),
         BranchForm::Goto => Op::Goto(target),
-        BranchForm::Subroutine => Op::Subroutine(target),
+        BranchForm::Jsr => Op::Jsr(target),
     }
 }
 
-fn invoke_interface(rest: &[u8]) -> Result<(Op, &[u8]), Refusal>
-    ensures { Gives (λ x. (x.0, x.1.now)) result (behind_at 0 interface rest.now) }
+fn invoke_interface_of(rest: &[u8]) -> Result<(Op, &[u8]), Stop<CodeWhy>>
+    ensures { Reads result (operands_at 0 interface rest.now) }
 {
-    let (place, rest) = u2(rest)?;
-    let (count, rest) = u1(rest)?;
+    let (index, rest) = u2_of(rest)?;
+    let (count, rest) = u1_of(rest)?;
     let rest = skip_zero(rest)?;
-    Ok((Op::InvokeInterface(place, count), rest))
+    Ok((Op::InvokeInterface(index, count), rest))
 }
 
-fn invoke_dynamic(rest: &[u8]) -> Result<(Op, &[u8]), Refusal>
-    ensures { Gives (λ x. (x.0, x.1.now)) result (behind_at 0 dynamic rest.now) }
+fn invoke_dynamic_of(rest: &[u8]) -> Result<(Op, &[u8]), Stop<CodeWhy>>
+    ensures { Reads result (operands_at 0 dynamic rest.now) }
 {
-    let (place, rest) = u2(rest)?;
+    let (index, rest) = u2_of(rest)?;
     let rest = skip_zero(rest)?;
     let rest = skip_zero(rest)?;
-    Ok((Op::InvokeDynamic(place), rest))
+    Ok((Op::InvokeDynamic(index), rest))
 }
 
-fn new_primitives(rest: &[u8]) -> Result<(Op, &[u8]), Refusal>
-    ensures { Gives (λ x. (x.0, x.1.now)) result (behind_at 0 primitives rest.now) }
+// The bytes behind a byte that is 0.
+fn skip_zero(bytes: &[u8]) -> Result<&[u8], Stop<CodeWhy>>
+    ensures { GivesBy (λ x. (tt, x.now)) result (zero_at bytes.now) }
 {
-    let (code, rest) = u1(rest)?;
+    let (byte, rest) = u1_of(bytes)?;
+    if byte != 0 {
+        return Err(Stop::at(bytes, CodeWhy::Operand));
+    }
+    Ok(rest)
+}
+
+fn new_array_of(rest: &[u8]) -> Result<(Op, &[u8]), Stop<CodeWhy>>
+    ensures { Reads result (operands_at 0 primitive rest.now) }
+{
+    let (code, behind) = u1_of(rest)?;
     if code < 4 || code >= 12 {
-        return Err(OPERAND);
+        return Err(Stop::at(rest, CodeWhy::Operand));
     }
-    Ok((Op::NewPrimitives(primitive(code)), rest))
+    Ok((Op::NewArray(primitive_of(code)), behind))
 }
 
-fn primitive(code: u8) -> Primitive
+// The type that a code of newarray names (JVMS 6.5).
+fn primitive_of(code: u8) -> Primitive
     requires first { 4 ≤ code }
     requires last { code < 12 }
     ensures { result ≡ primitive_of code }
@@ -243,37 +222,38 @@ fn primitive(code: u8) -> Primitive
     }
 }
 
-fn new_arrays(rest: &[u8]) -> Result<(Op, &[u8]), Refusal>
-    ensures { Gives (λ x. (x.0, x.1.now)) result (behind_at 0 dimensions rest.now) }
+fn multi_a_new_array_of(rest: &[u8]) -> Result<(Op, &[u8]), Stop<CodeWhy>>
+    ensures { Reads result (operands_at 0 dimensions rest.now) }
 {
-    let (place, rest) = u2(rest)?;
-    let (count, rest) = u1(rest)?;
+    let (index, rest) = u2_of(rest)?;
+    let (count, behind) = u1_of(rest)?;
     if count == 0 {
-        return Err(OPERAND);
+        return Err(Stop::at(rest, CodeWhy::Operand));
     }
-    Ok((Op::NewArrays(place, count), rest))
+    Ok((Op::MultiANewArray(index, count), behind))
 }
 
-fn wide_form(rest: &[u8]) -> Result<(Op, &[u8]), Refusal>
-    ensures { Gives (λ x. (x.0, x.1.now)) result (widened_at rest.now) }
+// The opcode behind wide and its operands.
+fn wide_of(rest: &[u8]) -> Result<(Op, &[u8]), Stop<CodeWhy>>
+    ensures { Reads result (wide_at rest.now) }
 {
-    let (opcode, rest) = u1(rest)?;
-    wide_operands(form_of(opcode), rest)
+    let (opcode, rest) = u1_of(rest)?;
+    wide_operands_of(form_of(opcode), rest)
 }
 
-fn wide_operands(form: Form, rest: &[u8]) -> Result<(Op, &[u8]), Refusal>
-    ensures { Gives (λ x. (x.0, x.1.now)) result (wide_at (meaning form) rest.now) }
+fn wide_operands_of(form: Form, rest: &[u8]) -> Result<(Op, &[u8]), Stop<CodeWhy>>
+    ensures { Reads result (wide_operands_at (meaning form) rest.now) }
 {
     match form {
         Form::Local(form) => {
-            let (local, rest) = u2(rest)?;
-            Ok((local_form(form, local), rest))
+            let (index, rest) = u2_of(rest)?;
+            Ok((local_op(form, index), rest))
         }
         Form::Increment => {
-            let (local, rest) = u2(rest)?;
-            let (by, rest) = s2(rest)?;
-            Ok((Op::Increment(local, by), rest))
+            let (index, rest) = u2_of(rest)?;
+            let (amount, rest) = i2_of(rest)?;
+            Ok((Op::Increment(index, amount), rest))
         }
-        _ => Err(OPERAND),
+        _ => Err(Stop::at(rest, CodeWhy::Operand)),
     }
 }

@@ -1,7 +1,7 @@
 use items::Items;
 
-/// The operands of `tableswitch` (JVMS 6.5): `targets` has the places for `low` and the ints behind it, so that
-/// the highest is `low` plus their number less 1.
+/// The operands of `tableswitch` (JVMS 6.5): the targets are those for `low` and the ints behind it, so that the highest
+/// is `low` plus their number less 1. A target is a pc.
 #[derive(Debug, Drop)]
 pub struct TableSwitch {
     pub default: i64,
@@ -9,7 +9,7 @@ pub struct TableSwitch {
     pub targets: Items<i64>,
 }
 
-/// An int and the place that a `lookupswitch` goes to for it (JVMS 6.5).
+/// An int, and the pc that a `lookupswitch` goes to for it (JVMS 6.5).
 #[derive(Clone, Copy, Debug, PartialEq, Eq)]
 pub struct Match {
     pub value: i32,

@@ -1,4 +1,4 @@
 pub mod Binds
-pub mod Folds
-pub mod Places
+pub mod ReplayLaws
+pub mod Pcs
 pub mod Straight

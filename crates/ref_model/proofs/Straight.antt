@@ -19,15 +19,15 @@ pub bipush_steps : (m : Method) (pc next : ℕ) (n : ℤ) (stack : List Slot) (o
     → length stack < m.max_stack → step (alone m) (at m pc stack out) 0 None ≡ Some (at m next (One (Int n) ∷ stack) out)
 bipush_steps m pc next n stack out e room = let b : ltb (length stack) m.max_stack ≡ true = lt-ltb _ _ room in rw (e, b) refl
 
-pub getstatic_steps : (m : Method) (pc next place : ℕ) (member : MemberName) (stack : List Slot) (out : List ℕ) → instruction_at m.code pc ≡ Some (record { pc = pc; next = next; op = Getstatic place })
-    → field_at m.pool place ≡ Some member → is_out member ≡ true → length stack < m.max_stack
+pub getstatic_steps : (m : Method) (pc next index : ℕ) (member : MemberName) (stack : List Slot) (out : List ℕ) → instruction_at m.code pc ≡ Some (record { pc = pc; next = next; op = Getstatic index })
+    → field_at m.pool index ≡ Some member → is_out member ≡ true → length stack < m.max_stack
     → step (alone m) (at m pc stack out) 0 None ≡ Some (at m next (One (Ref out_stream) ∷ stack) out)
-getstatic_steps m pc next place member stack out e f is room = let b : ltb (length stack) m.max_stack ≡ true = lt-ltb _ _ room in rw (e, e, f, is, b) refl
+getstatic_steps m pc next index member stack out e f is room = let b : ltb (length stack) m.max_stack ≡ true = lt-ltb _ _ room in rw (e, e, f, is, b) refl
 
-pub print_steps : (m : Method) (pc next place : ℕ) (member : MemberName) (n : ℤ) (stack : List Slot) (out : List ℕ) → instruction_at m.code pc ≡ Some (record { pc = pc; next = next; op = Invokevirtual place })
-    → method_at m.pool place ≡ Some member → is_print_int member ≡ true
+pub print_steps : (m : Method) (pc next index : ℕ) (member : MemberName) (n : ℤ) (stack : List Slot) (out : List ℕ) → instruction_at m.code pc ≡ Some (record { pc = pc; next = next; op = Invokevirtual index })
+    → method_at m.pool index ≡ Some member → is_print_int member ≡ true
     → step (alone m) (at m pc (One (Int n) ∷ One (Ref out_stream) ∷ stack) out) 0 None ≡ Some (at m next stack (out ++ line_of_int n))
-print_steps m pc next place member n stack out e f is = rw (e, e, f, is) refl
+print_steps m pc next index member n stack out e f is = rw (e, e, f, is) refl
 
 pub return_steps : (m : Method) (pc next : ℕ) (stack : List Slot) (out : List ℕ) → instruction_at m.code pc ≡ Some (record { pc = pc; next = next; op = Return })
     → step (alone m) (at m pc stack out) 0 None ≡ Some (over out)

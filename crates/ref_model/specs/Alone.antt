@@ -10,7 +10,7 @@ use Rattle.ref_model.specs.State.{State, Run, Live, Done, main_words}
 abbrev pub alone : Method → Program
 alone m = record { methods = m ∷ []; main = 0 }
 
--- its thread at a place, with this operand stack, after this output
+-- its thread at a pc, with this operand stack, after this output
 abbrev pub at : Method → ℕ → List Slot → List ℕ → State
 at m pc stack out = record {
   threads = record { status = Live Run; frames = record { method = 0; pc = pc; locals = One (Ref main_words) ∷ replicate (m.max_locals - 1) Second; stack = stack } ∷ [] } ∷ [];

@@ -1,4 +1,4 @@
--- The bytes of an instruction (JVMS 6.5), and instructions at their places.
+-- The bytes of an instruction (JVMS 6.5), and instructions at their pcs.
 use Rattle.std.specs.Prelude.{ℕ, ◌+◌, ◌<◌, ◌^◌, List, [], ◌∷◌, length, FitsSigned}
 use Rattle.std.specs.Int.{w8, w16, to_be_bytes, cast_unsigned}
 use Rattle.ref_model.specs.declared.instruction.Op.{Op}
@@ -8,27 +8,27 @@ use Rattle.ref_model.specs.declared.instruction.Instr.{Instr}
 -- the opcode and the operands
 abbrev pub encoding : Op → List ℕ
 encoding (Bipush n) = 0x10 ∷ cast_unsigned w8 n ∷ []
-encoding (Getstatic place) = 0xb2 ∷ to_be_bytes w16 place
-encoding (Invokevirtual place) = 0xb6 ∷ to_be_bytes w16 place
+encoding (Getstatic index) = 0xb2 ∷ to_be_bytes w16 index
+encoding (Invokevirtual index) = 0xb6 ∷ to_be_bytes w16 index
 encoding Return = 0xb1 ∷ []
 
 -- the operands fit their bytes
 abbrev pub IsOp : Op → Type 0
 IsOp (Bipush n) = FitsSigned w8 n
-IsOp (Getstatic place) = place < 2 ^ 16
-IsOp (Invokevirtual place) = place < 2 ^ 16
+IsOp (Getstatic index) = index < 2 ^ 16
+IsOp (Invokevirtual index) = index < 2 ^ 16
 IsOp Return = Unit {0}
 
--- an instruction that stands at this place
+-- an instruction at this pc
 abbrev pub instr : ℕ → Op → Instr
 instr pc op = record { pc = pc; next = pc + length (encoding op); op = op }
 
--- the instructions one after the other, the first at this place
-abbrev pub placed : ℕ → List Op → List Instr
-placed pc [] = []
-placed pc (op ∷ ops) = instr pc op ∷ placed (pc + length (encoding op)) ops
+-- the instructions one after the other, the first at this pc
+abbrev pub instrs_from : ℕ → List Op → List Instr
+instrs_from pc [] = []
+instrs_from pc (op ∷ ops) = instr pc op ∷ instrs_from (pc + length (encoding op)) ops
 
--- the place behind these instructions, of which the first stands at this one
+-- the pc after these instructions, of which the first is at this one
 abbrev pub behind : ℕ → List Op → ℕ
 behind pc [] = pc
 behind pc (op ∷ ops) = behind (pc + length (encoding op)) ops

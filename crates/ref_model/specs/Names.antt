@@ -11,7 +11,7 @@ named_by pool class (NameAndType name descriptor) =
     text_at pool name >>= λ n. text_at pool descriptor >>= λ d. Some (record { class = class; name = n; descriptor = d })
 named_by pool class c = None
 
--- the member of the class at one place that the NameAndType at another names
+-- the member of the class at one index that the NameAndType at another names
 abbrev pub member_of : List Const → ℕ → ℕ → Option MemberName
 member_of pool class member = class_name_at pool class >>= λ c. slice_get pool member >>= λ k. named_by pool c k
 
@@ -21,7 +21,7 @@ field_by pool c = None
 
 -- the field that a Fieldref names (JVMS 4.4.2)
 abbrev pub field_at : List Const → ℕ → Option MemberName
-field_at pool place = slice_get pool place >>= field_by pool
+field_at pool index = slice_get pool index >>= field_by pool
 
 abbrev pub method_by : List Const → Const → Option MemberName
 method_by pool (Methodref class member) = member_of pool class member
@@ -29,7 +29,7 @@ method_by pool c = None
 
 -- the method that a Methodref names (JVMS 4.4.2)
 abbrev pub method_at : List Const → ℕ → Option MemberName
-method_at pool place = slice_get pool place >>= method_by pool
+method_at pool index = slice_get pool index >>= method_by pool
 
 abbrev pub is_member : List ℕ → List ℕ → List ℕ → MemberName → Bool
 is_member class name descriptor m = same_text m.class class && same_text m.name name && same_text m.descriptor descriptor

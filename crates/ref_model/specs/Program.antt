@@ -16,6 +16,6 @@ pub record Program : Type 0 where
   pub methods : List Method
   pub main : ℕ
 
--- the instruction that stands at this place
+-- the instruction at this pc
 abbrev pub instruction_at : List Instr → ℕ → Option Instr
 instruction_at code pc = find (λ (i : Instr). i.pc == pc) code

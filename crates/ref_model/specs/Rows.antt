@@ -12,25 +12,25 @@ use Rattle.ref_model.specs.Program.{Program, Method, instruction_at}
 use Rattle.ref_model.specs.State.{Frame}
 
 -- an operand stack with one more item, where the method has room for it
-abbrev pub pushed : Method → Slot → List Slot → Option (List Slot)
-pushed m item stack = if nat_lt (length stack) m.max_stack then Some (item ∷ stack) else None
+abbrev pub stack_with : Method → Slot → List Slot → Option (List Slot)
+stack_with m item stack = if nat_lt (length stack) m.max_stack then Some (item ∷ stack) else None
 
--- a method and its instruction, at which a frame stands
-pub record Fetched : Type 0 where
+-- the method of a frame, and the instruction at its pc
+pub record MethodInstr : Type 0 where
   pub method : Method
   pub instr : Instr
 
-abbrev pub fetched : Program → Frame → Option Fetched
-fetched p f = slice_get p.methods f.method >>= λ m. instruction_at m.code f.pc >>= λ i. Some (record { method = m; instr = i })
+abbrev pub fetch_of : Program → Frame → Option MethodInstr
+fetch_of p f = slice_get p.methods f.method >>= λ m. instruction_at m.code f.pc >>= λ i. Some (record { method = m; instr = i })
 
 -- the frame behind the instruction, with this operand stack
-abbrev pub gone_on : Frame → Instr → List Slot → Frame
-gone_on f i stack = record f { pc = i.next; stack = stack }
+abbrev pub frame_after : Frame → Instr → List Slot → Frame
+frame_after f i stack = record f { pc = i.next; stack = stack }
 
 abbrev pub local_act : Method → Instr → Op → Frame → List Frame → Option (List Frame)
-local_act m i (Bipush n) f below = pushed m (One (Int n)) f.stack >>= λ stack. Some (gone_on f i stack ∷ below)
+local_act m i (Bipush n) f below = stack_with m (One (Int n)) f.stack >>= λ stack. Some (frame_after f i stack ∷ below)
 local_act m i op f below = None
 
 abbrev pub row : Program → List Frame → Option (List Frame)
 row p [] = None
-row p (f ∷ below) = fetched p f >>= λ x. local_act x.method x.instr x.instr.op f below
+row p (f ∷ below) = fetch_of p f >>= λ x. local_act x.method x.instr x.instr.op f below

@@ -9,7 +9,7 @@ use Rattle.ref_model.specs.Program.{Program}
 use Rattle.ref_model.specs.State.{State, opening}
 use Rattle.ref_model.specs.Step.{step}
 
--- what a history has made of the machine
+-- the machine after a history
 pub record World : Type 0 where
   pub state : State
 
@@ -19,31 +19,31 @@ steps p zero r t = Some r
 steps p (suc n) r t = steps p n r t >>= λ q. step p q t None
 
 -- so many steps of one thread, at least one, of which the last may pick another
-abbrev pub stepped : Program → State → ℕ → ℕ → Option ℕ → Option State
-stepped p r t zero pick = None
-stepped p r t (suc n) pick = steps p n r t >>= λ q. step p q t pick
+abbrev pub after_steps : Program → State → ℕ → ℕ → Option ℕ → Option State
+after_steps p r t zero pick = None
+after_steps p r t (suc n) pick = steps p n r t >>= λ q. step p q t pick
 
 -- time goes on, and never back
-abbrev pub ticked : State → ℕ → Option State
-ticked r now = if nat_lt r.now now then Some (record r { now = now }) else None
+abbrev pub at_time : State → ℕ → Option State
+at_time r now = if nat_lt r.now now then Some (record r { now = now }) else None
 
 abbrev pub with_state : World → State → World
 with_state w r = record w { state = r }
 
--- What one entry makes of the machine. Threads aren't mounted yet: thread 0 stands on carrier 0 from the start.
-abbrev pub made : Program → World → What → Option World
-made p w (Mount t) = None
-made p w (Unmount t) = None
-made p w (Step t n pick) = stepped p w.state t n pick >>= λ r. Some (with_state w r)
-made p w (Clock now) = ticked w.state now >>= λ r. Some (with_state w r)
+-- What one entry makes of the machine. Threads aren't mounted yet: thread 0 is on carrier 0 from the start.
+abbrev pub world_after : Program → World → What → Option World
+world_after p w (Mount t) = None
+world_after p w (Unmount t) = None
+world_after p w (Step t n pick) = after_steps p w.state t n pick >>= λ r. Some (with_state w r)
+world_after p w (Clock now) = at_time w.state now >>= λ r. Some (with_state w r)
 
-abbrev pub folded : Program → List Entry → World → Option World
-folded p [] w = Some w
-folded p (e ∷ es) w = made p w e.what >>= λ next. folded p es next
+abbrev pub replay : Program → List Entry → World → Option World
+replay p [] w = Some w
+replay p (e ∷ es) w = world_after p w e.what >>= λ next. replay p es next
 
 -- the state after these entries
 abbrev pub run : Program → List Entry → Option State
-run p entries = opening p >>= λ r. folded p entries (record { state = r }) >>= λ w. Some w.state
+run p entries = opening p >>= λ r. replay p entries (record { state = r }) >>= λ w. Some w.state
 
 abbrev pub is_java : What → Bool
 is_java (Mount t) = false

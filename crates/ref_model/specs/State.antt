@@ -9,7 +9,7 @@ use Rattle.ref_model.specs.declared.ending.Ending.TheVariants.{Ended}
 use Rattle.ref_model.specs.Options.{◌>>=◌}
 use Rattle.ref_model.specs.Program.{Program, Method}
 
--- A method's frame (JVMS 2.6): the instruction where it stands, its local variables by number, and its
+-- A method's frame (JVMS 2.6): the pc of its instruction, its local variables by index, and its
 -- operand stack with the top first.
 pub record Frame : Type 0 where
   pub method : ℕ
@@ -37,7 +37,7 @@ pub record State : Type 0 where
   pub now : ℕ
   -- what the program has printed
   pub out : List ℕ
-  -- what the program has told of its faults
+  -- the fault output of the program
   pub err : List ℕ
 
 -- The objects that a program finds (own): 0 is the OutOfMemoryError; 1 and 2 are the streams out and err; 3 is

@@ -14,7 +14,7 @@ use Rattle.ref_model.specs.Options.{◌>>=◌}
 use Rattle.ref_model.specs.Program.{Program, Method}
 use Rattle.ref_model.specs.State.{Frame, Run, Status, Live, Done, Thread, State, out_stream, ending}
 use Rattle.ref_model.specs.Names.{field_at, method_at, is_out, is_print_int}
-use Rattle.ref_model.specs.Rows.{pushed, fetched, gone_on, row}
+use Rattle.ref_model.specs.Rows.{stack_with, fetch_of, frame_after, row}
 
 abbrev pub is_running : Status → Bool
 is_running (Live Run) = true
@@ -45,29 +45,29 @@ abbrev pub static_value : MemberName → Option Value
 static_value member = if is_out member then Some (Ref out_stream) else None
 
 -- println of an int on a stream, with the operands on the stack, the int first
-abbrev pub printed : State → ℕ → Frame → Instr → List Frame → List Slot → Option State
-printed r t f i below (One (Int n) ∷ One (Ref stream) ∷ stack) =
-    if stream == out_stream then Some (with_frames (record r { out = r.out ++ line_of_int n }) t (gone_on f i stack ∷ below)) else None
-printed r t f i below stack = None
+abbrev pub after_print : State → ℕ → Frame → Instr → List Frame → List Slot → Option State
+after_print r t f i below (One (Int n) ∷ One (Ref stream) ∷ stack) =
+    if stream == out_stream then Some (with_frames (record r { out = r.out ++ line_of_int n }) t (frame_after f i stack ∷ below)) else None
+after_print r t f i below stack = None
 
 -- a return from a method without a result: the thread goes on below, or has ended (JVMS 2.6.4)
-abbrev pub returned : State → ℕ → List Frame → Option State
-returned r t [] = Some (with_done r t)
-returned r t (f ∷ below) = None
+abbrev pub after_return : State → ℕ → List Frame → Option State
+after_return r t [] = Some (with_done r t)
+after_return r t (f ∷ below) = None
 
 -- what is no local instruction
 abbrev pub event_act : State → ℕ → Method → Instr → Op → Frame → List Frame → Option State
 event_act r t m i (Bipush n) f below = None
-event_act r t m i (Getstatic place) f below =
-    field_at m.pool place >>= λ member. static_value member >>= λ v. pushed m (One v) f.stack >>= λ stack.
-    Some (with_frames r t (gone_on f i stack ∷ below))
-event_act r t m i (Invokevirtual place) f below =
-    method_at m.pool place >>= λ member. if is_print_int member then printed r t f i below f.stack else None
-event_act r t m i Return f below = returned r t below
+event_act r t m i (Getstatic index) f below =
+    field_at m.pool index >>= λ member. static_value member >>= λ v. stack_with m (One v) f.stack >>= λ stack.
+    Some (with_frames r t (frame_after f i stack ∷ below))
+event_act r t m i (Invokevirtual index) f below =
+    method_at m.pool index >>= λ member. if is_print_int member then after_print r t f i below f.stack else None
+event_act r t m i Return f below = after_return r t below
 
 abbrev pub event : Program → State → ℕ → List Frame → Option State
 event p r t [] = None
-event p r t (f ∷ below) = fetched p f >>= λ x. event_act r t x.method x.instr x.instr.op f below
+event p r t (f ∷ below) = fetch_of p f >>= λ x. event_act r t x.method x.instr x.instr.op f below
 
 -- a local row where there is one, and an event elsewhere
 abbrev pub row_or_event : Program → State → ℕ → List Frame → Option (List Frame) → Option State

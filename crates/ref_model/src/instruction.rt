@@ -1,4 +1,4 @@
-/// What an instruction does, with its operands (JVMS 6.5). A `u16` is a place of the constant pool.
+/// What an instruction does, with its operands (JVMS 6.5). A `u16` is an index of the constant pool.
 #[derive(Clone, Copy, Debug, PartialEq, Eq)]
 pub enum Op {
     Bipush(i8),
@@ -7,7 +7,7 @@ pub enum Op {
     Return,
 }
 
-/// An instruction at its place in the code, and the place behind it, in bytes from the code's start (JVMS 4.9).
+/// An instruction, its pc and the pc after it, in bytes from the start of the code array (JVMS 4.9).
 #[derive(Clone, Copy, Debug, PartialEq, Eq)]
 pub struct Instr {
     pub pc: u32,

@@ -1,5 +1,5 @@
-//! The reference machine: each Java thread has one whole stack, and any enabled thread may step. The
-//! definitions stand in `specs/`; here are the plain types that the machine's history and code are made of.
+//! The reference machine: each Java thread has one whole stack, and any enabled thread may step. `specs/` has the
+//! definitions; here are the plain types of which the machine's history and code consist.
 #![tactic(auto)]
 
 mod ending;

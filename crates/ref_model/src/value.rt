@@ -9,7 +9,7 @@ pub enum Value {
     Ref(u32),
 }
 
-/// A local variable or a place of the operand stack (JVMS 2.6.1, 2.6.2). A long takes two.
+/// A local variable or an entry of the operand stack (JVMS 2.6.1, 2.6.2). A long takes two.
 #[derive(Clone, Copy, Debug, PartialEq, Eq)]
 pub enum Slot {
     One(Value),

@@ -1,7 +1,8 @@
-ghost use Rattle.std.specs.Prelude.{◌≡◌, ◌<◌, ◌^◌, Some, length, IfOk, IsOkUnless};
+ghost use Rattle.std.specs.Prelude.{◌≡◌, ◌<◌, ◌^◌, ℕ, Some, Err, length, IfOk, IsOkUnless};
 ghost use Rattle.class_model.specs.declared.class_file.ClassFile.{ClassFile as AnyFile};
-ghost use Rattle.class_grammar.specs.Spelling.{Spells};
-ghost use Rattle.class_file.specs.Refusal.{first_bad, OnBad};
+ghost use Rattle.class_grammar.specs.Grammar.{Spells};
+ghost use Rattle.class_file.specs.File.{first_bad};
+ghost use Rattle.class_grammar.specs.declared.class_why.ClassWhy.{ClassWhy as AnyReason};
 
 use class_file::{ReadError, read};
 use class_write::write;
@@ -16,8 +17,9 @@ pub fn copy_of(alloc: Global, bytes: &[u8]) -> Result<Vec<u8>, ReadError>
     ensures found { IfOk result (λ copy. (f : AnyFile) × Spells bytes.now f) }
     // Each class file is read and written, unless memory runs out.
     ensures only { (f : AnyFile) → Spells bytes.now f → IsOkUnless result ReadError.NoMemory }
-    // A refusal is the first failing check.
-    ensures bad { OnBad result (λ at why. first_bad bytes.now ≡ Some (at, why)) }
+    // A refusal is the first check that fails.
+    ensures bad { (at : ℕ) (why : AnyReason) → result ≡ Err (ReadError.Bad at why) →
+        first_bad bytes.now ≡ Some (at, why) }
 {
     let file = read(alloc, bytes)?;
     match write(alloc, &file) {

@@ -1,7 +1,6 @@
 ghost use Rattle.std.specs.Prelude.{◌≡◌, ◌≤◌, ◌^◌, length, IfSome};
-ghost use Rattle.jvm_edges.specs.Causes.{Rose};
 ghost use Rattle.jvm_edges.specs.Files.{file_named};
-ghost use Rattle.round_trip.specs.Outcomes.{ComesTo, FileComesTo};
+ghost use Rattle.round_trip.specs.Outcomes.{ComesTo, FileComesTo, StoreFaults};
 
 use crate::copy::copy_of;
 use crate::outcome::Outcome;
@@ -14,8 +13,11 @@ const TOO_LONG: usize = 1 << 32;
 
 /// Reads a file as a class file, and writes it again.
 pub fn outcome_of_file<S: Store>(alloc: Global, store: &mut S, name: &str) -> Outcome
-    ensures told { IfSome (S.files store.old) (λ files. FileComesTo (file_named name.now files) result) }
-    ensures unreadable { result ≡ Outcome.Unreadable → Rose (S.faults store.old) (S.faults store.new) }
+    ensures known { IfSome (S.files store.old) (λ files.
+        FileComesTo (file_named name.now files) result) }
+    ensures kept { S.files store.new ≡ S.files store.old }
+    // The store's count of faults rose exactly where the file could not be read.
+    ensures faults { StoreFaults result (S.faults store.old) (S.faults store.new) }
 {
     match store.read(alloc, name, TOO_LONG) {
         Ok(Some(bytes)) => outcome_of(alloc, &bytes),
@@ -25,7 +27,7 @@ pub fn outcome_of_file<S: Store>(alloc: Global, store: &mut S, name: &str) -> Ou
     }
 }
 
-/// Reads bytes as a class file, and writes it again.
+// Reads bytes as a class file, and writes it again.
 fn outcome_of(alloc: Global, bytes: &[u8]) -> Outcome
     ensures comes { ComesTo bytes.now result }
     ensures long { 2 ^ 32 ≤ length bytes.now → result ≡ Outcome.TooLong }

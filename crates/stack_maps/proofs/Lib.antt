@@ -1,5 +1,5 @@
-pub mod LoopLaws
-pub mod WithinLaws
-pub mod FieldLaws
+pub mod Rows
+pub mod TypeLaws
 pub mod FrameLaws
 pub mod MapLaws
+pub mod LoopLaws

@@ -1,46 +1,16 @@
--- Reading items one after the other, as a loop does.
-use Rattle.std.proofs.Common.{◌≡◌, ℕ, suc, ◌-◌, ◌+◌, ◌≤◌, ◌<◌, List, [], ◌∷◌, ◌++◌, length, Some, Result, Ok, Err, refl, sym, ap, ◌∙◌, append_assoc, arith}
+-- Reading frames one after the other, as a loop does that looks at the last frame.
+use Rattle.std.proofs.Common.{◌≡◌, ℕ, suc, ◌-◌, ◌+◌, ◌<◌, List, [], ◌∷◌, ◌++◌, length, Some, Result, Ok, refl, ap, arith}
 use Rattle.std.specs.Prelude.{slice_get}
 use Rattle.std.proofs.lemmas.Option.{same_Some}
-use Rattle.std.proofs.lemmas.List.{append-nil}
+use Rattle.byte_reader.specs.declared.fault.Fault.{Fault}
+use Rattle.byte_reader.specs.declared.fault.Stop.{Stop}
+use Rattle.byte_reader.specs.declared.fault.Stop.TheVariants as stops
+use Rattle.byte_reader.specs.Reader.{Stops, map_value}
+use Rattle.byte_reader.proofs.LoopLaws.{ReadsOn, goes_on, stops_at}
 use Rattle.stack_maps.specs.declared.types.FrameTypes.{FrameTypes}
-use Rattle.stack_maps.specs.declared.types.VType.{VType}
-use Rattle.stack_maps.specs.declared.error.Fault.{Fault}
-use Rattle.stack_maps.specs.declared.error.Stop.{Stop}
-use Rattle.stack_maps.specs.declared.error.Stop.TheVariants as stops
-use Rattle.stack_maps.specs.Reading.{◌>>=◌, Fails, with_front, types_before, type_at, types_at, frame_at, frames_at}
-
-regroup : {A : Type 0} (front : List A) (x : A) (read : Result (List A × List ℕ) Fault) → with_front front (read >>= λ more. Ok (x ∷ more.0, more.1)) ≡ with_front (front ++ x ∷ []) read
-regroup front x (Ok more) = ap (λ xs. Ok (xs, more.1)) (sym (append_assoc front (x ∷ []) more.0))
-regroup front x (Err f) = refl
-
--- ---- types
-
-pub more_types : (front : List VType) (count i : ℕ) (bytes : List ℕ) (t : VType) (behind : List ℕ) (total : Result (List VType × List ℕ) Fault) → i < count → type_at bytes ≡ Ok (t, behind)
-    → with_front front (types_at (count - i) bytes) ≡ total → with_front (front ++ t ∷ []) (types_at (count - (i + 1)) behind) ≡ total
-unfolding types_at
-more_types front count i bytes t behind total lt h so_far =
-    let k : count - i ≡ suc (count - (i + 1)) = omega arith in
-    let one : with_front front (types_at (count - i) bytes) ≡ with_front (front ++ t ∷ []) (types_at (count - (i + 1)) behind) = rw (k, h) (regroup front t (types_at (count - (i + 1)) behind)) in
-    sym one ∙ so_far
-
-pub types_stop : (e : Stop) (front : List VType) (count i : ℕ) (bytes : List ℕ) (total : Result (List VType × List ℕ) Fault) → i < count → Fails e (type_at bytes)
-    → with_front front (types_at (count - i) bytes) ≡ total → Fails e total
-unfolding types_at
-types_stop stops.NoMemory front count i bytes total lt h so_far = tt
-types_stop (stops.Fault f) front count i bytes total lt h so_far =
-    let k : count - i ≡ suc (count - (i + 1)) = omega arith in
-    let one : with_front front (types_at (count - i) bytes) ≡ Err f = rw (k, h) refl in
-    sym so_far ∙ one
-
-pub types_end : (front : List VType) (count i : ℕ) (bytes : List ℕ) (total : Result (List VType × List ℕ) Fault) → count ≤ i → with_front front (types_at (count - i) bytes) ≡ total → total ≡ Ok (front, bytes)
-unfolding types_at
-types_end front count i bytes total le so_far =
-    let k : count - i ≡ 0 = omega arith in
-    let one : with_front front (types_at (count - i) bytes) ≡ Ok (front, bytes) = rw k (ap (λ (ts : List VType). Ok (ts, bytes)) (append-nil front)) in
-    sym so_far ∙ one
-
--- ---- frames
+use Rattle.stack_maps.specs.declared.frames.DeltaFrame.{DeltaFrame}
+use Rattle.stack_maps.specs.declared.error.MapWhy.{MapWhy}
+use Rattle.stack_maps.specs.Readers.{delta_frame, frame_at, whole_frame_at, behind, types_before}
 
 pub last_found : (first : FrameTypes) (frames : List (ℕ × FrameTypes)) (f : ℕ × FrameTypes) → Some f ≡ slice_get frames (length frames - 1) → f.1 ≡ types_before first frames
 last_found first [] f e = absurd cc
@@ -49,34 +19,24 @@ last_found first (g ∷ h ∷ frames) f e =
     let one : length (g ∷ h ∷ frames) - 1 ≡ suc (length (h ∷ frames) - 1) = omega arith in
     last_found g.1 (h ∷ frames) f (rw one at e)
 
-pub last_is : (first : FrameTypes) (frames : List (ℕ × FrameTypes)) (place : ℕ) (types : FrameTypes) → types_before first (frames ++ (place, types) ∷ []) ≡ types
-last_is first [] place types = refl
-last_is first (f ∷ frames) place types = last_is f.1 frames place types
+last_is : (first : FrameTypes) (frames : List (ℕ × FrameTypes)) (pc : ℕ) (types : FrameTypes) → types_before first (frames ++ (pc, types) ∷ []) ≡ types
+last_is first [] pc types = refl
+last_is first (f ∷ frames) pc types = last_is f.1 frames pc types
 
-pub more_frames : (first : FrameTypes) (front : List (ℕ × FrameTypes)) (count i next delta : ℕ) (types : FrameTypes) (bytes behind : List ℕ) (total : Result (List (ℕ × FrameTypes) × List ℕ) Fault) → i < count
-    → frame_at (types_before first front).locals bytes ≡ Ok ((delta, types), behind)
-    → with_front front (frames_at (count - i) next (types_before first front) bytes) ≡ total
-    → with_front (front ++ (next + delta, types) ∷ []) (frames_at (count - (i + 1)) (next + delta + 1) (types_before first (front ++ (next + delta, types) ∷ [])) behind) ≡ total
-unfolding frames_at
-more_frames first front count i next delta types bytes behind total lt h so_far =
-    let k : count - i ≡ suc (count - (i + 1)) = omega arith in
-    let one : with_front front (frames_at (count - i) next (types_before first front) bytes) ≡ with_front (front ++ (next + delta, types) ∷ []) (frames_at (count - (i + 1)) (next + delta + 1) types behind) =
-    rw (k, h) (regroup front (next + delta, types) (frames_at (count - (i + 1)) (next + delta + 1) types behind)) in
-    rw (last_is first front (next + delta) types) (sym one ∙ so_far)
+-- These frames were read, so many are to be read, and in all reading gives `total`.
+abbrev pub FramesOn : FrameTypes → List (ℕ × FrameTypes) → ℕ → ℕ → List ℕ → Result (List (ℕ × FrameTypes) × List ℕ) (Fault MapWhy) → Type 0
+FramesOn first front next left bytes total = ReadsOn whole_frame_at behind front (record { next = next; types = types_before first front }) left bytes total
 
-pub frames_stop : (e : Stop) (before : FrameTypes) (front : List (ℕ × FrameTypes)) (count i next : ℕ) (bytes : List ℕ) (total : Result (List (ℕ × FrameTypes) × List ℕ) Fault) → i < count → Fails e (frame_at before.locals bytes)
-    → with_front front (frames_at (count - i) next before bytes) ≡ total → Fails e total
-unfolding frames_at
-frames_stop stops.NoMemory before front count i next bytes total lt h so_far = tt
-frames_stop (stops.Fault f) before front count i next bytes total lt h so_far =
-    let k : count - i ≡ suc (count - (i + 1)) = omega arith in
-    let one : with_front front (frames_at (count - i) next before bytes) ≡ Err f = rw (k, h) refl in
-    sym so_far ∙ one
+abbrev pub delta_frame_at : FrameTypes → List ℕ → Result (DeltaFrame × List ℕ) (Fault MapWhy)
+delta_frame_at before bytes = map_value (delta_frame before.locals) (frame_at before.locals) bytes
 
-pub frames_end : (before : FrameTypes) (front : List (ℕ × FrameTypes)) (count i next : ℕ) (bytes : List ℕ) (total : Result (List (ℕ × FrameTypes) × List ℕ) Fault) → count ≤ i
-    → with_front front (frames_at (count - i) next before bytes) ≡ total → total ≡ Ok (front, bytes)
-unfolding frames_at
-frames_end before front count i next bytes total le so_far =
-    let k : count - i ≡ 0 = omega arith in
-    let one : with_front front (frames_at (count - i) next before bytes) ≡ Ok (front, bytes) = rw k (ap (λ (fs : List (ℕ × FrameTypes)). Ok (fs, bytes)) (append-nil front)) in
-    sym so_far ∙ one
+pub frame_more : (first : FrameTypes) (front : List (ℕ × FrameTypes)) (count i next : ℕ) (frame : DeltaFrame) (bytes rest : List ℕ) (total : Result (List (ℕ × FrameTypes) × List ℕ) (Fault MapWhy)) → i < count
+    → delta_frame_at (types_before first front) bytes ≡ Ok (frame, rest) → FramesOn first front next (count - i) bytes total
+    → FramesOn first (front ++ (next + frame.delta, frame.types) ∷ []) (next + frame.delta + 1) (count - (i + 1)) rest total
+frame_more first front count i next frame bytes rest total lt h so_far =
+    rw (last_is first front (next + frame.delta) frame.types) (goes_on count i (next + frame.delta, frame.types) rest lt so_far (rw h refl))
+
+pub frame_stops : (e : Stop MapWhy) (first : FrameTypes) (front : List (ℕ × FrameTypes)) (count i next : ℕ) (bytes : List ℕ) (total : Result (List (ℕ × FrameTypes) × List ℕ) (Fault MapWhy)) → i < count
+    → Stops e (delta_frame_at (types_before first front) bytes) → FramesOn first front next (count - i) bytes total → Stops e total
+frame_stops stops.NoMemory first front count i next bytes total lt h so_far = tt
+frame_stops (stops.Fault f) first front count i next bytes total lt h so_far = stops_at count i (stops.Fault f) lt so_far (rw h refl)

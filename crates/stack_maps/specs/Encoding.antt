@@ -25,7 +25,7 @@ vtype (Object class) = u1 7 ++ u2 class
 vtype (Uninit new) = u1 8 ++ u2 new
 vtype (Named dimensions base) = []
 
--- what a map has
+-- a type that a map can have
 abbrev pub IsMapped : VType → Type 0
 IsMapped (Object class) = class < 2 ^ 16
 IsMapped (Uninit new) = new < 2 ^ 16
@@ -48,6 +48,7 @@ pub data Frame : Type 0 where
   Append : ℕ → List VType → Frame
   Full : ℕ → List VType → List VType → Frame
 
+-- the bytes of a frame, the first of which is its type
 abbrev pub frame : Frame → List ℕ
 frame (Same delta) = u1 delta
 frame (SameLocals1StackItem delta item) = u1 (64 + delta) ++ vtype item
@@ -55,17 +56,21 @@ frame (SameLocals1StackItemExtended delta item) = u1 247 ++ u2 delta ++ vtype it
 frame (Chop delta dropped) = u1 (251 - dropped) ++ u2 delta
 frame (SameExtended delta) = u1 251 ++ u2 delta
 frame (Append delta added) = u1 (251 + length added) ++ u2 delta ++ vtypes added
-frame (Full delta locals stack) = u1 255 ++ u2 delta ++ u2 (length locals) ++ vtypes locals ++ u2 (length stack) ++ vtypes stack
+frame (Full delta locals stack) =
+    u1 255 ++ u2 delta ++ u2 (length locals) ++ vtypes locals ++ u2 (length stack) ++ vtypes stack
 
--- what can stand behind a frame with these locals
+-- a frame that is allowed behind one with these locals
 abbrev pub IsFrame : List VType → Frame → Type 0
 IsFrame before (Same delta) = delta < 64
 IsFrame before (SameLocals1StackItem delta item) = (delta < 64) × IsMapped item
 IsFrame before (SameLocals1StackItemExtended delta item) = (delta < 2 ^ 16) × IsMapped item
-IsFrame before (Chop delta dropped) = (delta < 2 ^ 16) × (1 ≤ dropped) × (dropped ≤ 3) × (dropped ≤ length before)
+IsFrame before (Chop delta dropped) =
+    (delta < 2 ^ 16) × (1 ≤ dropped) × (dropped ≤ 3) × (dropped ≤ length before)
 IsFrame before (SameExtended delta) = delta < 2 ^ 16
-IsFrame before (Append delta added) = (delta < 2 ^ 16) × (1 ≤ length added) × (length added ≤ 3) × AreMapped added
-IsFrame before (Full delta locals stack) = (delta < 2 ^ 16) × (length locals < 2 ^ 16) × AreMapped locals × (length stack < 2 ^ 16) × AreMapped stack
+IsFrame before (Append delta added) =
+    (delta < 2 ^ 16) × (1 ≤ length added) × (length added ≤ 3) × AreMapped added
+IsFrame before (Full delta locals stack) =
+    (delta < 2 ^ 16) × (length locals < 2 ^ 16) × AreMapped locals × (length stack < 2 ^ 16) × AreMapped stack
 
 abbrev pub delta_of : Frame → ℕ
 delta_of (Same delta) = delta
@@ -86,16 +91,18 @@ types_of before (SameExtended delta) = record { locals = before; stack = [] }
 types_of before (Append delta added) = record { locals = before ++ added; stack = [] }
 types_of before (Full delta locals stack) = record { locals = locals; stack = stack }
 
--- each can stand behind the one before it, the first of them behind one with these locals
+-- each is allowed behind the one before it, the first of them behind one with these locals
 abbrev pub AreFrames : List VType → List Frame → Type 0
 AreFrames before [] = Unit {0}
 AreFrames before (f ∷ fs) = IsFrame before f × AreFrames (types_of before f).locals fs
 
--- The frames whole, with their places. `next` is the place of the first of them if its delta is 0: the start of the
--- code, or else the place behind that of the frame before.
-abbrev pub placed : ℕ → List VType → List Frame → List (ℕ × FrameTypes)
-placed next before [] = []
-placed next before (f ∷ fs) = (next + delta_of f, types_of before f) ∷ placed (next + delta_of f + 1) (types_of before f).locals fs
+-- The frames whole, each with its pc. `next` is the pc of the first of them if its delta is 0: the
+-- start of the code, or else the pc behind that of the frame before.
+abbrev pub whole_frames : ℕ → List VType → List Frame → List (ℕ × FrameTypes)
+whole_frames next before [] = []
+whole_frames next before (f ∷ fs) =
+    (next + delta_of f, types_of before f)
+    ∷ whole_frames (next + delta_of f + 1) (types_of before f).locals fs
 
 -- a count, and the frames
 abbrev pub table : List Frame → List ℕ

@@ -1,3 +1,3 @@
-pub mod Reading
 pub mod Encoding
+pub mod Readers
 pub mod Expansion

@@ -4,13 +4,9 @@
 mod error;
 mod frames;
 mod map;
-mod numbers;
 mod types;
-mod verification;
+mod verification_types;
 
 pub use error::{MapError, MapWhy};
-pub use map::{expand, reading_is_exact};
+pub use map::{expand, expansion_is_exact};
 pub use types::{Base, FrameTypes, VType};
-
-#[cfg(test)]
-mod tests;

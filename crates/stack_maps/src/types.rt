@@ -1,6 +1,6 @@
 use items::Items;
 
-/// The types of the locals and of the operand stack at one place of a code, the first local and the bottom of
+/// The types of the locals and of the operand stack at one pc, the first local and the bottom of
 /// the stack first (JVMS 4.10.1.2). A long or a double is one item.
 #[derive(Clone, Debug, Drop, PartialEq, Eq)]
 pub struct FrameTypes {
@@ -18,15 +18,15 @@ pub enum VType {
     Long,
     Null,
     UninitThis,
-    /// A class by its place in the constant pool, as a map has it.
+    /// A class by its index in the constant pool, as in a map.
     Object(u16),
-    /// An object before its constructor ran, by the place of its `new`.
+    /// An object before its constructor ran, by the pc of its `new`.
     Uninit(u16),
-    /// A class by its number, or an array of that many dimensions (own). No map has it.
+    /// A class by its number, or an array of that many dimensions (own). It is in no map.
     Named(u8, Base),
 }
 
-/// What a named type is an array of. Without dimensions it is a class (own).
+/// What a named type is an array of, or the class itself where it has no dimensions (own).
 #[derive(Clone, Copy, Debug, PartialEq, Eq)]
 pub enum Base {
     Bool,

@@ -2,8 +2,8 @@ use Rattle.std.proofs.Common.{◌≡◌, ℕ, ◌-◌, List, [], ◌∷◌, map,
 use Rattle.class_model.specs.declared.constant.Const.{Const}
 use Rattle.class_model.specs.declared.class_file.ClassFile.{ClassFile}
 use Rattle.class_grammar.specs.declared.class_why.ClassWhy.{ClassWhy}
-use Rattle.class_grammar.specs.Checks.{Item, walked, checked, sound, flags_fault, class_fault, parent_fault}
-use Rattle.class_checks.proofs.WalkLaws.{handed_on, faults_first}
+use Rattle.class_grammar.specs.Checks.{Item, left_after, u2_item, sound_bytes, flags_fault, class_fault, parent_fault}
+use Rattle.class_checks.proofs.ItemLaws.{handed_on, faults_first}
 use Rattle.class_checks.proofs.class.check_class.Goals as goal
 
 abbrev wanted : ClassFile → List (Option ClassWhy)
@@ -16,21 +16,21 @@ same pool f a b c p x y z =
     cc
 
 abbrev behind : List Const → List ℕ → List Item
-behind pool places = map (λ place. checked (class_fault pool place)) places
+behind pool entries = map (λ index. u2_item (class_fault pool index)) entries
 
 pub returns-in_err-left : goal.returns-in_err-left
 returns-in_err-left c =
     let f = c.args.file.now in
     handed_on c.from_residual.result _ c.in_err-left.field-0.0 c.from_residual.ensures.1
-    (faults_first c.args.left _ _ (Err c.in_err-left.field-0.0) (sound 2 ∷ behind f.pool f.interfaces) c.in_err-left.ensures
+    (faults_first c.args.left _ _ (Err c.in_err-left.field-0.0) (sound_bytes 2 ∷ behind f.pool f.interfaces) c.in_err-left.ensures
     (same c.args.pool.now f _ _ _ c.requires c.flags_fault.ensures c.class_fault.ensures c.parent_fault.ensures))
 
 pub returns : goal.returns
 returns c =
     let f = c.args.file.now in
     c.check_interfaces.ensures
-    ∙ ap (λ (n : ℕ). walked n (behind c.args.pool.now c.deref.result.now)) c.saturating_sub.ensures
-    ∙ ap (λ (places : List ℕ). walked (c.in_ok-left.left - 2) (behind c.args.pool.now places)) c.deref.ensures
-    ∙ ap (λ (pool : List Const). walked (c.in_ok-left.left - 2) (behind pool f.interfaces)) c.requires
-    ∙ faults_first c.args.left _ _ (Ok c.in_ok-left.left) (sound 2 ∷ behind f.pool f.interfaces) c.in_ok-left.ensures
+    ∙ ap (λ (n : ℕ). left_after n (behind c.args.pool.now c.deref.result.now)) c.saturating_sub.ensures
+    ∙ ap (λ (entries : List ℕ). left_after (c.in_ok-left.left - 2) (behind c.args.pool.now entries)) c.deref.ensures
+    ∙ ap (λ (pool : List Const). left_after (c.in_ok-left.left - 2) (behind pool f.interfaces)) c.requires
+    ∙ faults_first c.args.left _ _ (Ok c.in_ok-left.left) (sound_bytes 2 ∷ behind f.pool f.interfaces) c.in_ok-left.ensures
     (same c.args.pool.now f _ _ _ c.requires c.flags_fault.ensures c.class_fault.ensures c.parent_fault.ensures)

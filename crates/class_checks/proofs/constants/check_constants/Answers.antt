@@ -1,6 +1,6 @@
 use Rattle.std.proofs.Common.{Ok, Err}
 use Rattle.class_grammar.specs.Checks.{constant_items}
-use Rattle.class_checks.proofs.WalkLaws.{looped, handed_on}
+use Rattle.class_checks.proofs.ItemLaws.{looped, handed_on}
 use Rattle.class_checks.proofs.constants.check_constants.Goals as goal
 
 pub returns-in_err-left : goal.returns-in_err-left

@@ -1,9 +1,9 @@
 use Rattle.std.proofs.Common.{◌≡◌, [], ◌∷◌, Err}
 use Rattle.class_grammar.specs.declared.class_why.ClassWhy.TheVariants.{Name, Descriptor}
-use Rattle.descriptors.specs.Recognizing.{is_method}
+use Rattle.descriptors.specs.States.{is_method}
 use Rattle.class_grammar.specs.Names.{is_method_name}
 use Rattle.class_grammar.specs.Checks.{code_fault, text_fault, attributes_items}
-use Rattle.class_checks.proofs.WalkLaws.{handed_on, faults_first}
+use Rattle.class_checks.proofs.ItemLaws.{handed_on, faults_first}
 use Rattle.class_checks.proofs.members.check_method.Goals as goal
 
 pub returns-in_err-left : goal.returns-in_err-left

@@ -1,7 +1,7 @@
 use Rattle.std.proofs.Common.{ℕ, Bool, false}
 use Rattle.std.proofs.lemmas.Result.{err_from_is_err_and}
 use Rattle.class_file.specs.Attributes.{attribute_at, next_attribute, attributes_at}
-use Rattle.class_file.proofs.LoopLaws.{begins, goes_on, stops_at, is_done}
+use Rattle.byte_reader.proofs.LoopLaws.{begins, goes_on, stops_at, is_done}
 use Rattle.class_file.proofs.attributes.attributes_of.Goals as goal
 
 pub loop-init : goal.loop-init
@@ -17,4 +17,4 @@ pub loop-preserved : goal.loop-preserved
 loop-preserved c = rw (c.is_one_seen-seen.ensures, c.in_ok-push.ensures.items) (goes_on c.args.count c.loop.counter c.in_ok-attribute.attribute c.in_ok-attribute.after.now c.loop-test.true c.loop.invariant c.in_ok-attribute.ensures)
 
 pub returns : goal.returns
-returns c = is_done c.args.count c.loop.counter c.loop-test.false c.loop.invariant
+returns c = rw c.from-2.ensures (is_done c.args.count c.loop.counter c.loop-test.false c.loop.invariant)

@@ -1,6 +1,6 @@
 use Rattle.std.proofs.Common.{ℕ, ◌-◌, Bool, false}
 use Rattle.class_file.specs.Attributes.{attribute_at, next_attribute, attributes_at}
-use Rattle.class_file.proofs.LoopLaws.{ReadsOn}
+use Rattle.byte_reader.proofs.LoopLaws.{ReadsOn}
 use Rattle.class_file.proofs.attributes.attributes_of.Given as goal
 
 abbrev pub invariant-loop : goal.invariant-loop

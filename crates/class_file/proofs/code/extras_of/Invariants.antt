@@ -1,6 +1,6 @@
 use Rattle.std.proofs.Common.{ℕ, ◌-◌, Bool, false}
 use Rattle.class_file.specs.Attributes.{extra_at, next_extra, extras_at}
-use Rattle.class_file.proofs.LoopLaws.{ReadsOn}
+use Rattle.byte_reader.proofs.LoopLaws.{ReadsOn}
 use Rattle.class_file.proofs.code.extras_of.Given as goal
 
 abbrev pub invariant-loop : goal.invariant-loop

@@ -1,8 +1,8 @@
 use Rattle.std.proofs.Common.{ℕ}
 use Rattle.std.proofs.lemmas.Result.{err_from_is_err_and}
-use Rattle.class_file.specs.Reading.{keep}
+use Rattle.byte_reader.specs.Reader.{keep}
 use Rattle.class_file.specs.Attributes.{row_at, rows_at}
-use Rattle.class_file.proofs.LoopLaws.{begins, goes_on, stops_at, is_done}
+use Rattle.byte_reader.proofs.LoopLaws.{begins, goes_on, stops_at, is_done}
 use Rattle.class_file.proofs.code.rows_of.Goals as goal
 
 pub loop-init : goal.loop-init
@@ -18,4 +18,4 @@ pub loop-preserved : goal.loop-preserved
 loop-preserved c = rw c.in_ok-push.ensures.items (goes_on c.args.count c.loop.counter c.in_ok-row.row c.in_ok-row.after.now c.loop-test.true c.loop.invariant c.in_ok-row.ensures)
 
 pub returns : goal.returns
-returns c = is_done c.args.count c.loop.counter c.loop-test.false c.loop.invariant
+returns c = rw c.from-2.ensures (is_done c.args.count c.loop.counter c.loop-test.false c.loop.invariant)

@@ -1,7 +1,7 @@
 use Rattle.std.proofs.Common.{ℕ, ◌-◌}
-use Rattle.class_file.specs.Reading.{keep}
+use Rattle.byte_reader.specs.Reader.{keep}
 use Rattle.class_file.specs.Attributes.{row_at, rows_at}
-use Rattle.class_file.proofs.LoopLaws.{ReadsOn}
+use Rattle.byte_reader.proofs.LoopLaws.{ReadsOn}
 use Rattle.class_file.proofs.code.rows_of.Given as goal
 
 abbrev pub invariant-loop : goal.invariant-loop

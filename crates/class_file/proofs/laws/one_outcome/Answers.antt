@@ -1,4 +1,4 @@
-use Rattle.class_file.proofs.ValueLaws.{none_bad, some_spelled}
+use Rattle.class_file.proofs.OutcomeLaws.{none_bad, some_spelled}
 use Rattle.class_file.proofs.laws.one_outcome.Goals as goal
 
 pub returns-clause-none_bad : goal.returns-clause-none_bad

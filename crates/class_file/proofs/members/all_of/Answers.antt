@@ -1,8 +1,8 @@
 use Rattle.std.proofs.Common.{ℕ}
 use Rattle.std.proofs.lemmas.Result.{err_from_is_err_and}
-use Rattle.class_file.specs.Reading.{keep}
-use Rattle.class_file.specs.FirstPass.{member_at}
-use Rattle.class_file.proofs.LoopLaws.{begins, goes_on, stops_at, is_done}
+use Rattle.byte_reader.specs.Reader.{keep}
+use Rattle.class_file.specs.File.{member_at}
+use Rattle.byte_reader.proofs.LoopLaws.{begins, goes_on, stops_at, is_done}
 use Rattle.class_file.proofs.members.all_of.Goals as goal
 
 pub loop-init : goal.loop-init
@@ -17,4 +17,4 @@ pub loop-preserved : goal.loop-preserved
 loop-preserved c = rw (c.in_ok-push.ensures.items) (goes_on c.args.count c.loop.counter c.in_ok-member.member c.in_ok-member.after.now c.loop-test.true c.loop.invariant c.in_ok-member.ensures)
 
 pub returns : goal.returns
-returns c = is_done c.args.count c.loop.counter c.loop-test.false c.loop.invariant
+returns c = rw c.from-2.ensures (is_done c.args.count c.loop.counter c.loop-test.false c.loop.invariant)

@@ -1,7 +1,7 @@
 use Rattle.std.proofs.Common.{ℕ, ◌-◌}
-use Rattle.class_file.specs.Reading.{keep, many}
-use Rattle.class_file.specs.FirstPass.{member_at}
-use Rattle.class_file.proofs.LoopLaws.{ReadsOn}
+use Rattle.byte_reader.specs.Reader.{keep, many}
+use Rattle.class_file.specs.File.{member_at}
+use Rattle.byte_reader.proofs.LoopLaws.{ReadsOn}
 use Rattle.class_file.proofs.members.all_of.Given as goal
 
 abbrev pub invariant-loop : goal.invariant-loop

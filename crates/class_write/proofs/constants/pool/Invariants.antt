@@ -3,5 +3,5 @@ use Rattle.std.specs.List.{flat_map}
 use Rattle.class_grammar.specs.Layout.{constant, u2}
 use Rattle.class_write.proofs.constants.pool.Given as goal
 
-abbrev pub invariant-loop-place : goal.invariant-loop-place
-invariant-loop-place l = l.out.items ≡ l.fn.out.items ++ u2 (length l.places) ++ flat_map constant (take l.place-index l.places)
+abbrev pub invariant-loop-entry : goal.invariant-loop-entry
+invariant-loop-entry l = l.out.items ≡ l.fn.out.items ++ u2 (length l.entries) ++ flat_map constant (take l.entry-index l.entries)

@@ -1,13 +1,12 @@
 use Rattle.descriptors.specs.Refusal.{IsField, IsMethod}
-use Rattle.descriptors.proofs.FieldLaws.{no_member}
-use Rattle.descriptors.proofs.OneKind.{one_place}
+use Rattle.descriptors.proofs.FirstBad.{no_member, one_offset}
 use Rattle.descriptors.proofs.laws.one_first_bad.Goals as goal
 
 pub returns-clause-of_field : goal.returns-clause-of_field
-returns-clause-of_field c = λ units a b f g. one_place IsField units a b f g
+returns-clause-of_field c = λ units a b f g. one_offset IsField units a b f g
 
 pub returns-clause-of_method : goal.returns-clause-of_method
-returns-clause-of_method c = λ units a b f g. one_place IsMethod units a b f g
+returns-clause-of_method c = λ units a b f g. one_offset IsMethod units a b f g
 
 pub returns-clause-no_field : goal.returns-clause-no_field
 returns-clause-no_field c = λ units at bad field. no_member IsField units at bad field

@@ -1,4 +1,4 @@
-use Rattle.descriptors.proofs.RecognizingLaws.{field_decides, method_decides}
+use Rattle.descriptors.proofs.StateLaws.{field_decides, method_decides}
 use Rattle.descriptors.proofs.laws.tests_decide.Goals as goal
 
 pub returns-clause-field : goal.returns-clause-field

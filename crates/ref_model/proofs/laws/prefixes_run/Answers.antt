@@ -1,4 +1,4 @@
-use Rattle.ref_model.proofs.Folds.{run_front}
+use Rattle.ref_model.proofs.ReplayLaws.{run_front}
 use Rattle.ref_model.proofs.laws.prefixes_run.Goals as goal
 
 pub returns : goal.returns

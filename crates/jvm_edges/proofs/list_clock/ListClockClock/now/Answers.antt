@@ -6,5 +6,5 @@ use Rattle.jvm_edges.proofs.list_clock.ListClockClock.now.Goals as goal
 pub returns : goal.returns
 returns c =
     let xs = c.self.inside.readings.items in
-    let within : c.next_place.result < length xs = rw c.self.view_is c.next_place.ensures in
-    rw (← c.self.view_is) (list_any_at (nat_eq c.index.result.now) xs c.next_place.result c.index.result.now within (grind (arith, nat_tests)))
+    let within : c.next_index.result < length xs = rw c.self.view_is c.next_index.ensures in
+    rw (← c.self.view_is) (list_any_at (nat_eq c.index.result.now) xs c.next_index.result c.index.result.now within (grind (arith, nat_tests)))

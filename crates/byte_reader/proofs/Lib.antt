@@ -1,0 +1,3 @@
+pub mod ReaderLaws
+pub mod SequenceLaws
+pub mod LoopLaws

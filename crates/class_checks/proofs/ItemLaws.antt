@@ -1,0 +1,58 @@
+-- Going over items one after the other.
+use Rattle.std.proofs.Common.{◌≡◌, ℕ, ◌+◌, ◌-◌, ◌<◌, List, [], ◌∷◌, ◌++◌, length, map, drop, get_or, Option, Some, None, Result, Ok, Err, refl, sym, ap, ◌∙◌, arith}
+use Rattle.std.specs.List.{flat_map}
+use Rattle.std.specs.Result.{IsErrAnd}
+use Rattle.std.proofs.lemmas.List.{at_drop_more}
+use Rattle.std.proofs.lemmas.List.Sums.{sum_by-cons}
+use Rattle.std.proofs.lemmas.Result.{err_from_is_err_and}
+use Rattle.jvm_utf8.specs.Text.{unit}
+use Rattle.class_grammar.specs.declared.class_why.ClassWhy.{ClassWhy}
+use Rattle.byte_reader.specs.declared.fault.Fault.{Fault}
+use Rattle.class_grammar.specs.Checks.{Item, left_after, sound_bytes, u2_item}
+use Rattle.class_checks.specs.Sizes.{text_size}
+
+-- going on from a result
+abbrev pub then_on : Result ℕ (Fault ClassWhy) → List Item → Result ℕ (Fault ClassWhy)
+then_on (Ok left) is = left_after left is
+then_on (Err f) is = Err f
+
+-- one item, and those behind it
+abbrev first : ℕ → ℕ → List Item → Option ClassWhy → Result ℕ (Fault ClassWhy)
+first left size is fault = elim fault [ None ↦ left_after (left - size) is | Some why ↦ Err (record { left = left; why = why }) ]
+
+one_more : (left size : ℕ) (is js : List Item) (fault : Option ClassWhy) → left_after (left - size) (is ++ js) ≡ then_on (left_after (left - size) is) js → first left size (is ++ js) fault ≡ then_on (first left size is fault) js
+one_more left size is js None more = more
+one_more left size is js (Some why) more = refl
+
+-- items, and those behind them
+pub left_after_append : (left : ℕ) (is js : List Item) → left_after left (is ++ js) ≡ then_on (left_after left is) js
+left_after_append left [] js = refl
+left_after_append left (i ∷ is) js = one_more left i.size is js i.fault (left_after_append (left - i.size) is js)
+
+-- the units of a text
+pub text_on : (left : ℕ) (units : List ℕ) → left_after left (map (λ u. sound_bytes (length (unit u))) units) ≡ Ok (left - text_size units)
+text_on left [] = ap (λ (n : ℕ). Ok n) (omega arith)
+text_on left (u ∷ us) =
+    let size = sum_by-cons (λ (u : ℕ). length (unit u)) u us in
+    text_on (left - length (unit u)) us ∙ ap (λ (n : ℕ). Ok n) (omega arith)
+
+-- ---- what answers cite
+
+-- what a `?` hands on
+pub handed_on : (r total : Result ℕ (Fault ClassWhy)) (fault : Fault ClassWhy) → IsErrAnd r (λ f. f ≡ fault) → Err fault ≡ total → r ≡ total
+handed_on r total fault out e = let p = err_from_is_err_and r out in p.1 ∙ ap (λ (f : Fault ClassWhy). Err f) p.2 ∙ e
+
+-- one more thing of a list was gone over, or has a fault
+pub looped : {X : Type 0} (f : X → List Item) (xs : List X) (i : ℕ) (x : X) (left : ℕ) (r total : Result ℕ (Fault ClassWhy)) → i < length xs → x ≡ get_or xs i x → r ≡ left_after left (f x)
+    → left_after left (flat_map f (drop i xs)) ≡ total → then_on r (flat_map f (drop (i + 1) xs)) ≡ total
+looped f xs i x left r total lt is one so_far =
+    let rest = flat_map f (drop (i + 1) xs) in
+    ap (λ (q : Result ℕ (Fault ClassWhy)). then_on q rest) (one ∙ ap (λ y. left_after left (f y)) is)
+    ∙ sym (left_after_append left (f (get_or xs i x)) rest)
+    ∙ sym (at_drop_more (λ more. left_after left (flat_map f more)) xs i x lt) ∙ so_far
+
+-- numbers in two bytes, and what is behind them
+pub faults_first : (left : ℕ) (found wanted : List (Option ClassWhy)) (r : Result ℕ (Fault ClassWhy)) (is : List Item) → r ≡ left_after left (map u2_item found) → found ≡ wanted
+    → then_on r is ≡ left_after left (map u2_item wanted ++ is)
+faults_first left found wanted r is one same =
+    ap (λ (q : Result ℕ (Fault ClassWhy)). then_on q is) (one ∙ ap (λ (fs : List (Option ClassWhy)). left_after left (map u2_item fs)) same) ∙ sym (left_after_append left (map u2_item wanted) is)

@@ -1,0 +1,119 @@
+//! The layout of a whole class file (JVMS 4.1).
+
+ghost use Rattle.std.specs.Prelude.{◌≡◌};
+ghost use Rattle.byte_reader.specs.Reader.{Gives, Reads};
+ghost use Rattle.class_file.specs.File as spec;
+
+use crate::attributes::attributes_of;
+use crate::constants::pool_of;
+use crate::members::{interfaces_of, members_of};
+use byte_reader::{Stop, pair_of, u2_of, u4_of};
+use class_grammar::{ClassWhy, Holder};
+use class_model::{ClassFile, Const};
+use items::Items;
+use std::alloc::Global;
+
+/// The first bytes of every class file (JVMS 4.1).
+const MAGIC: u32 = 0xcafe_babe;
+
+/// The version of a class file (JVMS 4.1).
+#[derive(Clone, Copy, Debug)]
+pub struct Version {
+    pub minor: u16,
+    pub major: u16,
+}
+
+/// What a class says of itself (JVMS 4.1).
+#[derive(Debug, Drop)]
+pub struct Class {
+    pub flags: u16,
+    pub own: u16,
+    pub parent: u16,
+    pub interfaces: Items<u16>,
+}
+
+// Whether it is Java 7 to 25, and from version 56 on without preview features.
+fn is_supported(version: Version) -> bool
+    ensures { result ≡ spec.is_supported version }
+{
+    let Version { minor, major } = version;
+    51 <= major && major <= 69 && (major < 56 || minor == 0)
+}
+
+// The version after the magic number.
+#[tactic(auto, unfolding(crate::specs::File::version_at))]
+fn version_of(bytes: &[u8]) -> Result<(Version, &[u8]), Stop<ClassWhy>>
+    ensures { Reads result (spec.version_at bytes.now) }
+{
+    let (magic, front) = u4_of(bytes)?;
+    if magic != MAGIC {
+        return Err(Stop::at(bytes, ClassWhy::Magic));
+    }
+    let ((minor, major), rest) = pair_of(front)?;
+    let version = Version { minor, major };
+    if !is_supported(version) {
+        return Err(Stop::at(front, ClassWhy::Version));
+    }
+    Ok((version, rest))
+}
+
+#[tactic(auto, unfolding(crate::specs::File::class_at))]
+fn class_of(alloc: Global, bytes: &[u8]) -> Result<(Class, &[u8]), Stop<ClassWhy>>
+    ensures { Reads result (spec.class_at bytes.now) }
+{
+    let (flags, rest) = u2_of(bytes)?;
+    let ((own, parent), rest) = pair_of(rest)?;
+    let (count, rest) = u2_of(rest)?;
+    let (interfaces, rest) = interfaces_of(alloc, count, rest)?;
+    let class = Class {
+        flags,
+        own,
+        parent,
+        interfaces,
+    };
+    Ok((class, rest))
+}
+
+// What follows the pool.
+#[tactic(auto, unfolding(crate::specs::File::tail_at))]
+fn tail_of(
+    alloc: Global,
+    version: Version,
+    pool: Items<Const>,
+    bytes: &[u8],
+) -> Result<(ClassFile, &[u8]), Stop<ClassWhy>>
+    ensures { Reads result (spec.tail_at version pool bytes.now) }
+{
+    let (class, rest) = class_of(alloc, bytes)?;
+    let (fields, rest) = members_of(alloc, &pool, Holder::Field, rest)?;
+    let (methods, rest) = members_of(alloc, &pool, Holder::Method, rest)?;
+    let (count, rest) = u2_of(rest)?;
+    let (attributes, rest) = attributes_of(alloc, &pool, Holder::Class, count, rest)?;
+    let file = ClassFile {
+        minor: version.minor,
+        major: version.major,
+        pool,
+        flags: class.flags,
+        own: class.own,
+        parent: class.parent,
+        interfaces: class.interfaces,
+        fields,
+        methods,
+        attributes,
+    };
+    Ok((file, rest))
+}
+
+/// A class file, and no byte more (JVMS 4.1). None of its items is checked.
+#[tactic(auto, unfolding(crate::specs::File::layout_of))]
+pub fn layout_of(alloc: Global, bytes: &[u8]) -> Result<ClassFile, Stop<ClassWhy>>
+    ensures { Gives result (spec.layout_of bytes.now) }
+{
+    let (version, rest) = version_of(bytes)?;
+    let (pool, rest) = pool_of(alloc, rest)?;
+    let (file, rest) = tail_of(alloc, version, pool, rest)?;
+    if !rest.is_empty() {
+        return Err(Stop::at(rest, ClassWhy::Trailing));
+    }
+    Ok(file)
+}

@@ -1,7 +1,0 @@
-use Rattle.std.proofs.Common.{◌≡◌, ◌++◌, length, take}
-use Rattle.std.specs.List.{flat_map}
-use Rattle.class_grammar.specs.Layout.{u2}
-use Rattle.class_write.proofs.writer.places.Given as goal
-
-abbrev pub invariant-loop-place : goal.invariant-loop-place
-invariant-loop-place l = l.out.items ≡ l.fn.out.items ++ u2 (length l.table) ++ flat_map u2 (take l.place-index l.table)

@@ -1,0 +1,20 @@
+//! Tests of the public calls of all libraries, with values from the standard and from other tools. They are in a crate of
+//! their own, since a crate with tests is proved twice.
+#![tactic(auto)]
+
+#[cfg(test)]
+mod arithmetic;
+#[cfg(test)]
+mod class_files;
+#[cfg(test)]
+mod edges;
+#[cfg(test)]
+mod instructions;
+#[cfg(test)]
+mod member_types;
+#[cfg(test)]
+mod memory;
+#[cfg(test)]
+mod stack_map_frames;
+#[cfg(test)]
+mod texts;

@@ -1,0 +1,120 @@
+ghost use Rattle.std.specs.Prelude.{◌≡◌, ℕ, ◌<◌, ◌≤◌, ◌+◌, ◌^◌, [], ◌∷◌, ◌++◌, Err, length, take, drop, true, not, position, ◌==◌, IfOk};
+ghost use Rattle.items.specs.Memory.{OkUnless};
+ghost use Rattle.descriptors.specs.declared.error.DescriptorError.TheVariants as errors;
+ghost use Rattle.descriptors.specs.declared.kind.Kind.{Kind as AnyKind};
+ghost use Rattle.descriptors.specs.Descriptors.{spelling, brackets, semicolon, AreSame, IsClassName, IsElement, IsKind, is_base};
+ghost use Rattle.descriptors.specs.Refusal.{IsField, IsFirstBad, InFront, NameInFront};
+ghost use Rattle.descriptors.specs.States as spec;
+
+use crate::error::DescriptorError;
+use crate::fronts::{BYTE, CHAR, DOUBLE, FLOAT, INT, LONG, SHORT, field_bad};
+use crate::kind::Kind;
+use items::Items;
+use std::alloc::{AllocError, Global};
+
+/// Whether the units are the descriptor of a field (JVMS 4.3.2). This takes no memory.
+pub fn is_field_descriptor(units: &[u16]) -> bool
+    ensures { result ≡ spec.is_field units.now }
+{
+    field_bad(units, 0).is_none()
+}
+
+/// The kind whose descriptor the units are (JVMS 4.3.2): of a class with a name by JVMS 4.2.1, of
+/// an array with at most 255 dimensions.
+pub fn field_kind(alloc: Global, units: &[u16]) -> Result<Kind, DescriptorError>
+    requires { length units.now < 2 ^ 32 }
+    // The units are the descriptor of the kind that it returns.
+    ensures found { IfOk result (λ kind. IsKind kind × (units.now ≡ spelling kind)) }
+    // The descriptor of a kind is read as this kind.
+    ensures only { (kind : AnyKind) → IsKind kind → units.now ≡ spelling kind
+        → OkUnless result errors.NoMemory (λ found. AreSame found kind) }
+    // A refusal names the first bad unit.
+    ensures bad { (at : ℕ) → result ≡ Err (errors.Bad at) → IsFirstBad IsField units.now at }
+{
+    if let Some(at) = field_bad(units, 0) {
+        return Err(DescriptorError::Bad { at: at as u32 });
+    }
+    let (kind, _) = kind_at(alloc, units)?;
+    Ok(kind)
+}
+
+/// The kind whose descriptor is in front, and the units behind it.
+pub fn kind_at(alloc: Global, units: &[u16]) -> Result<(Kind, &[u16]), AllocError>
+    requires { InFront IsKind units.now }
+    ensures { IfOk result (λ x. IsKind x.0 × (units.now ≡ spelling x.0 ++ x.1.now)) }
+{
+    let dims = brackets_in(units);
+    let (element, rest) = element_at(alloc, &units[dims..])?;
+    if dims == 0 {
+        return Ok((element, rest));
+    }
+    let array = Kind::Array(dims as u8, Box::new(alloc, element)?);
+    Ok((array, rest))
+}
+
+// How many `[` are in front.
+fn brackets_in(units: &[u16]) -> usize
+    requires { InFront IsKind units.now }
+    ensures few { result ≤ 255 }
+    ensures within { result ≤ length units.now }
+    ensures brackets { units.now ≡ brackets result ++ drop result units.now }
+    ensures element { InFront IsElement (drop result units.now) }
+{
+    first_other(units, u16::from(b'[')).unwrap()
+}
+
+// The kind in front, which is no array, and the units behind it.
+fn element_at(alloc: Global, units: &[u16]) -> Result<(Kind, &[u16]), AllocError>
+    requires { InFront IsElement units.now }
+    ensures { IfOk result (λ x. IsElement x.0 × (units.now ≡ spelling x.0 ++ x.1.now)) }
+{
+    let first = units[0];
+    let rest = &units[1..];
+    if first != u16::from(b'L') {
+        return Ok((base(first), rest));
+    }
+    let end = name_len(rest);
+    let name = Items::from(Vec::from_slice(alloc, &rest[..end])?);
+    Ok((Kind::Class(name), &rest[end + 1..]))
+}
+
+// How many units the class name in front has.
+fn name_len(units: &[u16]) -> usize
+    requires { NameInFront units.now }
+    ensures within { result < length units.now }
+    ensures name { IsClassName (take result units.now) }
+    ensures end { units.now ≡ take result units.now ++ semicolon ∷ drop (result + 1) units.now }
+{
+    first_same(units, u16::from(b';')).unwrap()
+}
+
+// The offset of the first unit that is this one.
+fn first_same(units: &[u16], wanted: u16) -> Option<usize>
+    ensures { result ≡ position (λ unit. unit == wanted) units.now }
+{
+    units.iter().position(|unit| *unit == wanted)
+}
+
+// The offset of the first unit that is another one.
+fn first_other(units: &[u16], skipped: u16) -> Option<usize>
+    ensures { result ≡ position (λ unit. not (unit == skipped)) units.now }
+{
+    units.iter().position(|unit| *unit != skipped)
+}
+
+// The kind of one unit.
+fn base(unit: u16) -> Kind
+    requires { is_base unit ≡ true }
+    ensures { IsElement result × (spelling result ≡ unit ∷ []) }
+{
+    match unit {
+        BYTE => Kind::Byte,
+        CHAR => Kind::Char,
+        DOUBLE => Kind::Double,
+        FLOAT => Kind::Float,
+        INT => Kind::Int,
+        LONG => Kind::Long,
+        SHORT => Kind::Short,
+        _ => Kind::Bool,
+    }
+}

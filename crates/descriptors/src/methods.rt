@@ -1,0 +1,68 @@
+ghost use Rattle.std.specs.Prelude.{◌≡◌, ℕ, ◌<◌, ◌^◌, Err, length, IfOk};
+ghost use Rattle.items.specs.Memory.{OkUnless};
+ghost use Rattle.descriptors.specs.declared.error.DescriptorError.TheVariants as errors;
+ghost use Rattle.descriptors.specs.declared.kind.Signature.{Signature as AnySignature};
+ghost use Rattle.descriptors.specs.Descriptors.{method_spelling, result_spelling, AreSameSignature, IsResult, IsSignature};
+ghost use Rattle.descriptors.specs.Refusal.{IsMethod, IsFirstBad, IsResultText};
+ghost use Rattle.descriptors.specs.States as spec;
+
+use crate::error::DescriptorError;
+use crate::fields::kind_at;
+use crate::fronts::method_bad;
+use crate::kind::{Kind, Signature};
+use items::Items;
+use std::alloc::{AllocError, Global};
+
+/// Whether the units are the descriptor of a method (JVMS 4.3.3). This takes no memory.
+pub fn is_method_descriptor(units: &[u16]) -> bool
+    ensures { result ≡ spec.is_method units.now }
+{
+    method_bad(units).is_none()
+}
+
+/// The signature whose descriptor the units are (JVMS 4.3.3). Its arguments take at most 255
+/// slots: a long and a double take two each, every other kind one, and the receiver isn't
+/// counted.
+pub fn method_kind(alloc: Global, units: &[u16]) -> Result<Signature, DescriptorError>
+    requires { length units.now < 2 ^ 32 }
+    // The units are the descriptor of the signature that it returns.
+    ensures found { IfOk result (λ s. IsSignature s × (units.now ≡ method_spelling s)) }
+    // The descriptor of a signature is read as this signature.
+    ensures only { (s : AnySignature) → IsSignature s → units.now ≡ method_spelling s
+        → OkUnless result errors.NoMemory (λ found. AreSameSignature found s) }
+    // A refusal names the first bad unit.
+    ensures bad { (at : ℕ) → result ≡ Err (errors.Bad at) → IsFirstBad IsMethod units.now at }
+{
+    if let Some(at) = method_bad(units) {
+        return Err(DescriptorError::Bad { at: at as u32 });
+    }
+    Ok(signature_of(alloc, units)?)
+}
+
+// The signature of a method's descriptor.
+fn signature_of(alloc: Global, units: &[u16]) -> Result<Signature, AllocError>
+    requires { IsMethod units.now }
+    ensures { IfOk result (λ s. IsSignature s × (units.now ≡ method_spelling s)) }
+{
+    let mut args = Items::new(alloc);
+    let mut rest = &units[1..];
+    while rest[0] != u16::from(b')') {
+        let (kind, behind) = kind_at(alloc, rest)?;
+        args.push(kind)?;
+        rest = behind;
+    }
+    let result = result_of(alloc, &rest[1..])?;
+    Ok(Signature { args, result })
+}
+
+// The result of a method, or none for `V`.
+fn result_of(alloc: Global, units: &[u16]) -> Result<Option<Kind>, AllocError>
+    requires { IsResultText units.now }
+    ensures { IfOk result (λ r. IsResult r × (units.now ≡ result_spelling r)) }
+{
+    if units[0] == u16::from(b'V') {
+        return Ok(None);
+    }
+    let (kind, _) = kind_at(alloc, units)?;
+    Ok(Some(kind))
+}

@@ -1,9 +1,0 @@
-use Rattle.std.proofs.Common.{◌∙◌}
-use Rattle.java_cli.proofs.Answering.{tells}
-use Rattle.java_cli.proofs.top_call.tell.Goals as goal
-
-pub returns-in-Ok-clause-line : goal.returns-in-Ok-clause-line
-returns-in-Ok-clause-line g c = rw (← (c.as_slice.ensures ∙ c.in-Ok.ensures.line)) (tells _ _ _ _ _ c.put_all.result c.put_all.ensures.ok c.put_all.ensures.part c.put_all.ensures.cause)
-
-pub returns-in-Err-clause-line : goal.returns-in-Err-clause-line
-returns-in-Err-clause-line g c = tells _ _ _ _ _ c.put_all-in-Err.result c.put_all-in-Err.ensures.ok c.put_all-in-Err.ensures.part c.put_all-in-Err.ensures.cause

@@ -1,0 +1,88 @@
+//! The errors of loading and of linking, and the answers to them.
+
+ghost use Rattle.std.specs.Prelude.{◌≡◌};
+
+use crate::class_files::MOST_BYTES;
+use crate::report::{LinkWhy, Which, Why};
+use class_file::ClassWhy;
+use items::Items;
+use std::alloc::{AllocError, AllocFailed};
+
+/// Why a file was not read as a class file. `file` is its index among the FILE words, from 0.
+#[derive(Clone, Copy, Debug, PartialEq, Eq)]
+pub enum LoadError {
+    /// There is no such file.
+    Missing { file: u32 },
+    /// The store failed.
+    SourceFault { file: u32 },
+    /// The file has more bytes than are read.
+    TooLarge,
+    /// The file is no class file. `at` is the offset in it of the first check that fails, in bytes.
+    BadClass { file: u32, at: u32, why: ClassWhy },
+    /// Memory ran out.
+    NoMemory,
+}
+
+/// Why classes were not linked.
+#[derive(Debug, Drop, PartialEq, Eq)]
+pub enum LinkError {
+    /// No class is the main class with a `main` (JLS 12.1.4).
+    NoMain,
+    /// The class of this name could not be linked (JVMS 5.4).
+    Fault { class: Items<u16>, why: LinkWhy },
+    /// Memory ran out.
+    NoMemory,
+}
+
+impl<T: Drop> From<AllocFailed<T>> for LoadError {
+    ghost use Rattle.java_cli.specs.declared.errors.LoadError.TheVariants as errors;
+
+    ghost from_gives = { λ _ e. e ≡ errors.NoMemory };
+
+    fn from(_: AllocFailed<T>) -> Self {
+        LoadError::NoMemory
+    }
+}
+
+impl From<AllocError> for LinkError {
+    ghost use Rattle.java_cli.specs.declared.errors.LinkError.TheVariants as errors;
+
+    ghost from_gives = { λ _ e. e ≡ errors.NoMemory };
+
+    fn from(_: AllocError) -> Self {
+        LinkError::NoMemory
+    }
+}
+
+impl From<LoadError> for Why {
+    ghost use Rattle.java_cli.specs.Errors.{load_answer};
+
+    ghost from_gives = { λ error why. why ≡ load_answer error };
+
+    fn from(error: LoadError) -> Self {
+        match error {
+            LoadError::Missing { file } => Why::Missing { file },
+            LoadError::SourceFault { file } => Why::SourceFault { file },
+            LoadError::TooLarge => Why::Limit {
+                which: Which::FileSize,
+                number: MOST_BYTES,
+            },
+            LoadError::BadClass { file, at, why } => Why::BadClass { file, at, why },
+            LoadError::NoMemory => Why::NoMemory,
+        }
+    }
+}
+
+impl From<LinkError> for Why {
+    ghost use Rattle.java_cli.specs.Errors.{link_answer};
+
+    ghost from_gives = { λ error why. why ≡ link_answer error };
+
+    fn from(error: LinkError) -> Self {
+        match error {
+            LinkError::NoMain => Why::NoMain,
+            LinkError::Fault { class, why } => Why::LinkFault { class, why },
+            LinkError::NoMemory => Why::NoMemory,
+        }
+    }
+}

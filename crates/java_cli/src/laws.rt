@@ -1,0 +1,11 @@
+//! Laws of the definitions, each the contract of a function that does nothing.
+
+ghost use Rattle.std.specs.Prelude.{List};
+ghost use Rattle.std.specs.List.{AllByRecursion};
+ghost use Rattle.java_cli.specs.Words.{Command};
+ghost use Rattle.java_cli.specs.Causes.{Contents, AreBytes, OneIsDue};
+
+/// Exactly one answer is due to a command whose files have these bytes.
+pub fn one_answer()
+    ensures { (c : Command) (contents : List Contents) → AllByRecursion AreBytes contents → OneIsDue c contents }
+{}

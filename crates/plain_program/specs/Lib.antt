@@ -1,0 +1,10 @@
+pub mod Methods
+pub mod PlainNames
+pub mod PlainForm
+pub mod Kinds
+pub mod Typing
+pub mod Decoding
+pub mod Programs
+pub mod Runs
+pub mod Operands
+pub mod Standing
