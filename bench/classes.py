@@ -122,6 +122,7 @@ def method(code, rows=NONE, attributes=NONE):
 
 
 OWN = u2(8) + u4(10) + bytes(10)
+SMALL = u2(8) + u4(1) + bytes(1)
 
 KINDS = {
     # short texts, each another name
@@ -139,8 +140,9 @@ KINDS = {
     "interfaces": lambda n: class_file(NONE, interfaces=(n, u2(4) * n)),
     "fields": lambda n: class_file(NONE, fields=(n, (u2(1) + u2(1) + u2(6) + u2(0)) * n)),
     "methods": lambda n: class_file(NONE, methods=(n, method(b"\xb1") * n)),
-    # of the class, and of one Code
+    # of the class, of ten bytes and of one, and of one Code
     "attributes": lambda n: class_file(NONE, attributes=(n, OWN * n)),
+    "small": lambda n: class_file(NONE, attributes=(n, SMALL * n)),
     "inner": lambda n: class_file(NONE, methods=(1, method(b"\xb1", attributes=(n, OWN * n)))),
     # the exception table and the code of one method
     "rows": lambda n: class_file(NONE, methods=(1, method(b"\0" * 9 + b"\xb1", rows=(n, (u2(0) + u2(5) + u2(9) + u2(4)) * n)))),
