@@ -1,3 +1,6 @@
+/// A class, field or method that is seen from everywhere (JVMS 4.1, 4.5, 4.6).
+pub const ACC_PUBLIC: u16 = 0x0001;
+
 /// A field or method of the class itself, and not of its instances (JVMS 4.5, 4.6).
 pub const ACC_STATIC: u16 = 0x0008;
 
