@@ -32,9 +32,9 @@ use Rattle.java_cli.specs.MainClass.{class_named, has_main}
 use Rattle.plain_program.specs.Programs.{IsSpelled, IsLinked}
 use Rattle.java_cli.specs.Programs.{IsProgram}
 use Rattle.java_cli.specs.Causes.{Contents, HasContents, HaveContents, IsClass, AreClasses, IsBad, IsWrong, FirstWrong, IsFirstName, IsLinkAnswer, IsDue, too_many, wrong, by_linking, HasCause, IsReached, contents_of, IsExact, IsRefusal, StoreFaults}
-use Rattle.java_cli.specs.Reading.{IsRead, IsWrongFile, NotRead, IsStopped}
-use Rattle.java_cli.specs.Linking.{NotLinked, first_name}
-use Rattle.java_cli.proofs.Naming.{first_is}
+use Rattle.java_cli.specs.LoadCauses.{IsRead, IsWrongFile, NotRead, IsStopped}
+use Rattle.java_cli.specs.LinkCauses.{NotLinked, first_name}
+use Rattle.java_cli.proofs.NameLaws.{first_is}
 use Rattle.plain_program.specs.Runs.{IsRun}
 use Rattle.java_cli.specs.Runs.{RanCommand}
 use Rattle.java_cli.specs.Headline.{IsTaken, OnRun, OnNoRun, OutFaults, IsKept, Ran, TakesLine}
