@@ -33,4 +33,4 @@ returns-in-Err-clause-line g c = line_named _ _ _ _ _ (command_texts c.in-Some.c
 
 pub returns-in-None-clause-line : goal.returns-in-None-clause-line
 returns-in-None-clause-line g c =
-    line_of_none _ _ _ _ _ c.idle_report.result.why c.in-None.ensures (takes _ _ _ _ _ c.put_all.result c.put_all.ensures.ok c.put_all.ensures.part c.put_all.ensures.cause)
+    line_of_none _ _ _ _ _ c.idle_report.result.why c.in-None.ensures (takes _ _ _ _ _ c.put_all.result c.put_all.ensures.ok c.put_all.ensures.part c.put_all.ensures.short c.put_all.ensures.cause c.put_all.ensures.kept)
