@@ -1,4 +1,4 @@
--- What each answer says to the outside (own): the exit status, as sysexits has it from 64 on, and the line on
+-- What each answer says to the outside: the exit status, as sysexits has it from 64 on, and the line on
 -- the fault output.
 use Rattle.std.specs.Prelude.{ℕ, List, [], ◌∷◌, ◌++◌, Option, Some, None, codes, map, unwrap_or, slice_get}
 use Rattle.std.specs.Fmt.{decimal}

@@ -12,7 +12,7 @@ use jvm_edges::{Gate, Store};
 use plain_program::{Execution, run};
 use std::alloc::Global;
 
-/// The most FILE words of a command (own).
+/// The most FILE words of a command.
 const MOST_FILES: u32 = 256;
 
 /// Runs the program of a command to its end, or says why it was not run.
