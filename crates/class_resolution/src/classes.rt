@@ -5,6 +5,7 @@ ghost use Rattle.std.specs.Option.{option_copied};
 ghost use Rattle.linkage.specs.Program.{Program, class_named, own_name as name_of};
 ghost use Rattle.linkage.specs.Program as spec;
 ghost use Rattle.class_grammar.specs.Names.{object_class};
+ghost use Rattle.class_grammar.specs.Text.{same_text};
 ghost use Rattle.class_resolution.specs.Names.{Adds, NamesAll};
 
 use class_grammar::class_name_at;
@@ -143,6 +144,13 @@ impl Classes {
         ensures { result ≡ class_named self.now object_class }
     {
         self.class_named(&OBJECT_CLASS)
+    }
+
+    /// Whether a name is that of the class of all objects.
+    pub fn is_object_name(&self, name: &[u16]) -> bool
+        ensures { result ≡ same_text name.now object_class }
+    {
+        name == OBJECT_CLASS.as_slice()
     }
 
     /// Whether a class is an interface.

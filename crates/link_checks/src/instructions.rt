@@ -354,3 +354,69 @@ fn is_floating_primitive(primitive: Primitive) -> bool
 {
     matches!(primitive, Primitive::Float | Primitive::Double)
 }
+
+const VIRTUAL: Invocation = Invocation {
+    is_static: false,
+    by_class: true,
+    by_interface: false,
+    count: None,
+};
+
+const SPECIAL: Invocation = Invocation {
+    is_static: false,
+    by_class: true,
+    by_interface: true,
+    count: None,
+};
+
+const STATIC: Invocation = Invocation {
+    is_static: true,
+    by_class: true,
+    by_interface: true,
+    count: None,
+};
+
+// invokeinterface with this count.
+fn interface_call(count: u8) -> Invocation
+    ensures { result ≡ spec.interface_call count }
+{
+    Invocation {
+        is_static: false,
+        by_class: false,
+        by_interface: true,
+        count: Some(count),
+    }
+}
+
+/// What is wrong with an instruction in the code of a class, as far as its constant says (JVMS 6.5).
+pub fn instr_fault(alloc: Global, namer: Namer, op: &Op) -> Result<Option<LinkWhy>, NoMemory>
+    ensures { IfOk result (λ fault. fault ≡ spec.first_why (spec.instr_faults
+        namer.entry.world.now namer.entry.class namer.entry.pool.now op.now)) }
+{
+    match op {
+        Op::PushConstant(i) => Ok(push_fault_at(namer.pool, false, *i)),
+        Op::PushWideConstant(i) => Ok(push_fault_at(namer.pool, true, *i)),
+        Op::GetStatic(i) => Ok(field_fault_at(namer, true, *i)),
+        Op::PutStatic(i) => Ok(field_fault_at(namer, true, *i)),
+        Op::GetField(i) => Ok(field_fault_at(namer, false, *i)),
+        Op::PutField(i) => Ok(field_fault_at(namer, false, *i)),
+        Op::InvokeVirtual(i) => method_fault_at(alloc, namer, VIRTUAL, *i),
+        Op::InvokeSpecial(i) => method_fault_at(alloc, namer, SPECIAL, *i),
+        Op::InvokeStatic(i) => method_fault_at(alloc, namer, STATIC, *i),
+        Op::InvokeInterface(i, count) => method_fault_at(alloc, namer, interface_call(*count), *i),
+        Op::InvokeDynamic(_) => Ok(Some(LinkWhy::Unsupported)),
+        Op::New(i) => Ok(class_fault_at(namer, Purpose::Instance, *i)),
+        Op::NewArray(primitive) => Ok(unless(
+            !is_floating_primitive(*primitive),
+            LinkWhy::Unsupported,
+        )),
+        Op::ANewArray(i) => Ok(class_fault_at(namer, Purpose::Element, *i)),
+        Op::MultiANewArray(i, count) => Ok(class_fault_at(namer, Purpose::Array(*count), *i)),
+        Op::CheckCast(i) => Ok(class_fault_at(namer, Purpose::Type, *i)),
+        Op::InstanceOf(i) => Ok(class_fault_at(namer, Purpose::Type, *i)),
+        Op::Jsr(_) => Ok(Some(LinkWhy::Unsupported)),
+        Op::Ret(_) => Ok(Some(LinkWhy::Unsupported)),
+        Op::Floating(_) => Ok(Some(LinkWhy::Unsupported)),
+        _ => Ok(None),
+    }
+}

@@ -8,7 +8,7 @@ use Rattle.class_model.specs.declared.constant.Const.TheVariants.{NameAndType}
 use Rattle.class_grammar.specs.Text.{is_one_of}
 use Rattle.class_grammar.specs.Pool.{text_at, class_name_at}
 use Rattle.class_grammar.specs.Names.{object_class, begins_with}
-use Rattle.descriptors.specs.Descriptors.{bracket, semicolon, opening, closing, class_letter, unit_slots}
+use Rattle.descriptors.specs.Descriptors.{bracket, semicolon, close_parenthesis, class_letter, unit_slots}
 use Rattle.linkage.specs.Program.{Program, class_named, is_array_name, is_internal}
 use Rattle.linkage.specs.Members.{Key}
 
@@ -81,7 +81,7 @@ slots_at inside array u = if inside || u == bracket then 0 else if array then 1 
 abbrev pub slots_in : Bool → Bool → List ℕ → ℕ
 slots_in inside array [] = 0
 slots_in inside array (u ∷ us) =
-    if not inside && u == closing then 0
+    if not inside && u == close_parenthesis then 0
     else slots_at inside array u + slots_in (is_in_name inside u) (not inside && u == bracket) us
 
 -- how many slots the arguments of a method take

@@ -33,9 +33,13 @@ use Rattle.linkage.specs.Instructions.{unless, Faults, first_why, instr_faults, 
 
 -- ---- the name and what is directly above
 
+-- whether the class is the first of this name
+abbrev pub is_first_named : Program → ℕ → List ℕ → Bool
+is_first_named p c name = option_map_or (λ first. first == c) (class_named p name) false
+
 abbrev pub name_faults : Program → ℕ → ClassFile → Faults
 name_faults p c f =
-    unless (option_map_or (λ first. first == c) (class_named p (own_name f)) false) Duplicate
+    unless (is_first_named p c (own_name f)) Duplicate
     ∷ unless (not (is_array_name (own_name f))) WrongKind
     ∷ []
 
@@ -43,16 +47,31 @@ name_faults p c f =
 abbrev pub leads_back : Program → ℕ → List ℕ → Bool
 leads_back p c name = option_map_or (λ d. is_below p d c) (class_named p name) false
 
-abbrev pub is_named : (Program → ℕ → Bool) → Program → List ℕ → Bool
-is_named test p name = option_map_or (test p) (class_named p name) false
+abbrev pub names_interface : Program → List ℕ → Bool
+names_interface p name = option_map_or (is_interface p) (class_named p name) false
+
+abbrev pub names_class : Program → List ℕ → Bool
+names_class p name = option_map_or (λ d. not (is_interface p d)) (class_named p name) false
+
+abbrev pub names_final : Program → List ℕ → Bool
+names_final p name = option_map_or (is_final p) (class_named p name) false
+
+-- whether a class of a file names one that serves the built-in classes alone (own)
+abbrev pub is_internal_to : Program → ℕ → List ℕ → Bool
+is_internal_to p c name = is_from_file p c && names_internal p name
+
+-- whether the class of the name may be the superclass: it is no array class and no interface, and an interface has Object
+abbrev pub is_parent_kind : Program → ℕ → List ℕ → Bool
+is_parent_kind p c name =
+    not (is_array_name name || names_interface p name) && (not (is_interface p c) || same_text name object_class)
 
 abbrev pub parent_faults_of : Program → ℕ → List ℕ → Faults
 parent_faults_of p c name =
     unless (is_known p name) MissingClass
     ∷ unless (not (leads_back p c name)) Cycle
-    ∷ unless (not (is_array_name name || is_named is_interface p name || (is_interface p c && not (same_text name object_class)))) WrongKind
-    ∷ unless (not (is_named is_final p name)) FinalParent
-    ∷ unless (not (is_from_file p c && names_internal p name)) Unsupported
+    ∷ unless (is_parent_kind p c name) WrongKind
+    ∷ unless (not (names_final p name)) FinalParent
+    ∷ unless (not (is_internal_to p c name)) Unsupported
     ∷ []
 
 -- Object has no superclass (JVMS 4.1)
@@ -63,8 +82,8 @@ abbrev pub interface_faults : Program → ℕ → List ℕ → Faults
 interface_faults p c name =
     unless (is_known p name) MissingClass
     ∷ unless (not (leads_back p c name)) Cycle
-    ∷ unless (not (is_array_name name) && not (is_named (λ q d. not (is_interface q d)) p name)) WrongKind
-    ∷ unless (not (is_from_file p c && names_internal p name)) Unsupported
+    ∷ unless (not (is_array_name name) && not (names_class p name)) WrongKind
+    ∷ unless (not (is_internal_to p c name)) Unsupported
     ∷ []
 
 -- ---- fields and methods
@@ -73,11 +92,16 @@ interface_faults p c name =
 abbrev pub is_first : List Const → List Member → ℕ → Member → Bool
 is_first pool members i m = option_map_or (λ first. first == i) (index_of pool (key_in pool m) members) false
 
-abbrev pub field_faults_at : Program → ℕ → ClassFile → ℕ × Member → Faults
-field_faults_at p c f x =
-    unless (is_first f.pool f.fields x.0 x.1) Duplicate
-    ∷ unless (not (is_interface p c) || is_static x.1) WrongKind
-    ∷ unless (not (is_floating (key_in f.pool x.1).descriptor)) Unsupported
+-- whether a type of the member is float or double
+abbrev pub has_floating_type : List Const → Member → Bool
+has_floating_type pool m = is_floating (key_in pool m).descriptor
+
+-- the field at an index
+abbrev pub field_faults_at : Program → ℕ → ClassFile → ℕ → Member → Faults
+field_faults_at p c f i m =
+    unless (is_first f.pool f.fields i m) Duplicate
+    ∷ unless (not (is_interface p c) || is_static m) WrongKind
+    ∷ unless (not (has_floating_type f.pool m)) Unsupported
     ∷ []
 
 -- whether the method can override at all: neither private nor static nor an initializer (JVMS 5.4.5)
@@ -91,13 +115,14 @@ is_last p key d = option_map_or (λ at. has_method (λ m. is_final_member m && i
 abbrev pub overrides_final : Program → ℕ → List Const → Member → Bool
 overrides_final p c pool m = can_override pool m && list_any (is_last p (key_in pool m)) (drop 1 (superclasses p c))
 
-abbrev pub method_faults_at : Program → ℕ → ClassFile → ℕ × Member → Faults
-method_faults_at p c f x =
-    unless (is_first f.pool f.methods x.0 x.1) Duplicate
-    ∷ unless (not (is_abstract_method x.1 && is_static x.1)) WrongKind
-    ∷ unless (not (overrides_final p c f.pool x.1)) FinalParent
-    ∷ unless (not (is_from_file p c && is_native x.1)) Native
-    ∷ unless (not (is_floating (key_in f.pool x.1).descriptor)) Unsupported
+-- the method at an index, its code aside
+abbrev pub method_faults_at : Program → ℕ → ClassFile → ℕ → Member → Faults
+method_faults_at p c f i m =
+    unless (is_first f.pool f.methods i m) Duplicate
+    ∷ unless (not (is_abstract_method m && is_static m)) WrongKind
+    ∷ unless (not (overrides_final p c f.pool m)) FinalParent
+    ∷ unless (not (is_from_file p c && is_native m)) Native
+    ∷ unless (not (has_floating_type f.pool m)) Unsupported
     ∷ []
 
 -- ---- code (JVMS 4.7.3)
@@ -148,8 +173,8 @@ class_faults_at p c f =
     name_faults p c f
     ++ parent_faults p c f
     ++ flat_map (interface_faults p c) (interface_names f)
-    ++ flat_map (field_faults_at p c f) (enumerate_from 0 f.fields)
-    ++ flat_map (method_faults_at p c f) (enumerate_from 0 f.methods)
+    ++ flat_map (λ x. field_faults_at p c f x.0 x.1) (enumerate_from 0 f.fields)
+    ++ flat_map (λ x. method_faults_at p c f x.0 x.1) (enumerate_from 0 f.methods)
     ++ flat_map (method_code_faults p c f.pool) f.methods
 
 abbrev pub fault_of_class : Program → ℕ × ClassFile → Option LinkFault
