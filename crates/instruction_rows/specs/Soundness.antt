@@ -56,8 +56,8 @@ pub record Keeps (r : LocalRow) (after : Contents VType) (made : Option Moved) :
 
 -- A row that fits the types of a frame keeps to them, unless it divides by 0.
 abbrev pub RowsKeepKinds : Type 0
-RowsKeepKinds = (r : LocalRow) (types after : Contents VType) (c : Contents Slot) → IsSound r
-    → typed r types ≡ Ok after → HasKinds types c → divides_by_zero r c ≡ false → Keeps r after (acted r c)
+RowsKeepKinds = (r : LocalRow) (before after : Contents VType) (c : Contents Slot) → IsSound r
+    → typed r before ≡ Ok after → HasKinds before c → divides_by_zero r c ≡ false → Keeps r after (acted r c)
 
 -- The rows of the table are such.
 abbrev pub RowsAreSound : Type 0

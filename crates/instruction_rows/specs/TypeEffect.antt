@@ -78,4 +78,4 @@ typed (store k n) c = type_popped k c.stack then λ x. with_type x.0 n c.locals 
 typed (increment n amount) c = local_type n c.locals then λ t. only_of kinds.Int t c
 typed (branch takes test target) c = types_popped takes c.stack then λ stack. types_on c.locals stack
 typed (jump target) c = Ok c
-typed (select choice targets) c = types_popped (kinds.Int ∷ []) c.stack then λ stack. types_on c.locals stack
+typed (select choice targets) c = type_popped kinds.Int c.stack then λ x. types_on c.locals x.1
