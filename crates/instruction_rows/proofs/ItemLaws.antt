@@ -10,7 +10,7 @@ use Rattle.instruction_rows.specs.Contents.{is_wide, is_narrow}
 use Rattle.instruction_rows.specs.StackItems.{Width, one, two, item_of, items_of, items_on}
 use Rattle.instruction_rows.specs.TypeEffect.{narrow_popped, two_popped, item_popped, items_popped}
 use Rattle.instruction_rows.specs.Soundness.{AreOf}
-use Rattle.instruction_rows.proofs.Steps.{bind_is, ok_is, passed}
+use Rattle.instruction_rows.proofs.Steps.{bind_is, step_is, ok_is, passed}
 use Rattle.instruction_rows.proofs.ListLaws.{append_of}
 
 narrow_is : (ts : List VType) (x : VType × List VType) → narrow_popped ts ≡ Ok x → ts ≡ x.0 ∷ x.1
@@ -93,7 +93,7 @@ items_at (width ∷ widths) ts x xs e of =
     let pair : List (List VType) × List VType = (first.0.0 ∷ second.0.0, second.0.1) in
     let same : pair ≡ x = cc in
     let all : List (List Slot) × List Slot = (top.item ∷ more.items, more.left) in
-    let rest : (items_of widths top.left >>= λ y. Some (top.item ∷ y.0, y.1)) ≡ Some all = bind_is (items_of widths top.left) (λ y. Some (top.item ∷ y.0, y.1)) (more.items, more.left) (Some all) more.is refl in
+    let rest : (items_of widths top.left >>= λ y. Some (top.item ∷ y.0, y.1)) ≡ Some all = step_is (items_of widths top.left) (λ y. Some (top.item ∷ y.0, y.1)) (more.items, more.left) more.is in
     subst (λ (y : List (List VType) × List VType). ItemsAt (width ∷ widths) y xs) same
     (record { items = top.item ∷ more.items; left = more.left; is = bind_is (item_of width xs) (λ x. items_of widths x.1 >>= λ y. Some (x.0 ∷ y.0, y.1)) (top.item, top.left) (Some all) top.is rest; item_kinds = (top.item_kinds, more.item_kinds); of = more.of })
 

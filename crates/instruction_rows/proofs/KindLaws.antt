@@ -1,5 +1,6 @@
 -- Kinds of types, of slots and of values.
-use Rattle.std.proofs.Common.{◌≡◌, true, false, List, Option, Some, None, Ok, refl, subst, sym}
+use Rattle.std.proofs.Common.{◌≡◌, true, false, List, Option, Some, None, Ok, refl, subst, sym, inl, inr, [], ◌∷◌}
+use Rattle.std.specs.List.{AllZip}
 use Rattle.opcodes.specs.declared.op.Kind.{Kind}
 use Rattle.opcodes.specs.declared.op.Kind.TheVariants as kinds
 use Rattle.stack_maps.specs.declared.types.VType.{VType}
@@ -12,7 +13,7 @@ use Rattle.instruction_rows.specs.Kinds.{Of, kind_of, value, kind_of_type, is_ki
 use Rattle.instruction_rows.specs.Contents.{is_wide, types_of, slots_of}
 use Rattle.instruction_rows.specs.SlotEffect.{pushed}
 use Rattle.instruction_rows.specs.TypeEffect.{only_of, type_pushed}
-use Rattle.instruction_rows.specs.Soundness.{Holds, IsOfKind, IsOf, AreOf}
+use Rattle.instruction_rows.specs.Soundness.{Holds, IsOfKind, IsOf, AreOf, KeepsKind}
 use Rattle.instruction_rows.proofs.Steps.{passed}
 
 pub kind_is : (k : Kind) (o : Option Kind) → is_kind k o ≡ true → o ≡ Some k
@@ -65,3 +66,15 @@ slots_kinds t (values.Int n) e = rw (int_narrow t e) (is_of kinds.Int t (slots.O
 slots_kinds t (values.Long n) e = rw (long_is t e) (record { value = n; is = refl }, (tt, tt))
 slots_kinds t values.Null e = rw (reference_narrow t e) (is_of kinds.Reference t (slots.One values.Null) e (record { value = None; is = refl }), tt)
 slots_kinds t (values.Ref object) e = rw (reference_narrow t e) (is_of kinds.Reference t (slots.One (values.Ref object)) e (record { value = Some object; is = refl }), tt)
+
+-- slots of types are slots of types that keep their kinds
+pub is_of_kept : (a b : VType) (slot : Slot) → KeepsKind a b → IsOf a slot → IsOf b slot
+is_of_kept a b slot (inl none) of = rw none tt
+is_of_kept a b slot (inr same) of = subst (λ (o : Option Kind). IsOfKind o slot) same of
+
+pub are_of_kept : (ts us : List VType) (xs : List Slot) → AllZip KeepsKind ts us → AreOf ts xs → AreOf us xs
+are_of_kept [] [] xs keeps of = of
+are_of_kept [] (u ∷ us) xs keeps of = absurd keeps
+are_of_kept (t ∷ ts) [] xs keeps of = absurd keeps
+are_of_kept (t ∷ ts) (u ∷ us) [] keeps of = absurd of
+are_of_kept (t ∷ ts) (u ∷ us) (x ∷ xs) keeps of = (is_of_kept t u x keeps.0 of.0, are_of_kept ts us xs keeps.1 of.1)

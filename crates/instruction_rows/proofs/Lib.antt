@@ -5,4 +5,5 @@ pub mod StackLaws
 pub mod ItemLaws
 pub mod RowLaws
 pub mod TableLaws
+pub mod DivisionLaws
 mod WorkedRows

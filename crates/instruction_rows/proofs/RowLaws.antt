@@ -13,14 +13,14 @@ use Rattle.instruction_rows.specs.declared.value.Slot.{Slot}
 use Rattle.instruction_rows.specs.declared.value.Slot.TheVariants as slots
 use Rattle.instruction_rows.specs.Options.{◌>>=◌}
 use Rattle.instruction_rows.specs.Results.{◌then◌}
-use Rattle.instruction_rows.specs.Kinds.{Function, kind_of, kind_of_type, value, held}
+use Rattle.instruction_rows.specs.Kinds.{Of, Function, kind_of, kind_of_type, value, held}
 use Rattle.instruction_rows.specs.Contents.{Contents, with_items, slots_of, types_of}
 use Rattle.instruction_rows.specs.StackItems.{Width, items_of, items_on}
 use Rattle.instruction_rows.specs.Rows.{LocalRow, push, int, long, moves, load, store, increment, branch, jump, select, goes_on}
 use Rattle.instruction_rows.specs.SlotEffect.{on, to, Moved, popped, pushed, applied, moved_on, acted, has_no_result, divides_by_zero}
 use Rattle.instruction_rows.specs.TypeEffect.{only_of, type_popped, types_popped, type_pushed, items_popped, local_type, without_half, with_type, types_on, typed}
 use Rattle.instruction_rows.specs.Soundness.{AreOf, HasKinds, IsSound, IsWay, Keeps}
-use Rattle.instruction_rows.proofs.Steps.{bind_is, ok_is, found}
+use Rattle.instruction_rows.proofs.Steps.{step_is, ok_is, found}
 use Rattle.instruction_rows.proofs.KindLaws.{only_is, holds, is_of, kind_of_value, pushed_kinds, slots_kinds}
 use Rattle.instruction_rows.proofs.ListLaws.{slot_at, put_of, half_of, with_items_of}
 use Rattle.instruction_rows.proofs.StackLaws.{popped_of, applied_of}
@@ -52,8 +52,8 @@ pushes_with r takes f t number before after c goes kind e h nonzero =
     let n = has_result top.result some in
     let made = moved_on c.locals (pushed (number n.0) top.left) in
     goes_with r after before.locals (type_pushed t first.0) _ c.locals (pushed (number n.0) top.left) goes first.2 h.locals (pushed_kinds t (number n.0) first.0 top.left (kind n.0) top.of)
-    (bind_is (applied (Option ℤ) takes f c.stack) (λ x. x.0 >>= λ n. moved_on c.locals (pushed (number n) x.1)) (top.result, top.left) made top.is
-    (bind_is top.result (λ n. moved_on c.locals (pushed (number n) top.left)) n.0 made n.1 refl))
+    (step_is (applied (Option ℤ) takes f c.stack) (λ x. x.0 >>= λ n. moved_on c.locals (pushed (number n) x.1)) (top.result, top.left) top.is
+    ∙ (step_is top.result (λ n. moved_on c.locals (pushed (number n) top.left)) n.0 n.1))
 
 moves_with : (widths : List Width) (order : List ℕ) (before after : Contents VType) (c : Contents Slot) → typed (moves widths order) before ≡ Ok after → HasKinds before c
     → Keeps (moves widths order) after (acted (moves widths order) c)
@@ -62,7 +62,7 @@ moves_with widths order before after c e h =
     let top = items_at widths before.stack first.0 c.stack first.1 h.stack in
     goes_with (moves widths order) after before.locals (items_on first.0.0 order first.0.1) _ c.locals (items_on top.items order top.left) refl first.2 h.locals
     (items_on_of first.0.0 top.items order first.0.1 top.left top.item_kinds top.of)
-    (bind_is (items_of widths c.stack) (λ x. moved_on c.locals (items_on x.0 order x.1)) (top.items, top.left) _ top.is refl)
+    (step_is (items_of widths c.stack) (λ x. moved_on c.locals (items_on x.0 order x.1)) (top.items, top.left) top.is)
 
 load_with : (k : Kind) (n : ℕ) (before after : Contents VType) (c : Contents Slot) → typed (load k n) before ≡ Ok after → HasKinds before c → Keeps (load k n) after (acted (load k n) c)
 load_with k n before after c e h =
@@ -74,8 +74,12 @@ load_with k n before after c e h =
     let v = value k hold.value in
     let kind : kind_of_type second.0 ≡ Some (kind_of v) = ap kind_of_type (sym only.1) ∙ only.0 ∙ ap Some (sym (kind_of_value k hold.value)) in
     goes_with (load k n) after before.locals (type_pushed second.0 before.stack) _ c.locals (pushed v c.stack) refl second.2 h.locals (pushed_kinds second.0 v before.stack c.stack kind h.stack)
-    (bind_is (slice_get c.locals n) (λ slot. held k slot >>= λ x. moved_on c.locals (pushed (value k x) c.stack)) at.slot _ at.is
-    (bind_is (held k at.slot) (λ x. moved_on c.locals (pushed (value k x) c.stack)) hold.value _ hold.is refl))
+    (step_is (slice_get c.locals n) (λ slot. held k slot >>= λ x. moved_on c.locals (pushed (value k x) c.stack)) at.slot at.is
+    ∙ (step_is (held k at.slot) (λ x. moved_on c.locals (pushed (value k x) c.stack)) hold.value hold.is))
+
+store_acts : (k : Kind) (n : ℕ) (c : Contents Slot) (x : Of k × List Slot) (locals : List Slot) → popped k c.stack ≡ Some x → with_items n (slots_of (value k x.0)) c.locals ≡ Some locals
+    → acted (store k n) c ≡ moved_on locals x.1
+store_acts k n c x locals pops writes = rw (pops, writes) refl
 
 store_with : (k : Kind) (n : ℕ) (before after : Contents VType) (c : Contents Slot) → typed (store k n) before ≡ Ok after → HasKinds before c → Keeps (store k n) after (acted (store k n) c)
 store_with k n before after c e h =
@@ -87,8 +91,7 @@ store_with k n before after c e h =
     let written = found (with_items n (types_of first.0.0) (without_half n before.locals)) second.0 _ second.1 in
     let wrote = with_items_of (types_of first.0.0) (slots_of v) n (without_half n before.locals) second.0 c.locals (slots_kinds first.0.0 v kind) (half_of before.locals c.locals n h.locals) written in
     goes_with (store k n) after second.0 first.0.1 _ wrote.made top.left refl second.2 wrote.of top.of
-    (bind_is (popped k c.stack) (λ x. with_items n (slots_of (value k x.0)) c.locals >>= λ locals. moved_on locals x.1) (top.value, top.left) _ top.is
-    (bind_is (with_items n (slots_of v) c.locals) (λ locals. moved_on locals top.left) wrote.made _ wrote.is refl))
+    (store_acts k n c (top.value, top.left) wrote.made top.is wrote.is)
 
 increment_with : (n : ℕ) (amount : ℤ) (before after : Contents VType) (c : Contents Slot) → typed (increment n amount) before ≡ Ok after → HasKinds before c
     → Keeps (increment n amount) after (acted (increment n amount) c)
@@ -103,8 +106,8 @@ increment_with n amount before after c e h =
     let unchanged : types_on before.locals before.stack ≡ Ok after = ap Ok only.1 in
     goes_with (increment n amount) after before.locals before.stack _ (slice_set c.locals n slot) c.stack refl unchanged
     (put_of before.locals c.locals n first.0 slot h.locals there (is_of kinds.Int first.0 slot only.0 (record { value = sum; is = refl }))) h.stack
-    (bind_is (slice_get c.locals n) (λ slot. held kinds.Int slot >>= λ x. moved_on (slice_set c.locals n (slots.One (values.Int (int_wrap w32 (x +ℤ amount))))) c.stack) at.slot _ at.is
-    (bind_is (held kinds.Int at.slot) (λ x. moved_on (slice_set c.locals n (slots.One (values.Int (int_wrap w32 (x +ℤ amount))))) c.stack) hold.value _ hold.is refl))
+    (step_is (slice_get c.locals n) (λ slot. held kinds.Int slot >>= λ x. moved_on (slice_set c.locals n (slots.One (values.Int (int_wrap w32 (x +ℤ amount))))) c.stack) at.slot at.is
+    ∙ (step_is (held kinds.Int at.slot) (λ x. moved_on (slice_set c.locals n (slots.One (values.Int (int_wrap w32 (x +ℤ amount))))) c.stack) hold.value hold.is))
 
 first_among : (x : ℤ) (xs : List ℤ) → IsAmong (x ∷ xs) x
 first_among x xs = (0, (omega arith, refl))
@@ -121,7 +124,7 @@ branch_with takes test target before after c e h =
     subst (λ (a : Contents VType). Keeps (branch takes test target) a (acted (branch takes test target) c)) same
     (record {
       moved = record { contents = record { locals = c.locals; stack = top.left }; way = cond top.result (to target) on };
-      is = bind_is (applied Bool takes test c.stack) (λ x. Some (record { contents = record c { stack = x.1 }; way = cond x.0 (to target) on })) (top.result, top.left) _ top.is refl;
+      is = step_is (applied Bool takes test c.stack) (λ x. Some (record { contents = record c { stack = x.1 }; way = cond x.0 (to target) on })) (top.result, top.left) top.is;
       kinds = record { locals = h.locals; stack = top.of };
       way = way;
     })
@@ -141,7 +144,7 @@ select_with choice targets before after c sound e h =
     subst (λ (a : Contents VType). Keeps (select choice targets) a (acted (select choice targets) c)) same
     (record {
       moved = record { contents = record { locals = c.locals; stack = top.left }; way = to (choice top.value) };
-      is = bind_is (popped kinds.Int c.stack) (λ x. Some (record { contents = record c { stack = x.1 }; way = to (choice x.0) })) (top.value, top.left) _ top.is refl;
+      is = step_is (popped kinds.Int c.stack) (λ x. Some (record { contents = record c { stack = x.1 }; way = to (choice x.0) })) (top.value, top.left) top.is;
       kinds = record { locals = h.locals; stack = top.of };
       way = sound top.value;
     })

@@ -1,5 +1,5 @@
 -- Steps that are defined, and steps that aren't refused.
-use Rattle.std.proofs.Common.{◌≡◌, Bool, true, false, cond, Option, Some, None, Result, Ok, Err, refl}
+use Rattle.std.proofs.Common.{◌≡◌, Bool, true, false, cond, Option, Some, None, Result, Ok, Err, refl, ap}
 use Rattle.std.specs.Option.{ok_or}
 use Rattle.instruction_rows.specs.Options.{◌>>=◌}
 use Rattle.instruction_rows.specs.Results.{◌then◌}
@@ -11,6 +11,9 @@ some_is (Some a) f b e = (a, refl, e)
 
 pub bind_is : {A B : Type 0} (o : Option A) (f : A → Option B) (a : A) (b : Option B) → o ≡ Some a → f a ≡ b → (o >>= f) ≡ b
 bind_is o f a b e g = rw e g
+
+pub step_is : {A B : Type 0} (o : Option A) (f : A → Option B) (a : A) → o ≡ Some a → (o >>= f) ≡ f a
+step_is {A} o f a e = ap (λ (x : Option A). x >>= f) e
 
 -- the parts of two steps that aren't refused
 pub ok_is : {A B E : Type 0} (o : Result A E) (f : A → Result B E) (b : B) → (o then f) ≡ Ok b → (a : A) × (o ≡ Ok a) × (f a ≡ Ok b)

@@ -76,11 +76,11 @@ sound op = tt
 -- ---- marks
 
 -- a function that never divides by 0
-abbrev Total : (takes : List Kind) → Function takes (Option ℤ) → Type 0
+abbrev pub Total : (takes : List Kind) → Function takes (Option ℤ) → Type 0
 Total [] o = is_none o ≡ false
 Total (k ∷ ks) f = (x : Of k) → Total ks (f x)
 
-total_result : (takes : List Kind) (f : Function takes (Option ℤ)) (stack : List Slot) → Total takes f → has_no_result (applied (Option ℤ) takes f stack) ≡ false
+pub total_result : (takes : List Kind) (f : Function takes (Option ℤ)) (stack : List Slot) → Total takes f → has_no_result (applied (Option ℤ) takes f stack) ≡ false
 total_result [] f stack total = total
 total_result (k ∷ ks) f stack total = elim (popped k stack) as (λ o. has_no_result (o >>= λ x. applied (Option ℤ) ks (f x.0) x.1) ≡ false) [ None ↦ refl | Some x ↦ total_result ks (f x.0) x.1 (total x.0) ]
 

@@ -8,6 +8,7 @@ pub mod Comparisons
 pub mod Switches
 pub mod Table
 pub mod SlotEffect
+pub mod Pcs
 pub mod TypeEffect
 pub mod Soundness
 pub mod Marks

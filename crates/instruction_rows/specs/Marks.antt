@@ -1,6 +1,6 @@
 -- Which instructions are local: they read and write the frames of their thread alone, and no other thread can tell when they run
 -- (own).
-use Rattle.std.specs.Prelude.{◌≡◌, Bool, true, false, IsTrue}
+use Rattle.std.specs.Prelude.{◌≡◌, Bool, true, false, IsTrue, List, ◌∷◌, None}
 use Rattle.opcodes.specs.declared.op.Op.{Op}
 use Rattle.opcodes.specs.declared.op.Op.TheVariants as ops
 use Rattle.opcodes.specs.declared.op.Simple.{Simple}
@@ -11,10 +11,13 @@ use Rattle.jvm_words.specs.declared.operation.IntOp.{IntOp}
 use Rattle.jvm_words.specs.declared.operation.IntOp.TheVariants as ints
 use Rattle.jvm_words.specs.declared.operation.LongOp.{LongOp}
 use Rattle.jvm_words.specs.declared.operation.LongOp.TheVariants as longs
+use Rattle.jvm_words.specs.Words.{is_zero}
+use Rattle.instruction_rows.specs.declared.value.Value.TheVariants.{Int, Long}
 use Rattle.instruction_rows.specs.declared.value.Slot.{Slot}
+use Rattle.instruction_rows.specs.declared.value.Slot.TheVariants.{One}
 use Rattle.instruction_rows.specs.Contents.{Contents}
 use Rattle.instruction_rows.specs.Rows.{LocalRow, static, Row, local, constant, wide_constant, returns, invoke, event, refused}
-use Rattle.instruction_rows.specs.SlotEffect.{divides_by_zero}
+use Rattle.instruction_rows.specs.SlotEffect.{acted, divides_by_zero}
 use Rattle.instruction_rows.specs.Table.{row}
 
 pub data Mark : Type 0 where
@@ -111,6 +114,23 @@ mark (ops.Jsr target) = absent
 mark (ops.Ret n) = absent
 mark (ops.Floating opcode) = absent
 
+-- two ints are on top, or two longs, and the upper one is 0
+abbrev pub is_zero_int_on : List Slot → Bool
+is_zero_int_on (One (Int b) ∷ One (Int a) ∷ rest) = is_zero b
+is_zero_int_on stack = false
+
+abbrev pub is_zero_long_on : List Slot → Bool
+is_zero_long_on (upper ∷ One (Long b) ∷ next ∷ One (Long a) ∷ rest) = is_zero b
+is_zero_long_on stack = false
+
+-- the instruction is idiv, irem, ldiv or lrem, and its divisor is 0
+abbrev pub has_zero_divisor : Op → List Slot → Bool
+has_zero_divisor (ops.Simple (simples.IntBinary ints.Div)) stack = is_zero_int_on stack
+has_zero_divisor (ops.Simple (simples.IntBinary ints.Rem)) stack = is_zero_int_on stack
+has_zero_divisor (ops.Simple (simples.LongBinary longs.Div)) stack = is_zero_long_on stack
+has_zero_divisor (ops.Simple (simples.LongBinary longs.Rem)) stack = is_zero_long_on stack
+has_zero_divisor op stack = false
+
 -- a row of slots alone
 pub record IsLocal (r : Row) : Type 0 where
   pub act : LocalRow
@@ -154,3 +174,8 @@ HasMark absent r = IsTrue (is_refused r)
 -- Each row is as its instruction is marked.
 abbrev pub RowsAreMarked : Type 0
 RowsAreMarked = (op : Op) → HasMark (mark op) (row op)
+
+-- A row of slots alone divides by 0 exactly where its instruction has a zero divisor, and is undefined there.
+abbrev pub RowsDivideByZero : Type 0
+RowsDivideByZero = (op : Op) (r : LocalRow) (c : Contents Slot) → row op ≡ local r
+    → (divides_by_zero r c ≡ has_zero_divisor op c.stack) × (divides_by_zero r c ≡ true → acted r c ≡ None)

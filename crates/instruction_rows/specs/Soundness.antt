@@ -1,5 +1,5 @@
 -- What it means that slots have the kinds of types, and that a local row keeps that.
-use Rattle.std.specs.Prelude.{◌≡◌, ℤ, true, false, List, Option, Some, None, Ok}
+use Rattle.std.specs.Prelude.{◌≡◌, ◌⊎◌, ℤ, true, false, List, Option, Some, None, Ok}
 use Rattle.std.specs.List.{AllZip, IsAmong}
 use Rattle.opcodes.specs.declared.op.Kind.{Kind}
 use Rattle.opcodes.specs.declared.op.Op.{Op}
@@ -31,6 +31,10 @@ AreOf ts slots = AllZip IsOf ts slots
 pub record HasKinds (types : Contents VType) (c : Contents Slot) : Type 0 where
   pub locals : AreOf types.locals c.locals
   pub stack : AreOf types.stack c.stack
+
+-- What is known of a slot of one type is known of it as one of the other: the other is Top or the like, or both have one kind.
+abbrev pub KeepsKind : VType → VType → Type 0
+KeepsKind a b = (kind_of_type b ≡ None) ⊎ (kind_of_type a ≡ kind_of_type b)
 
 -- what a row pushes is of its type, and a switch goes to one of its targets
 abbrev pub IsSound : LocalRow → Type 0

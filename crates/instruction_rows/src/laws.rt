@@ -1,7 +1,7 @@
 //! What holds of the definitions in specs/, each as a call that does nothing.
 
 ghost use Rattle.instruction_rows.specs.Soundness.{RowsKeepKinds, RowsAreSound};
-ghost use Rattle.instruction_rows.specs.Marks.{RowsAreMarked};
+ghost use Rattle.instruction_rows.specs.Marks.{RowsAreMarked, RowsDivideByZero};
 
 /// A local row that fits the types of a frame is defined on each frame that has their kinds, unless it divides by 0. What it
 /// leaves has the kinds of what the typing leaves, and it leads to the next instruction or to one of its targets (JVMS
@@ -11,7 +11,9 @@ pub fn rows_keep_kinds()
     ensures sound { RowsAreSound }
 {}
 
-/// The row of each instruction is one of slots alone exactly where the instruction is marked local (own).
+/// The row of each instruction is one of slots alone exactly where the instruction is marked local (own). Such a row divides by
+/// 0 exactly where its instruction is idiv, irem, ldiv or lrem and the divisor on the stack is 0; it is undefined there.
 pub fn rows_are_marked()
-    ensures { RowsAreMarked }
+    ensures marks { RowsAreMarked }
+    ensures zero { RowsDivideByZero }
 {}

@@ -6,13 +6,11 @@
 mod comparison;
 mod laws;
 mod row_why;
-mod switch_target;
 mod value;
 mod verification_types;
 
 pub use comparison::compares;
 pub use laws::{rows_are_marked, rows_keep_kinds};
 pub use row_why::RowWhy;
-pub use switch_target::table_target;
 pub use value::{Slot, Value};
 pub use verification_types::{is_narrow, is_wide, kind_of_type};
