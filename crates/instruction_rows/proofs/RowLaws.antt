@@ -1,7 +1,7 @@
 -- A row that fits the types of a frame keeps to them.
 use Rattle.std.proofs.Common.{◌≡◌, ℕ, ℤ, ◌+ℤ◌, Bool, true, false, cond, List, [], ◌∷◌, Option, Some, None, Ok, refl, ap, subst, sym, ◌∙◌, arith}
 use Rattle.std.specs.List.{IsAmong, slice_get, slice_set}
-use Rattle.std.specs.Option.{is_none}
+use Rattle.std.specs.Option.{is_none, ok_or}
 use Rattle.std.specs.Int.{w32, int_wrap}
 use Rattle.opcodes.specs.declared.op.Kind.{Kind}
 use Rattle.opcodes.specs.declared.op.Kind.TheVariants as kinds
@@ -17,7 +17,7 @@ use Rattle.instruction_rows.specs.Kinds.{Of, Function, kind_of, kind_of_type, va
 use Rattle.instruction_rows.specs.Contents.{Contents, with_items, slots_of, types_of}
 use Rattle.instruction_rows.specs.StackItems.{Width, items_of, items_on}
 use Rattle.instruction_rows.specs.Rows.{LocalRow, push, int, long, moves, load, store, increment, branch, jump, select, goes_on}
-use Rattle.instruction_rows.specs.SlotEffect.{on, to, Moved, popped, pushed, applied, moved_on, acted, has_no_result, divides_by_zero}
+use Rattle.instruction_rows.specs.SlotEffect.{on, local_value, to, Moved, popped, pushed, applied, moved_on, acted, has_no_result, divides_by_zero}
 use Rattle.instruction_rows.specs.TypeEffect.{only_of, type_popped, types_popped, type_pushed, items_popped, local_type, without_half, with_type, types_on, typed}
 use Rattle.instruction_rows.specs.Soundness.{AreOf, HasKinds, IsSound, IsWay, Keeps}
 use Rattle.instruction_rows.proofs.Steps.{step_is, ok_is, found}
@@ -64,18 +64,31 @@ moves_with widths order before after c e h =
     (items_on_of first.0.0 top.items order first.0.1 top.left top.item_kinds top.of)
     (step_is (items_of widths c.stack) (λ x. moved_on c.locals (items_on x.0 order x.1)) (top.items, top.left) top.is)
 
+-- the value in a local variable of this type
+pub record LocalValue (k : Kind) (n : ℕ) (t : VType) (ts : List VType) (xs : List Slot) : Type 0 where
+  pub value : Of k
+  pub is : local_value k n xs ≡ Some value
+  pub kind : kind_of_type t ≡ Some k
+  pub there : slice_get ts n ≡ Some t
+
+pub local_value_of : (k : Kind) (n : ℕ) (t : VType) (ts : List VType) (xs : List Slot) → local_type k n ts ≡ Ok t → AreOf ts xs → LocalValue k n t ts xs
+local_value_of k n t ts xs e of =
+    let first = ok_is (ok_or (slice_get ts n) _) (λ u. only_of k u u) t e in
+    let only = only_is k first.0 first.0 t first.2 in
+    let there = found (slice_get ts n) first.0 _ first.1 in
+    let at = slot_at ts xs n first.0 of there in
+    let hold = holds k first.0 at.slot only.0 at.of in
+    subst (λ (u : VType). LocalValue k n u ts xs) only.1
+    (record { value = hold.value; is = step_is (slice_get xs n) (held k) at.slot at.is ∙ hold.is; kind = only.0; there = there })
+
 load_with : (k : Kind) (n : ℕ) (before after : Contents VType) (c : Contents Slot) → typed (load k n) before ≡ Ok after → HasKinds before c → Keeps (load k n) after (acted (load k n) c)
 load_with k n before after c e h =
-    let first = ok_is (local_type n before.locals) (λ t. only_of k t t then λ t. types_on before.locals (type_pushed t before.stack)) after e in
-    let second = ok_is (only_of k first.0 first.0) (λ t. types_on before.locals (type_pushed t before.stack)) after first.2 in
-    let only = only_is k first.0 first.0 second.0 second.1 in
-    let at = slot_at before.locals c.locals n first.0 h.locals (found (slice_get before.locals n) first.0 _ first.1) in
-    let hold = holds k first.0 at.slot only.0 at.of in
-    let v = value k hold.value in
-    let kind : kind_of_type second.0 ≡ Some (kind_of v) = ap kind_of_type (sym only.1) ∙ only.0 ∙ ap Some (sym (kind_of_value k hold.value)) in
-    goes_with (load k n) after before.locals (type_pushed second.0 before.stack) _ c.locals (pushed v c.stack) refl second.2 h.locals (pushed_kinds second.0 v before.stack c.stack kind h.stack)
-    (step_is (slice_get c.locals n) (λ slot. held k slot >>= λ x. moved_on c.locals (pushed (value k x) c.stack)) at.slot at.is
-    ∙ (step_is (held k at.slot) (λ x. moved_on c.locals (pushed (value k x) c.stack)) hold.value hold.is))
+    let first = ok_is (local_type k n before.locals) (λ t. types_on before.locals (type_pushed t before.stack)) after e in
+    let at = local_value_of k n first.0 before.locals c.locals first.1 h.locals in
+    let v = value k at.value in
+    let kind : kind_of_type first.0 ≡ Some (kind_of v) = at.kind ∙ ap Some (sym (kind_of_value k at.value)) in
+    goes_with (load k n) after before.locals (type_pushed first.0 before.stack) _ c.locals (pushed v c.stack) refl first.2 h.locals (pushed_kinds first.0 v before.stack c.stack kind h.stack)
+    (step_is (local_value k n c.locals) (λ x. moved_on c.locals (pushed (value k x) c.stack)) at.value at.is)
 
 store_acts : (k : Kind) (n : ℕ) (c : Contents Slot) (x : Of k × List Slot) (locals : List Slot) → popped k c.stack ≡ Some x → with_items n (slots_of (value k x.0)) c.locals ≡ Some locals
     → acted (store k n) c ≡ moved_on locals x.1
@@ -96,18 +109,13 @@ store_with k n before after c e h =
 increment_with : (n : ℕ) (amount : ℤ) (before after : Contents VType) (c : Contents Slot) → typed (increment n amount) before ≡ Ok after → HasKinds before c
     → Keeps (increment n amount) after (acted (increment n amount) c)
 increment_with n amount before after c e h =
-    let first = ok_is (local_type n before.locals) (λ t. only_of kinds.Int t before) after e in
-    let only = only_is kinds.Int first.0 before after first.2 in
-    let there = found (slice_get before.locals n) first.0 _ first.1 in
-    let at = slot_at before.locals c.locals n first.0 h.locals there in
-    let hold = holds kinds.Int first.0 at.slot only.0 at.of in
-    let sum = int_wrap w32 (hold.value +ℤ amount) in
+    let first = ok_is (local_type kinds.Int n before.locals) (λ t. Ok before) after e in
+    let at = local_value_of kinds.Int n first.0 before.locals c.locals first.1 h.locals in
+    let sum = int_wrap w32 (at.value +ℤ amount) in
     let slot = slots.One (values.Int sum) in
-    let unchanged : types_on before.locals before.stack ≡ Ok after = ap Ok only.1 in
-    goes_with (increment n amount) after before.locals before.stack _ (slice_set c.locals n slot) c.stack refl unchanged
-    (put_of before.locals c.locals n first.0 slot h.locals there (is_of kinds.Int first.0 slot only.0 (record { value = sum; is = refl }))) h.stack
-    (step_is (slice_get c.locals n) (λ slot. held kinds.Int slot >>= λ x. moved_on (slice_set c.locals n (slots.One (values.Int (int_wrap w32 (x +ℤ amount))))) c.stack) at.slot at.is
-    ∙ (step_is (held kinds.Int at.slot) (λ x. moved_on (slice_set c.locals n (slots.One (values.Int (int_wrap w32 (x +ℤ amount))))) c.stack) hold.value hold.is))
+    goes_with (increment n amount) after before.locals before.stack _ (slice_set c.locals n slot) c.stack refl first.2
+    (put_of before.locals c.locals n first.0 slot h.locals at.there (is_of kinds.Int first.0 slot at.kind (record { value = sum; is = refl }))) h.stack
+    (step_is (local_value kinds.Int n c.locals) (λ x. moved_on (slice_set c.locals n (slots.One (values.Int (int_wrap w32 (x +ℤ amount))))) c.stack) at.value at.is)
 
 first_among : (x : ℤ) (xs : List ℤ) → IsAmong (x ∷ xs) x
 first_among x xs = (0, (omega arith, refl))

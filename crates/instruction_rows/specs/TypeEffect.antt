@@ -51,8 +51,9 @@ items_popped (width ∷ widths) stack = item_popped width stack then λ x. items
 
 -- ---- local variables
 
-abbrev pub local_type : ℕ → List VType → Result VType RowWhy
-local_type n locals = ok_or (slice_get locals n) whys.Locals
+-- the type of a local variable, where it is of this kind
+abbrev pub local_type : Kind → ℕ → List VType → Result VType RowWhy
+local_type k n locals = ok_or (slice_get locals n) whys.Locals then λ t. only_of k t t
 
 -- a value in two slots loses its type where a store writes its second slot, at this index (JVMS 4.10.1.7)
 abbrev pub without_half : ℕ → List VType → List VType
@@ -73,9 +74,9 @@ typed (push t v) c = types_on c.locals (type_pushed t c.stack)
 typed (int takes f) c = types_popped takes c.stack then λ stack. types_on c.locals (type_pushed types.Int stack)
 typed (long takes f) c = types_popped takes c.stack then λ stack. types_on c.locals (type_pushed types.Long stack)
 typed (moves widths order) c = items_popped widths c.stack then λ x. types_on c.locals (items_on x.0 order x.1)
-typed (load k n) c = local_type n c.locals then λ t. only_of k t t then λ t. types_on c.locals (type_pushed t c.stack)
+typed (load k n) c = local_type k n c.locals then λ t. types_on c.locals (type_pushed t c.stack)
 typed (store k n) c = type_popped k c.stack then λ x. with_type x.0 n c.locals then λ locals. types_on locals x.1
-typed (increment n amount) c = local_type n c.locals then λ t. only_of kinds.Int t c
+typed (increment n amount) c = local_type kinds.Int n c.locals then λ t. Ok c
 typed (branch takes test target) c = types_popped takes c.stack then λ stack. types_on c.locals stack
 typed (jump target) c = Ok c
 typed (select choice targets) c = type_popped kinds.Int c.stack then λ x. types_on c.locals x.1
