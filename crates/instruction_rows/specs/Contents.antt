@@ -1,6 +1,6 @@
--- What a frame holds, slot by slot (JVMS 2.6): the local variables by index, and the operand stack with the top first. Slots
--- and their types lie in the same way, so this serves both. A long or a double takes two slots: in local variables its own
--- and the one behind, on the operand stack its own and the one above (JVMS 2.6.1, 2.6.2, 4.10.1.2).
+-- What a frame holds, slot by slot (JVMS 2.6): the local variables by index, and the operand stack with the top
+-- first. Slots and their types lie in the same way, so this serves both. A long or a double takes two slots: in local
+-- variables its own and the one behind, on the operand stack its own and the one above (JVMS 2.6.1, 2.6.2, 4.10.1.2).
 use Rattle.std.specs.Prelude.{ℕ, suc, Bool, true, false, List, [], ◌∷◌, reverse, length, slice_set, nat_lt, Option, Some, None, if◌then◌else◌}
 use Rattle.std.specs.List.{flat_map}
 use Rattle.stack_maps.specs.declared.types.FrameTypes.{FrameTypes}

@@ -1,8 +1,10 @@
--- The kinds of values (JVMS 2.11.1): int, long and reference. boolean, byte, char and short are ints. float and double have no
--- kind, since no instruction makes one (own).
+-- The kinds of values (JVMS 2.11.1): int, long and reference. boolean, byte, char and short are ints. float and
+-- double have no kind, since no instruction makes one (own).
 use Rattle.std.specs.Prelude.{Bool, true, false, ℕ, ℤ, List, [], ◌∷◌, Option, Some, None}
 use Rattle.opcodes.specs.declared.op.Kind.{Kind}
 use Rattle.opcodes.specs.declared.op.Kind.TheVariants as kinds
+use Rattle.opcodes.specs.declared.op.Element.{Element}
+use Rattle.opcodes.specs.declared.op.Element.TheVariants as elements
 use Rattle.stack_maps.specs.declared.types.VType.{VType}
 use Rattle.stack_maps.specs.declared.types.VType.TheVariants as types
 use Rattle.instruction_rows.specs.declared.value.Value.{Value}
@@ -15,6 +17,15 @@ abbrev pub Of : Kind → Type 0
 Of kinds.Int = ℤ
 Of kinds.Long = ℤ
 Of kinds.Reference = Option ℕ
+
+-- the kind of the elements that an array instruction loads or stores (JVMS 2.11.1, 6.5)
+abbrev pub kind_of_element : Element → Kind
+kind_of_element elements.Int = kinds.Int
+kind_of_element elements.Long = kinds.Long
+kind_of_element elements.Reference = kinds.Reference
+kind_of_element elements.Byte = kinds.Int
+kind_of_element elements.Char = kinds.Int
+kind_of_element elements.Short = kinds.Int
 
 -- functions of values of these kinds
 abbrev pub Function : List Kind → Type 0 → Type 0

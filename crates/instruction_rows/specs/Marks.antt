@@ -1,5 +1,5 @@
--- Which instructions are local: they read and write the frames of their thread alone, and no other thread can tell when they run
--- (own).
+-- Which instructions are local: they read and write the frames of their thread alone, and no other thread can tell
+-- when they run (own).
 use Rattle.std.specs.Prelude.{◌≡◌, Bool, true, false, IsTrue, List, ◌∷◌, None}
 use Rattle.opcodes.specs.declared.op.Op.{Op}
 use Rattle.opcodes.specs.declared.op.Op.TheVariants as ops

@@ -32,7 +32,8 @@ pub record HasKinds (types : Contents VType) (c : Contents Slot) : Type 0 where
   pub locals : AreOf types.locals c.locals
   pub stack : AreOf types.stack c.stack
 
--- What is known of a slot of one type is known of it as one of the other: the other is Top or the like, or both have one kind.
+-- What is known of a slot of one type is known of it as one of the other: the other is Top or the like, or both have
+-- one kind.
 abbrev pub KeepsKind : VType → VType → Type 0
 KeepsKind a b = (kind_of_type b ≡ None) ⊎ (kind_of_type a ≡ kind_of_type b)
 

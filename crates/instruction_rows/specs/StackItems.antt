@@ -1,5 +1,5 @@
--- Items of the operand stack, as the stack instructions take and give them (JVMS 6.5: pop to swap). They lie in the same way for
--- slots and for types.
+-- Items of the operand stack, as the stack instructions take and give them (JVMS 6.5: pop to swap). They lie in the
+-- same way for slots and for types.
 use Rattle.std.specs.Prelude.{ℕ, List, [], ◌∷◌, ◌++◌, get_or, Option, Some, None}
 use Rattle.instruction_rows.specs.Options.{◌>>=◌}
 

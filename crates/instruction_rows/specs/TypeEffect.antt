@@ -47,7 +47,8 @@ item_popped two stack = two_popped stack
 
 abbrev pub items_popped : List Width → List VType → Result (List (List VType) × List VType) RowWhy
 items_popped [] stack = Ok ([], stack)
-items_popped (width ∷ widths) stack = item_popped width stack then λ x. items_popped widths x.1 then λ y. Ok (x.0 ∷ y.0, y.1)
+items_popped (width ∷ widths) stack =
+    item_popped width stack then λ x. items_popped widths x.1 then λ y. Ok (x.0 ∷ y.0, y.1)
 
 -- ---- local variables
 

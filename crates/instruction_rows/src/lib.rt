@@ -1,6 +1,6 @@
-//! One row for each instruction (JVMS 6.5), and what it means for slots and for types. `specs/` has the definitions; here are
-//! the plain types that they speak of, the tests that verifier and interpreter share, and the laws, each as a call that does
-//! nothing.
+//! One row for each instruction (JVMS 6.5), and what it means for slots and for types. `specs/` has the definitions;
+//! here are the plain types that they speak of, the tests that verifier and interpreter share, and the laws, each as
+//! a call that does nothing.
 #![tactic(auto)]
 
 mod comparison;

@@ -5,7 +5,8 @@ ghost use Rattle.instruction_rows.specs.Contents.{is_wide, is_narrow};
 use opcodes::Kind;
 use stack_maps::VType;
 
-/// The kind of the values that a verification type stands for (JVMS 2.11.1, 4.10.1.2). `None` for Top, float and double.
+/// The kind of the values that a verification type stands for (JVMS 2.11.1, 4.10.1.2). `None` for Top, float and
+/// double.
 pub fn kind_of_type(t: VType) -> Option<Kind>
     ensures { result ≡ kind_of_type t }
 {
