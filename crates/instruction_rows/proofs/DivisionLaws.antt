@@ -40,6 +40,14 @@ undefined_by_zero (int takes f) c e = no_result (applied (Option ℤ) takes f c.
 undefined_by_zero (long takes f) c e = no_result (applied (Option ℤ) takes f c.stack) _ e
 undefined_by_zero r c e = absurd cc
 
+-- a row that is defined doesn't divide by 0
+pub nonzero_of : (r : LocalRow) (c : Contents Slot) (m : Moved) → acted r c ≡ Some m → divides_by_zero r c ≡ false
+nonzero_of r c m e = by_test (divides_by_zero r c) refl
+  where
+    by_test : (b : Bool) → divides_by_zero r c ≡ b → b ≡ false
+    by_test true is = let none = undefined_by_zero r c is in absurd cc
+    by_test false is = refl
+
 -- ---- exactly the divisions
 
 zero_test : (b : Bool) (x : ℤ) → is_none (cond b None (Some x)) ≡ b

@@ -16,8 +16,8 @@ use Rattle.instruction_rows.specs.Results.{◌then◌}
 use Rattle.instruction_rows.specs.Kinds.{Of, Function, kind_of, kind_of_type, value, held}
 use Rattle.instruction_rows.specs.Contents.{Contents, with_items, slots_of, types_of}
 use Rattle.instruction_rows.specs.StackItems.{Width, items_of, items_on}
-use Rattle.instruction_rows.specs.Rows.{LocalRow, push, int, long, moves, load, store, increment, branch, jump, select, goes_on}
-use Rattle.instruction_rows.specs.SlotEffect.{on, local_value, to, Moved, popped, pushed, applied, moved_on, acted, has_no_result, divides_by_zero}
+use Rattle.instruction_rows.specs.Rows.{Row, local, LocalRow, push, int, long, moves, load, store, increment, branch, jump, select, goes_on}
+use Rattle.instruction_rows.specs.SlotEffect.{row_acted, on, local_value, to, Moved, popped, pushed, applied, moved_on, acted, has_no_result, divides_by_zero}
 use Rattle.instruction_rows.specs.TypeEffect.{only_of, type_popped, types_popped, type_pushed, items_popped, local_type, without_half, with_type, types_on, typed}
 use Rattle.instruction_rows.specs.Soundness.{AreOf, HasKinds, IsSound, IsWay, Keeps}
 use Rattle.instruction_rows.proofs.Steps.{step_is, ok_is, found}
@@ -169,3 +169,8 @@ keeps (increment n amount) before after c sound e h nonzero = increment_with n a
 keeps (branch takes test target) before after c sound e h nonzero = branch_with takes test target before after c e h
 keeps (jump target) before after c sound e h nonzero = jump_with target before after c e h
 keeps (select choice targets) before after c sound e h nonzero = select_with choice targets before after c sound e h
+
+-- what has a row of slots alone is local
+pub local_of : (r : Row) (c : Contents Slot) (m : Moved) → row_acted r c ≡ Some m → (act : LocalRow) × (r ≡ local act) × (acted act c ≡ Some m)
+local_of (local r) c m e = (r, refl, e)
+local_of r c m e = absurd cc
