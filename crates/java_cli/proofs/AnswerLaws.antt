@@ -32,9 +32,9 @@ use Rattle.java_cli.specs.MainClass.{class_named, has_main}
 use Rattle.plain_program.specs.Programs.{IsSpelled, IsLinked}
 use Rattle.java_cli.specs.Programs.{IsProgram}
 use Rattle.java_cli.specs.Causes.{Contents, HasContents, HaveContents, IsClass, AreClasses, IsBad, IsWrong, FirstWrong, IsFirstName, IsLinkAnswer, IsDue, too_many, wrong, by_linking, HasCause, IsReached, contents_of, IsExact, IsRefusal, StoreFaults}
-use Rattle.java_cli.specs.Reading.{IsRead, IsWrongFile, NotRead, IsStopped}
-use Rattle.java_cli.specs.Linking.{NotLinked, first_name}
-use Rattle.java_cli.proofs.Naming.{first_is}
+use Rattle.java_cli.specs.LoadCauses.{IsRead, IsWrongFile, NotRead, IsStopped}
+use Rattle.java_cli.specs.LinkCauses.{NotLinked, first_name}
+use Rattle.java_cli.proofs.NameLaws.{first_is}
 use Rattle.plain_program.specs.Runs.{IsRun}
 use Rattle.java_cli.specs.Runs.{RanCommand}
 use Rattle.java_cli.specs.Headline.{IsTaken, OnRun, OnNoRun, OutFaults, IsKept, Ran, TakesLine}
@@ -341,9 +341,10 @@ ran_command known c classes m history out all main linked run_is =
 
 -- a line that was put, or its front
 pub takes : {E : Type 0} (contents : E → Option (List ℕ)) (faults : E → ℕ) (old new : E) (line : List ℕ) (r : Result (Unit {0}) PartWritten) → OnOk r (Appends (contents old) line (contents new))
-    → IfErr r (λ e. Appends (contents old) (take e.taken line) (contents new)) → OnErr r (Rose (faults old) (faults new)) → TakesLine contents faults old new line
-takes contents faults old new line (Ok x) ok part cause = record { taken = length line; written = rw (take_all (length line) line (omega arith)) ok; whole = λ lt. absurd (omega arith) }
-takes contents faults old new line (Err e) ok part cause = record { taken = e.taken; written = part; whole = λ lt. cause }
+    → IfErr r (λ e. Appends (contents old) (take e.taken line) (contents new)) → IfErr r (λ e. e.taken < length line) → OnErr r (Rose (faults old) (faults new)) → OnOk r (faults new ≡ faults old)
+    → TakesLine contents faults old new line
+takes contents faults old new line (Ok x) ok part short cause kept = record { taken = length line; written = rw (take_all (length line) line (omega arith)) ok; whole = λ lt. absurd (omega arith); kept = λ all. kept }
+takes contents faults old new line (Err e) ok part short cause kept = record { taken = e.taken; written = part; whole = λ lt. cause; kept = λ all. absurd (omega (arith, short, all)) }
 
 -- ---- the answer of the call
 

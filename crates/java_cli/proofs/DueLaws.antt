@@ -21,9 +21,9 @@ use Rattle.java_cli.specs.Errors.{load_answer}
 use Rattle.java_cli.specs.Words.{Command}
 use Rattle.java_cli.specs.MainClass.{class_named, has_main}
 use Rattle.java_cli.specs.Causes.{Contents, IsClass, AreClasses, IsWrong, FirstWrong, IsLinkAnswer, IsDue, too_many, wrong, by_linking, AreBytes, OneIsDue}
-use Rattle.java_cli.specs.Linking.{first_name}
-use Rattle.java_cli.proofs.Naming.{first_is}
-use Rattle.java_cli.proofs.Answering.{one_wrong, wrong_or_classes, one_link_answer, program_is}
+use Rattle.java_cli.specs.LinkCauses.{first_name}
+use Rattle.java_cli.proofs.NameLaws.{first_is}
+use Rattle.java_cli.proofs.AnswerLaws.{one_wrong, wrong_or_classes, one_link_answer, program_is}
 
 -- ---- at most one
 

@@ -16,7 +16,7 @@ use Rattle.java_cli.specs.Limits.{most_bytes}
 use Rattle.java_cli.specs.Errors.{load_answer, loaded_answer}
 use Rattle.java_cli.specs.Causes.{answer_of, Contents, HasContents, IsBad, IsRefusal, StoreFaults}
 use Rattle.class_grammar.specs.Grammar.{SpellsOnly}
-use Rattle.java_cli.specs.Reading.{IsRead, IsWrongFile, NotRead, IsStopped}
+use Rattle.java_cli.specs.LoadCauses.{IsRead, IsWrongFile, NotRead, IsStopped}
 
 abbrev no_file : Contents
 no_file = None
