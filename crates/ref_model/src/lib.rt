@@ -6,10 +6,9 @@ mod ending;
 mod entry;
 mod instruction;
 mod laws;
-mod value;
 
 pub use ending::Ending;
 pub use entry::{Entry, What};
 pub use instruction::{Instr, Op};
+pub use instruction_rows::{Slot, Value};
 pub use laws::prefixes_run;
-pub use value::{Slot, Value};
