@@ -26,8 +26,8 @@ above_is p stacked e = λ i c. at c i
   where
     at : (c : ℕ) → above stacked c ≡ directs p c
     at c = ap (λ rows. above rows c) e
-      ∙ ap reverse (row-tabulate (λ d. reverse (directs p d)) (length p.classes) (λ d h. ap reverse (no_directs p d h)) c)
-      ∙ reverse-reverse (directs p c)
+        ∙ ap reverse (row-tabulate (λ d. reverse (directs p d)) (length p.classes) (λ d h. ap reverse (no_directs p d h)) c)
+        ∙ reverse-reverse (directs p c)
 
 some_at : {A : Type 0} (xs : List A) (c : ℕ) → c < length xs → (x : A) × (slice_get xs c ≡ Some x)
 some_at [] c h = absurd (omega arith)

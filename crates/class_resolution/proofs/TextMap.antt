@@ -38,13 +38,14 @@ pub adds_new : {X : Type 0} (m n : BTreeMap (Vec ℕ) X) (key : Vec ℕ) (name :
 adds_new {X = X} m n key name x e fresh h text =
     at_text_updates key.items m n (Some x) h text ∙ ap (λ bs. cond (bytes_eq bs text) (Some x) (at_text m text)) e
     ∙ ⊎_elim
-      (λ y. here (bytes_eq name text) (at_text m text) y (subst (λ t. is_some (at_text m t) ≡ false) ((bytes_decides name text).0 y) fresh))
-      (λ off. there (bytes_eq name text) (at_text m text) off)
-      (cases_Bool (bytes_eq name text))
+    (λ y. here (bytes_eq name text) (at_text m text) y (subst (λ t. is_some (at_text m t) ≡ false) ((bytes_decides name text).0 y) fresh))
+    (λ off. there (bytes_eq name text) (at_text m text) off)
+    (cases_Bool (bytes_eq name text))
   where
     here : (b : Bool) (o : Option X) → b ≡ true → is_some o ≡ false → cond b (Some x) o ≡ option_or o (cond b (Some x) None)
     here b None y s = refl
     here b (Some k) y s = cc
+
     there : (b : Bool) (o : Option X) → b ≡ false → cond b (Some x) o ≡ option_or o (cond b (Some x) None)
     there true o off = cc
     there false None off = refl
@@ -61,6 +62,7 @@ adds_none {X = X} m name x found text =
     here : (b : Bool) (o : Option X) → is_some o ≡ true → o ≡ option_or o (cond b (Some x) None)
     here b None s = cc
     here b (Some k) s = refl
+
     there : (b : Bool) (o : Option X) → b ≡ false → o ≡ option_or o (cond b (Some x) None)
     there true o off = cc
     there false None off = refl

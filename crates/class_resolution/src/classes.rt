@@ -132,6 +132,14 @@ impl Classes {
         self.files.len() as u32
     }
 
+    /// The files of the classes.
+    pub fn files(&self) -> &[ClassFile]
+        ensures classes { result.now ≡ self.now.classes }
+        ensures few { length result.now < 2 ^ 32 }
+    {
+        &self.files
+    }
+
     /// The file of a class. `None`: there is no such class.
     pub fn file(&self, class: u32) -> Option<&ClassFile>
         ensures { option_copied result ≡ slice_get self.now.classes class }

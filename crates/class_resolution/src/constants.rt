@@ -12,11 +12,17 @@ use class_grammar::{class_name_at, text_at};
 use class_model::Const;
 
 const BRACKET: u16 = b'[' as u16;
+
 const CLASS_LETTER: u16 = b'L' as u16;
+
 const SEMICOLON: u16 = b';' as u16;
+
 const CLOSING: u16 = b')' as u16;
+
 const FLOAT_LETTER: u16 = b'F' as u16;
+
 const DOUBLE_LETTER: u16 = b'D' as u16;
+
 const LONG_LETTER: u16 = b'J' as u16;
 
 const NO_KEY: MemberKey = MemberKey {

@@ -76,11 +76,7 @@ fn interfaces_of(alloc: Global, classes: &Classes, c: u32) -> Result<Vec<u32>, N
     }
 }
 
-fn interfaces_in(
-    alloc: Global,
-    classes: &Classes,
-    file: &ClassFile,
-) -> Result<Vec<u32>, NoMemory>
+fn interfaces_in(alloc: Global, classes: &Classes, file: &ClassFile) -> Result<Vec<u32>, NoMemory>
     ensures { IfOk result (λ v. v.items ≡ spec.interfaces_in classes.now file.now) }
 {
     let found = file

@@ -81,8 +81,7 @@ pub fn inherited(
 fn is_hidden(world: &Hierarchy, all: &[Place], at: Place) -> bool
     ensures { result ≡ spec.is_hidden world.now all.now at }
 {
-    all.iter()
-        .any(|other| other.class != at.class && world.is_below(other.class, at.class))
+    all.iter().any(|other| other.class != at.class && world.is_below(other.class, at.class))
 }
 
 // Whether a method is maximally specific among all of them and has a body.

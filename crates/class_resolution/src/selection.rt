@@ -80,12 +80,7 @@ fn select_by_key(
 }
 
 /// What invokevirtual or invokeinterface of a method selects on an object of a class (JVMS 5.4.6).
-pub fn select(
-    alloc: Global,
-    world: &Hierarchy,
-    class: u32,
-    at: Place,
-) -> Result<Choice, NoMemory>
+pub fn select(alloc: Global, world: &Hierarchy, class: u32, at: Place) -> Result<Choice, NoMemory>
     ensures { IfOk result (λ choice. choice ≡ spec.select world.now class at) }
 {
     let Some(file) = world.classes().file(at.class) else {

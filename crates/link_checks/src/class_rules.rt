@@ -236,8 +236,14 @@ pub fn method_fault(
     let is_from_file = world.classes().is_from_file(class);
     let faults = [
         unless(is_first_method(file, index, method), LinkWhy::Duplicate),
-        unless(!(is_abstract(method) && is_static(method)), LinkWhy::WrongKind),
-        unless(!overrides_final(world, class, file, method), LinkWhy::FinalParent),
+        unless(
+            !(is_abstract(method) && is_static(method)),
+            LinkWhy::WrongKind,
+        ),
+        unless(
+            !overrides_final(world, class, file, method),
+            LinkWhy::FinalParent,
+        ),
         unless(!(is_from_file && is_native(method)), LinkWhy::Native),
         unless(!has_floating(file, method), LinkWhy::Unsupported),
     ];

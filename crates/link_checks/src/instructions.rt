@@ -8,7 +8,8 @@ use crate::rules::{first_why, unless};
 use class_model::Const;
 use class_resolution::{
     Hierarchy, MemberKey, argument_slots, class_method, dimensions_of, field_of, home_of,
-    interface_method, is_array_name, is_floating, is_floating_array, is_known, key_at, name_at, names_internal,
+    interface_method, is_array_name, is_floating, is_floating_array, is_known, key_at, name_at,
+    names_internal,
 };
 use items::NoMemory;
 use linkage::{Invocation, LinkWhy, Place, Purpose};
@@ -276,12 +277,7 @@ fn is_deepest(name: &[u16], purpose: Purpose) -> bool
 }
 
 /// What is wrong with the name of a class (JVMS 5.4.3.1).
-pub fn class_fault(
-    world: &Hierarchy,
-    class: u32,
-    purpose: Purpose,
-    name: &[u16],
-) -> Option<LinkWhy>
+pub fn class_fault(world: &Hierarchy, class: u32, purpose: Purpose, name: &[u16]) -> Option<LinkWhy>
     ensures { result ≡ spec.first_why (spec.class_faults world.now class purpose name.now) }
 {
     let reserved = is_reserved(world, class, name, false);
@@ -305,7 +301,12 @@ fn class_const_fault(
 {
     match constant {
         Const::Class(_) => {
-            class_fault(namer.world, namer.class, purpose, name_at(namer.pool, index))
+            class_fault(
+                namer.world,
+                namer.class,
+                purpose,
+                name_at(namer.pool, index),
+            )
         }
         _ => Some(LinkWhy::BadCode),
     }

@@ -2,5 +2,10 @@
 #![tactic(auto)]
 
 mod class_rules;
+mod code;
 mod instructions;
+mod program;
 mod rules;
+
+pub use code::{Front, front_of};
+pub use program::link_fault;

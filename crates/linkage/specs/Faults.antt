@@ -24,7 +24,7 @@ use Rattle.linkage.specs.declared.why.LinkWhy.{LinkWhy}
 use Rattle.linkage.specs.declared.why.LinkWhy.TheVariants.{Duplicate, MissingClass, Cycle, WrongKind, FinalParent, Native, BadCode, Unsupported}
 use Rattle.linkage.specs.declared.naming.Purpose.TheVariants as purposes
 use Rattle.linkage.specs.declared.place.Place.{Place}
-use Rattle.linkage.specs.Program.{Program, own_name, parent_name, interface_names, is_array_name, class_named, is_interface, is_final, is_from_file}
+use Rattle.linkage.specs.Program.{Program, own_name, parent_name, is_array_name, class_named, is_interface, is_final, is_from_file}
 use Rattle.linkage.specs.Hierarchy.{is_below, superclasses}
 use Rattle.linkage.specs.Members.{Key, index_of, declared_method, has_method, is_open, is_static, is_final_member, is_abstract_method, is_native}
 use Rattle.linkage.specs.Selection.{key_in}
@@ -86,6 +86,10 @@ interface_faults p c name =
     ∷ unless (not (is_internal_to p c name)) Unsupported
     ∷ []
 
+-- the superinterface at an index of the file's pool
+abbrev pub interface_faults_at : Program → ℕ → ClassFile → ℕ → Faults
+interface_faults_at p c f index = interface_faults p c (name_at f.pool index)
+
 -- ---- fields and methods
 
 -- whether the member at the index is the first of its key
@@ -132,14 +136,22 @@ pub record Decoded : Type 0 where
   pub instrs : List Instr
   pub is_bad : Bool
 
+-- the instruction that was read at pc, where so many bytes were left
+abbrev pub read_at : ℕ → ℕ → Op × List ℕ → Instr
+read_at pc left x = record { pc = pc; next = pc + (left - length x.1); op = x.0 }
+
+abbrev pub with_first : Instr → Decoded → Decoded
+with_first i d = record { instrs = i ∷ d.instrs; is_bad = d.is_bad }
+
 -- Reading goes on from pc, where these bytes are left, for so many instructions at most. Each takes a byte at least.
 abbrev pub decoded_from : ℕ → ℕ → List ℕ → Decoded
 decoded_from zero pc bytes = record { instrs = []; is_bad = false }
 decoded_from (suc n) pc [] = record { instrs = []; is_bad = false }
-decoded_from (suc n) pc (b ∷ bytes) = elim (op_at pc (b ∷ bytes)) [ Ok x ↦ with_first pc (length (b ∷ bytes)) x (decoded_from n (pc + (length (b ∷ bytes) - length x.1)) x.1) | Err fault ↦ record { instrs = []; is_bad = true } ]
-  where
-    with_first : ℕ → ℕ → Op × List ℕ → Decoded → Decoded
-    with_first pc left x others = record others { instrs = record { pc = pc; next = pc + (left - length x.1); op = x.0 } ∷ others.instrs }
+decoded_from (suc n) pc (b ∷ bytes) =
+    elim (op_at pc (b ∷ bytes)) [
+      | Ok x ↦ with_first (read_at pc (length (b ∷ bytes)) x) (decoded_from n (pc + (length (b ∷ bytes) - length x.1)) x.1)
+      | Err fault ↦ record { instrs = []; is_bad = true }
+    ]
 
 abbrev pub decoded : List ℕ → Decoded
 decoded code = decoded_from (length code) 0 code
@@ -148,10 +160,13 @@ decoded code = decoded_from (length code) 0 code
 abbrev pub row_faults : Program → ℕ → List Const → Row → Faults
 row_faults p c pool r = if r.catch_type == 0 then [] else class_faults p c purposes.Type (name_at pool r.catch_type)
 
+abbrev pub instr_faults_in : Program → ℕ → List Const → Instr → Faults
+instr_faults_in p c pool i = instr_faults p c pool i.op
+
 abbrev pub code_faults : Program → ℕ → List Const → CodeBody → Faults
 code_faults p c pool body =
     let d = decoded body.code in
-    flat_map (λ i. instr_faults p c pool i.op) d.instrs
+    flat_map (instr_faults_in p c pool) d.instrs
     ++ (if d.is_bad then Some BadCode ∷ [] else [])
     ++ flat_map (row_faults p c pool) body.rows
 
@@ -172,7 +187,7 @@ abbrev pub class_faults_at : Program → ℕ → ClassFile → Faults
 class_faults_at p c f =
     name_faults p c f
     ++ parent_faults p c f
-    ++ flat_map (interface_faults p c) (interface_names f)
+    ++ flat_map (interface_faults_at p c f) f.interfaces
     ++ flat_map (λ x. field_faults_at p c f x.0 x.1) (enumerate_from 0 f.fields)
     ++ flat_map (λ x. method_faults_at p c f x.0 x.1) (enumerate_from 0 f.methods)
     ++ flat_map (method_code_faults p c f.pool) f.methods

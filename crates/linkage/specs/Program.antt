@@ -23,10 +23,6 @@ own_name f = unwrap_or (class_name_at f.pool f.own) []
 abbrev pub parent_name : ClassFile → Option (List ℕ)
 parent_name f = class_name_at f.pool f.parent
 
--- the names of its direct superinterfaces
-abbrev pub interface_names : ClassFile → List (List ℕ)
-interface_names f = filter_map (class_name_at f.pool) f.interfaces
-
 -- the name of an array class, which is its descriptor (JVMS 4.4.1)
 abbrev pub is_array_name : List ℕ → Bool
 is_array_name name = begins_with (codes "[") name
