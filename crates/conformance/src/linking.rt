@@ -3,9 +3,8 @@
 //! in it and `end`: a `byte`, an opcode with what it names (`get`, `call`, `icall`, `type`), or a handler that catches a class.
 
 use class_model::{Attribute, Body, ClassFile, CodeBody, Const, Member, Row};
-use class_resolution::{Classes, Hierarchy};
+use class_world::{LinkError, link};
 use items::{Items, NoMemory};
-use link_checks::link_fault;
 use linkage::LinkWhy;
 use std::alloc::Global;
 use std::str::SplitWhitespace;
@@ -225,10 +224,12 @@ fn fault_of(alloc: Global, classes: &str) -> Result<Option<(u16, LinkWhy)>, NoMe
         "33 java/lang/Object - method 1 m ()V end method 257 <init> ()V method 2 0p ()V end",
     )?)?;
     built_in.push(class_file(alloc, "32 0Hidden java/lang/Object")?)?;
-    let world = Hierarchy::new(alloc, Classes::new(alloc, built_in, files)?)?;
-    match link_fault(alloc, &world)? {
-        Some(fault) => Ok(Some((fault.class.first().copied().unwrap_or(0), fault.why))),
-        None => Ok(None),
+    match link(alloc, built_in, files) {
+        Ok(_) => Ok(None),
+        Err(LinkError::Fault { class, why }) => {
+            Ok(Some((class.first().copied().unwrap_or(0), why)))
+        }
+        Err(LinkError::NoMemory) => Err(NoMemory),
     }
 }
 
