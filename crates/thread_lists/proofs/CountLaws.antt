@@ -1,6 +1,11 @@
 -- How often a thread occurs in lists.
 use Rattle.std.proofs.Common.{◌≡◌, ◌+◌, ◌<◌, ◌≤◌, ◌==◌, ℕ, suc, zero, List, [], ◌∷◌, ◌++◌, length, sym, ◌∙◌, ap, subst, refl, append-nil, arith, cond, eqb, ◌⊎◌, inl, inr, true, false, not, filter, set, get_or, sum_by}
-use Rattle.std.proofs.lemmas.Bool.{cases_eq, eq-eqb}
+use Rattle.std.proofs.lemmas.Bool.{cases_eq, cases_lt, eq-eqb}
+use Rattle.std.proofs.lemmas.List.{get_or-set_other}
+use Rattle.std.proofs.Math.ListN.{length-set}
+use Rattle.std.proofs.lemmas.List.Elements.{filter-append}
+use Rattle.std.specs.List.{AllByRecursion, IsDistinct, list_any}
+use Rattle.std.proofs.lemmas.Map.Steps.{length-le_from_distinct_below}
 use Rattle.std.proofs.lemmas.Bool.Decides.{eqb_tells, nat_tests}
 use Rattle.std.proofs.lemmas.List.Sums.{sum_by-cons, sum_by-append, sum_by-set, get_or-le-sum_by}
 use Rattle.thread_lists.specs.Lists.{count, total, list_at, push, without}
@@ -26,3 +31,73 @@ never t xs e h = omega arith
 -- no thread is in both parts of a list that has it at most once
 pub apart : (x y : ℕ) (us vs : List ℕ) → ((z : ℕ) → count z (us ++ vs) ≤ 1) → 0 < count x us → 0 < count y vs → x ≡ y → ⊥
 apart x y us vs once h k e = omega (arith, once x, count-append x us vs, subst (λ z. 0 < count z vs) (sym e) k)
+
+-- a list is what stands before one of its threads, the thread, and what stands after it
+pub record Split (t : ℕ) (xs : List ℕ) : Type 0 where
+  pub before : List ℕ
+  pub after : List ℕ
+  pub is : xs ≡ before ++ t ∷ after
+
+pub split : (t : ℕ) (xs : List ℕ) → 0 < count t xs → Split t xs
+split t [] h = absurd (omega arith)
+split t (x ∷ xs) h =
+    elim (cases_eq x t) [
+      inl e ↦ record { before = []; after = xs; is = ap (λ y. y ∷ xs) e }
+    | inr n ↦
+        let s = split t xs (grind (arith, nat_tests, count-cons t x xs)) in
+        record { before = x ∷ s.before; after = s.after; is = ap (λ ys. x ∷ ys) s.is }
+    ]
+
+pub without-none : (t : ℕ) (xs : List ℕ) → count t xs ≡ 0 → without t xs ≡ xs
+without-none t [] h = refl
+without-none t (x ∷ xs) h =
+    elim (eqb_tells x t) [
+      inl w ↦ absurd (never t (x ∷ xs) h (subst (λ y. 0 < count y (x ∷ xs)) w.1 (count-here x xs)))
+    | inr w ↦ ap (λ b. cond (not b) (x ∷ without t xs) (without t xs)) w.0 ∙ ap (λ ys. x ∷ ys) (without-none t xs (omega (arith, count-cons t x xs)))
+    ]
+
+pub without-split : (t : ℕ) (us vs : List ℕ) → count t us ≡ 0 → count t vs ≡ 0 → without t (us ++ t ∷ vs) ≡ us ++ vs
+without-split t us vs h k =
+    filter-append (λ x. not (x == t)) us (t ∷ vs)
+    ∙ ap (λ xs. xs ++ without t (t ∷ vs)) (without-none t us h)
+    ∙ ap (λ xs. us ++ xs) (ap (λ b. cond (not b) (t ∷ without t vs) (without t vs)) (eq-eqb t t refl) ∙ without-none t vs k)
+
+-- one of several lists
+pub total-set : (f : List ℕ → ℕ) (lists : List (List ℕ)) (k : ℕ) (xs : List ℕ) → k < length lists → total f (set lists k xs) + f (list_at lists k) ≡ total f lists + f xs
+total-set f lists k xs h = sum_by-set f lists k xs [] h
+
+pub total-le : (t : ℕ) (lists : List (List ℕ)) (k : ℕ) → k < length lists → count t (list_at lists k) ≤ total (count t) lists
+total-le t lists k h = get_or-le-sum_by (count t) lists k [] h
+
+pub total-two : (t : ℕ) (lists : List (List ℕ)) (j k : ℕ) → j < length lists → k < length lists → (j ≡ k → ⊥) → count t (list_at lists j) + count t (list_at lists k) ≤ total (count t) lists
+total-two t lists j k hj hk ne =
+    let other : list_at (set lists k []) j ≡ list_at lists j = get_or-set_other lists k j [] [] ne in
+    let le : count t (list_at (set lists k []) j) ≤ total (count t) (set lists k []) = total-le t (set lists k []) j (simp length-set hj) in
+    omega (arith, total-set (count t) lists k [] hk, subst (λ xs. count t xs ≤ total (count t) (set lists k [])) other le)
+
+-- a list has no more threads than there are, where each occurs at most once
+pub list_any-count : (q : ℕ) (xs : List ℕ) → list_any (eqb q) xs ≡ true → 0 < count q xs
+list_any-count q [] h = cc
+list_any-count q (x ∷ xs) h =
+    elim (cases_eq q x) [
+      inl e ↦ subst (λ y. 0 < count q (y ∷ xs)) e (count-here q xs)
+    | inr n ↦ count-there q x xs (list_any-count q xs (grind (arith, nat_tests)))
+    ]
+
+differs : (x : ℕ) (xs : List ℕ) → count x xs ≡ 0 → AllByRecursion (λ y. eqb x y ≡ false) xs
+differs x [] h = tt
+differs x (y ∷ ys) h =
+    elim (eqb_tells x y) [
+      inl w ↦ absurd (never x (y ∷ ys) h (subst (λ z. 0 < count z (y ∷ ys)) (sym w.1) (count-here y ys)))
+    | inr w ↦ (w.0, differs x ys (omega (arith, count-cons x y ys)))
+    ]
+
+distinct : (xs : List ℕ) → ((t : ℕ) → count t xs ≤ 1) → IsDistinct eqb xs
+unfolding IsDistinct
+distinct [] once = tt
+distinct (x ∷ xs) once =
+    (differs x xs (omega (arith, once x, count-same x xs)), distinct xs (λ t. omega (arith, once t, count-cons t x xs)))
+
+pub length-le : (xs : List ℕ) (n : ℕ) → ((t : ℕ) → count t xs ≤ 1) → ((t : ℕ) → n ≤ t → count t xs ≡ 0) → length xs ≤ n
+length-le xs n once within =
+    length-le_from_distinct_below xs n (distinct xs once) (λ q h. elim (cases_lt q n) [ inl l ↦ l | inr g ↦ absurd (never q xs (within q g) (list_any-count q xs h)) ])
