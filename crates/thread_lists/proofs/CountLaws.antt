@@ -1,5 +1,5 @@
 -- How often a thread occurs in lists.
-use Rattle.std.proofs.Common.{◌≡◌, ◌+◌, ◌<◌, ◌≤◌, ◌==◌, ℕ, suc, zero, List, [], ◌∷◌, ◌++◌, length, sym, ◌∙◌, ap, subst, refl, append-nil, arith, cond, eqb, ◌⊎◌, inl, inr, true, false, not, filter, set, get_or, sum_by}
+use Rattle.std.proofs.Common.{◌≡◌, ◌+◌, ◌<◌, ◌≤◌, ◌==◌, ℕ, suc, zero, List, [], ◌∷◌, ◌++◌, length, sym, ◌∙◌, ap, subst, refl, append-nil, zero-add, arith, cond, eqb, ◌⊎◌, inl, inr, true, false, not, filter, set, get_or, sum_by}
 use Rattle.std.proofs.lemmas.Bool.{cases_eq, cases_lt, eq-eqb}
 use Rattle.std.proofs.lemmas.List.{get_or-set_other}
 use Rattle.std.proofs.Math.ListN.{length-set}
@@ -101,3 +101,15 @@ distinct (x ∷ xs) once =
 pub length-le : (xs : List ℕ) (n : ℕ) → ((t : ℕ) → count t xs ≤ 1) → ((t : ℕ) → n ≤ t → count t xs ≡ 0) → length xs ≤ n
 length-le xs n once within =
     length-le_from_distinct_below xs n (distinct xs once) (λ q h. elim (cases_lt q n) [ inl l ↦ l | inr g ↦ absurd (never q xs (within q g) (list_any-count q xs h)) ])
+
+pub count-other : (t x : ℕ) (xs : List ℕ) → (x ≡ t → ⊥) → count t (x ∷ xs) ≡ count t xs
+count-other t x xs ne =
+    elim (eqb_tells x t) [ inl w ↦ absurd (ne w.1) | inr w ↦ count-cons t x xs ∙ ap (λ b. cond b 1 0 + count t xs) w.0 ∙ zero-add (count t xs) ]
+
+pub total-push : (t : ℕ) (lists : List (List ℕ)) (k : ℕ) (ts : List ℕ) → k < length lists → total (count t) (push lists k ts) ≡ total (count t) lists + count t ts
+total-push t lists k ts h =
+    omega (arith, total-set (count t) lists k (list_at lists k ++ ts) h, count-append t (list_at lists k) ts)
+
+-- a thread that leaves a list where it stands once
+pub count-closed : (x t : ℕ) (us vs : List ℕ) → (x ≡ t → ⊥) → count x (us ++ t ∷ vs) ≡ count x (us ++ vs)
+count-closed x t us vs ne = count-append x us (t ∷ vs) ∙ ap (λ n. count x us + n) (count-other x t vs (λ e. ne (sym e))) ∙ sym (count-append x us vs)

@@ -1,1 +1,102 @@
+-- How the lists that the links spell change with the links.
+use Rattle.std.proofs.Common.{◌≡◌, ◌+◌, ◌<◌, ◌≤◌, ◌==◌, ℕ, List, [], ◌∷◌, ◌++◌, length, map, sym, ◌∙◌, ap, subst, refl, arith, ◌⊎◌, inl, inr, set, get_or}
+use Rattle.std.proofs.lemmas.Bool.{cases_eq, cases_lt}
+use Rattle.std.proofs.lemmas.List.{get_or-set_other, get_or-set_same, get_or-map, ext_get_or, length-map}
+use Rattle.std.proofs.Math.ListN.{length-set}
+use Rattle.thread_lists.specs.declared.ring.Place.{Place}
+use Rattle.thread_lists.specs.declared.ring.Place.TheVariants.{Head, Thread}
+use Rattle.thread_lists.specs.declared.ring.Link.{Link}
+use Rattle.thread_lists.specs.Lists.{count, total, list_at, push, without}
+use Rattle.thread_lists.specs.Ring.{Leads, Follows, Joined, Spells, alone, next_of, previous_of, spelled, threads_from}
+use Rattle.thread_lists.proofs.CountLaws.{count-append, count-cons, count-same, count-here, count-other, count-closed, length-le, never, Split, split, total-le, total-push, total-set, total-two, without-split}
+use Rattle.thread_lists.proofs.RingLaws.{Leads-back, Leads-closed, Leads-front, Leads-last, Leads-outside, Leads-push, Outside, Outside-head, Outside-thread, threads_from-Leads}
 
+-- a place of the ring of list k
+abbrev pub InRing : ℕ → List ℕ → Place → Type 0
+InRing k xs p = (p ≡ Head k) ⊎ ((x : ℕ) × (0 < count x xs) × (p ≡ Thread x))
+
+pub once_at : (heads threads : List Link) (lists : List (List ℕ)) → Spells heads threads lists → (k t : ℕ) → k < length lists → count t (list_at lists k) ≤ 1
+once_at heads threads lists s k t h = omega (arith, s.once t, total-le t lists k h)
+
+-- what the links spell is these lists
+pub spelled_is : (heads threads : List Link) (lists : List (List ℕ)) → Spells heads threads lists → spelled heads threads ≡ lists
+spelled_is heads threads lists s =
+    ext_get_or [] (spelled heads threads) lists (length-map heads _ ∙ sym s.sizes) (λ k h.
+      let inside : k < length heads = omega (arith, length-map heads (λ (head : Link). threads_from (next_of heads threads) (length threads) head.next)) in
+      get_or-map _ heads k (alone (Head k)) [] inside
+      ∙ threads_from-Leads (next_of heads threads) (previous_of heads threads) (Head k) k (list_at lists k) (length threads) (s.rings k inside)
+        (length-le (list_at lists k) (length threads) (λ t. once_at heads threads lists s k t (omega (arith, s.sizes))) (λ t le. omega (arith, s.within t le, total-le t lists k (omega (arith, s.sizes))))))
+
+-- a place of one list's ring isn't in another's
+pub Outside-InRing : (lists : List (List ℕ)) (j k : ℕ) → ((t : ℕ) → total (count t) lists ≤ 1) → j < length lists → k < length lists → (j ≡ k → ⊥) → (p : Place) → InRing k (list_at lists k) p → Outside j (list_at lists j) p
+Outside-InRing lists j k once hj hk ne p (inl e) = record { head = λ i. ne (let w : Head j ≡ Head k = i ∙ e in cc); thread = λ x c i. let w : Thread x ≡ Head k = i ∙ e in cc }
+Outside-InRing lists j k once hj hk ne p (inr w) =
+    record {
+      head = λ i. let v : Head j ≡ Thread w.0 = i ∙ w.2 in cc;
+      thread = λ x c i.
+        let v : Thread x ≡ Thread w.0 = i ∙ w.2 in
+        let e : x ≡ w.0 = cc in
+        omega (arith, once w.0, total-two w.0 lists j k hj hk ne, subst (λ y. 0 < count y (list_at lists j)) e c, w.1)
+    }
+
+-- a thread that is in no list isn't a place of a ring
+pub not_in_ring : (k : ℕ) (xs : List ℕ) (p : Place) → InRing k xs p → (t : ℕ) → count t xs ≡ 0 → Thread t ≡ p → ⊥
+not_in_ring k xs p (inl e) t z i = let w : Thread t ≡ Head k = i ∙ e in cc
+not_in_ring k xs p (inr w) t z i =
+    let v : Thread t ≡ Thread w.0 = i ∙ w.2 in
+    let e : w.0 ≡ t = cc in
+    never t xs z (subst (λ y. 0 < count y xs) e w.1)
+
+-- the neighbours of a thread are in the ring of its list
+pub previous_in_ring : (f g : Place → Place) (k : ℕ) (us : List ℕ) (t : ℕ) (vs : List ℕ) → Leads f g (Head k) (us ++ t ∷ vs) (Head k) → InRing k (us ++ t ∷ vs) (g (Thread t))
+previous_in_ring f g k us t vs r =
+    elim (Leads-last f g (Head k) (Thread t) us (Leads-front f g (Head k) (Head k) us t vs r)) [ inl e ↦ inl e | inr w ↦ inr (w.0, omega (arith, count-append w.0 us (t ∷ vs), w.1), w.2) ]
+
+pub next_in_ring : (f g : Place → Place) (k : ℕ) (us : List ℕ) (t : ℕ) (vs : List ℕ) → Leads f g (Head k) (us ++ t ∷ vs) (Head k) → InRing k (us ++ t ∷ vs) (f (Thread t))
+next_in_ring f g k us t [] r = inl (Leads-back f g (Head k) (Head k) us t [] r).0
+next_in_ring f g k us t (v ∷ vs) r =
+    inr (v, omega (arith, count-append v us (t ∷ v ∷ vs), count-cons v t (v ∷ vs), count-here v vs), (Leads-back f g (Head k) (Head k) us t (v ∷ vs) r).0)
+
+-- the rings of lists of which one changed
+pub rings-set : (f g : Place → Place) (lists : List (List ℕ)) (k n : ℕ) (xs : List ℕ) → length lists ≡ n → k < n → Leads f g (Head k) xs (Head k) → ((j : ℕ) → j < n → (j ≡ k → ⊥) → Leads f g (Head j) (list_at lists j) (Head j)) → (j : ℕ) → j < n → Leads f g (Head j) (list_at (set lists k xs) j) (Head j)
+rings-set f g lists k n xs size h here others j hj =
+    elim (cases_eq j k) [
+      inl e ↦
+        subst (λ i. Leads f g (Head i) (list_at (set lists k xs) i) (Head i)) (sym e)
+          (subst (λ ys. Leads f g (Head k) ys (Head k)) (sym (get_or-set_same lists k xs [] (omega arith))) here)
+    | inr ne ↦ subst (λ ys. Leads f g (Head j) ys (Head j)) (sym (get_or-set_other lists k j xs [] ne)) (others j hj ne)
+    ]
+
+module _ (h s h1 s1 h2 s2 : List Link) (lists : List (List ℕ)) (k t : ℕ) (same : length h2 ≡ length h) (same_threads : length s2 ≡ length s) (spells : Spells h s lists) (inside : k < length h) where
+  -- a thread that is in no list comes last to list k
+  pub Spells-push : t < length s → total (count t) lists ≡ 0 → Joined h s h1 s1 (previous_of h s (Head k)) (Thread t) → Joined h1 s1 h2 s2 (Thread t) (Head k) → Spells h2 s2 (push lists k (t ∷ []))
+  Spells-push below none j1 j2 =
+      record {
+        sizes = length-set lists k _ ∙ spells.sizes ∙ sym same;
+        rings = λ j hj. rings-set (next_of h2 s2) (previous_of h2 s2) lists k (length h) (list_at lists k ++ t ∷ []) spells.sizes inside
+          (Leads-push (next_of h s) (previous_of h s) (next_of h1 s1) (previous_of h1 s1) (next_of h2 s2) (previous_of h2 s2) k t (list_at lists k) (not_at k inside) j1 j2 (spells.rings k inside))
+          others j (omega arith);
+        once = λ x. elim (cases_eq x t) [
+            inl e ↦ subst (λ y. total (count y) (push lists k (t ∷ [])) ≤ 1) (sym e) (omega (arith, total-push t lists k (t ∷ []) in_lists, count-same t []))
+          | inr ne ↦ omega (arith, spells.once x, total-push x lists k (t ∷ []) in_lists, count-other x t [] (λ e. ne (sym e)))
+          ];
+        within = λ x le. omega (arith, spells.within x (omega arith), total-push x lists k (t ∷ []) in_lists, count-other x t [] (λ e. omega arith));
+        alone = λ x none_of.
+          let ne : x ≡ t → ⊥ = λ e. omega (arith, total-push t lists k (t ∷ []) in_lists, count-same t [], subst (λ y. total (count y) (push lists k (t ∷ [])) ≡ 0) e none_of) in
+          let before : total (count x) lists ≡ 0 = omega (arith, total-push x lists k (t ∷ []) in_lists) in
+          j2.other_next (Thread x) (λ e. ne cc)
+          ∙ j1.other_next (Thread x) (not_in_ring k (list_at lists k) _ last x (omega (arith, total-le x lists k in_lists)))
+          ∙ spells.alone x before
+      }
+    where
+      in_lists : k < length lists
+      in_lists = omega (arith, spells.sizes)
+      not_at : (j : ℕ) → j < length h → count t (list_at lists j) ≡ 0
+      not_at j hj = omega (arith, total-le t lists j (omega (arith, spells.sizes)))
+      last : InRing k (list_at lists k) (previous_of h s (Head k))
+      last = Leads-last (next_of h s) (previous_of h s) (Head k) (Head k) (list_at lists k) (spells.rings k inside)
+      others : (j : ℕ) → j < length h → (j ≡ k → ⊥) → Leads (next_of h2 s2) (previous_of h2 s2) (Head j) (list_at lists j) (Head j)
+      others j hj ne =
+          let free = Outside-thread j t (list_at lists j) (not_at j hj) in
+          Leads-outside (next_of h1 s1) (previous_of h1 s1) (next_of h2 s2) (previous_of h2 s2) j (list_at lists j) (Thread t) (Head k) free (Outside-head j k (list_at lists j) ne) j2
+            (Leads-outside (next_of h s) (previous_of h s) (next_of h1 s1) (previous_of h1 s1) j (list_at lists j) (previous_of h s (Head k)) (Thread t) (Outside-InRing lists j k spells.once (omega (arith, spells.sizes)) in_lists ne _ last) free j1 (spells.rings j hj))
