@@ -100,3 +100,56 @@ module _ (h s h1 s1 h2 s2 : List Link) (lists : List (List ℕ)) (k t : ℕ) (sa
           let free = Outside-thread j t (list_at lists j) (not_at j hj) in
           Leads-outside (next_of h1 s1) (previous_of h1 s1) (next_of h2 s2) (previous_of h2 s2) j (list_at lists j) (Thread t) (Head k) free (Outside-head j k (list_at lists j) ne) j2
             (Leads-outside (next_of h s) (previous_of h s) (next_of h1 s1) (previous_of h1 s1) j (list_at lists j) (previous_of h s (Head k)) (Thread t) (Outside-InRing lists j k spells.once (omega (arith, spells.sizes)) in_lists ne _ last) free j1 (spells.rings j hj))
+
+  -- a thread leaves list k
+  pub Spells-remove : 0 < count t (list_at lists k) → Joined h s h1 s1 (previous_of h s (Thread t)) (next_of h s (Thread t)) → Joined h1 s1 h2 s2 (Thread t) (Thread t) → Spells h2 s2 (set lists k (without t (list_at lists k)))
+  Spells-remove held j1 j2 =
+      subst (λ xs. Spells h2 s2 (set lists k xs)) (sym left) (record {
+        sizes = length-set lists k _ ∙ spells.sizes ∙ sym same;
+        rings = λ j hj. rings-set (next_of h2 s2) (previous_of h2 s2) lists k (length h) rest spells.sizes inside
+          (Leads-outside (next_of h1 s1) (previous_of h1 s1) (next_of h2 s2) (previous_of h2 s2) k rest (Thread t) (Thread t) gone gone j2
+            (Leads-closed (next_of h s) (previous_of h s) (next_of h1 s1) (previous_of h1 s1) k cut.before t cut.after once_here j1 ring))
+          others j (omega arith);
+        once = λ x. omega (arith, spells.once x, total_after x);
+        within = λ x le. omega (arith, spells.within x (omega arith), total_after x);
+        alone = λ x none. elim (cases_eq x t) [
+            inl e ↦ subst (λ y. next_of h2 s2 (Thread y) ≡ Thread y) (sym e) j2.next
+          | inr ne ↦
+              let before : total (count x) lists ≡ 0 = omega (arith, total-set (count x) lists k rest in_lists, ap (count x) cut.is, count-closed x t cut.before cut.after ne) in
+              let nowhere : count x (list_at lists k) ≡ 0 = omega (arith, total-le x lists k in_lists) in
+              j2.other_next (Thread x) (λ e. ne cc)
+              ∙ j1.other_next (Thread x) (not_in_ring k (list_at lists k) _ first x nowhere)
+              ∙ spells.alone x before
+          ]
+      })
+    where
+      in_lists : k < length lists
+      in_lists = omega (arith, spells.sizes)
+      cut : Split t (list_at lists k)
+      cut = split t (list_at lists k) held
+      rest : List ℕ
+      rest = cut.before ++ cut.after
+      ring : Leads (next_of h s) (previous_of h s) (Head k) (cut.before ++ t ∷ cut.after) (Head k)
+      ring = subst (λ xs. Leads (next_of h s) (previous_of h s) (Head k) xs (Head k)) cut.is (spells.rings k inside)
+      once_here : (x : ℕ) → count x (cut.before ++ t ∷ cut.after) ≤ 1
+      once_here x = subst (λ xs. count x xs ≤ 1) cut.is (once_at h s lists spells k x in_lists)
+      parts : count t cut.before + count t cut.after ≡ 0
+      parts = omega (arith, once_here t, count-append t cut.before (t ∷ cut.after), count-same t cut.after)
+      left : without t (list_at lists k) ≡ rest
+      left = ap (without t) cut.is ∙ without-split t cut.before cut.after (omega (arith, parts)) (omega (arith, parts))
+      gone : Outside k rest (Thread t)
+      gone = Outside-thread k t rest (count-append t cut.before cut.after ∙ parts)
+      first : InRing k (list_at lists k) (previous_of h s (Thread t))
+      first = subst (λ xs. InRing k xs (previous_of h s (Thread t))) (sym cut.is) (previous_in_ring (next_of h s) (previous_of h s) k cut.before t cut.after ring)
+      second : InRing k (list_at lists k) (next_of h s (Thread t))
+      second = subst (λ xs. InRing k xs (next_of h s (Thread t))) (sym cut.is) (next_in_ring (next_of h s) (previous_of h s) k cut.before t cut.after ring)
+      total_after : (x : ℕ) → total (count x) (set lists k rest) ≤ total (count x) lists
+      total_after x =
+          omega (arith, total-set (count x) lists k rest in_lists, ap (count x) cut.is, count-append x cut.before (t ∷ cut.after), count-append x cut.before cut.after, count-cons x t cut.after)
+      others : (j : ℕ) → j < length h → (j ≡ k → ⊥) → Leads (next_of h2 s2) (previous_of h2 s2) (Head j) (list_at lists j) (Head j)
+      others j hj ne =
+          let in_j : j < length lists = omega (arith, spells.sizes) in
+          let free = Outside-thread j t (list_at lists j) (omega (arith, spells.once t, total-two t lists j k in_j in_lists ne)) in
+          Leads-outside (next_of h1 s1) (previous_of h1 s1) (next_of h2 s2) (previous_of h2 s2) j (list_at lists j) (Thread t) (Thread t) free free j2
+            (Leads-outside (next_of h s) (previous_of h s) (next_of h1 s1) (previous_of h1 s1) j (list_at lists j) (previous_of h s (Thread t)) (next_of h s (Thread t))
+              (Outside-InRing lists j k spells.once in_j in_lists ne _ first) (Outside-InRing lists j k spells.once in_j in_lists ne _ second) j1 (spells.rings j hj))
