@@ -3,13 +3,20 @@ use Rattle.std.proofs.Common.{◌≡◌, ◌+◌, ◌<◌, ◌≤◌, ◌==◌, 
 use Rattle.std.proofs.lemmas.Bool.{cases_eq, cases_lt}
 use Rattle.std.proofs.lemmas.List.{get_or-set_other, get_or-set_same, get_or-map, ext_get_or, length-map}
 use Rattle.std.proofs.Math.ListN.{length-set}
+use Rattle.std.specs.Global.{Vec}
+use Rattle.std.specs.Vec.{with_items}
+use Rattle.std.proofs.lemmas.List.{with_items_is}
 use Rattle.thread_lists.specs.declared.ring.Place.{Place}
 use Rattle.thread_lists.specs.declared.ring.Place.TheVariants.{Head, Thread}
 use Rattle.thread_lists.specs.declared.ring.Link.{Link}
-use Rattle.thread_lists.specs.Lists.{count, total, list_at, push, without}
-use Rattle.thread_lists.specs.Ring.{Leads, Follows, Joined, Spells, alone, next_of, previous_of, spelled, threads_from}
+use Rattle.thread_lists.specs.Lists.{Lists, count, total, list_at, push, without}
+use Rattle.thread_lists.specs.Ring.{IsLinked, IsPlace, Leads, Follows, Joined, Spells, alone, next_of, previous_of, spelled, threads_from}
 use Rattle.thread_lists.proofs.CountLaws.{count-append, count-cons, count-same, count-here, count-other, count-closed, length-le, never, Split, split, total-le, total-push, total-set, total-two, without-split}
 use Rattle.thread_lists.proofs.RingLaws.{Leads-back, Leads-closed, Leads-front, Leads-last, Leads-outside, Leads-push, Outside, Outside-head, Outside-thread, threads_from-Leads}
+
+-- what contracts see of the lists
+abbrev pub seen : List (List ℕ) → ℕ → Lists
+seen lists n = record { lists = lists; threads = n }
 
 -- a place of the ring of list k
 abbrev pub InRing : ℕ → List ℕ → Place → Type 0
@@ -57,6 +64,35 @@ next_in_ring f g k us t [] r = inl (Leads-back f g (Head k) (Head k) us t [] r).
 next_in_ring f g k us t (v ∷ vs) r =
     inr (v, omega (arith, count-append v us (t ∷ v ∷ vs), count-cons v t (v ∷ vs), count-here v vs), (Leads-back f g (Head k) (Head k) us t (v ∷ vs) r).0)
 
+pub lists_below : (heads threads : List Link) (lists : List (List ℕ)) → Spells heads threads lists → (k : ℕ) → k < length heads → k < length lists
+lists_below heads threads lists s k h = omega (arith, s.sizes)
+
+-- the threads of the lists are among those there are
+pub below : (heads threads : List Link) (lists : List (List ℕ)) → Spells heads threads lists → (k t : ℕ) → k < length lists → 0 < count t (list_at lists k) → t < length threads
+below heads threads lists s k t h c =
+    elim (cases_lt t (length threads)) [ inl l ↦ l | inr g ↦ absurd (omega (arith, s.within t g, total-le t lists k h)) ]
+
+-- a place of a ring is one of the places there are
+pub IsPlace-InRing : (heads threads : List Link) (lists : List (List ℕ)) → Spells heads threads lists → (k : ℕ) → k < length heads → (p : Place) → InRing k (list_at lists k) p → IsPlace heads threads p
+IsPlace-InRing heads threads lists s k h p (inl e) = subst (IsPlace heads threads) (sym e) h
+IsPlace-InRing heads threads lists s k h p (inr w) = subst (IsPlace heads threads) (sym w.2) (below heads threads lists s k w.0 (omega (arith, s.sizes)) w.1)
+
+-- the neighbours of a list's head, and of a thread, are in the ring
+pub last_in_ring : (heads threads : List Link) (lists : List (List ℕ)) → Spells heads threads lists → (k : ℕ) → k < length heads → InRing k (list_at lists k) (previous_of heads threads (Head k))
+last_in_ring heads threads lists s k h = Leads-last (next_of heads threads) (previous_of heads threads) (Head k) (Head k) (list_at lists k) (s.rings k h)
+
+module _ (heads threads : List Link) (lists : List (List ℕ)) (s : Spells heads threads lists) (k t : ℕ) (h : k < length heads) (c : 0 < count t (list_at lists k)) where
+  cut : Split t (list_at lists k)
+  cut = split t (list_at lists k) c
+  ring : Leads (next_of heads threads) (previous_of heads threads) (Head k) (cut.before ++ t ∷ cut.after) (Head k)
+  ring = subst (λ xs. Leads (next_of heads threads) (previous_of heads threads) (Head k) xs (Head k)) cut.is (s.rings k h)
+
+  pub previous_at : InRing k (list_at lists k) (previous_of heads threads (Thread t))
+  previous_at = subst (λ xs. InRing k xs (previous_of heads threads (Thread t))) (sym cut.is) (previous_in_ring (next_of heads threads) (previous_of heads threads) k cut.before t cut.after ring)
+
+  pub next_at : InRing k (list_at lists k) (next_of heads threads (Thread t))
+  next_at = subst (λ xs. InRing k xs (next_of heads threads (Thread t))) (sym cut.is) (next_in_ring (next_of heads threads) (previous_of heads threads) k cut.before t cut.after ring)
+
 -- the rings of lists of which one changed
 pub rings-set : (f g : Place → Place) (lists : List (List ℕ)) (k n : ℕ) (xs : List ℕ) → length lists ≡ n → k < n → Leads f g (Head k) xs (Head k) → ((j : ℕ) → j < n → (j ≡ k → ⊥) → Leads f g (Head j) (list_at lists j) (Head j)) → (j : ℕ) → j < n → Leads f g (Head j) (list_at (set lists k xs) j) (Head j)
 rings-set f g lists k n xs size h here others j hj =
@@ -94,7 +130,7 @@ module _ (h s h1 s1 h2 s2 : List Link) (lists : List (List ℕ)) (k t : ℕ) (sa
       not_at : (j : ℕ) → j < length h → count t (list_at lists j) ≡ 0
       not_at j hj = omega (arith, total-le t lists j (omega (arith, spells.sizes)))
       last : InRing k (list_at lists k) (previous_of h s (Head k))
-      last = Leads-last (next_of h s) (previous_of h s) (Head k) (Head k) (list_at lists k) (spells.rings k inside)
+      last = last_in_ring h s lists spells k inside
       others : (j : ℕ) → j < length h → (j ≡ k → ⊥) → Leads (next_of h2 s2) (previous_of h2 s2) (Head j) (list_at lists j) (Head j)
       others j hj ne =
           let free = Outside-thread j t (list_at lists j) (not_at j hj) in
@@ -140,9 +176,9 @@ module _ (h s h1 s1 h2 s2 : List Link) (lists : List (List ℕ)) (k t : ℕ) (sa
       gone : Outside k rest (Thread t)
       gone = Outside-thread k t rest (count-append t cut.before cut.after ∙ parts)
       first : InRing k (list_at lists k) (previous_of h s (Thread t))
-      first = subst (λ xs. InRing k xs (previous_of h s (Thread t))) (sym cut.is) (previous_in_ring (next_of h s) (previous_of h s) k cut.before t cut.after ring)
+      first = previous_at h s lists spells k t inside held
       second : InRing k (list_at lists k) (next_of h s (Thread t))
-      second = subst (λ xs. InRing k xs (next_of h s (Thread t))) (sym cut.is) (next_in_ring (next_of h s) (previous_of h s) k cut.before t cut.after ring)
+      second = next_at h s lists spells k t inside held
       total_after : (x : ℕ) → total (count x) (set lists k rest) ≤ total (count x) lists
       total_after x =
           omega (arith, total-set (count x) lists k rest in_lists, ap (count x) cut.is, count-append x cut.before (t ∷ cut.after), count-append x cut.before cut.after, count-cons x t cut.after)
@@ -153,3 +189,19 @@ module _ (h s h1 s1 h2 s2 : List Link) (lists : List (List ℕ)) (k t : ℕ) (sa
           Leads-outside (next_of h1 s1) (previous_of h1 s1) (next_of h2 s2) (previous_of h2 s2) j (list_at lists j) (Thread t) (Thread t) free free j2
             (Leads-outside (next_of h s) (previous_of h s) (next_of h1 s1) (previous_of h1 s1) j (list_at lists j) (previous_of h s (Thread t)) (next_of h s (Thread t))
               (Outside-InRing lists j k spells.once in_j in_lists ne _ first) (Outside-InRing lists j k spells.once in_j in_lists ne _ second) j1 (spells.rings j hj))
+
+-- what the struct keeps, where its vectors were lent
+pub own : (h s : List Link) (lists : List (List ℕ)) → Spells h s lists → IsLinked h s
+own h s lists spells = subst (λ ls. Spells h s ls) (sym (spelled_is h s lists spells)) spells
+
+pub IsLinked-lent : (heads threads : Vec Link) (h s : List Link) (lists : List (List ℕ)) → length h ≡ heads.len → length s ≡ threads.len → Spells h s lists → IsLinked (with_items heads h).items (with_items threads s).items
+IsLinked-lent heads threads h s lists eh es spells =
+    subst (λ hs. IsLinked hs (with_items threads s).items) (sym (with_items_is heads h eh)) (subst (λ ss. IsLinked h ss) (sym (with_items_is threads s es)) (own h s lists spells))
+
+pub lists-lent : (change : List (List ℕ) → List (List ℕ)) (heads threads : Vec Link) (h0 s0 h s : List Link) → h0 ≡ heads.items → s0 ≡ threads.items → length h ≡ heads.len → length s ≡ threads.len → Spells h s (change (spelled h0 s0)) → seen (spelled (with_items heads h).items (with_items threads s).items) threads.len ≡ seen (change (spelled heads.items threads.items)) threads.len
+lists-lent change heads threads h0 s0 h s e0 e1 eh es spells =
+    ap (λ hs. seen (spelled hs (with_items threads s).items) threads.len) (with_items_is heads h eh)
+    ∙ ap (λ ss. seen (spelled h ss) threads.len) (with_items_is threads s es)
+    ∙ ap (λ ls. seen ls threads.len) (spelled_is h s (change (spelled h0 s0)) spells)
+    ∙ ap (λ hs. seen (change (spelled hs s0)) threads.len) e0
+    ∙ ap (λ ss. seen (change (spelled heads.items ss)) threads.len) e1

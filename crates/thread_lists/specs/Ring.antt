@@ -68,3 +68,6 @@ pub record Spells (heads threads : List Link) (lists : List (List ℕ)) : Type 0
   pub once : (t : ℕ) → total (count t) lists ≤ 1
   pub within : (t : ℕ) → length threads ≤ t → total (count t) lists ≡ 0
   pub alone : (t : ℕ) → total (count t) lists ≡ 0 → next_of heads threads (Thread t) ≡ Thread t
+
+abbrev pub IsLinked : List Link → List Link → Type 0
+IsLinked heads threads = Spells heads threads (spelled heads threads)

@@ -2,7 +2,7 @@
 //! ring of places: its head, its threads in order, and the head again.
 #![tactic(auto)]
 
-
+mod lists;
 mod ring;
 
-
+pub use lists::ThreadLists;

@@ -1,5 +1,6 @@
-ghost use Rattle.std.specs.Prelude.{◌≡◌};
-ghost use Rattle.thread_lists.specs.Ring.{IsPlace, Joined, SetsNext, SetsPrevious};
+ghost use Rattle.std.specs.Prelude.{◌≡◌, ◌<◌, [], ◌∷◌, length, slice_set};
+ghost use Rattle.thread_lists.specs.Lists.{count, list_at, push, total, without};
+ghost use Rattle.thread_lists.specs.Ring.{IsLinked, IsPlace, Joined, SetsNext, SetsPrevious, Spells, link_of, spelled};
 
 /// A place of a ring. Behind a head comes the first thread of its list, and before it the last.
 #[derive(Clone, Copy, Debug, PartialEq, Eq)]
@@ -24,6 +25,17 @@ impl Link {
             next: place,
             previous: place,
         }
+    }
+}
+
+/// The neighbours of a place.
+fn link_at(heads: &[Link], threads: &[Link], place: Place) -> Link
+    requires { IsPlace heads.now threads.now place }
+    ensures { result ≡ link_of heads.now threads.now place }
+{
+    match place {
+        Place::Head(k) => heads[k as usize],
+        Place::Thread(t) => threads[t as usize],
     }
 }
 
@@ -57,4 +69,29 @@ pub fn join(heads: &mut [Link], threads: &mut [Link], a: Place, b: Place)
 {
     set_next(heads, threads, a, b);
     set_previous(heads, threads, b, a);
+}
+
+/// Puts a thread that is in no list behind the last of a list.
+pub fn link_last(heads: &mut [Link], threads: &mut [Link], list: u32, thread: u32)
+    requires linked { IsLinked heads.old threads.old }
+    requires list { list < length heads.old }
+    requires thread { thread < length threads.old }
+    requires free { total (count thread) (spelled heads.old threads.old) ≡ 0 }
+    ensures { Spells heads.new threads.new (push (spelled heads.old threads.old) list (thread ∷ [])) }
+{
+    let last = link_at(heads, threads, Place::Head(list)).previous;
+    join(heads, threads, last, Place::Thread(thread));
+    join(heads, threads, Place::Thread(thread), Place::Head(list));
+}
+
+/// Takes a thread out of the list that it is in.
+pub fn unlink(heads: &mut [Link], threads: &mut [Link], list: u32, thread: u32)
+    requires linked { IsLinked heads.old threads.old }
+    requires list { list < length heads.old }
+    requires held { 0 < count thread (list_at (spelled heads.old threads.old) list) }
+    ensures { Spells heads.new threads.new (slice_set (spelled heads.old threads.old) list (without thread (list_at (spelled heads.old threads.old) list))) }
+{
+    let link = link_at(heads, threads, Place::Thread(thread));
+    join(heads, threads, link.previous, link.next);
+    join(heads, threads, Place::Thread(thread), Place::Thread(thread));
 }
