@@ -113,3 +113,14 @@ total-push t lists k ts h =
 -- a thread that leaves a list where it stands once
 pub count-closed : (x t : ℕ) (us vs : List ℕ) → (x ≡ t → ⊥) → count x (us ++ t ∷ vs) ≡ count x (us ++ vs)
 count-closed x t us vs ne = count-append x us (t ∷ vs) ∙ ap (λ n. count x us + n) (count-other x t vs (λ e. ne (sym e))) ∙ sym (count-append x us vs)
+
+-- a thread that occurs is in one of the lists
+pub found : (t : ℕ) (lists : List (List ℕ)) → 0 < total (count t) lists → (k : ℕ) × (k < length lists) × (0 < count t (list_at lists k))
+found t [] h = absurd (omega arith)
+found t (xs ∷ lists) h =
+    elim (cases_lt 0 (count t xs)) [
+      inl here ↦ (0, omega arith, here)
+    | inr none ↦
+        let w = found t lists (omega (arith, sum_by-cons (count t) xs lists, none)) in
+        (suc w.0, omega (arith, w.1), w.2)
+    ]

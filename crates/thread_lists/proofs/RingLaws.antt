@@ -1,9 +1,9 @@
 -- How rings change where one place is made to follow another.
-use Rattle.std.proofs.Common.{◌≡◌, ◌+◌, ◌<◌, ◌≤◌, ◌==◌, ℕ, suc, zero, List, [], ◌∷◌, ◌++◌, length, sym, ◌∙◌, ap, subst, refl, append-nil, arith, cond, eqb, ◌⊎◌, inl, inr, true, false}
+use Rattle.std.proofs.Common.{◌≡◌, ◌+◌, ◌<◌, ◌≤◌, ◌==◌, ℕ, suc, zero, List, [], ◌∷◌, ◌++◌, length, sym, ◌∙◌, ap, subst, refl, append-nil, drop, slice_get, Some, None, arith, cond, eqb, ◌⊎◌, inl, inr, true, false}
 use Rattle.thread_lists.specs.declared.ring.Place.{Place}
 use Rattle.thread_lists.specs.declared.ring.Place.TheVariants.{Head, Thread}
 use Rattle.thread_lists.specs.Lists.{count}
-use Rattle.thread_lists.specs.Ring.{Leads, Follows, threads_from}
+use Rattle.thread_lists.specs.Ring.{Leads, Follows, start_of, threads_from}
 use Rattle.thread_lists.proofs.CountLaws.{count-here, count-there, count-append, count-cons, count-same, never, apart}
 
 -- what holds of a ring holds where its places lead on as before
@@ -103,3 +103,41 @@ Leads-closed f g f1 g1 k us t (v ∷ vs) once j r =
         ]
     differs : (x : ℕ) → 0 < count x vs → Thread x ≡ Thread v → ⊥
     differs x c e = let i : x ≡ v = cc in omega (arith, once v, subst (λ y. 0 < count y vs) i c, count-append v us (t ∷ v ∷ vs), count-cons v t (v ∷ vs), count-same v vs)
+
+slice_get-nil : (n : ℕ) → slice_get {X = ℕ} [] n ≡ None
+slice_get-nil zero = refl
+slice_get-nil (suc n) = refl
+
+pub slice_get_beyond : (xs : List ℕ) (n : ℕ) → length xs ≤ n → slice_get xs n ≡ None
+slice_get_beyond [] n h = slice_get-nil n
+slice_get_beyond (x ∷ xs) zero h = absurd (omega arith)
+slice_get_beyond (x ∷ xs) (suc n) h = slice_get_beyond xs n (omega arith)
+
+drop-nil : (n : ℕ) → drop {A = ℕ} n [] ≡ []
+drop-nil zero = refl
+drop-nil (suc n) = refl
+
+-- what follows a place, along a list
+pub Leads-start : (f g : Place → Place) (a : Place) (k : ℕ) (xs : List ℕ) → Leads f g a xs (Head k) → f a ≡ start_of k xs
+Leads-start f g a k [] r = r.0
+Leads-start f g a k (x ∷ xs) r = r.0
+
+pub Leads-next : (f g : Place → Place) (a : Place) (k : ℕ) (xs : List ℕ) (n t : ℕ) → Leads f g a xs (Head k) → start_of k (drop n xs) ≡ Thread t → f (Thread t) ≡ start_of k (drop (suc n) xs)
+Leads-next f g a k [] n t r e = let i : Head k ≡ Thread t = ap (start_of k) (sym (drop-nil n)) ∙ e in cc
+Leads-next f g a k (x ∷ xs) zero t r e = let i : x ≡ t = cc in ap (λ y. f (Thread y)) (sym i) ∙ Leads-start f g (Thread x) k xs r.2
+Leads-next f g a k (x ∷ xs) (suc n) t r e = Leads-next f g (Thread x) k xs n t r.2 e
+
+-- the thread that a place in front of the rest of a list is
+pub start-thread : (k : ℕ) (xs : List ℕ) (n t : ℕ) → start_of k (drop n xs) ≡ Thread t → (slice_get xs n ≡ Some t) × (0 < count t xs) × (n < length xs)
+start-thread k [] n t e = let i : Head k ≡ Thread t = ap (start_of k) (sym (drop-nil n)) ∙ e in cc
+start-thread k (x ∷ xs) zero t e = let i : x ≡ t = cc in (ap Some i, subst (λ y. 0 < count y (x ∷ xs)) i (count-here x xs), omega arith)
+start-thread k (x ∷ xs) (suc n) t e =
+    let w = start-thread k xs n t e in
+    (w.0, count-there t x xs w.1, omega (arith, w.2))
+
+pub start-head : (k : ℕ) (xs : List ℕ) (n j : ℕ) → start_of k (drop n xs) ≡ Head j → (slice_get xs n ≡ None) × (length xs ≤ n)
+start-head k [] n j e = (slice_get-nil n, omega arith)
+start-head k (x ∷ xs) zero j e = cc
+start-head k (x ∷ xs) (suc n) j e =
+    let w = start-head k xs n j e in
+    (w.0, omega (arith, w.1))

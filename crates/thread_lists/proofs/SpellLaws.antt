@@ -1,6 +1,7 @@
 -- How the lists that the links spell change with the links.
-use Rattle.std.proofs.Common.{◌≡◌, ◌+◌, ◌<◌, ◌≤◌, ◌==◌, ℕ, List, [], ◌∷◌, ◌++◌, length, map, sym, ◌∙◌, ap, subst, refl, arith, ◌⊎◌, inl, inr, set, get_or}
-use Rattle.std.proofs.lemmas.Bool.{cases_eq, cases_lt}
+use Rattle.std.proofs.Common.{◌≡◌, ◌+◌, ◌<◌, ◌≤◌, ◌==◌, ℕ, List, [], ◌∷◌, ◌++◌, length, map, sym, ◌∙◌, ap, subst, refl, arith, add-one, not, drop, slice_get, Some, None, ◌^◌, ◌⊎◌, inl, inr, set, get_or}
+use Rattle.std.proofs.lemmas.Bool.{cases_eq, cases_lt, eq-eqb}
+use Rattle.std.proofs.lemmas.Bool.Decides.{eqb_tells}
 use Rattle.std.proofs.lemmas.List.{get_or-set_other, get_or-set_same, get_or-map, ext_get_or, length-map}
 use Rattle.std.proofs.Math.ListN.{length-set}
 use Rattle.std.specs.Global.{Vec}
@@ -10,9 +11,9 @@ use Rattle.thread_lists.specs.declared.ring.Place.{Place}
 use Rattle.thread_lists.specs.declared.ring.Place.TheVariants.{Head, Thread}
 use Rattle.thread_lists.specs.declared.ring.Link.{Link}
 use Rattle.thread_lists.specs.Lists.{Lists, count, total, list_at, push, without}
-use Rattle.thread_lists.specs.Ring.{IsLinked, IsPlace, Leads, Follows, Joined, Spells, alone, next_of, previous_of, spelled, threads_from}
-use Rattle.thread_lists.proofs.CountLaws.{count-append, count-cons, count-same, count-here, count-other, count-closed, length-le, never, Split, split, total-le, total-push, total-set, total-two, without-split}
-use Rattle.thread_lists.proofs.RingLaws.{Leads-back, Leads-closed, Leads-front, Leads-last, Leads-outside, Leads-push, Outside, Outside-head, Outside-thread, threads_from-Leads}
+use Rattle.thread_lists.specs.Ring.{IsLinked, IsPlace, Leads, Follows, Joined, Spells, alone, next_of, previous_of, spelled, start_of, threads_from}
+use Rattle.thread_lists.proofs.CountLaws.{count-append, count-cons, count-same, count-here, count-other, count-closed, length-le, never, Split, found, split, total-le, total-push, total-set, total-two, without-split}
+use Rattle.thread_lists.proofs.RingLaws.{Leads-back, Leads-closed, Leads-front, Leads-last, Leads-outside, Leads-push, Outside, Outside-head, Outside-thread, threads_from-Leads, Leads-next, start-head, start-thread}
 
 -- what contracts see of the lists
 abbrev pub seen : List (List ℕ) → ℕ → Lists
@@ -25,14 +26,18 @@ InRing k xs p = (p ≡ Head k) ⊎ ((x : ℕ) × (0 < count x xs) × (p ≡ Thre
 pub once_at : (heads threads : List Link) (lists : List (List ℕ)) → Spells heads threads lists → (k t : ℕ) → k < length lists → count t (list_at lists k) ≤ 1
 once_at heads threads lists s k t h = omega (arith, s.once t, total-le t lists k h)
 
+-- a list has no more threads than there are
+pub length_at : (heads threads : List Link) (lists : List (List ℕ)) → Spells heads threads lists → (k : ℕ) → k < length heads → length (list_at lists k) ≤ length threads
+length_at heads threads lists s k h =
+    length-le (list_at lists k) (length threads) (λ t. once_at heads threads lists s k t (omega (arith, s.sizes))) (λ t le. omega (arith, s.within t le, total-le t lists k (omega (arith, s.sizes))))
+
 -- what the links spell is these lists
 pub spelled_is : (heads threads : List Link) (lists : List (List ℕ)) → Spells heads threads lists → spelled heads threads ≡ lists
 spelled_is heads threads lists s =
     ext_get_or [] (spelled heads threads) lists (length-map heads _ ∙ sym s.sizes) (λ k h.
       let inside : k < length heads = omega (arith, length-map heads (λ (head : Link). threads_from (next_of heads threads) (length threads) head.next)) in
       get_or-map _ heads k (alone (Head k)) [] inside
-      ∙ threads_from-Leads (next_of heads threads) (previous_of heads threads) (Head k) k (list_at lists k) (length threads) (s.rings k inside)
-        (length-le (list_at lists k) (length threads) (λ t. once_at heads threads lists s k t (omega (arith, s.sizes))) (λ t le. omega (arith, s.within t le, total-le t lists k (omega (arith, s.sizes))))))
+      ∙ threads_from-Leads (next_of heads threads) (previous_of heads threads) (Head k) k (list_at lists k) (length threads) (s.rings k inside) (length_at heads threads lists s k inside))
 
 -- a place of one list's ring isn't in another's
 pub Outside-InRing : (lists : List (List ℕ)) (j k : ℕ) → ((t : ℕ) → total (count t) lists ≤ 1) → j < length lists → k < length lists → (j ≡ k → ⊥) → (p : Place) → InRing k (list_at lists k) p → Outside j (list_at lists j) p
@@ -122,7 +127,8 @@ module _ (h s h1 s1 h2 s2 : List Link) (lists : List (List ℕ)) (k t : ℕ) (sa
           let before : total (count x) lists ≡ 0 = omega (arith, total-push x lists k (t ∷ []) in_lists) in
           j2.other_next (Thread x) (λ e. ne cc)
           ∙ j1.other_next (Thread x) (not_in_ring k (list_at lists k) _ last x (omega (arith, total-le x lists k in_lists)))
-          ∙ spells.alone x before
+          ∙ spells.alone x before;
+        few = omega (arith, spells.few)
       }
     where
       in_lists : k < length lists
@@ -156,7 +162,8 @@ module _ (h s h1 s1 h2 s2 : List Link) (lists : List (List ℕ)) (k t : ℕ) (sa
               j2.other_next (Thread x) (λ e. ne cc)
               ∙ j1.other_next (Thread x) (not_in_ring k (list_at lists k) _ first x nowhere)
               ∙ spells.alone x before
-          ]
+          ];
+        few = omega (arith, spells.few)
       })
     where
       in_lists : k < length lists
@@ -205,3 +212,58 @@ lists-lent change heads threads h0 s0 h s e0 e1 eh es spells =
     ∙ ap (λ ls. seen ls threads.len) (spelled_is h s (change (spelled h0 s0)) spells)
     ∙ ap (λ hs. seen (change (spelled hs s0)) threads.len) e0
     ∙ ap (λ ss. seen (change (spelled heads.items ss)) threads.len) e1
+
+-- a place in front of the rest of a list that is a thread, while a list is gone along
+pub record Step (heads threads : List Link) (xs : List ℕ) (k n : ℕ) (p : Place) (t : ℕ) : Type 0 where
+  pub inside : IsPlace heads threads p
+  pub next : next_of heads threads p ≡ start_of k (drop (n + 1) xs)
+  pub at : slice_get xs n ≡ Some t
+  pub below : n < length xs
+  pub fits : n + 1 < 2 ^ 32
+
+pub step : (heads threads : List Link) (lists : List (List ℕ)) → Spells heads threads lists → (k n : ℕ) (p : Place) (t : ℕ) → k < length heads → p ≡ start_of k (drop n (list_at lists k)) → p ≡ Thread t → Step heads threads (list_at lists k) k n p t
+step heads threads lists s k n p t h e is =
+    let w = start-thread k (list_at lists k) n t (sym e ∙ is) in
+    let here = below heads threads lists s k t (lists_below heads threads lists s k h) w.1 in
+    let next = Leads-next (next_of heads threads) (previous_of heads threads) (Head k) k (list_at lists k) n t (s.rings k h) (sym e ∙ is) in
+    record {
+      inside = subst (IsPlace heads threads) (sym is) here;
+      next = rw add-one (ap (next_of heads threads) is ∙ next);
+      at = w.0;
+      below = w.2;
+      fits = omega (arith, w.2, length_at heads threads lists s k h, s.few)
+    }
+
+pub step_end : (k n : ℕ) (xs : List ℕ) (p : Place) (j : ℕ) → p ≡ start_of k (drop n xs) → p ≡ Head j → (slice_get xs n ≡ None) × (length xs ≤ n)
+step_end k n xs p j e is = start-head k xs n j (sym e ∙ is)
+
+leads_on : (f g : Place → Place) (k : ℕ) (us : List ℕ) (t : ℕ) (vs : List ℕ) → count t (us ++ t ∷ vs) ≤ 1 → Leads f g (Head k) (us ++ t ∷ vs) (Head k) → f (Thread t) ≡ Thread t → ⊥
+leads_on f g k us t [] once r e = let i : Head k ≡ Thread t = sym (Leads-back f g (Head k) (Head k) us t [] r).0 ∙ e in cc
+leads_on f g k us t (v ∷ vs) once r e =
+    let i : Thread v ≡ Thread t = sym (Leads-back f g (Head k) (Head k) us t (v ∷ vs) r).0 ∙ e in
+    let same : v ≡ t = cc in
+    omega (arith, once, count-append t us (t ∷ v ∷ vs), count-same t (v ∷ vs), subst (λ y. 0 < count y (v ∷ vs)) same (count-here v vs))
+
+-- a thread of a list is followed by another place
+pub held_leads_on : (heads threads : List Link) (lists : List (List ℕ)) → Spells heads threads lists → (t : ℕ) → next_of heads threads (Thread t) ≡ Thread t → total (count t) lists ≡ 0
+held_leads_on heads threads lists s t e =
+    elim (cases_lt 0 (total (count t) lists)) [
+      inl some ↦
+        let at = found t lists some in
+        let cut = split t (list_at lists at.0) at.2 in
+        let ring = subst (λ xs. Leads (next_of heads threads) (previous_of heads threads) (Head at.0) xs (Head at.0)) cut.is (s.rings at.0 (omega (arith, s.sizes, at.1))) in
+        absurd (leads_on (next_of heads threads) (previous_of heads threads) at.0 cut.before t cut.after (subst (λ xs. count t xs ≤ 1) cut.is (once_at heads threads lists s at.0 t at.1)) ring e)
+    | inr none ↦ omega (arith, none)
+    ]
+
+pub is_linked_by_next : (heads threads : List Link) (lists : List (List ℕ)) → Spells heads threads lists → (t next : ℕ) → next_of heads threads (Thread t) ≡ Thread next → not (next == t) ≡ not (total (count t) lists == 0)
+is_linked_by_next heads threads lists s t next e =
+    elim (eqb_tells next t) [
+      inl same ↦
+        ap not (same.0 ∙ sym (eq-eqb (total (count t) lists) 0 (held_leads_on heads threads lists s t (e ∙ ap Thread same.1))))
+    | inr differs ↦
+        elim (eqb_tells (total (count t) lists) 0) [
+          inl none ↦ let i : Thread next ≡ Thread t = sym e ∙ s.alone t none.1 in absurd (differs.1 cc)
+        | inr some ↦ ap not (differs.0 ∙ sym some.0)
+        ]
+    ]

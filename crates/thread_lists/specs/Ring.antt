@@ -1,5 +1,5 @@
 -- Lists as rings of places.
-use Rattle.std.specs.Prelude.{◌≡◌, ◌<◌, ◌≤◌, ℕ, zero, suc, List, [], ◌∷◌, length, map, slice_index_or}
+use Rattle.std.specs.Prelude.{◌≡◌, ◌<◌, ◌≤◌, ◌^◌, ℕ, zero, suc, List, [], ◌∷◌, length, map, slice_index_or}
 use Rattle.thread_lists.specs.declared.ring.Place.{Place}
 use Rattle.thread_lists.specs.declared.ring.Place.TheVariants.{Head, Thread}
 use Rattle.thread_lists.specs.declared.ring.Link.{Link}
@@ -51,6 +51,11 @@ abbrev pub Leads : (Place → Place) → (Place → Place) → Place → List �
 Leads next previous a [] b = (next a ≡ b) × (previous b ≡ a)
 Leads next previous a (x ∷ xs) b = (next a ≡ Thread x) × (previous (Thread x) ≡ a) × Leads next previous (Thread x) xs b
 
+-- the place in front of these threads of list k, where its head comes behind the last
+abbrev pub start_of : ℕ → List ℕ → Place
+start_of k [] = Head k
+start_of k (t ∷ ts) = Thread t
+
 -- at most n threads from a place on, up to the next head
 abbrev pub threads_from : (Place → Place) → ℕ → Place → List ℕ
 threads_from next zero p = []
@@ -61,13 +66,14 @@ threads_from next (suc n) (Thread t) = t ∷ threads_from next n (next (Thread t
 abbrev pub spelled : List Link → List Link → List (List ℕ)
 spelled heads threads = map (λ head. threads_from (next_of heads threads) (length threads) head.next) heads
 
--- the links of each list are a ring, and a thread is in at most one list
+-- the links of each list are a ring, a thread is in at most one list, and the numbers of threads are words of 32 bits
 pub record Spells (heads threads : List Link) (lists : List (List ℕ)) : Type 0 where
   pub sizes : length lists ≡ length heads
   pub rings : (k : ℕ) → k < length heads → Leads (next_of heads threads) (previous_of heads threads) (Head k) (list_at lists k) (Head k)
   pub once : (t : ℕ) → total (count t) lists ≤ 1
   pub within : (t : ℕ) → length threads ≤ t → total (count t) lists ≡ 0
   pub alone : (t : ℕ) → total (count t) lists ≡ 0 → next_of heads threads (Thread t) ≡ Thread t
+  pub few : length threads < 2 ^ 32
 
 abbrev pub IsLinked : List Link → List Link → Type 0
 IsLinked heads threads = Spells heads threads (spelled heads threads)

@@ -1,9 +1,9 @@
-ghost use Rattle.std.specs.Prelude.{◌≡◌, ◌<◌, [], ◌∷◌, length, slice_set};
+ghost use Rattle.std.specs.Prelude.{◌≡◌, ◌<◌, ◌==◌, [], ◌∷◌, length, not, slice_get, slice_set};
 ghost use Rattle.thread_lists.specs.Lists.{count, list_at, push, total, without};
 ghost use Rattle.thread_lists.specs.Ring.{IsLinked, IsPlace, Joined, SetsNext, SetsPrevious, Spells, link_of, spelled};
 
 /// A place of a ring. Behind a head comes the first thread of its list, and before it the last.
-#[derive(Clone, Copy, Debug, PartialEq, Eq)]
+#[derive(Clone, Copy, Debug)]
 pub enum Place {
     Head(u32),
     Thread(u32),
@@ -94,4 +94,52 @@ pub fn unlink(heads: &mut [Link], threads: &mut [Link], list: u32, thread: u32)
     let link = link_at(heads, threads, Place::Thread(thread));
     join(heads, threads, link.previous, link.next);
     join(heads, threads, Place::Thread(thread), Place::Thread(thread));
+}
+
+/// The thread with this index in a list.
+pub fn thread_at(heads: &[Link], threads: &[Link], list: u32, index: u32) -> Option<u32>
+    requires linked { IsLinked heads.now threads.now }
+    requires list { list < length heads.now }
+    ensures { result ≡ slice_get (list_at (spelled heads.now threads.now) list) index }
+{
+    let mut place = link_at(heads, threads, Place::Head(list)).next;
+    for _i in 0..index {
+        match place {
+            Place::Thread(_) => place = link_at(heads, threads, place).next,
+            Place::Head(_) => return None,
+        }
+    }
+    match place {
+        Place::Thread(thread) => Some(thread),
+        Place::Head(_) => None,
+    }
+}
+
+/// How many threads a list has.
+pub fn count_of(heads: &[Link], threads: &[Link], list: u32) -> u32
+    requires linked { IsLinked heads.now threads.now }
+    requires list { list < length heads.now }
+    ensures { result ≡ length (list_at (spelled heads.now threads.now) list) }
+{
+    let mut count = 0;
+    let mut place = link_at(heads, threads, Place::Head(list)).next;
+    while let Place::Thread(_) = place {
+        place = link_at(heads, threads, place).next;
+        count += 1;
+    }
+    count
+}
+
+/// Whether a thread is in a list.
+pub fn is_linked(heads: &[Link], threads: &[Link], thread: u32) -> bool
+    requires { IsLinked heads.now threads.now }
+    ensures { result ≡ not (total (count thread) (spelled heads.now threads.now) == 0) }
+{
+    if thread as usize >= threads.len() {
+        return false;
+    }
+    match link_at(heads, threads, Place::Thread(thread)).next {
+        Place::Thread(next) => next != thread,
+        Place::Head(_) => true,
+    }
 }
