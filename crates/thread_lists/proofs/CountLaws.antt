@@ -1,5 +1,5 @@
 -- How often a thread occurs in lists.
-use Rattle.std.proofs.Common.{◌≡◌, ◌+◌, ◌<◌, ◌≤◌, ◌==◌, ℕ, suc, zero, List, [], ◌∷◌, ◌++◌, length, sym, ◌∙◌, ap, subst, refl, append-nil, zero-add, arith, cond, eqb, ◌⊎◌, inl, inr, true, false, not, filter, set, get_or, sum_by}
+use Rattle.std.proofs.Common.{◌≡◌, ◌+◌, ◌<◌, ◌≤◌, ◌==◌, ℕ, suc, zero, List, [], ◌∷◌, ◌++◌, length, sym, ◌∙◌, ap, subst, refl, append-nil, zero-add, add-zero, arith, cond, eqb, ◌⊎◌, inl, inr, true, false, not, filter, set, get_or, sum_by}
 use Rattle.std.proofs.lemmas.Bool.{cases_eq, cases_lt, eq-eqb}
 use Rattle.std.proofs.lemmas.List.{get_or-set_other}
 use Rattle.std.proofs.Math.ListN.{length-set}
@@ -8,7 +8,7 @@ use Rattle.std.specs.List.{AllByRecursion, IsDistinct, list_any}
 use Rattle.std.proofs.lemmas.Map.Steps.{length-le_from_distinct_below}
 use Rattle.std.proofs.lemmas.Bool.Decides.{eqb_tells, nat_tests}
 use Rattle.std.proofs.lemmas.List.Sums.{sum_by-cons, sum_by-append, sum_by-set, get_or-le-sum_by}
-use Rattle.thread_lists.specs.Lists.{count, total, list_at, push, without}
+use Rattle.thread_lists.specs.Lists.{append, count, total, list_at, push, without}
 
 pub count-cons : (t x : ℕ) (xs : List ℕ) → count t (x ∷ xs) ≡ cond (x == t) 1 0 + count t xs
 count-cons t x xs = sum_by-cons (λ y. cond (y == t) 1 0) x xs
@@ -124,3 +124,13 @@ found t (xs ∷ lists) h =
         let w = found t lists (omega (arith, sum_by-cons (count t) xs lists, none)) in
         (suc w.0, omega (arith, w.1), w.2)
     ]
+
+pub total-one_more : (t : ℕ) (lists : List (List ℕ)) → total (count t) (lists ++ [] ∷ []) ≡ total (count t) lists
+total-one_more t lists = sum_by-append (count t) lists ([] ∷ []) ∙ add-zero (total (count t) lists)
+
+-- a list that is moved behind another leaves each thread in as many lists
+pub total-append : (t : ℕ) (lists : List (List ℕ)) (from to : ℕ) → from < length lists → to < length lists → (from ≡ to → ⊥) → total (count t) (append lists from to) ≡ total (count t) lists
+total-append t lists from to hf ht ne =
+    let pushed = push lists to (list_at lists from) in
+    let other : list_at pushed from ≡ list_at lists from = get_or-set_other lists to from _ [] ne in
+    omega (arith, total-set (count t) pushed from [] (simp length-set hf), ap (count t) other, total-push t lists to (list_at lists from) ht)

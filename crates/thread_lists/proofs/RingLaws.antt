@@ -1,5 +1,6 @@
 -- How rings change where one place is made to follow another.
 use Rattle.std.proofs.Common.{◌≡◌, ◌+◌, ◌<◌, ◌≤◌, ◌==◌, ℕ, suc, zero, List, [], ◌∷◌, ◌++◌, length, sym, ◌∙◌, ap, subst, refl, append-nil, drop, slice_get, Some, None, arith, cond, eqb, ◌⊎◌, inl, inr, true, false}
+use Rattle.std.proofs.lemmas.Option.{slice_get_past}
 use Rattle.thread_lists.specs.declared.ring.Place.{Place}
 use Rattle.thread_lists.specs.declared.ring.Place.TheVariants.{Head, Thread}
 use Rattle.thread_lists.specs.Lists.{count}
@@ -104,15 +105,6 @@ Leads-closed f g f1 g1 k us t (v ∷ vs) once j r =
     differs : (x : ℕ) → 0 < count x vs → Thread x ≡ Thread v → ⊥
     differs x c e = let i : x ≡ v = cc in omega (arith, once v, subst (λ y. 0 < count y vs) i c, count-append v us (t ∷ v ∷ vs), count-cons v t (v ∷ vs), count-same v vs)
 
-slice_get-nil : (n : ℕ) → slice_get {X = ℕ} [] n ≡ None
-slice_get-nil zero = refl
-slice_get-nil (suc n) = refl
-
-pub slice_get_beyond : (xs : List ℕ) (n : ℕ) → length xs ≤ n → slice_get xs n ≡ None
-slice_get_beyond [] n h = slice_get-nil n
-slice_get_beyond (x ∷ xs) zero h = absurd (omega arith)
-slice_get_beyond (x ∷ xs) (suc n) h = slice_get_beyond xs n (omega arith)
-
 drop-nil : (n : ℕ) → drop {A = ℕ} n [] ≡ []
 drop-nil zero = refl
 drop-nil (suc n) = refl
@@ -136,8 +128,40 @@ start-thread k (x ∷ xs) (suc n) t e =
     (w.0, count-there t x xs w.1, omega (arith, w.2))
 
 pub start-head : (k : ℕ) (xs : List ℕ) (n j : ℕ) → start_of k (drop n xs) ≡ Head j → (slice_get xs n ≡ None) × (length xs ≤ n)
-start-head k [] n j e = (slice_get-nil n, omega arith)
+start-head k [] n j e = (slice_get_past [] n (omega arith), omega arith)
 start-head k (x ∷ xs) zero j e = cc
 start-head k (x ∷ xs) (suc n) j e =
     let w = start-head k xs n j e in
     (w.0, omega (arith, w.1))
+
+-- the threads of one list come behind those of another
+pub Leads-append : (f g f1 g1 f2 g2 f3 g3 : Place → Place) (from to : ℕ) (ys : List ℕ) (x : ℕ) (xs : List ℕ) → (from ≡ to → ⊥) → ((z : ℕ) → 0 < count z ys → 0 < count z (x ∷ xs) → ⊥) → ((z : ℕ) → count z (x ∷ xs) ≤ 1) → Follows f g f1 g1 (g (Head to)) (f (Head from)) → Follows f1 g1 f2 g2 (g (Head from)) (Head to) → Follows f2 g2 f3 g3 (Head from) (Head from) → Leads f g (Head to) ys (Head to) → Leads f g (Head from) (x ∷ xs) (Head from) → Leads f3 g3 (Head to) (ys ++ x ∷ xs) (Head to)
+Leads-append f g f1 g1 f2 g2 f3 g3 from to ys x xs ne other once j1 j2 j3 r s =
+    let turned = Leads-turned f g f1 g1 (Head to) (Head to) (Thread x) ys r join (Leads-end f g (Head to) (Head to) ys r) (λ y c e. cc) (λ y c e. let i : y ≡ x = cc in other x (subst (λ z. 0 < count z ys) i c) (count-here x xs)) in
+    let rest = Leads-kept f g f1 g1 (Thread x) (Head from) xs s.2 (join.other_next (Thread x) (before x (count-here x xs))) (join.other_previous (Head from) (λ e. cc)) (λ y c. join.other_next (Thread y) (before y (count-there y x xs c))) (λ y c. join.other_previous (Thread y) (λ e. let i : x ≡ y = cc in omega (arith, once x, count-same x xs, subst (λ z. 0 < count z xs) (sym i) c))) in
+    let last : g1 (Head from) ≡ g (Head from) = join.other_previous (Head from) (λ e. cc) in
+    let second = subst (λ p. Follows f1 g1 f2 g2 p (Head to)) (sym last) j2 in
+    let back = Leads-turned f1 g1 f2 g2 (Thread x) (Head from) (Head to) xs rest second (Leads-end f1 g1 (Thread x) (Head from) xs rest) (λ y c e. cc) (λ y c e. cc) in
+    let front = Leads-kept f1 g1 f2 g2 (Head to) (Thread x) ys turned (j2.other_next (Head to) (λ e. behind_head e)) (j2.other_previous (Thread x) (λ e. cc)) (λ y c. j2.other_next (Thread y) (behind y c)) (λ y c. j2.other_previous (Thread y) (λ e. cc)) in
+    Leads-outside f2 g2 f3 g3 to (ys ++ x ∷ xs) (Head from) (Head from) (Outside-head to from (ys ++ x ∷ xs) (λ e. ne (sym e))) (Outside-head to from (ys ++ x ∷ xs) (λ e. ne (sym e))) j3 (Leads-joined f2 g2 (Head to) (Head to) ys x xs front back)
+  where
+    join : Follows f g f1 g1 (g (Head to)) (Thread x)
+    join = subst (λ p. Follows f g f1 g1 (g (Head to)) p) s.0 j1
+    before : (z : ℕ) → 0 < count z (x ∷ xs) → Thread z ≡ g (Head to) → ⊥
+    before z c e =
+        elim (Leads-last f g (Head to) (Head to) ys r) [
+          inl i ↦ cc
+        | inr w ↦ let i : w.0 ≡ z = cc in other z (subst (λ y. 0 < count y ys) i w.1) c
+        ]
+    behind_head : Head to ≡ g (Head from) → ⊥
+    behind_head e =
+        elim (Leads-last f g (Head from) (Head from) (x ∷ xs) s) [
+          inl i ↦ ne (let w : Head to ≡ Head from = e ∙ i in cc)
+        | inr w ↦ cc
+        ]
+    behind : (y : ℕ) → 0 < count y ys → Thread y ≡ g (Head from) → ⊥
+    behind y c e =
+        elim (Leads-last f g (Head from) (Head from) (x ∷ xs) s) [
+          inl i ↦ cc
+        | inr w ↦ let i : w.0 ≡ y = cc in other y c (subst (λ z. 0 < count z (x ∷ xs)) i w.1)
+        ]

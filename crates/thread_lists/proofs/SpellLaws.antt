@@ -1,19 +1,20 @@
 -- How the lists that the links spell change with the links.
-use Rattle.std.proofs.Common.{◌≡◌, ◌+◌, ◌<◌, ◌≤◌, ◌==◌, ℕ, List, [], ◌∷◌, ◌++◌, length, map, sym, ◌∙◌, ap, subst, refl, arith, add-one, not, drop, slice_get, Some, None, ◌^◌, ◌⊎◌, inl, inr, set, get_or}
+use Rattle.std.proofs.Common.{◌≡◌, ◌+◌, ◌<◌, ◌≤◌, ◌==◌, ℕ, zero, suc, List, [], ◌∷◌, ◌++◌, length, map, sym, ◌∙◌, ap, subst, refl, arith, add-one, append-nil, not, drop, slice_get, Some, None, ◌^◌, ◌⊎◌, inl, inr, set, get_or}
 use Rattle.std.proofs.lemmas.Bool.{cases_eq, cases_lt, eq-eqb}
 use Rattle.std.proofs.lemmas.Bool.Decides.{eqb_tells}
-use Rattle.std.proofs.lemmas.List.{get_or-set_other, get_or-set_same, get_or-map, ext_get_or, length-map}
-use Rattle.std.proofs.Math.ListN.{length-set}
+use Rattle.std.proofs.lemmas.List.{get_or-set_other, get_or-set_same, get_or-map, get_or_append_left, ext_get_or, length-append, length-map, set-get_or}
+use Rattle.std.proofs.Math.ListN.{get_or-eq_default, length-set}
+use Rattle.std.proofs.Math.Seq.{get_or-append_seam}
 use Rattle.std.specs.Global.{Vec}
 use Rattle.std.specs.Vec.{with_items}
 use Rattle.std.proofs.lemmas.List.{with_items_is}
 use Rattle.thread_lists.specs.declared.ring.Place.{Place}
 use Rattle.thread_lists.specs.declared.ring.Place.TheVariants.{Head, Thread}
 use Rattle.thread_lists.specs.declared.ring.Link.{Link}
-use Rattle.thread_lists.specs.Lists.{Lists, count, total, list_at, push, without}
-use Rattle.thread_lists.specs.Ring.{IsLinked, IsPlace, Leads, Follows, Joined, Spells, alone, next_of, previous_of, spelled, start_of, threads_from}
-use Rattle.thread_lists.proofs.CountLaws.{count-append, count-cons, count-same, count-here, count-other, count-closed, length-le, never, Split, found, split, total-le, total-push, total-set, total-two, without-split}
-use Rattle.thread_lists.proofs.RingLaws.{Leads-back, Leads-closed, Leads-front, Leads-last, Leads-outside, Leads-push, Outside, Outside-head, Outside-thread, threads_from-Leads, Leads-next, start-head, start-thread}
+use Rattle.thread_lists.specs.Lists.{Lists, append, count, total, list_at, push, without}
+use Rattle.thread_lists.specs.Ring.{IsLinked, IsPlace, Leads, Follows, Joined, Spells, alone, link_of, next_of, previous_of, spelled, start_of, threads_from}
+use Rattle.thread_lists.proofs.CountLaws.{count-append, count-cons, count-same, count-here, count-other, count-closed, length-le, never, Split, found, split, total-append, total-le, total-one_more, total-push, total-set, total-two, without-split}
+use Rattle.thread_lists.proofs.RingLaws.{Leads-back, Leads-closed, Leads-append, Leads-front, Leads-kept, Leads-last, Leads-outside, Leads-push, Outside, Outside-head, Outside-thread, threads_from-Leads, Leads-next, start-head, start-thread}
 
 -- what contracts see of the lists
 abbrev pub seen : List (List ℕ) → ℕ → Lists
@@ -267,3 +268,117 @@ is_linked_by_next heads threads lists s t next e =
         | inr some ↦ ap not (differs.0 ∙ sym some.0)
         ]
     ]
+
+-- an empty list adds nothing to another
+pub append-none : (lists : List (List ℕ)) (from to : ℕ) → list_at lists from ≡ [] → append lists from to ≡ lists
+append-none lists from to e =
+    ap (λ xs. set (push lists to xs) from []) e
+    ∙ ap (λ xs. set (set lists to xs) from []) (append-nil (list_at lists to))
+    ∙ ap (λ ls. set ls from []) (set-get_or lists to [])
+    ∙ ap (set lists from) (sym e)
+    ∙ set-get_or lists from []
+
+-- the threads of one list come behind those of another
+module _ (h s h1 s1 h2 s2 h3 s3 : List Link) (lists : List (List ℕ)) (from to : ℕ) (same : length h3 ≡ length h) (same_threads : length s3 ≡ length s) (spells : Spells h s lists) (from_in : from < length h) (to_in : to < length h) (ne : from ≡ to → ⊥) where
+  pub Spells-append : (x : ℕ) (xs : List ℕ) → list_at lists from ≡ x ∷ xs → Joined h s h1 s1 (previous_of h s (Head to)) (next_of h s (Head from)) → Joined h1 s1 h2 s2 (previous_of h s (Head from)) (Head to) → Joined h2 s2 h3 s3 (Head from) (Head from) → Spells h3 s3 (append lists from to)
+  Spells-append x xs is j1 j2 j3 =
+      record {
+        sizes = length-set (push lists to (list_at lists from)) from [] ∙ length-set lists to _ ∙ spells.sizes ∙ sym same;
+        rings = λ j hj. rings-set (next_of h3 s3) (previous_of h3 s3) (push lists to (list_at lists from)) from (length h) [] (length-set lists to _ ∙ spells.sizes) from_in (j3.next, j3.previous)
+          (λ i hi ni. rings-set-one i hi ni) j (omega arith);
+        once = λ t. omega (arith, spells.once t, total-append t lists from to in_from in_to ne);
+        within = λ t le. omega (arith, spells.within t (omega arith), total-append t lists from to in_from in_to ne);
+        alone = λ t none.
+          let before : total (count t) lists ≡ 0 = omega (arith, total-append t lists from to in_from in_to ne) in
+          j3.other_next (Thread t) (λ e. cc)
+          ∙ j2.other_next (Thread t) (not_in_ring from (list_at lists from) _ last t (omega (arith, total-le t lists from in_from)))
+          ∙ j1.other_next (Thread t) (not_in_ring to (list_at lists to) _ end t (omega (arith, total-le t lists to in_to)))
+          ∙ spells.alone t before;
+        few = omega (arith, spells.few)
+      }
+    where
+      in_from : from < length lists
+      in_from = omega (arith, spells.sizes)
+      in_to : to < length lists
+      in_to = omega (arith, spells.sizes)
+      last : InRing from (list_at lists from) (previous_of h s (Head from))
+      last = last_in_ring h s lists spells from from_in
+      end : InRing to (list_at lists to) (previous_of h s (Head to))
+      end = last_in_ring h s lists spells to to_in
+      first : InRing from (list_at lists from) (next_of h s (Head from))
+      first = subst (λ ys. InRing from ys (next_of h s (Head from))) (sym is) (inr (x, count-here x xs, (subst (λ ys. Leads (next_of h s) (previous_of h s) (Head from) ys (Head from)) is (spells.rings from from_in)).0))
+      whole : Leads (next_of h3 s3) (previous_of h3 s3) (Head to) (list_at lists to ++ x ∷ xs) (Head to)
+      whole = Leads-append (next_of h s) (previous_of h s) (next_of h1 s1) (previous_of h1 s1) (next_of h2 s2) (previous_of h2 s2) (next_of h3 s3) (previous_of h3 s3) from to (list_at lists to) x xs ne
+          (λ z c d. omega (arith, spells.once z, total-two z lists from to in_from in_to ne, subst (λ ys. 0 < count z ys) (sym is) d, c))
+          (λ z. subst (λ ys. count z ys ≤ 1) is (once_at h s lists spells from z in_from))
+          j1 j2 j3 (spells.rings to to_in) (subst (λ ys. Leads (next_of h s) (previous_of h s) (Head from) ys (Head from)) is (spells.rings from from_in))
+      others : (j : ℕ) → j < length h → (j ≡ from → ⊥) → (j ≡ to → ⊥) → Leads (next_of h3 s3) (previous_of h3 s3) (Head j) (list_at lists j) (Head j)
+      others j hj nf nt =
+          let in_j : j < length lists = omega (arith, spells.sizes) in
+          let ys = list_at lists j in
+          let of_from = λ (p : Place) (i : InRing from (list_at lists from) p). Outside-InRing lists j from spells.once in_j in_from nf p i in
+          let of_to = λ (p : Place) (i : InRing to (list_at lists to) p). Outside-InRing lists j to spells.once in_j in_to nt p i in
+          Leads-outside (next_of h2 s2) (previous_of h2 s2) (next_of h3 s3) (previous_of h3 s3) j ys (Head from) (Head from) (Outside-head j from ys nf) (Outside-head j from ys nf) j3
+            (Leads-outside (next_of h1 s1) (previous_of h1 s1) (next_of h2 s2) (previous_of h2 s2) j ys (previous_of h s (Head from)) (Head to) (of_from _ last) (Outside-head j to ys nt) j2
+              (Leads-outside (next_of h s) (previous_of h s) (next_of h1 s1) (previous_of h1 s1) j ys (previous_of h s (Head to)) (next_of h s (Head from)) (of_to _ end) (of_from _ first) j1 (spells.rings j hj)))
+      rings-set-one : (i : ℕ) → i < length h → (i ≡ from → ⊥) → Leads (next_of h3 s3) (previous_of h3 s3) (Head i) (list_at (push lists to (list_at lists from)) i) (Head i)
+      rings-set-one i hi ni =
+          elim (cases_eq i to) [
+            inl e ↦
+              subst (λ n. Leads (next_of h3 s3) (previous_of h3 s3) (Head n) (list_at (push lists to (list_at lists from)) n) (Head n)) (sym e)
+                (subst (λ ys. Leads (next_of h3 s3) (previous_of h3 s3) (Head to) ys (Head to)) (sym (get_or-set_same lists to _ [] in_to ∙ ap (λ ys. list_at lists to ++ ys) is)) whole)
+          | inr nt ↦ subst (λ ys. Leads (next_of h3 s3) (previous_of h3 s3) (Head i) ys (Head i)) (sym (get_or-set_other lists to i _ [] nt)) (others i hi ni nt)
+          ]
+
+-- one more list, and one more thread
+pub get_or-one_more : {X : Type 0} (xs : List X) (d : ℕ → X) (j : ℕ) → get_or (xs ++ d (length xs) ∷ []) j (d j) ≡ get_or xs j (d j)
+get_or-one_more [] d zero = refl
+get_or-one_more [] d (suc j) = refl
+get_or-one_more (x ∷ xs) d zero = refl
+get_or-one_more (x ∷ xs) d (suc j) = get_or-one_more xs (λ i. d (suc i)) j
+
+link_of-list : (h s : List Link) (p : Place) → link_of (h ++ alone (Head (length h)) ∷ []) s p ≡ link_of h s p
+link_of-list h s (Head k) = get_or-one_more h (λ k. alone (Head k)) k
+link_of-list h s (Thread t) = refl
+
+link_of-thread : (h s : List Link) (p : Place) → link_of h (s ++ alone (Thread (length s)) ∷ []) p ≡ link_of h s p
+link_of-thread h s (Head k) = refl
+link_of-thread h s (Thread t) = get_or-one_more s (λ t. alone (Thread t)) t
+
+pub Leads-same : (h s h' s' : List Link) → ((p : Place) → link_of h' s' p ≡ link_of h s p) → (a b : Place) (xs : List ℕ) → Leads (next_of h s) (previous_of h s) a xs b → Leads (next_of h' s') (previous_of h' s') a xs b
+Leads-same h s h' s' e a b xs r =
+    Leads-kept (next_of h s) (previous_of h s) (next_of h' s') (previous_of h' s') a b xs r (ap (λ (l : Link). l.next) (e a)) (ap (λ (l : Link). l.previous) (e b)) (λ x c. ap (λ (l : Link). l.next) (e (Thread x))) (λ x c. ap (λ (l : Link). l.previous) (e (Thread x)))
+
+pub Spells-add_list : (h s : List Link) (lists : List (List ℕ)) → Spells h s lists → Spells (h ++ alone (Head (length h)) ∷ []) s (lists ++ [] ∷ [])
+Spells-add_list h s lists spells =
+    record {
+      sizes = omega (arith, spells.sizes, length-append lists ([] ∷ []), length-append h (alone (Head (length h)) ∷ []));
+      rings = λ j hj.
+        elim (cases_lt j (length h)) [
+          inl l ↦
+            subst (λ ys. Leads (next_of (h ++ alone (Head (length h)) ∷ []) s) (previous_of (h ++ alone (Head (length h)) ∷ []) s) (Head j) ys (Head j)) (sym (get_or_append_left lists ([] ∷ []) [] j (omega (arith, spells.sizes))))
+              (Leads-same h s (h ++ alone (Head (length h)) ∷ []) s (link_of-list h s) (Head j) (Head j) (list_at lists j) (spells.rings j l))
+        | inr g ↦
+            let beyond : get_or h j (alone (Head j)) ≡ alone (Head j) = get_or-eq_default h (alone (Head j)) g in
+            let link : link_of (h ++ alone (Head (length h)) ∷ []) s (Head j) ≡ alone (Head j) = link_of-list h s (Head j) ∙ beyond in
+            let here : j ≡ length lists = omega (arith, spells.sizes, length-append h (alone (Head (length h)) ∷ [])) in
+            subst (λ ys. Leads (next_of (h ++ alone (Head (length h)) ∷ []) s) (previous_of (h ++ alone (Head (length h)) ∷ []) s) (Head j) ys (Head j))
+              (sym (ap (list_at (lists ++ [] ∷ [])) here ∙ get_or-append_seam lists [] [] []))
+              (ap (λ (l : Link). l.next) link, ap (λ (l : Link). l.previous) link)
+        ];
+      once = λ t. omega (arith, spells.once t, total-one_more t lists);
+      within = λ t le. omega (arith, spells.within t le, total-one_more t lists);
+      alone = λ t none. ap (λ (l : Link). l.next) (link_of-list h s (Thread t)) ∙ spells.alone t (omega (arith, total-one_more t lists));
+      few = spells.few
+    }
+
+pub Spells-add_thread : (h s : List Link) (lists : List (List ℕ)) → length s + 1 < 2 ^ 32 → Spells h s lists → Spells h (s ++ alone (Thread (length s)) ∷ []) lists
+Spells-add_thread h s lists fits spells =
+    record {
+      sizes = spells.sizes;
+      rings = λ j hj. Leads-same h s h (s ++ alone (Thread (length s)) ∷ []) (link_of-thread h s) (Head j) (Head j) (list_at lists j) (spells.rings j hj);
+      once = spells.once;
+      within = λ t le. spells.within t (omega (arith, length-append s (alone (Thread (length s)) ∷ [])));
+      alone = λ t none. ap (λ (l : Link). l.next) (link_of-thread h s (Thread t)) ∙ spells.alone t none;
+      few = omega (arith, length-append s (alone (Thread (length s)) ∷ []))
+    }

@@ -18,6 +18,10 @@ first lists k = slice_get (list_at lists k) 0
 abbrev pub push : List (List ℕ) → ℕ → List ℕ → List (List ℕ)
 push lists k ts = slice_set lists k (list_at lists k ++ ts)
 
+-- all threads of one list come last to another, in their order
+abbrev pub append : List (List ℕ) → ℕ → ℕ → List (List ℕ)
+append lists from to = slice_set (push lists to (list_at lists from)) from []
+
 -- a thread leaves a list
 abbrev pub without : ℕ → List ℕ → List ℕ
 without t xs = filter (λ x. not (x == t)) xs

@@ -3,7 +3,7 @@ use Rattle.thread_lists.specs.declared.ring.Link.{Link}
 use Rattle.thread_lists.specs.declared.ring.Place.{Place}
 use Rattle.thread_lists.specs.Lists.{list_at}
 use Rattle.thread_lists.specs.Ring.{spelled}
-use Rattle.thread_lists.proofs.RingLaws.{slice_get_beyond}
+use Rattle.std.proofs.lemmas.Option.{slice_get_past}
 use Rattle.thread_lists.proofs.SpellLaws.{Step, step, step_end}
 use Rattle.thread_lists.proofs.ring.thread_at.Goals as goal
 
@@ -17,7 +17,7 @@ pub returns-in-Head : goal.returns-in-Head
 returns-in-Head c =
     let xs = list_at (spelled c.args.heads.now c.args.threads.now) c.args.list in
     let at = step_end c.args.list c.loop-i._i xs c.loop-i.place c.in-Head.field-0 c.loop-i.invariant c.in-Head.is in
-    sym (slice_get_beyond xs c.args.index (omega (arith, at.1)))
+    sym (slice_get_past xs c.args.index (omega (arith, at.1)))
 
 pub loop-i-preserved : goal.loop-i-preserved
 loop-i-preserved c =
@@ -38,4 +38,4 @@ pub returns-in-Head-place : goal.returns-in-Head-place
 returns-in-Head-place c =
     let xs = list_at (spelled c.args.heads.now c.args.threads.now) c.args.list in
     let at = step_end c.args.list c.loop-i._i xs c.loop-i.place c.in-Head-place.field-0 c.loop-i.invariant c.in-Head-place.is in
-    sym (slice_get_beyond xs c.args.index (omega (arith, at.1)))
+    sym (slice_get_past xs c.args.index (omega (arith, at.1)))
