@@ -1,5 +1,5 @@
 -- How often a thread occurs in lists.
-use Rattle.std.proofs.Common.{◌≡◌, ◌+◌, ◌<◌, ◌≤◌, ◌==◌, ℕ, suc, zero, List, [], ◌∷◌, ◌++◌, length, sym, ◌∙◌, ap, subst, refl, append-nil, zero-add, add-zero, arith, cond, eqb, ◌⊎◌, inl, inr, true, false, not, filter, set, get_or, sum_by}
+use Rattle.std.proofs.Common.{◌≡◌, ◌+◌, ◌<◌, ◌≤◌, ◌==◌, ℕ, suc, zero, List, [], ◌∷◌, ◌++◌, length, sym, ◌∙◌, ap, subst, refl, append-nil, zero-add, add-zero, drop, slice_get, Some, arith, cond, eqb, ◌⊎◌, inl, inr, true, false, not, filter, set, get_or, sum_by}
 use Rattle.std.proofs.lemmas.Bool.{cases_eq, cases_lt, eq-eqb}
 use Rattle.std.proofs.lemmas.List.{get_or-set_other}
 use Rattle.std.proofs.Math.ListN.{length-set}
@@ -134,3 +134,15 @@ total-append t lists from to hf ht ne =
     let pushed = push lists to (list_at lists from) in
     let other : list_at pushed from ≡ list_at lists from = get_or-set_other lists to from _ [] ne in
     omega (arith, total-set (count t) pushed from [] (simp length-set hf), ap (count t) other, total-push t lists to (list_at lists from) ht)
+
+-- the first of a list
+pub first-held : (xs : List ℕ) (t : ℕ) → slice_get xs 0 ≡ Some t → 0 < count t xs
+first-held [] t e = cc
+first-held (x ∷ xs) t e = let i : x ≡ t = cc in subst (λ y. 0 < count y (x ∷ xs)) i (count-here x xs)
+
+pub without-first : (xs : List ℕ) (t : ℕ) → slice_get xs 0 ≡ Some t → count t xs ≤ 1 → without t xs ≡ drop 1 xs
+without-first [] t e once = refl
+without-first (x ∷ xs) t e once =
+    let i : t ≡ x = cc in
+    ap (λ y. without y (x ∷ xs)) i
+    ∙ without-split x [] xs refl (omega (arith, count-same x xs, subst (λ y. count y (x ∷ xs) ≤ 1) i once))

@@ -198,6 +198,14 @@ module _ (h s h1 s1 h2 s2 : List Link) (lists : List (List ℕ)) (k t : ℕ) (sa
             (Leads-outside (next_of h s) (previous_of h s) (next_of h1 s1) (previous_of h1 s1) j (list_at lists j) (previous_of h s (Thread t)) (next_of h s (Thread t))
               (Outside-InRing lists j k spells.once in_j in_lists ne _ first) (Outside-InRing lists j k spells.once in_j in_lists ne _ second) j1 (spells.rings j hj))
 
+begins_with : (f g : Place → Place) (k : ℕ) (xs : List ℕ) (t : ℕ) → Leads f g (Head k) xs (Head k) → f (Head k) ≡ Thread t → (ys : List ℕ) × (xs ≡ t ∷ ys)
+begins_with f g k [] t r e = let i : Head k ≡ Thread t = sym r.0 ∙ e in cc
+begins_with f g k (x ∷ xs) t r e = let i : Thread x ≡ Thread t = sym r.0 ∙ e in let j : x ≡ t = cc in (xs, ap (λ y. y ∷ xs) j)
+
+begins_with_none : (f g : Place → Place) (k : ℕ) (xs : List ℕ) (j : ℕ) → Leads f g (Head k) xs (Head k) → f (Head k) ≡ Head j → xs ≡ []
+begins_with_none f g k [] j r e = refl
+begins_with_none f g k (x ∷ xs) j r e = let i : Thread x ≡ Head j = sym r.0 ∙ e in cc
+
 -- what the struct keeps, where its vectors were lent
 pub own : (h s : List Link) (lists : List (List ℕ)) → Spells h s lists → IsLinked h s
 own h s lists spells = subst (λ ls. Spells h s ls) (sym (spelled_is h s lists spells)) spells
@@ -382,3 +390,28 @@ Spells-add_thread h s lists fits spells =
       alone = λ t none. ap (λ (l : Link). l.next) (link_of-thread h s (Thread t)) ∙ spells.alone t none;
       few = omega (arith, length-append s (alone (Thread (length s)) ∷ []))
     }
+
+pub added_list : (h s h' : List Link) (link : Link) (k : ℕ) (lists : List (List ℕ)) → h' ≡ h ++ link ∷ [] → link ≡ alone (Head k) → k ≡ length h → Spells h s lists → Spells h' s (lists ++ [] ∷ [])
+added_list h s h' link k lists items is at spells =
+    subst (λ hs. Spells hs s (lists ++ [] ∷ [])) (sym (items ∙ ap (λ l. h ++ l ∷ []) (is ∙ ap (λ n. alone (Head n)) at))) (Spells-add_list h s lists spells)
+
+pub added_thread : (h s s' : List Link) (link : Link) (t : ℕ) (lists : List (List ℕ)) → s' ≡ s ++ link ∷ [] → link ≡ alone (Thread t) → t ≡ length s → t + 1 < 2 ^ 32 → Spells h s lists → Spells h s' lists
+added_thread h s s' link t lists items is at fits spells =
+    subst (λ ss. Spells h ss lists) (sym (items ∙ ap (λ l. s ++ l ∷ []) (is ∙ ap (λ n. alone (Thread n)) at))) (Spells-add_thread h s lists (omega arith) spells)
+
+-- a place stays one while the links change
+pub IsPlace-same : (h s h' s' : List Link) (p : Place) → length h' ≡ length h → length s' ≡ length s → IsPlace h s p → IsPlace h' s' p
+IsPlace-same h s h' s' (Head k) eh es i = omega arith
+IsPlace-same h s h' s' (Thread t) eh es i = omega arith
+
+-- the place behind a list's head is in its ring
+pub first_in_ring : (heads threads : List Link) (lists : List (List ℕ)) → Spells heads threads lists → (k t : ℕ) → k < length heads → next_of heads threads (Head k) ≡ Thread t → (xs : List ℕ) × (list_at lists k ≡ t ∷ xs)
+first_in_ring heads threads lists s k t h e = begins_with (next_of heads threads) (previous_of heads threads) k (list_at lists k) t (s.rings k h) e
+
+pub no_first : (heads threads : List Link) (lists : List (List ℕ)) → Spells heads threads lists → (k j : ℕ) → k < length heads → next_of heads threads (Head k) ≡ Head j → list_at lists k ≡ []
+no_first heads threads lists s k j h e = begins_with_none (next_of heads threads) (previous_of heads threads) k (list_at lists k) j (s.rings k h) e
+
+pub place_behind : (heads threads : List Link) (lists : List (List ℕ)) → Spells heads threads lists → (k t : ℕ) → k < length heads → next_of heads threads (Head k) ≡ Thread t → IsPlace heads threads (next_of heads threads (Head k))
+place_behind heads threads lists s k t h e =
+    let begins = first_in_ring heads threads lists s k t h e in
+    IsPlace-InRing heads threads lists s k h _ (inr (t, subst (λ xs. 0 < count t xs) (sym begins.1) (count-here t begins.0), e))

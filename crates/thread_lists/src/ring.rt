@@ -1,5 +1,5 @@
-ghost use Rattle.std.specs.Prelude.{◌≡◌, ◌<◌, ◌==◌, [], ◌∷◌, length, not, slice_get, slice_set};
-ghost use Rattle.thread_lists.specs.Lists.{count, list_at, push, total, without};
+ghost use Rattle.std.specs.Prelude.{◌≡◌, ◌≢◌, ◌<◌, ◌==◌, [], ◌∷◌, length, not, slice_get, slice_set};
+ghost use Rattle.thread_lists.specs.Lists.{append, count, list_at, push, total, without};
 ghost use Rattle.thread_lists.specs.Ring.{IsLinked, IsPlace, Joined, SetsNext, SetsPrevious, Spells, link_of, spelled};
 
 /// A place of a ring. Behind a head comes the first thread of its list, and before it the last.
@@ -94,6 +94,24 @@ pub fn unlink(heads: &mut [Link], threads: &mut [Link], list: u32, thread: u32)
     let link = link_at(heads, threads, Place::Thread(thread));
     join(heads, threads, link.previous, link.next);
     join(heads, threads, Place::Thread(thread), Place::Thread(thread));
+}
+
+/// Puts all threads of one list, in their order, behind the last of another.
+pub fn link_all(heads: &mut [Link], threads: &mut [Link], from: u32, to: u32)
+    requires linked { IsLinked heads.old threads.old }
+    requires from { from < length heads.old }
+    requires to { to < length heads.old }
+    requires differ { from ≢ to }
+    ensures { Spells heads.new threads.new (append (spelled heads.old threads.old) from to) }
+{
+    let moved = link_at(heads, threads, Place::Head(from));
+    if let Place::Head(_) = moved.next {
+        return;
+    }
+    let last = link_at(heads, threads, Place::Head(to)).previous;
+    join(heads, threads, last, moved.next);
+    join(heads, threads, moved.previous, Place::Head(to));
+    join(heads, threads, Place::Head(from), Place::Head(from));
 }
 
 /// The thread with this index in a list.
