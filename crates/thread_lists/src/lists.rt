@@ -1,4 +1,4 @@
-ghost use Rattle.std.specs.Prelude.{◌≡◌, ◌≢◌, ◌+◌, ◌^◌, ◌<◌, ◌≤◌, ◌==◌, ℕ, [], ◌∷◌, ◌++◌, drop, length, not, slice_get, slice_set, IfOk, OnOk, OnErr};
+ghost use Rattle.std.specs.Prelude.{◌≡◌, ◌≢◌, ◌+◌, ◌^◌, ◌<◌, ◌≤◌, ◌==◌, ℕ, [], ◌∷◌, ◌++◌, drop, length, max, not, slice_get, slice_set, IfOk, OnOk, OnErr};
 ghost use Rattle.thread_lists.specs.Lists.{append, count, first, list_at, push, total, without};
 
 use crate::ring::{Link, Place, count_of, is_linked, link_all, link_last, thread_at, unlink};
@@ -63,6 +63,19 @@ impl ThreadLists {
         };
         self.threads.push(Link::alone(Place::Thread(thread)))?;
         Ok(thread)
+    }
+
+    /// Room for this many threads, or for as many as there are if these are more. After an error there may be room for more
+    /// than before.
+    pub fn room(&mut self, threads: u32) -> Result<(), NoMemory>
+        ensures ok { OnOk result (self.new ≡ record self.old { threads = max self.old.threads threads }) }
+        ensures lists { self.new.lists ≡ self.old.lists }
+        ensures grows { self.old.threads ≤ self.new.threads }
+    {
+        for _i in self.threads()..threads {
+            self.add_thread()?;
+        }
+        Ok(())
     }
 
     /// How many threads there are: those with smaller numbers can be in lists.
