@@ -45,9 +45,7 @@ impl Deques {
         ensures { IfOk result (λ deques. deques ≡ record { lists = replicate carriers []; threads = 0 }) }
     {
         let mut lists = ThreadLists::new(alloc);
-        for _i in 0..carriers {
-            lists.add_list()?;
-        }
+        lists.add_lists(carriers)?;
         Ok(Deques { carriers, lists })
     }
 

@@ -1,8 +1,8 @@
 -- How the lists that the links spell change with the links.
-use Rattle.std.proofs.Common.{◌≡◌, ◌+◌, ◌<◌, ◌≤◌, ◌==◌, ℕ, zero, suc, List, [], ◌∷◌, ◌++◌, length, map, sym, ◌∙◌, ap, subst, refl, arith, add-one, append-nil, not, drop, slice_get, Some, None, ◌^◌, ◌⊎◌, inl, inr, set, get_or}
+use Rattle.std.proofs.Common.{◌≡◌, ◌+◌, ◌<◌, ◌≤◌, ◌==◌, ℕ, zero, suc, List, [], ◌∷◌, ◌++◌, length, map, sym, ◌∙◌, ap, subst, refl, arith, add-one, append-nil, append_assoc, not, replicate, drop, slice_get, Some, None, ◌^◌, ◌⊎◌, inl, inr, set, get_or}
 use Rattle.std.proofs.lemmas.Bool.{cases_eq, cases_lt, eq-eqb}
 use Rattle.std.proofs.lemmas.Bool.Decides.{eqb_tells}
-use Rattle.std.proofs.lemmas.List.{get_or-set_other, get_or-set_same, get_or-map, get_or_append_left, ext_get_or, length-append, length-map, set-get_or}
+use Rattle.std.proofs.lemmas.List.{get_or-set_other, get_or-set_same, get_or-map, get_or_append_left, ext_get_or, length-append, length-map, replicate_more, set-get_or}
 use Rattle.std.proofs.Math.ListN.{get_or-eq_default, length-set}
 use Rattle.std.proofs.Math.Seq.{get_or-append_seam}
 use Rattle.std.specs.Global.{Vec}
@@ -394,6 +394,11 @@ Spells-add_thread h s lists fits spells =
 pub added_list : (h s h' : List Link) (link : Link) (k : ℕ) (lists : List (List ℕ)) → h' ≡ h ++ link ∷ [] → link ≡ alone (Head k) → k ≡ length h → Spells h s lists → Spells h' s (lists ++ [] ∷ [])
 added_list h s h' link k lists items is at spells =
     subst (λ hs. Spells hs s (lists ++ [] ∷ [])) (sym (items ∙ ap (λ l. h ++ l ∷ []) (is ∙ ap (λ n. alone (Head n)) at))) (Spells-add_list h s lists spells)
+
+pub one_more_list : (h s h' : List Link) (link : Link) (k : ℕ) (lists : List (List ℕ)) (n m : ℕ) → h' ≡ h ++ link ∷ [] → link ≡ alone (Head k) → k ≡ length h → n + 1 ≡ m → Spells h s (lists ++ replicate n []) → Spells h' s (lists ++ replicate m [])
+one_more_list h s h' link k lists n m items is at more spells =
+    subst (Spells h' s) (append_assoc lists (replicate n []) ([] ∷ []) ∙ ap (λ ls. lists ++ ls) (replicate_more n [] ∙ ap (λ i. replicate i []) more))
+      (added_list h s h' link k (lists ++ replicate n []) items is at spells)
 
 pub added_thread : (h s s' : List Link) (link : Link) (t : ℕ) (lists : List (List ℕ)) → s' ≡ s ++ link ∷ [] → link ≡ alone (Thread t) → t ≡ length s → t + 1 < 2 ^ 32 → Spells h s lists → Spells h s' lists
 added_thread h s s' link t lists items is at fits spells =

@@ -1,13 +1,13 @@
-ghost use Rattle.std.specs.Prelude.{◌≡◌, ◌≢◌, ◌+◌, ◌^◌, ◌<◌, ◌≤◌, ◌==◌, ℕ, [], ◌∷◌, ◌++◌, drop, length, max, not, slice_get, slice_set, IfOk, OnOk, OnErr};
+ghost use Rattle.std.specs.Prelude.{◌≡◌, ◌≢◌, ◌+◌, ◌^◌, ◌<◌, ◌≤◌, ◌==◌, ℕ, [], ◌∷◌, ◌++◌, drop, length, max, not, replicate, slice_get, slice_set, IfOk, OnOk, OnErr};
 ghost use Rattle.thread_lists.specs.Lists.{append, count, first, list_at, push, total, without};
 
-use crate::ring::{Link, Place, count_of, is_linked, link_all, link_last, thread_at, unlink};
+use crate::ring::{Link, Place, add_heads, count_of, is_linked, link_all, link_last, thread_at, unlink};
 use items::NoMemory;
 use std::alloc::Global;
 use std::marker::Model;
 
 /// Lists of threads by number. A thread is in at most one list. Each call but `get` and `len` takes the same time however
-/// long the lists are, and none but `add_list` and `add_thread` takes memory.
+/// long the lists are, and none but `add_lists`, `add_thread` and `room` takes memory.
 #[derive(Debug, Drop)]
 pub struct ThreadLists {
     heads: Vec<Link>,
@@ -38,17 +38,13 @@ impl ThreadLists {
         }
     }
 
-    /// One more list, which is empty: its number. More than 2^32 lists are want of memory too.
-    pub fn add_list(&mut self) -> Result<u32, NoMemory>
-        ensures number { IfOk result (λ list. list ≡ length self.old.lists) }
-        ensures ok { OnOk result (self.new ≡ record self.old { lists = self.old.lists ++ [] ∷ [] }) }
+    /// More lists, all empty, numbered on from those there are. More than 2^32 lists are want of memory too.
+    pub fn add_lists(&mut self, count: u32) -> Result<(), NoMemory>
+        ensures ok { OnOk result (self.new ≡ record self.old { lists = self.old.lists ++ replicate count [] }) }
         ensures err { OnErr result (self.new ≡ self.old) }
     {
-        let Ok(list) = u32::try_from(self.heads.len()) else {
-            return Err(NoMemory);
-        };
-        self.heads.push(Link::alone(Place::Head(list)))?;
-        Ok(list)
+        add_heads(&mut self.heads, count)?;
+        Ok(())
     }
 
     /// One more thread, which is in no list: its number. More than 2^32 - 1 threads are want of memory too.

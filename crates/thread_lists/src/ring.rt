@@ -1,6 +1,12 @@
-ghost use Rattle.std.specs.Prelude.{◌≡◌, ◌≢◌, ◌<◌, ◌==◌, [], ◌∷◌, length, not, slice_get, slice_set};
+ghost use Rattle.std.specs.Prelude.{◌≡◌, ◌≢◌, ◌<◌, ◌==◌, ℕ, List, [], ◌∷◌, ◌++◌, length, not, replicate, slice_get, slice_set, OnErr, OnOk};
+ghost use Rattle.thread_lists.specs.declared.ring.Link.{Link};
 ghost use Rattle.thread_lists.specs.Lists.{append, count, list_at, push, total, without};
 ghost use Rattle.thread_lists.specs.Ring.{IsLinked, IsPlace, Joined, SetsNext, SetsPrevious, Spells, link_of, spelled};
+
+use items::NoMemory;
+
+/// The lists have numbers of 32 bits.
+const MOST_LISTS: usize = 1 << 32;
 
 /// A place of a ring. Behind a head comes the first thread of its list, and before it the last.
 #[derive(Clone, Copy, Debug)]
@@ -69,6 +75,23 @@ pub fn join(heads: &mut [Link], threads: &mut [Link], a: Place, b: Place)
 {
     set_next(heads, threads, a, b);
     set_previous(heads, threads, b, a);
+}
+
+/// More heads of lists, each a ring of one place. After an error nothing changed.
+pub fn add_heads(heads: &mut Vec<Link>, count: u32) -> Result<(), NoMemory>
+    ensures ok { OnOk result ((threads : List Link) (lists : List (List ℕ)) → Spells heads.old.items threads lists
+        → Spells heads.new.items threads (lists ++ replicate count [])) }
+    ensures err { OnErr result (heads.new.items ≡ heads.old.items) }
+{
+    let first = heads.len();
+    if first > MOST_LISTS - count as usize {
+        return Err(NoMemory);
+    }
+    heads.reserve(count as usize)?;
+    for list in first..first + count as usize {
+        heads.push_reserved(Link::alone(Place::Head(list as u32)));
+    }
+    Ok(())
 }
 
 /// Puts a thread that is in no list behind the last of a list.
