@@ -129,7 +129,8 @@ module _ (h s h1 s1 h2 s2 : List Link) (lists : List (List ℕ)) (k t : ℕ) (sa
           j2.other_next (Thread x) (λ e. ne cc)
           ∙ j1.other_next (Thread x) (not_in_ring k (list_at lists k) _ last x (omega (arith, total-le x lists k in_lists)))
           ∙ spells.alone x before;
-        few = omega (arith, spells.few)
+        few = omega (arith, spells.few);
+        few_lists = omega (arith, spells.few_lists)
       }
     where
       in_lists : k < length lists
@@ -164,7 +165,8 @@ module _ (h s h1 s1 h2 s2 : List Link) (lists : List (List ℕ)) (k t : ℕ) (sa
               ∙ j1.other_next (Thread x) (not_in_ring k (list_at lists k) _ first x nowhere)
               ∙ spells.alone x before
           ];
-        few = omega (arith, spells.few)
+        few = omega (arith, spells.few);
+        few_lists = omega (arith, spells.few_lists)
       })
     where
       in_lists : k < length lists
@@ -302,7 +304,8 @@ module _ (h s h1 s1 h2 s2 h3 s3 : List Link) (lists : List (List ℕ)) (from to 
           ∙ j2.other_next (Thread t) (not_in_ring from (list_at lists from) _ last t (omega (arith, total-le t lists from in_from)))
           ∙ j1.other_next (Thread t) (not_in_ring to (list_at lists to) _ end t (omega (arith, total-le t lists to in_to)))
           ∙ spells.alone t before;
-        few = omega (arith, spells.few)
+        few = omega (arith, spells.few);
+        few_lists = omega (arith, spells.few_lists)
       }
     where
       in_from : from < length lists
@@ -357,8 +360,8 @@ pub Leads-same : (h s h' s' : List Link) → ((p : Place) → link_of h' s' p �
 Leads-same h s h' s' e a b xs r =
     Leads-kept (next_of h s) (previous_of h s) (next_of h' s') (previous_of h' s') a b xs r (ap (λ (l : Link). l.next) (e a)) (ap (λ (l : Link). l.previous) (e b)) (λ x c. ap (λ (l : Link). l.next) (e (Thread x))) (λ x c. ap (λ (l : Link). l.previous) (e (Thread x)))
 
-pub Spells-add_list : (h s : List Link) (lists : List (List ℕ)) → Spells h s lists → Spells (h ++ alone (Head (length h)) ∷ []) s (lists ++ [] ∷ [])
-Spells-add_list h s lists spells =
+pub Spells-add_list : (h s : List Link) (lists : List (List ℕ)) → length h < 2 ^ 32 → Spells h s lists → Spells (h ++ alone (Head (length h)) ∷ []) s (lists ++ [] ∷ [])
+Spells-add_list h s lists fits spells =
     record {
       sizes = omega (arith, spells.sizes, length-append lists ([] ∷ []), length-append h (alone (Head (length h)) ∷ []));
       rings = λ j hj.
@@ -377,7 +380,8 @@ Spells-add_list h s lists spells =
       once = λ t. omega (arith, spells.once t, total-one_more t lists);
       within = λ t le. omega (arith, spells.within t le, total-one_more t lists);
       alone = λ t none. ap (λ (l : Link). l.next) (link_of-list h s (Thread t)) ∙ spells.alone t (omega (arith, total-one_more t lists));
-      few = spells.few
+      few = spells.few;
+      few_lists = omega (arith, length-append h (alone (Head (length h)) ∷ []))
     }
 
 pub Spells-add_thread : (h s : List Link) (lists : List (List ℕ)) → length s + 1 < 2 ^ 32 → Spells h s lists → Spells h (s ++ alone (Thread (length s)) ∷ []) lists
@@ -388,17 +392,18 @@ Spells-add_thread h s lists fits spells =
       once = spells.once;
       within = λ t le. spells.within t (omega (arith, length-append s (alone (Thread (length s)) ∷ [])));
       alone = λ t none. ap (λ (l : Link). l.next) (link_of-thread h s (Thread t)) ∙ spells.alone t none;
-      few = omega (arith, length-append s (alone (Thread (length s)) ∷ []))
+      few = omega (arith, length-append s (alone (Thread (length s)) ∷ []));
+      few_lists = spells.few_lists
     }
 
-pub added_list : (h s h' : List Link) (link : Link) (k : ℕ) (lists : List (List ℕ)) → h' ≡ h ++ link ∷ [] → link ≡ alone (Head k) → k ≡ length h → Spells h s lists → Spells h' s (lists ++ [] ∷ [])
-added_list h s h' link k lists items is at spells =
-    subst (λ hs. Spells hs s (lists ++ [] ∷ [])) (sym (items ∙ ap (λ l. h ++ l ∷ []) (is ∙ ap (λ n. alone (Head n)) at))) (Spells-add_list h s lists spells)
+pub added_list : (h s h' : List Link) (link : Link) (k : ℕ) (lists : List (List ℕ)) → h' ≡ h ++ link ∷ [] → link ≡ alone (Head k) → k ≡ length h → k < 2 ^ 32 → Spells h s lists → Spells h' s (lists ++ [] ∷ [])
+added_list h s h' link k lists items is at fits spells =
+    subst (λ hs. Spells hs s (lists ++ [] ∷ [])) (sym (items ∙ ap (λ l. h ++ l ∷ []) (is ∙ ap (λ n. alone (Head n)) at))) (Spells-add_list h s lists (omega arith) spells)
 
-pub one_more_list : (h s h' : List Link) (link : Link) (k : ℕ) (lists : List (List ℕ)) (n m : ℕ) → h' ≡ h ++ link ∷ [] → link ≡ alone (Head k) → k ≡ length h → n + 1 ≡ m → Spells h s (lists ++ replicate n []) → Spells h' s (lists ++ replicate m [])
-one_more_list h s h' link k lists n m items is at more spells =
+pub one_more_list : (h s h' : List Link) (link : Link) (k : ℕ) (lists : List (List ℕ)) (n m : ℕ) → h' ≡ h ++ link ∷ [] → link ≡ alone (Head k) → k ≡ length h → k < 2 ^ 32 → n + 1 ≡ m → Spells h s (lists ++ replicate n []) → Spells h' s (lists ++ replicate m [])
+one_more_list h s h' link k lists n m items is at fits more spells =
     subst (Spells h' s) (append_assoc lists (replicate n []) ([] ∷ []) ∙ ap (λ ls. lists ++ ls) (replicate_more n [] ∙ ap (λ i. replicate i []) more))
-      (added_list h s h' link k (lists ++ replicate n []) items is at spells)
+      (added_list h s h' link k (lists ++ replicate n []) items is at fits spells)
 
 pub added_thread : (h s s' : List Link) (link : Link) (t : ℕ) (lists : List (List ℕ)) → s' ≡ s ++ link ∷ [] → link ≡ alone (Thread t) → t ≡ length s → t + 1 < 2 ^ 32 → Spells h s lists → Spells h s' lists
 added_thread h s s' link t lists items is at fits spells =

@@ -66,7 +66,7 @@ threads_from next (suc n) (Thread t) = t ∷ threads_from next n (next (Thread t
 abbrev pub spelled : List Link → List Link → List (List ℕ)
 spelled heads threads = map (λ head. threads_from (next_of heads threads) (length threads) head.next) heads
 
--- the links of each list are a ring, a thread is in at most one list, and the numbers of threads are words of 32 bits
+-- the links of each list are a ring, a thread is in at most one list, and numbers have 32 bits
 pub record Spells (heads threads : List Link) (lists : List (List ℕ)) : Type 0 where
   pub sizes : length lists ≡ length heads
   pub rings : (k : ℕ) → k < length heads → Leads (next_of heads threads) (previous_of heads threads) (Head k) (list_at lists k) (Head k)
@@ -74,6 +74,7 @@ pub record Spells (heads threads : List Link) (lists : List (List ℕ)) : Type 0
   pub within : (t : ℕ) → length threads ≤ t → total (count t) lists ≡ 0
   pub alone : (t : ℕ) → total (count t) lists ≡ 0 → next_of heads threads (Thread t) ≡ Thread t
   pub few : length threads < 2 ^ 32
+  pub few_lists : length heads ≤ 2 ^ 32
 
 abbrev pub IsLinked : List Link → List Link → Type 0
 IsLinked heads threads = Spells heads threads (spelled heads threads)

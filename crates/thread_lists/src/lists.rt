@@ -86,6 +86,7 @@ impl ThreadLists {
         ensures once { (t : ℕ) → total (count t) self.now.lists ≤ 1 }
         ensures within { (t : ℕ) → self.now.threads ≤ t → total (count t) self.now.lists ≡ 0 }
         ensures few { self.now.threads < 2 ^ 32 }
+        ensures few_lists { length self.now.lists ≤ 2 ^ 32 }
     {
         let _ = &self.heads;
     }
