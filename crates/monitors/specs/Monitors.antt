@@ -1,5 +1,5 @@
 -- Monitors as contracts see them, and how each call changes one.
-use Rattle.std.specs.Prelude.{◌≡◌, ◌≢◌, ◌≤◌, ◌+◌, ◌-◌, ◌==◌, ◌&&◌, ℕ, Bool, false, List, [], ◌∷◌, ◌++◌, Option, None, Some, drop, if◌then◌else◌, is_none, not, nat_lt, slice_get, unwrap_or}
+use Rattle.std.specs.Prelude.{◌≡◌, ◌≢◌, ◌≤◌, ◌+◌, ◌-◌, ◌==◌, ◌&&◌, ℕ, Bool, true, false, List, [], ◌∷◌, ◌++◌, Option, None, Some, drop, if◌then◌else◌, is_none, not, nat_lt, slice_get, take, unwrap_or}
 use Rattle.std.specs.Map.{lookup}
 use Rattle.thread_lists.specs.Lists.{count, without}
 
@@ -19,6 +19,14 @@ pub record Monitors : Type 0 where
 -- a monitor that nobody owns, enters or waits for
 abbrev pub free : Monitor
 free = record { owner = None; count = 0; entry = []; waits = [] }
+
+abbrev pub is_empty : List ℕ → Bool
+is_empty [] = true
+is_empty (t ∷ ts) = false
+
+-- nobody owns, enters or waits for it
+abbrev pub is_free : Monitor → Bool
+is_free m = is_none m.owner && (is_empty m.entry && is_empty m.waits)
 
 -- the monitor of an object
 abbrev pub monitor_of : Monitors → ℕ → Monitor
@@ -46,11 +54,8 @@ is_taken (Some owner) t = not (owner == t)
 
 -- a monitor that t takes or enters once more, or else waits to take
 abbrev pub after_enter : ℕ → Monitor → Monitor
-after_enter t m = entering m.owner t m
-
-abbrev pub entering : Option ℕ → ℕ → Monitor → Monitor
-entering None t m = record m { owner = Some t; count = 1 }
-entering (Some owner) t m = if owner == t then record m { count = m.count + 1 } else record m { entry = m.entry ++ t ∷ [] }
+after_enter t m =
+    if is_taken m.owner t then record m { entry = m.entry ++ t ∷ [] } else record m { owner = Some t; count = m.count + 1 }
 
 -- a monitor that its owner leaves once
 abbrev pub after_exit : Monitor → Monitor
@@ -70,11 +75,7 @@ after_wait t m = record m { owner = None; count = 0; waits = m.waits ++ t ∷ []
 
 -- the first that waits comes last in line
 abbrev pub after_notify : Monitor → Monitor
-after_notify m = moving m.waits m
-
-abbrev pub moving : List ℕ → Monitor → Monitor
-moving [] m = m
-moving (t ∷ ts) m = record m { entry = m.entry ++ t ∷ []; waits = ts }
+after_notify m = record m { entry = m.entry ++ take 1 m.waits; waits = drop 1 m.waits }
 
 -- all that wait come last in line, in their order
 abbrev pub after_notify_all : Monitor → Monitor
