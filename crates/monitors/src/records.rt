@@ -37,6 +37,16 @@ impl Record {
         2 * self.slot + 1
     }
 
+    /// The same with this owner, which entered the monitor so often.
+    pub fn owned_by(self, thread: u32, count: u32) -> Self
+        ensures { result ≡ record self { owner = Some (record { thread = thread; count = count }) } }
+    {
+        Record {
+            owner: Some(Owner { thread, count }),
+            ..self
+        }
+    }
+
     /// Whether a thread is the owner.
     pub fn is_owned_by(&self, thread: u32) -> bool
         ensures { IsTrue result ↔ (option_map (λ owner. owner.thread) self.now.owner ≡ Some thread) }

@@ -146,3 +146,20 @@ without-first (x ∷ xs) t e once =
     let i : t ≡ x = cc in
     ap (λ y. without y (x ∷ xs)) i
     ∙ without-split x [] xs refl (omega (arith, count-same x xs, subst (λ y. count y (x ∷ xs) ≤ 1) i once))
+
+pub count-without : (t : ℕ) (xs : List ℕ) → count t (without t xs) ≡ 0
+count-without t [] = refl
+count-without t (x ∷ xs) =
+    elim (eqb_tells x t) [
+      inl w ↦ ap (λ b. count t (cond (not b) (x ∷ without t xs) (without t xs))) w.0 ∙ count-without t xs
+    | inr w ↦ ap (λ b. count t (cond (not b) (x ∷ without t xs) (without t xs))) w.0 ∙ count-other t x (without t xs) w.1 ∙ count-without t xs
+    ]
+
+-- a thread that left its list is in none
+pub total-without : (t : ℕ) (lists : List (List ℕ)) (k : ℕ) → k < length lists → total (count t) lists ≤ 1 → 0 < count t (list_at lists k) → total (count t) (set lists k (without t (list_at lists k))) ≡ 0
+total-without t lists k h once held =
+    omega (arith, total-set (count t) lists k (without t (list_at lists k)) h, total-le t lists k h, count-without t (list_at lists k))
+
+pub is_below : (t n : ℕ) (lists : List (List ℕ)) (k : ℕ) → k < length lists → (n ≤ t → total (count t) lists ≡ 0) → 0 < count t (list_at lists k) → t < n
+is_below t n lists k h within held =
+    elim (cases_lt t n) [ inl l ↦ l | inr g ↦ absurd (omega (arith, within g, total-le t lists k h)) ]

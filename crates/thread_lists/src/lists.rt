@@ -155,6 +155,19 @@ impl ThreadLists {
         Some(thread)
     }
 
+    /// Takes a thread out of one list and puts it last in another.
+    pub fn move_last(&mut self, from: u32, to: u32, thread: u32)
+        requires from { from < length self.old.lists }
+        requires to { to < length self.old.lists }
+        requires held { 0 < count thread (list_at self.old.lists from) }
+        ensures { self.new ≡ record self.old { lists =
+            push (slice_set self.old.lists from (without thread (list_at self.old.lists from))) to (thread ∷ []) } }
+    {
+        self.once();
+        self.remove(from, thread);
+        self.push(to, thread);
+    }
+
     /// Puts all threads of one list, in their order, behind the last of another.
     pub fn append(&mut self, from: u32, to: u32)
         requires from { from < length self.old.lists }
