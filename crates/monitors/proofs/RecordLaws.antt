@@ -1,13 +1,13 @@
 -- How the records of monitors, the vacant slots and the lists of threads change together.
 use Rattle.std.proofs.Common.{◌≡◌, ◌+◌, ◌*◌, ◌<◌, ◌≤◌, ◌⊎◌, ℕ, Bool, true, false, List, [], ◌∷◌, ◌++◌, Option, Some, None, length, inl, inr, sym, ◌∙◌, ap, subst, refl, arith, unwrap_or}
-use Rattle.std.specs.Option.{option_map, option_map_or}
+use Rattle.std.specs.Option.{option_map}
 use Rattle.std.proofs.lemmas.Bool.{cases_eq}
 use Rattle.monitors.specs.declared.records.Owner.{Owner}
 use Rattle.monitors.specs.declared.records.Record.{Record}
 use Rattle.thread_lists.specs.Lists.{count, list_at}
 use Rattle.thread_lists.proofs.CountLaws.{count-append, count-other, count-same}
 use Rattle.monitors.specs.Monitors.{Monitor, free, is_free}
-use Rattle.monitors.specs.Records.{Fits, IsUsed, entry_of, known, waits_of}
+use Rattle.monitors.specs.Records.{Fits, IsUsed, count_of, entry_of, known, thread_of, waits_of}
 
 -- the monitor of an object
 abbrev pub read : (ℕ → Option Record) → List (List ℕ) → ℕ → Monitor
@@ -24,8 +24,8 @@ KeepsRecords records records' o = (p : ℕ) → (p ≡ o → ⊥) → records' p
 monitor_with : Option Owner → List ℕ → List ℕ → Monitor
 monitor_with owner entry waits =
     record {
-      owner = option_map (λ (o : Owner). o.thread) owner;
-      count = option_map_or (λ (o : Owner). o.count) owner 0;
+      owner = thread_of owner;
+      count = count_of owner;
       entry = entry;
       waits = waits
     }

@@ -1,6 +1,5 @@
 -- How monitors are kept: those in use have a record, and each record has a slot, with two lists of threads.
 use Rattle.std.specs.Prelude.{◌≡◌, ◌≤◌, ◌<◌, ◌+◌, ◌*◌, ◌⊎◌, ℕ, Bool, true, false, List, [], ◌∷◌, Option, None, Some, length, map, min, nat_eq, unwrap_or, vec_len}
-use Rattle.std.specs.Option.{option_map, option_map_or}
 use Rattle.std.specs.HashMap.{get, spare}
 use Rattle.std.specs.Vec.{vec_capacity}
 use Rattle.monitors.specs.declared.records.Owner.{Owner}
@@ -16,12 +15,21 @@ entry_of slot = 2 * slot
 abbrev pub waits_of : ℕ → ℕ
 waits_of slot = 2 * slot + 1
 
+-- the owning thread, and how often that entered the monitor
+abbrev pub thread_of : Option Owner → Option ℕ
+thread_of None = None
+thread_of (Some owner) = Some owner.thread
+
+abbrev pub count_of : Option Owner → ℕ
+count_of None = 0
+count_of (Some owner) = owner.count
+
 -- the monitor that a record stands for
 abbrev pub known : List (List ℕ) → Record → Monitor
 known lists r =
     record {
-      owner = option_map (λ (owner : Owner). owner.thread) r.owner;
-      count = option_map_or (λ (owner : Owner). owner.count) r.owner 0;
+      owner = thread_of r.owner;
+      count = count_of r.owner;
       entry = list_at lists (entry_of r.slot);
       waits = list_at lists (waits_of r.slot)
     }

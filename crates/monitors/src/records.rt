@@ -1,10 +1,21 @@
-ghost use Rattle.std.specs.Prelude.{◌≡◌, ◌≢◌, ◌+◌, ◌*◌, ◌<◌, ◌≤◌, ◌^◌, ◌↔◌, ℕ, [], ◌∷◌, ◌++◌, IsTrue, nat_eq, vec_len, None, Some, IfErr, IfOk};
+ghost use Rattle.std.specs.Prelude.{◌≡◌, ◌≢◌, ◌+◌, ◌<◌, ◌≤◌, ◌^◌, ◌&&◌, ℕ, None, Some, [], ◌∷◌, ◌++◌, length, nat_eq, not, vec_len, IfErr, IfOk};
 ghost use Rattle.std.specs.HashMap.{get, spare};
-ghost use Rattle.std.specs.Option.{option_and_then, option_map};
+ghost use Rattle.std.specs.Option.{option_and_then, option_map_or};
 ghost use Rattle.std.specs.Vec.{vec_capacity};
-ghost use Rattle.monitors.specs.Records.{entry_of, waits_of};
+ghost use Rattle.thread_lists.specs.Lists.{list_at};
+ghost use Rattle.monitors.specs.Monitors.{is_empty, is_taken};
+ghost use Rattle.monitors.specs.Records.{count_of, entry_of, thread_of, waits_of};
 
 use std::collections::HashMap;
+use thiserror::Error;
+use thread_lists::ThreadLists;
+
+/// The thread isn't the owner of the monitor.
+#[derive(Clone, Copy, Debug, PartialEq, Eq, Error)]
+#[error("not the owner")]
+pub struct NotOwner {
+    pub owner: Option<u32>,
+}
 
 /// Who owns a monitor, and how often that thread entered it.
 #[derive(Clone, Copy, Debug)]
@@ -22,19 +33,49 @@ pub struct Record {
 
 impl Record {
     /// The list of the threads that wait to take the monitor.
-    pub fn entry(&self) -> u32
-        requires { waits_of self.now.slot < 2 ^ 32 }
-        ensures { result ≡ entry_of self.now.slot }
+    pub fn entry(self) -> u32
+        requires { waits_of self.slot < 2 ^ 32 }
+        ensures { result ≡ entry_of self.slot }
     {
         2 * self.slot
     }
 
     /// The list of the threads that wait to be notified.
-    pub fn waits(&self) -> u32
-        requires { waits_of self.now.slot < 2 ^ 32 }
-        ensures { result ≡ waits_of self.now.slot }
+    pub fn waits(self) -> u32
+        requires { waits_of self.slot < 2 ^ 32 }
+        ensures { result ≡ waits_of self.slot }
     {
         2 * self.slot + 1
+    }
+
+    /// The owner.
+    pub fn owner(self) -> Option<u32>
+        ensures { result ≡ thread_of self.owner }
+    {
+        match self.owner {
+            Some(owner) => Some(owner.thread),
+            None => None,
+        }
+    }
+
+    /// How often the owner entered the monitor.
+    pub fn count(self) -> u32
+        ensures { result ≡ count_of self.owner }
+    {
+        match self.owner {
+            Some(owner) => owner.count,
+            None => 0,
+        }
+    }
+
+    /// Whether another thread than this is the owner.
+    pub fn is_taken(self, thread: u32) -> bool
+        ensures { result ≡ is_taken (thread_of self.owner) thread }
+    {
+        match self.owner {
+            Some(owner) => owner.thread != thread,
+            None => false,
+        }
     }
 
     /// The same with this owner, which entered the monitor so often.
@@ -43,19 +84,28 @@ impl Record {
     {
         Record {
             owner: Some(Owner { thread, count }),
-            ..self
+            slot: self.slot,
         }
     }
 
-    /// Whether a thread is the owner.
-    pub fn is_owned_by(&self, thread: u32) -> bool
-        ensures { IsTrue result ↔ (option_map (λ owner. owner.thread) self.now.owner ≡ Some thread) }
+    /// The same without an owner.
+    pub fn without_owner(self) -> Self
+        ensures { result ≡ record self { owner = None } }
     {
-        match self.owner {
-            Some(owner) => owner.thread == thread,
-            None => false,
+        Record {
+            owner: None,
+            slot: self.slot,
         }
     }
+}
+
+/// Whether no thread is in a list of a monitor.
+pub fn is_deserted(lists: &ThreadLists, kept: Record) -> bool
+    requires inside { waits_of kept.slot < length lists.now.lists }
+    requires fits { waits_of kept.slot < 2 ^ 32 }
+    ensures { result ≡ (is_empty (list_at lists.now.lists (entry_of kept.slot)) && is_empty (list_at lists.now.lists (waits_of kept.slot))) }
+{
+    lists.first(kept.entry()).is_none() && lists.first(kept.waits()).is_none()
 }
 
 /// The record of an object's monitor, where that is in use.
@@ -63,6 +113,23 @@ pub fn find(records: &HashMap<u32, Record>, o: u32) -> Option<Record>
     ensures { result ≡ get nat_eq records.now o }
 {
     records.get(&o).copied()
+}
+
+/// The record of an object's monitor, where this thread is the owner.
+pub fn owned(records: &HashMap<u32, Record>, o: u32, thread: u32) -> Result<Record, NotOwner>
+    ensures found { IfOk result (λ kept. get nat_eq records.now o ≡ Some kept) }
+    ensures owner { IfOk result (λ kept. thread_of kept.owner ≡ Some thread) }
+    ensures other { IfErr result (λ refusal. refusal.owner ≢ Some thread) }
+    ensures refused { IfErr result (λ refusal.
+        refusal.owner ≡ option_and_then (λ kept. thread_of kept.owner) (get nat_eq records.now o)) }
+{
+    let Some(kept) = find(records, o) else {
+        return Err(NotOwner { owner: None });
+    };
+    match kept.owner() {
+        Some(owner) if owner == thread => Ok(kept),
+        owner => Err(NotOwner { owner }),
+    }
 }
 
 /// Sets the record of an object's monitor. A new one needs room.
