@@ -1,3 +1,4 @@
+pub mod CallLaws
 pub mod ListLaws
 pub mod MonitorLaws
 pub mod RecordLaws

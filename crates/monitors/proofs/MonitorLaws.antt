@@ -79,13 +79,13 @@ module _ (a b : Inside) (kept : IsKept a) (o slot : ℕ) (was : get nat_eq a.rec
   After-open owner now others more len capacity slots threads used =
       record {
         kept = record {
-          fits = Fits-opens (get nat_eq a.records) (get nat_eq b.records) a.vacant.items b.vacant.items a.lists.lists b.lists.lists o (record { owner = owner; slot = slot }) kept.fits open;
+          fits = Fits-opens (get nat_eq a.records) (get nat_eq b.records) a.vacant.items b.vacant.items a.lists.lists b.lists.lists o (record { owner = owner; slot = slot }) kept.fits opens;
           slots = omega (arith, kept.slots, slots, slotted.size);
           capacity = omega (arith, kept.capacity, slots, capacity)
         };
         becomes = record {
-          changed = monitor_is b o ∙ read-opened (get nat_eq a.records) (get nat_eq b.records) a.vacant.items b.vacant.items a.lists.lists b.lists.lists o (record { owner = owner; slot = slot }) kept.fits open ∙ reads;
-          others = λ p ne. monitor_is b p ∙ read-unopened (get nat_eq a.records) (get nat_eq b.records) a.vacant.items b.vacant.items a.lists.lists b.lists.lists o (record { owner = owner; slot = slot }) kept.fits open p ne ∙ sym (monitor_is a p);
+          changed = monitor_is b o ∙ read-opened (get nat_eq a.records) (get nat_eq b.records) a.vacant.items b.vacant.items a.lists.lists b.lists.lists o (record { owner = owner; slot = slot }) kept.fits opens ∙ reads;
+          others = λ p ne. monitor_is b p ∙ read-unopened (get nat_eq a.records) (get nat_eq b.records) a.vacant.items b.vacant.items a.lists.lists b.lists.lists o (record { owner = owner; slot = slot }) kept.fits opens p ne ∙ sym (monitor_is a p);
           threads = threads;
           spare = omega (arith, more, len)
         }
@@ -94,8 +94,8 @@ module _ (a b : Inside) (kept : IsKept a) (o slot : ℕ) (was : get nat_eq a.rec
       reads : known b.lists.lists (record { owner = owner; slot = slot }) ≡ record { owner = thread_of owner; count = count_of owner; entry = entry; waits = waits }
       reads = ap (λ xs. record { owner = thread_of owner; count = count_of owner; entry = xs; waits = list_at b.lists.lists (waits_of slot) }) slotted.entry_is
           ∙ ap (λ xs. record { owner = thread_of owner; count = count_of owner; entry = entry; waits = xs }) slotted.waits_is
-      open : Opens (get nat_eq a.records) (get nat_eq b.records) a.vacant.items b.vacant.items a.lists.lists b.lists.lists o (record { owner = owner; slot = slot })
-      open = record { was = was; taken = taken; now = now; others = others; size = slotted.size; keeps = slotted.keeps; in_use = ap is_free reads ∙ used }
+      opens : Opens (get nat_eq a.records) (get nat_eq b.records) a.vacant.items b.vacant.items a.lists.lists b.lists.lists o (record { owner = owner; slot = slot })
+      opens = record { was = was; taken = taken; now = now; others = others; size = slotted.size; keeps = slotted.keeps; in_use = ap is_free reads ∙ used }
 
 -- a monitor falls free
 module _ (a b : Inside) (kept : IsKept a) (o : ℕ) (r : Record) (was : get nat_eq a.records o ≡ Some r) where
@@ -104,17 +104,17 @@ module _ (a b : Inside) (kept : IsKept a) (o : ℕ) (r : Record) (was : get nat_
       record {
         kept = record {
           fits = subst (λ (ls : Lists). Fits (get nat_eq b.records) b.vacant.items ls.lists) (sym lists)
-            (subst (λ xs. Fits (get nat_eq b.records) xs a.lists.lists) (sym vacant) (Fits-closes (get nat_eq a.records) (get nat_eq b.records) a.vacant.items a.lists.lists o r kept.fits close));
+            (subst (λ xs. Fits (get nat_eq b.records) xs a.lists.lists) (sym vacant) (Fits-closes (get nat_eq a.records) (get nat_eq b.records) a.vacant.items a.lists.lists o r kept.fits closes));
           slots = omega (arith, kept.slots, slots, ap (λ (ls : Lists). length ls.lists) lists);
           capacity = omega (arith, kept.capacity, slots, capacity)
         };
         becomes = record {
-          changed = monitor_is b o ∙ ap (λ (ls : Lists). read (get nat_eq b.records) ls.lists o) lists ∙ read-closed (get nat_eq a.records) (get nat_eq b.records) a.vacant.items a.lists.lists o r kept.fits close;
-          others = λ p ne. monitor_is b p ∙ ap (λ (ls : Lists). read (get nat_eq b.records) ls.lists p) lists ∙ read-unclosed (get nat_eq a.records) (get nat_eq b.records) a.vacant.items a.lists.lists o r kept.fits close p ne ∙ sym (monitor_is a p);
+          changed = monitor_is b o ∙ ap (λ (ls : Lists). read (get nat_eq b.records) ls.lists o) lists ∙ read-closed (get nat_eq a.records) (get nat_eq b.records) a.vacant.items a.lists.lists o r kept.fits closes;
+          others = λ p ne. monitor_is b p ∙ ap (λ (ls : Lists). read (get nat_eq b.records) ls.lists p) lists ∙ read-unclosed (get nat_eq a.records) (get nat_eq b.records) a.vacant.items a.lists.lists o r kept.fits closes p ne ∙ sym (monitor_is a p);
           threads = ap (λ (ls : Lists). ls.threads) lists;
           spare = omega (arith, more, len)
         }
       }
     where
-      close : Closes (get nat_eq a.records) (get nat_eq b.records) a.lists.lists o r
-      close = record { was = was; now = now; others = others; entry = entry; waits = waits }
+      closes : Closes (get nat_eq a.records) (get nat_eq b.records) a.lists.lists o r
+      closes = record { was = was; now = now; others = others; entry = entry; waits = waits }
