@@ -1,16 +1,18 @@
 -- What each call leaves of the monitor that it changes.
-use Rattle.std.proofs.Common.{◌≡◌, ◌+◌, ◌-◌, ◌*◌, ◌<◌, ◌≤◌, ◌&&◌, ℕ, Bool, true, false, List, [], ◌∷◌, ◌++◌, Option, Some, None, append-nil, drop, if◌then◌else◌, is_none, length, nat_eq, nat_lt, set, slice_get, take, sym, ◌∙◌, ap, subst, refl, arith, inl, inr, vec_len}
+use Rattle.std.proofs.Common.{◌≡◌, ◌+◌, ◌-◌, ◌*◌, ◌<◌, ◌≤◌, ◌&&◌, ℕ, Bool, true, false, List, [], ◌∷◌, ◌++◌, Option, Some, None, append-nil, drop, if◌then◌else◌, is_none, is_some, not, length, length-append, cond, eqb, nat_eq, nat_lt, set, slice_get, take, sym, ◌∙◌, ap, subst, refl, arith, inl, inr, vec_len}
 use Rattle.std.specs.declared.hash.BuildHasherDefault.{BuildHasherDefault}
 use Rattle.std.specs.declared.hash.FoldHasher.{FoldHasher}
 use Rattle.std.specs.Global.{Vec}
 use Rattle.std.specs.HashMap.{HashMap, get, spare}
+use Rattle.std.specs.Option.{option_and_then}
 use Rattle.std.specs.Vec.{vec_capacity}
+use Rattle.std.proofs.lemmas.Bool.{cases_eq, cases_lt}
 use Rattle.thread_lists.specs.Lists.{Lists, append, count, list_at, push, without}
-use Rattle.thread_lists.proofs.CountLaws.{count-append, count-same, without-first}
+use Rattle.thread_lists.proofs.CountLaws.{count-append, count-other, count-same, length-le, without-first}
 use Rattle.monitors.specs.declared.records.Owner.{Owner}
 use Rattle.monitors.specs.declared.records.Record.{Record}
 use Rattle.monitors.specs.declared.monitors.Monitors.TheInside.{Inside}
-use Rattle.monitors.specs.Monitors.{Monitor, after_enter, after_exit, after_leave_wait, after_line_up, after_notify, after_notify_all, after_retake, after_wait, free, is_empty, is_free, is_taken, monitor_of}
+use Rattle.monitors.specs.Monitors.{IsInLine, IsWaiting, Monitor, after_enter, after_exit, after_leave_wait, after_line_up, after_notify, after_notify_all, after_retake, after_wait, free, is_empty, is_free, is_taken, monitor_of}
 use Rattle.monitors.specs.Records.{IsKept, count_of, entry_of, known, seen, thread_of, waits_of}
 use Rattle.monitors.proofs.ListLaws.{Slotted, Slotted-entry, Slotted-push, Slotted-same, Slotted-wait, Slotted-waits}
 use Rattle.monitors.proofs.MonitorLaws.{After, After-change, After-close, After-is, After-open, in_use_is, unused_is}
@@ -50,7 +52,7 @@ begins_not : (xs : List ℕ) → slice_get xs 0 ≡ None → xs ≡ []
 begins_not [] e = refl
 begins_not (x ∷ xs) e = cc
 
-empty_first : (xs ys : List ℕ) → is_empty xs && is_empty ys ≡ true → xs ≡ []
+pub empty_first : (xs ys : List ℕ) → is_empty xs && is_empty ys ≡ true → xs ≡ []
 empty_first [] ys e = refl
 empty_first (x ∷ xs) ys e = cc
 
@@ -226,3 +228,56 @@ module _ (a : Inside) (kept : IsKept a) (o slot : ℕ) (was : get nat_eq a.recor
         (After-is a o (record { owner = None; count = 0; entry = t ∷ []; waits = [] }) (after_line_up t (monitor_of (seen a) o)) (record a { records = records; vacant = vacant; lists = record a.lists { lists = push a.lists.lists (entry_of slot) (t ∷ []) } }) (ap (after_line_up t) (sym (unused_is a o was)))
           (After-open a (record a { records = records; vacant = vacant; lists = record a.lists { lists = push a.lists.lists (entry_of slot) (t ∷ []) } }) kept o slot was taken (t ∷ []) []
             (Slotted-push a.lists.lists a.lists.lists slot [] [] (t ∷ []) slot_inside nothing) None now others more len capacity refl refl refl))
+
+-- a thread that is in a list of a monitor: that is in use
+pub in_line_used : (a : Inside) (o t : ℕ) → get nat_eq a.records o ≡ None → IsInLine t (monitor_of (seen a) o) → ⊥
+in_line_used a o t none h = let w : 0 < count t [] = subst (IsInLine t) (unused_is a o none) h in omega (arith, w)
+
+pub waiting_used : (a : Inside) (o t : ℕ) → get nat_eq a.records o ≡ None → IsWaiting t (monitor_of (seen a) o) → ⊥
+waiting_used a o t none h = let w : 0 < count t [] = subst (IsWaiting t) (unused_is a o none) h in omega (arith, w)
+
+-- a call by a thread that isn't the owner
+pub by_other : (a : Inside) (o t : ℕ) (owner : Option ℕ) → owner ≡ option_and_then (λ (r : Record). thread_of r.owner) (get nat_eq a.records o) → (owner ≡ Some t → ⊥) → (owner ≡ (monitor_of (seen a) o).owner) × ((monitor_of (seen a) o).owner ≡ Some t → ⊥)
+by_other a o t owner e other =
+    let same = e ∙ owner_is (get nat_eq a.records o) refl in
+    (same, λ i. other (same ∙ i))
+  where
+    owner_is : (x : Option Record) → get nat_eq a.records o ≡ x → option_and_then (λ (r : Record). thread_of r.owner) x ≡ (monitor_of (seen a) o).owner
+    owner_is None i = sym (ap (λ (m : Monitor). m.owner) (unused_is a o i))
+    owner_is (Some r) i = sym (ap (λ (m : Monitor). m.owner) (in_use_is a o r i))
+
+pub is_none_of : (owner : Option Owner) → is_none (thread_of owner) ≡ not (is_some owner)
+is_none_of None = refl
+is_none_of (Some owner) = refl
+
+-- a thread moves from one list to another, by the numbers of the lists
+pub move_is : (lists : Lists) (t i i' j j' : ℕ) → i ≡ i' → j ≡ j' → record lists { lists = push (set lists.lists i (without t (list_at lists.lists i))) j (t ∷ []) } ≡ record lists { lists = push (set lists.lists i' (without t (list_at lists.lists i'))) j' (t ∷ []) }
+move_is lists t i i' j j' e f =
+    ap (λ k. record lists { lists = push (set lists.lists k (without t (list_at lists.lists k))) j (t ∷ []) }) e
+    ∙ ap (λ k. record lists { lists = push (set lists.lists i' (without t (list_at lists.lists i'))) k (t ∷ []) }) f
+
+pub append_is : (lists : Lists) (i i' j j' : ℕ) → i ≡ i' → j ≡ j' → record lists { lists = append lists.lists i j } ≡ record lists { lists = append lists.lists i' j' }
+append_is lists i i' j j' e f =
+    ap (λ k. record lists { lists = append lists.lists k j }) e ∙ ap (λ k. record lists { lists = append lists.lists i' k }) f
+
+-- there is room among the vacant slots for one that is in use
+pub vacant_has_room : (a : Inside) → IsKept a → (o : ℕ) (r : Record) → get nat_eq a.records o ≡ Some r → vec_len a.vacant < vec_capacity a.vacant
+vacant_has_room a kept o r was =
+    let le = length-le (a.vacant.items ++ r.slot ∷ []) a.slots once within in
+    omega (arith, le, length-append a.vacant.items (r.slot ∷ []), a.vacant.ok.0, kept.capacity)
+  where
+    after : (slot : ℕ) → count slot (a.vacant.items ++ r.slot ∷ []) ≡ count slot a.vacant.items + count slot (r.slot ∷ [])
+    after slot = count-append slot a.vacant.items (r.slot ∷ [])
+    once : (slot : ℕ) → count slot (a.vacant.items ++ r.slot ∷ []) ≤ 1
+    once slot =
+        elim (cases_eq slot r.slot) [
+          inl e ↦ subst (λ s. count s (a.vacant.items ++ r.slot ∷ []) ≤ 1) (sym e) (omega (arith, after r.slot, count-same r.slot [], kept.fits.vacant_apart o r was))
+        | inr ne ↦ omega (arith, after slot, count-other slot r.slot [] (λ e. ne (sym e)), kept.fits.vacant_once slot)
+        ]
+    within : (slot : ℕ) → a.slots ≤ slot → count slot (a.vacant.items ++ r.slot ∷ []) ≡ 0
+    within slot le =
+        let here : r.slot ≡ slot → ⊥ = λ e. omega (arith, kept.fits.inside o r was, kept.slots) in
+        elim (cases_lt 0 (count slot a.vacant.items)) [
+          inl h ↦ absurd (omega (arith, kept.fits.vacant_inside slot h, kept.slots))
+        | inr z ↦ omega (arith, after slot, count-other slot r.slot [] here, z)
+        ]

@@ -179,9 +179,10 @@ impl Monitors {
     {
         self.lists.once();
         let kept = owned(&self.records, o, t)?;
+        let next = self.lists.first(kept.entry());
         self.lists.push(kept.waits(), t);
         put(&mut self.records, o, kept.without_owner());
-        Ok((kept.count(), self.lists.first(kept.entry())))
+        Ok((kept.count(), next))
     }
 
     /// The owner lets the first thread that waits to be notified line up for the monitor (JLS 17.2.2): that thread.
