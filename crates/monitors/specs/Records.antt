@@ -5,7 +5,8 @@ use Rattle.std.specs.Vec.{vec_capacity}
 use Rattle.monitors.specs.declared.records.Owner.{Owner}
 use Rattle.monitors.specs.declared.records.Record.{Record}
 use Rattle.monitors.specs.declared.monitors.Monitors.TheInside.{Inside}
-use Rattle.thread_lists.specs.Lists.{count, list_at}
+use Rattle.std.specs.Global.{Vec}
+use Rattle.thread_lists.specs.Lists.{Lists, count, list_at}
 use Rattle.monitors.specs.Monitors.{Monitor, Monitors, free, is_free}
 
 -- the entry list and the wait list of a slot
@@ -66,3 +67,13 @@ pub record IsKept (a : Inside) : Type 0 where
   pub fits : Fits (get nat_eq a.records) a.vacant.items a.lists.lists
   pub slots : 2 * a.slots ≡ length a.lists.lists
   pub capacity : a.slots ≤ vec_capacity a.vacant
+
+-- from n slots on more were made, which are vacant, up to n', and all else stays
+pub record Grows (vacant : Vec ℕ) (n : ℕ) (lists : Lists) (vacant' : Vec ℕ) (n' : ℕ) (lists' : Lists) : Type 0 where
+  pub fits : (records : ℕ → Option Record) → Fits records vacant.items lists.lists → Fits records vacant'.items lists'.lists
+  pub slots : 2 * n' ≡ length lists'.lists
+  pub capacity : n' ≤ vec_capacity vacant'
+  pub keeps : (k : ℕ) → k < length lists.lists → list_at lists'.lists k ≡ list_at lists.lists k
+  pub longer : length lists.lists ≤ length lists'.lists
+  pub threads : lists'.threads ≡ lists.threads
+  pub len : vec_len vacant ≤ vec_len vacant'

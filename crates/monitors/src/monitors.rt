@@ -1,8 +1,8 @@
-ghost use Rattle.std.specs.Prelude.{◌≡◌, ◌<◌, ◌+◌, ◌^◌, [], if◌then◌else◌, is_none, length, slice_get, IfOk, OnErr, OnOk};
+ghost use Rattle.std.specs.Prelude.{◌≡◌, ◌<◌, ◌≤◌, ◌+◌, ◌^◌, ℕ, [], if◌then◌else◌, is_none, length, slice_get, IfOk, OnErr, OnOk};
 ghost use Rattle.std.specs.Bool.{OnFalse, OnTrue};
 ghost use Rattle.monitors.specs.Monitors.{Becomes, InNoList, IsByOwner, IsInLine, IsWaiting, after_enter, after_exit, after_leave_wait, after_line_up, after_notify, after_notify_all, after_retake, after_wait, is_taken, monitor_of, woken_by_exit};
 
-use crate::records::{NotOwner, Record, drop_record, find, is_deserted, owned, put, take_slot};
+use crate::records::{NotOwner, Record, add_slots, drop_record, find, is_deserted, owned, put, take_slot};
 use items::NoMemory;
 use std::alloc::Global;
 use std::collections::HashMap;
@@ -50,6 +50,17 @@ impl Monitors {
             slots: 0,
             lists: ThreadLists::new(alloc),
         }
+    }
+
+    /// Room for so many calls, which then need no memory. After an error there may be room for more than before.
+    pub fn room(&mut self, calls: u32) -> Result<(), NoMemory>
+        ensures ok { OnOk result (calls ≤ self.new.spare) }
+        ensures monitors { (o : ℕ) → monitor_of self.new o ≡ monitor_of self.old o }
+        ensures threads { self.new.threads ≡ self.old.threads }
+        ensures spare { self.old.spare ≤ self.new.spare }
+    {
+        self.records.reserve(calls as usize)?;
+        add_slots(&mut self.vacant, &mut self.slots, &mut self.lists, calls)
     }
 
     /// One more thread that may use monitors: its number. More than 2^32 - 1 threads are want of memory too.

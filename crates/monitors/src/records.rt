@@ -1,11 +1,12 @@
-ghost use Rattle.std.specs.Prelude.{◌≡◌, ◌≢◌, ◌+◌, ◌<◌, ◌≤◌, ◌^◌, ◌&&◌, ℕ, None, Some, [], ◌∷◌, ◌++◌, length, nat_eq, not, vec_len, IfErr, IfOk};
+ghost use Rattle.std.specs.Prelude.{◌≡◌, ◌≢◌, ◌+◌, ◌*◌, ◌<◌, ◌≤◌, ◌^◌, ◌&&◌, ℕ, None, Some, [], ◌∷◌, ◌++◌, length, nat_eq, not, vec_len, IfErr, IfOk, OnOk};
 ghost use Rattle.std.specs.HashMap.{get, spare};
 ghost use Rattle.std.specs.Option.{option_and_then, option_map_or};
 ghost use Rattle.std.specs.Vec.{vec_capacity};
 ghost use Rattle.thread_lists.specs.Lists.{list_at};
 ghost use Rattle.monitors.specs.Monitors.{is_empty, is_taken};
-ghost use Rattle.monitors.specs.Records.{count_of, entry_of, thread_of, waits_of};
+ghost use Rattle.monitors.specs.Records.{Grows, count_of, entry_of, thread_of, waits_of};
 
+use items::NoMemory;
 use std::collections::HashMap;
 use thiserror::Error;
 use thread_lists::ThreadLists;
@@ -164,4 +165,33 @@ pub fn take_slot(vacant: &mut Vec<u32>) -> u32
         unreachable!()
     };
     slot
+}
+
+/// Makes one more slot, which is vacant. After an error there are as many as before.
+fn add_slot(vacant: &mut Vec<u32>, slots: &mut u32, lists: &mut ThreadLists) -> Result<(), NoMemory>
+    requires slots { 2 * slots.old ≡ length lists.old.lists }
+    requires capacity { slots.old ≤ vec_capacity vacant.old }
+    ensures grows { Grows vacant.old slots.old lists.old vacant.new slots.new lists.new }
+    ensures ok { OnOk result (vec_len vacant.new ≡ vec_len vacant.old + 1) }
+{
+    lists.once();
+    let most = vacant.len().max(*slots as usize);
+    vacant.reserve(most + 1 - vacant.len())?;
+    lists.add_lists(2)?;
+    vacant.push_reserved(*slots);
+    *slots += 1;
+    Ok(())
+}
+
+/// Makes slots until this many are vacant. After an error there may be more than before.
+pub fn add_slots(vacant: &mut Vec<u32>, slots: &mut u32, lists: &mut ThreadLists, count: u32) -> Result<(), NoMemory>
+    requires slots { 2 * slots.old ≡ length lists.old.lists }
+    requires capacity { slots.old ≤ vec_capacity vacant.old }
+    ensures grows { Grows vacant.old slots.old lists.old vacant.new slots.new lists.new }
+    ensures ok { OnOk result (count ≤ vec_len vacant.new) }
+{
+    for _i in vacant.len()..count as usize {
+        add_slot(vacant, slots, lists)?;
+    }
+    Ok(())
 }
