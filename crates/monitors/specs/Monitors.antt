@@ -29,6 +29,9 @@ is_empty (t ∷ ts) = false
 abbrev pub is_free : Monitor → Bool
 is_free m = is_none m.owner && (is_empty m.entry && is_empty m.waits)
 
+abbrev pub IsInUse : Monitor → Type 0
+IsInUse m = is_free m ≡ false
+
 -- the monitor of an object
 abbrev pub monitor_of : Monitors → ℕ → Monitor
 monitor_of all o = unwrap_or (lookup (λ p. o == p) all.used) free

@@ -1,6 +1,6 @@
-ghost use Rattle.std.specs.Prelude.{◌≡◌, ◌<◌, ◌≤◌, ◌+◌, ◌^◌, ℕ, [], if◌then◌else◌, is_none, length, slice_get, IfOk, OnErr, OnOk};
+ghost use Rattle.std.specs.Prelude.{◌≡◌, ◌≢◌, ◌<◌, ◌≤◌, ◌+◌, ◌^◌, ℕ, [], All, if◌then◌else◌, is_none, length, slice_get, IfOk, OnErr, OnOk};
 ghost use Rattle.std.specs.Bool.{OnFalse, OnTrue};
-ghost use Rattle.monitors.specs.Monitors.{Becomes, InNoList, IsByOwner, IsInLine, IsWaiting, after_enter, after_exit, after_leave_wait, after_line_up, after_notify, after_notify_all, after_retake, after_wait, is_taken, monitor_of, woken_by_exit};
+ghost use Rattle.monitors.specs.Monitors.{Becomes, InNoList, IsByOwner, IsInLine, IsInUse, IsWaiting, after_enter, after_exit, after_leave_wait, after_line_up, after_notify, after_notify_all, after_retake, after_wait, is_taken, lines, monitor_of, woken_by_exit};
 
 use crate::records::{NotOwner, Record, add_slots, drop_record, find, is_deserted, owned, put, take_slot};
 use items::NoMemory;
@@ -70,6 +70,16 @@ impl Monitors {
         ensures err { OnErr result (self.new ≡ self.old) }
     {
         self.lists.add_thread()
+    }
+
+    /// Every call keeps this: a thread is in at most one list of one monitor, once, and no monitor that is free is kept.
+    pub fn once(&self)
+        ensures once { (t o : ℕ) → lines t (monitor_of self.now o) ≤ 1 }
+        ensures apart { (t o p : ℕ) → o ≢ p → lines t (monitor_of self.now o) + lines t (monitor_of self.now p) ≤ 1 }
+        ensures used { All (λ entry. IsInUse entry.1) self.now.used }
+    {
+        self.lists.once();
+        let _ = self.records.len();
     }
 
     /// The owner of a monitor.
