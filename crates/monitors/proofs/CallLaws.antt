@@ -1,5 +1,5 @@
 -- What each call leaves of the monitor that it changes.
-use Rattle.std.proofs.Common.{◌≡◌, ◌+◌, ◌-◌, ◌*◌, ◌<◌, ◌≤◌, ◌&&◌, ℕ, Bool, true, false, List, [], ◌∷◌, ◌++◌, Option, Some, None, append-nil, drop, if◌then◌else◌, is_none, is_some, not, length, length-append, cond, eqb, nat_eq, nat_lt, set, slice_get, take, sym, ◌∙◌, ap, subst, refl, arith, inl, inr, vec_len}
+use Rattle.std.proofs.Common.{◌≡◌, ◌+◌, ◌-◌, ◌<◌, ◌≤◌, ◌&&◌, ℕ, Bool, true, false, List, [], ◌∷◌, ◌++◌, Option, Some, None, append-nil, drop, if◌then◌else◌, is_none, is_some, not, length, length-append, nat_eq, nat_lt, set, slice_get, take, sym, ◌∙◌, ap, subst, refl, arith, inl, inr, vec_len}
 use Rattle.std.specs.declared.hash.BuildHasherDefault.{BuildHasherDefault}
 use Rattle.std.specs.declared.hash.FoldHasher.{FoldHasher}
 use Rattle.std.specs.Global.{Vec}
@@ -13,7 +13,7 @@ use Rattle.monitors.specs.declared.records.Owner.{Owner}
 use Rattle.monitors.specs.declared.records.Record.{Record}
 use Rattle.monitors.specs.declared.monitors.Monitors.TheInside.{Inside}
 use Rattle.monitors.specs.Monitors.{IsInLine, IsWaiting, Monitor, after_enter, after_exit, after_leave_wait, after_line_up, after_notify, after_notify_all, after_retake, after_wait, free, is_empty, is_free, is_taken, monitor_of}
-use Rattle.monitors.specs.Records.{IsKept, count_of, entry_of, known, seen, thread_of, waits_of}
+use Rattle.monitors.specs.Records.{IsKept, count_of, entry_of, seen, thread_of, waits_of}
 use Rattle.monitors.proofs.ListLaws.{Slotted, Slotted-entry, Slotted-push, Slotted-same, Slotted-wait, Slotted-waits}
 use Rattle.monitors.proofs.MonitorLaws.{After, After-change, After-close, After-is, After-open, in_use_is, unused_is}
 use Rattle.monitors.proofs.RecordLaws.{KeepsRecords}
@@ -83,7 +83,7 @@ module _ (a : Inside) (kept : IsKept a) (o : ℕ) (r : Record) (was : get nat_eq
   lists_change : (lists new : Lists) (xs ys : List ℕ) → lists ≡ new → Slotted a.lists.lists new.lists r.slot xs ys → new.threads ≡ a.lists.threads → is_free (monitor r.owner xs ys) ≡ false → After a o (monitor r.owner xs ys) (record a { lists = lists })
   lists_change lists new xs ys e slotted threads used =
       subst (λ (ls : Lists). After a o (monitor r.owner xs ys) (record a { lists = ls })) (sym e)
-        (After-change a (record a { lists = new }) kept o r was xs ys slotted r.owner was (λ p ne. refl) (omega arith) refl refl threads used)
+      (After-change a (record a { lists = new }) kept o r was xs ys slotted r.owner was (λ p ne. refl) (omega arith) refl refl threads used)
 
   owner_change : (records : Records) (owner : Option Owner) → get nat_eq records o ≡ Some (record r { owner = owner }) → KeepsRecords (get nat_eq a.records) (get nat_eq records) o → spare a.records ≤ spare records + 1 → is_free (monitor owner entry waits) ≡ false → After a o (monitor owner entry waits) (record a { records = records })
   owner_change records owner now others more used =
@@ -92,7 +92,7 @@ module _ (a : Inside) (kept : IsKept a) (o : ℕ) (r : Record) (was : get nat_eq
   both_change : (records : Records) (lists new : Lists) (owner : Option Owner) (xs ys : List ℕ) → get nat_eq records o ≡ Some (record r { owner = owner }) → KeepsRecords (get nat_eq a.records) (get nat_eq records) o → spare a.records ≤ spare records + 1 → lists ≡ new → Slotted a.lists.lists new.lists r.slot xs ys → new.threads ≡ a.lists.threads → is_free (monitor owner xs ys) ≡ false → After a o (monitor owner xs ys) (record a { records = records; lists = lists })
   both_change records lists new owner xs ys now others more e slotted threads used =
       subst (λ (ls : Lists). After a o (monitor owner xs ys) (record a { records = records; lists = ls })) (sym e)
-        (After-change a (record a { records = records; lists = new }) kept o r was xs ys slotted owner now others more refl refl threads used)
+      (After-change a (record a { records = records; lists = new }) kept o r was xs ys slotted owner now others more refl refl threads used)
 
   pushed : (t : ℕ) → Slotted a.lists.lists (push a.lists.lists (entry_of r.slot) (t ∷ [])) r.slot (entry ++ t ∷ []) waits
   pushed t = Slotted-push a.lists.lists a.lists.lists r.slot entry waits (t ∷ []) inside (Slotted-same a.lists.lists r.slot)
@@ -100,46 +100,46 @@ module _ (a : Inside) (kept : IsKept a) (o : ℕ) (r : Record) (was : get nat_eq
   moved : (t : ℕ) → Slotted a.lists.lists (push (set a.lists.lists (waits_of r.slot) (without t waits)) (entry_of r.slot) (t ∷ [])) r.slot (entry ++ t ∷ []) (without t waits)
   moved t =
       Slotted-push a.lists.lists (set a.lists.lists (waits_of r.slot) (without t waits)) r.slot entry (without t waits) (t ∷ []) inside
-        (Slotted-waits a.lists.lists a.lists.lists r.slot entry waits (without t waits) inside (Slotted-same a.lists.lists r.slot))
+      (Slotted-waits a.lists.lists a.lists.lists r.slot entry waits (without t waits) inside (Slotted-same a.lists.lists r.slot))
 
   -- a thread waits for a monitor that another owns
   pub enter_blocks : (t : ℕ) (lists : Lists) → is_taken (thread_of r.owner) t ≡ true → lists ≡ record a.lists { lists = push a.lists.lists (entry_of r.slot) (t ∷ []) } → After a o (after_enter t (monitor_of (seen a) o)) (record a { lists = lists })
   enter_blocks t lists taken e =
       After-is a o (monitor r.owner (entry ++ t ∷ []) waits) (after_enter t (monitor_of (seen a) o)) (record a { lists = lists })
-        (sym (ap (λ (b : Bool). if b then monitor r.owner (entry ++ t ∷ []) waits else record { owner = Some t; count = count_of r.owner + 1; entry = entry; waits = waits }) taken) ∙ ap (after_enter t) (sym (in_use_is a o r was)))
-        (lists_change lists (record a.lists { lists = push a.lists.lists (entry_of r.slot) (t ∷ []) }) (entry ++ t ∷ []) waits e (pushed t) refl (used-entry (monitor r.owner (entry ++ t ∷ []) waits) (is_empty-push entry t)))
+      (sym (ap (λ (b : Bool). if b then monitor r.owner (entry ++ t ∷ []) waits else record { owner = Some t; count = count_of r.owner + 1; entry = entry; waits = waits }) taken) ∙ ap (after_enter t) (sym (in_use_is a o r was)))
+      (lists_change lists (record a.lists { lists = push a.lists.lists (entry_of r.slot) (t ∷ []) }) (entry ++ t ∷ []) waits e (pushed t) refl (used-entry (monitor r.owner (entry ++ t ∷ []) waits) (is_empty-push entry t)))
 
   -- a thread takes a monitor, or enters it once more
   pub enter_takes : (t n : ℕ) (records : Records) → is_taken (thread_of r.owner) t ≡ false → n ≡ count_of r.owner + 1 → get nat_eq records o ≡ Some (record r { owner = Some (record { thread = t; count = n }) }) → KeepsRecords (get nat_eq a.records) (get nat_eq records) o → spare a.records ≤ spare records + 1 → After a o (after_enter t (monitor_of (seen a) o)) (record a { records = records })
   enter_takes t n records taken e now others more =
       After-is a o (monitor (Some (record { thread = t; count = n })) entry waits) (after_enter t (monitor_of (seen a) o)) (record a { records = records })
-        (ap (λ k. record { owner = Some t; count = k; entry = entry; waits = waits }) e
-        ∙ sym (ap (λ (b : Bool). if b then monitor r.owner (entry ++ t ∷ []) waits else record { owner = Some t; count = count_of r.owner + 1; entry = entry; waits = waits }) taken)
-        ∙ ap (after_enter t) (sym (in_use_is a o r was)))
-        (owner_change records (Some (record { thread = t; count = n })) now others more refl)
+      (ap (λ k. record { owner = Some t; count = k; entry = entry; waits = waits }) e
+      ∙ sym (ap (λ (b : Bool). if b then monitor r.owner (entry ++ t ∷ []) waits else record { owner = Some t; count = count_of r.owner + 1; entry = entry; waits = waits }) taken)
+      ∙ ap (after_enter t) (sym (in_use_is a o r was)))
+      (owner_change records (Some (record { thread = t; count = n })) now others more refl)
 
   -- a thread lines up
   pub line_up_adds : (t : ℕ) (lists : Lists) → lists ≡ record a.lists { lists = push a.lists.lists (entry_of r.slot) (t ∷ []) } → After a o (after_line_up t (monitor_of (seen a) o)) (record a { lists = lists })
   line_up_adds t lists e =
       After-is a o (monitor r.owner (entry ++ t ∷ []) waits) (after_line_up t (monitor_of (seen a) o)) (record a { lists = lists }) (ap (after_line_up t) (sym (in_use_is a o r was)))
-        (lists_change lists (record a.lists { lists = push a.lists.lists (entry_of r.slot) (t ∷ []) }) (entry ++ t ∷ []) waits e (pushed t) refl (used-entry (monitor r.owner (entry ++ t ∷ []) waits) (is_empty-push entry t)))
+      (lists_change lists (record a.lists { lists = push a.lists.lists (entry_of r.slot) (t ∷ []) }) (entry ++ t ∷ []) waits e (pushed t) refl (used-entry (monitor r.owner (entry ++ t ∷ []) waits) (is_empty-push entry t)))
 
   -- a thread in line takes a monitor
   pub retake_takes : (t n : ℕ) (records : Records) (lists : Lists) → get nat_eq records o ≡ Some (record r { owner = Some (record { thread = t; count = n }) }) → KeepsRecords (get nat_eq a.records) (get nat_eq records) o → spare a.records ≤ spare records + 1 → lists ≡ record a.lists { lists = set a.lists.lists (entry_of r.slot) (without t entry) } → After a o (after_retake t n (monitor_of (seen a) o)) (record a { records = records; lists = lists })
   retake_takes t n records lists now others more e =
       After-is a o (monitor (Some (record { thread = t; count = n })) (without t entry) waits) (after_retake t n (monitor_of (seen a) o)) (record a { records = records; lists = lists }) (ap (after_retake t n) (sym (in_use_is a o r was)))
-        (both_change records lists (record a.lists { lists = set a.lists.lists (entry_of r.slot) (without t entry) }) (Some (record { thread = t; count = n })) (without t entry) waits now others more e
-          (Slotted-entry a.lists.lists a.lists.lists r.slot entry waits (without t entry) inside (Slotted-same a.lists.lists r.slot)) refl refl)
+      (both_change records lists (record a.lists { lists = set a.lists.lists (entry_of r.slot) (without t entry) }) (Some (record { thread = t; count = n })) (without t entry) waits now others more e
+      (Slotted-entry a.lists.lists a.lists.lists r.slot entry waits (without t entry) inside (Slotted-same a.lists.lists r.slot)) refl refl)
 
   -- the owner leaves a monitor that it entered more than once
   pub exit_lowers : (t n : ℕ) (records : Records) → thread_of r.owner ≡ Some t → nat_lt 1 (count_of r.owner) ≡ true → n ≡ count_of r.owner - 1 → get nat_eq records o ≡ Some (record r { owner = Some (record { thread = t; count = n }) }) → KeepsRecords (get nat_eq a.records) (get nat_eq records) o → spare a.records ≤ spare records + 1 → After a o (after_exit (monitor_of (seen a) o)) (record a { records = records })
   exit_lowers t n records owned more_than_once e now others more =
       After-is a o (monitor (Some (record { thread = t; count = n })) entry waits) (after_exit (monitor_of (seen a) o)) (record a { records = records })
-        (ap (λ x. record { owner = x; count = n; entry = entry; waits = waits }) (sym owned)
-        ∙ ap (λ k. record { owner = thread_of r.owner; count = k; entry = entry; waits = waits }) e
-        ∙ sym (ap (λ (b : Bool). if b then record { owner = thread_of r.owner; count = count_of r.owner - 1; entry = entry; waits = waits } else record { owner = None; count = 0; entry = entry; waits = waits }) more_than_once)
-        ∙ ap after_exit (sym (in_use_is a o r was)))
-        (owner_change records (Some (record { thread = t; count = n })) now others more refl)
+      (ap (λ x. record { owner = x; count = n; entry = entry; waits = waits }) (sym owned)
+      ∙ ap (λ k. record { owner = thread_of r.owner; count = k; entry = entry; waits = waits }) e
+      ∙ sym (ap (λ (b : Bool). if b then record { owner = thread_of r.owner; count = count_of r.owner - 1; entry = entry; waits = waits } else record { owner = None; count = 0; entry = entry; waits = waits }) more_than_once)
+      ∙ ap after_exit (sym (in_use_is a o r was)))
+      (owner_change records (Some (record { thread = t; count = n })) now others more refl)
 
   exits : nat_lt 1 (count_of r.owner) ≡ false → record { owner = None; count = 0; entry = entry; waits = waits } ≡ after_exit (monitor_of (seen a) o)
   exits once =
@@ -157,51 +157,51 @@ module _ (a : Inside) (kept : IsKept a) (o : ℕ) (r : Record) (was : get nat_eq
       let none = empty_first entry waits deserted in
       let nobody = empty_second entry waits deserted in
       After-is a o free (after_exit (monitor_of (seen a) o)) (record a { records = records; vacant = vacant })
-        (sym (ap (λ xs. record { owner = None; count = 0; entry = xs; waits = waits }) none ∙ ap (λ xs. record { owner = None; count = 0; entry = []; waits = xs }) nobody) ∙ exits once)
-        (After-close a (record a { records = records; vacant = vacant }) kept o r was now others more items len capacity refl refl none nobody)
+      (sym (ap (λ xs. record { owner = None; count = 0; entry = xs; waits = waits }) none ∙ ap (λ xs. record { owner = None; count = 0; entry = []; waits = xs }) nobody) ∙ exits once)
+      (After-close a (record a { records = records; vacant = vacant }) kept o r was now others more items len capacity refl refl none nobody)
 
   -- the owner leaves a monitor wholly and waits
   pub wait_leaves : (t : ℕ) (records : Records) (lists : Lists) → get nat_eq records o ≡ Some (record r { owner = None }) → KeepsRecords (get nat_eq a.records) (get nat_eq records) o → spare a.records ≤ spare records + 1 → lists ≡ record a.lists { lists = push a.lists.lists (waits_of r.slot) (t ∷ []) } → After a o (after_wait t (monitor_of (seen a) o)) (record a { records = records; lists = lists })
   wait_leaves t records lists now others more e =
       After-is a o (monitor None entry (waits ++ t ∷ [])) (after_wait t (monitor_of (seen a) o)) (record a { records = records; lists = lists }) (ap (after_wait t) (sym (in_use_is a o r was)))
-        (both_change records lists (record a.lists { lists = push a.lists.lists (waits_of r.slot) (t ∷ []) }) None entry (waits ++ t ∷ []) now others more e
-          (Slotted-wait a.lists.lists a.lists.lists r.slot entry waits (t ∷ []) inside (Slotted-same a.lists.lists r.slot)) refl (used-waits (monitor None entry (waits ++ t ∷ [])) (is_empty-push waits t)))
+      (both_change records lists (record a.lists { lists = push a.lists.lists (waits_of r.slot) (t ∷ []) }) None entry (waits ++ t ∷ []) now others more e
+      (Slotted-wait a.lists.lists a.lists.lists r.slot entry waits (t ∷ []) inside (Slotted-same a.lists.lists r.slot)) refl (used-waits (monitor None entry (waits ++ t ∷ [])) (is_empty-push waits t)))
 
   -- the first that waits lines up
   pub notify_moves : (w : ℕ) (lists : Lists) → slice_get waits 0 ≡ Some w → count w waits ≤ 1 → lists ≡ record a.lists { lists = push (set a.lists.lists (waits_of r.slot) (without w waits)) (entry_of r.slot) (w ∷ []) } → After a o (after_notify (monitor_of (seen a) o)) (record a { lists = lists })
   notify_moves w lists first once e =
       After-is a o (monitor r.owner (entry ++ w ∷ []) (without w waits)) (after_notify (monitor_of (seen a) o)) (record a { lists = lists })
-        (ap (λ xs. monitor r.owner (entry ++ w ∷ []) xs) (without-first waits w first once)
-        ∙ ap (λ xs. monitor r.owner (entry ++ xs) (drop 1 waits)) (sym (begins waits w first))
-        ∙ ap after_notify (sym (in_use_is a o r was)))
-        (lists_change lists (record a.lists { lists = push (set a.lists.lists (waits_of r.slot) (without w waits)) (entry_of r.slot) (w ∷ []) }) (entry ++ w ∷ []) (without w waits) e (moved w) refl (used-entry (monitor r.owner (entry ++ w ∷ []) (without w waits)) (is_empty-push entry w)))
+      (ap (λ xs. monitor r.owner (entry ++ w ∷ []) xs) (without-first waits w first once)
+      ∙ ap (λ xs. monitor r.owner (entry ++ xs) (drop 1 waits)) (sym (begins waits w first))
+      ∙ ap after_notify (sym (in_use_is a o r was)))
+      (lists_change lists (record a.lists { lists = push (set a.lists.lists (waits_of r.slot) (without w waits)) (entry_of r.slot) (w ∷ []) }) (entry ++ w ∷ []) (without w waits) e (moved w) refl (used-entry (monitor r.owner (entry ++ w ∷ []) (without w waits)) (is_empty-push entry w)))
 
   -- nobody waits
   pub notify_none : slice_get waits 0 ≡ None → After a o (after_notify (monitor_of (seen a) o)) a
   notify_none first =
       let none = begins_not waits first in
       After-is a o (monitor_of (seen a) o) (after_notify (monitor_of (seen a) o)) a
-        (in_use_is a o r was
-        ∙ ap (λ xs. monitor r.owner xs waits) (sym (append-nil entry))
-        ∙ ap (λ xs. monitor r.owner (entry ++ []) xs) none
-        ∙ sym (ap (λ xs. monitor r.owner (entry ++ take 1 xs) (drop 1 xs)) none)
-        ∙ ap after_notify (sym (in_use_is a o r was)))
-        (After-same a o kept)
+      (in_use_is a o r was
+      ∙ ap (λ xs. monitor r.owner xs waits) (sym (append-nil entry))
+      ∙ ap (λ xs. monitor r.owner (entry ++ []) xs) none
+      ∙ sym (ap (λ xs. monitor r.owner (entry ++ take 1 xs) (drop 1 xs)) none)
+      ∙ ap after_notify (sym (in_use_is a o r was)))
+      (After-same a o kept)
 
   -- all that wait line up
   pub notify_all_moves : (t : ℕ) (lists : Lists) → thread_of r.owner ≡ Some t → lists ≡ record a.lists { lists = append a.lists.lists (waits_of r.slot) (entry_of r.slot) } → After a o (after_notify_all (monitor_of (seen a) o)) (record a { lists = lists })
   notify_all_moves t lists owned e =
       After-is a o (monitor r.owner (entry ++ waits) []) (after_notify_all (monitor_of (seen a) o)) (record a { lists = lists }) (ap after_notify_all (sym (in_use_is a o r was)))
-        (lists_change lists (record a.lists { lists = append a.lists.lists (waits_of r.slot) (entry_of r.slot) }) (entry ++ waits) [] e
-          (Slotted-waits a.lists.lists (push a.lists.lists (entry_of r.slot) waits) r.slot (entry ++ waits) waits [] inside
-            (Slotted-push a.lists.lists a.lists.lists r.slot entry waits waits inside (Slotted-same a.lists.lists r.slot)))
-          refl (used-owner (monitor r.owner (entry ++ waits) []) t owned))
+      (lists_change lists (record a.lists { lists = append a.lists.lists (waits_of r.slot) (entry_of r.slot) }) (entry ++ waits) [] e
+      (Slotted-waits a.lists.lists (push a.lists.lists (entry_of r.slot) waits) r.slot (entry ++ waits) waits [] inside
+      (Slotted-push a.lists.lists a.lists.lists r.slot entry waits waits inside (Slotted-same a.lists.lists r.slot)))
+      refl (used-owner (monitor r.owner (entry ++ waits) []) t owned))
 
   -- a thread that waits lines up
   pub leave_wait_moves : (t : ℕ) (lists : Lists) → lists ≡ record a.lists { lists = push (set a.lists.lists (waits_of r.slot) (without t waits)) (entry_of r.slot) (t ∷ []) } → After a o (after_leave_wait t (monitor_of (seen a) o)) (record a { lists = lists })
   leave_wait_moves t lists e =
       After-is a o (monitor r.owner (entry ++ t ∷ []) (without t waits)) (after_leave_wait t (monitor_of (seen a) o)) (record a { lists = lists }) (ap (after_leave_wait t) (sym (in_use_is a o r was)))
-        (lists_change lists (record a.lists { lists = push (set a.lists.lists (waits_of r.slot) (without t waits)) (entry_of r.slot) (t ∷ []) }) (entry ++ t ∷ []) (without t waits) e (moved t) refl (used-entry (monitor r.owner (entry ++ t ∷ []) (without t waits)) (is_empty-push entry t)))
+      (lists_change lists (record a.lists { lists = push (set a.lists.lists (waits_of r.slot) (without t waits)) (entry_of r.slot) (t ∷ []) }) (entry ++ t ∷ []) (without t waits) e (moved t) refl (used-entry (monitor r.owner (entry ++ t ∷ []) (without t waits)) (is_empty-push entry t)))
 
 -- a monitor that is free
 module _ (a : Inside) (kept : IsKept a) (o slot : ℕ) (was : get nat_eq a.records o ≡ None) (vacant : Vec ℕ) (taken : a.vacant.items ≡ vacant.items ++ slot ∷ []) (len : vec_len a.vacant ≡ vec_len vacant + 1) (capacity : vec_capacity vacant ≡ vec_capacity a.vacant) where
@@ -219,15 +219,15 @@ module _ (a : Inside) (kept : IsKept a) (o slot : ℕ) (was : get nat_eq a.recor
   pub enter_opens : (t : ℕ) (records : Records) → get nat_eq records o ≡ Some (record { owner = Some (record { thread = t; count = 1 }); slot = slot }) → KeepsRecords (get nat_eq a.records) (get nat_eq records) o → spare a.records ≤ spare records + 1 → After a o (after_enter t (monitor_of (seen a) o)) (record a { records = records; vacant = vacant })
   enter_opens t records now others more =
       After-is a o (record { owner = Some t; count = 1; entry = []; waits = [] }) (after_enter t (monitor_of (seen a) o)) (record a { records = records; vacant = vacant }) (ap (after_enter t) (sym (unused_is a o was)))
-        (After-open a (record a { records = records; vacant = vacant }) kept o slot was taken [] [] nothing (Some (record { thread = t; count = 1 })) now others more len capacity refl refl refl)
+      (After-open a (record a { records = records; vacant = vacant }) kept o slot was taken [] [] nothing (Some (record { thread = t; count = 1 })) now others more len capacity refl refl refl)
 
   -- a thread lines up
   pub line_up_opens : (t : ℕ) (records : Records) (lists : Lists) → get nat_eq records o ≡ Some (record { owner = None; slot = slot }) → KeepsRecords (get nat_eq a.records) (get nat_eq records) o → spare a.records ≤ spare records + 1 → lists ≡ record a.lists { lists = push a.lists.lists (entry_of slot) (t ∷ []) } → After a o (after_line_up t (monitor_of (seen a) o)) (record a { records = records; vacant = vacant; lists = lists })
   line_up_opens t records lists now others more e =
       subst (λ (ls : Lists). After a o (after_line_up t (monitor_of (seen a) o)) (record a { records = records; vacant = vacant; lists = ls })) (sym e)
-        (After-is a o (record { owner = None; count = 0; entry = t ∷ []; waits = [] }) (after_line_up t (monitor_of (seen a) o)) (record a { records = records; vacant = vacant; lists = record a.lists { lists = push a.lists.lists (entry_of slot) (t ∷ []) } }) (ap (after_line_up t) (sym (unused_is a o was)))
-          (After-open a (record a { records = records; vacant = vacant; lists = record a.lists { lists = push a.lists.lists (entry_of slot) (t ∷ []) } }) kept o slot was taken (t ∷ []) []
-            (Slotted-push a.lists.lists a.lists.lists slot [] [] (t ∷ []) slot_inside nothing) None now others more len capacity refl refl refl))
+      (After-is a o (record { owner = None; count = 0; entry = t ∷ []; waits = [] }) (after_line_up t (monitor_of (seen a) o)) (record a { records = records; vacant = vacant; lists = record a.lists { lists = push a.lists.lists (entry_of slot) (t ∷ []) } }) (ap (after_line_up t) (sym (unused_is a o was)))
+      (After-open a (record a { records = records; vacant = vacant; lists = record a.lists { lists = push a.lists.lists (entry_of slot) (t ∷ []) } }) kept o slot was taken (t ∷ []) []
+      (Slotted-push a.lists.lists a.lists.lists slot [] [] (t ∷ []) slot_inside nothing) None now others more len capacity refl refl refl))
 
 -- a thread that is in a list of a monitor: that is in use
 pub in_line_used : (a : Inside) (o t : ℕ) → get nat_eq a.records o ≡ None → IsInLine t (monitor_of (seen a) o) → ⊥
@@ -268,16 +268,18 @@ vacant_has_room a kept o r was =
   where
     after : (slot : ℕ) → count slot (a.vacant.items ++ r.slot ∷ []) ≡ count slot a.vacant.items + count slot (r.slot ∷ [])
     after slot = count-append slot a.vacant.items (r.slot ∷ [])
+
     once : (slot : ℕ) → count slot (a.vacant.items ++ r.slot ∷ []) ≤ 1
     once slot =
         elim (cases_eq slot r.slot) [
-          inl e ↦ subst (λ s. count s (a.vacant.items ++ r.slot ∷ []) ≤ 1) (sym e) (omega (arith, after r.slot, count-same r.slot [], kept.fits.vacant_apart o r was))
-        | inr ne ↦ omega (arith, after slot, count-other slot r.slot [] (λ e. ne (sym e)), kept.fits.vacant_once slot)
+          | inl e ↦ subst (λ s. count s (a.vacant.items ++ r.slot ∷ []) ≤ 1) (sym e) (omega (arith, after r.slot, count-same r.slot [], kept.fits.vacant_apart o r was))
+          | inr ne ↦ omega (arith, after slot, count-other slot r.slot [] (λ e. ne (sym e)), kept.fits.vacant_once slot)
         ]
+
     within : (slot : ℕ) → a.slots ≤ slot → count slot (a.vacant.items ++ r.slot ∷ []) ≡ 0
     within slot le =
         let here : r.slot ≡ slot → ⊥ = λ e. omega (arith, kept.fits.inside o r was, kept.slots) in
         elim (cases_lt 0 (count slot a.vacant.items)) [
-          inl h ↦ absurd (omega (arith, kept.fits.vacant_inside slot h, kept.slots))
-        | inr z ↦ omega (arith, after slot, count-other slot r.slot [] here, z)
+          | inl h ↦ absurd (omega (arith, kept.fits.vacant_inside slot h, kept.slots))
+          | inr z ↦ omega (arith, after slot, count-other slot r.slot [] here, z)
         ]

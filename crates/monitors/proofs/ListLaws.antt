@@ -1,8 +1,8 @@
 -- The two lists of a slot, where one or both of them change.
-use Rattle.std.proofs.Common.{◌≡◌, ◌+◌, ◌*◌, ◌<◌, ℕ, List, [], ◌∷◌, ◌++◌, length, set, sym, ◌∙◌, ap, refl, arith}
+use Rattle.std.proofs.Common.{◌≡◌, ◌<◌, ℕ, List, [], ◌++◌, length, set, ◌∙◌, ap, refl, arith}
 use Rattle.std.proofs.lemmas.List.{get_or-set_other, get_or-set_same}
 use Rattle.std.proofs.Math.ListN.{length-set}
-use Rattle.thread_lists.specs.Lists.{append, list_at, push, without}
+use Rattle.thread_lists.specs.Lists.{list_at, push}
 use Rattle.monitors.specs.Records.{entry_of, waits_of}
 use Rattle.monitors.proofs.RecordLaws.{KeepsLists}
 
@@ -23,7 +23,7 @@ Slotted-entry lists now slot entry waits xs inside s =
       size = length-set now (entry_of slot) xs ∙ s.size;
       keeps = λ k ne nw. get_or-set_other now (entry_of slot) k xs [] ne ∙ s.keeps k ne nw;
       entry_is = get_or-set_same now (entry_of slot) xs [] (omega (arith, s.size));
-      waits_is = get_or-set_other now (entry_of slot) (waits_of slot) xs [] (λ e. absurd (omega arith)) ∙ s.waits_is
+      waits_is = get_or-set_other now (entry_of slot) (waits_of slot) xs [] (λ e. absurd (omega arith)) ∙ s.waits_is;
     }
 
 pub Slotted-waits : (lists now : List (List ℕ)) (slot : ℕ) (entry waits xs : List ℕ) → waits_of slot < length lists → Slotted lists now slot entry waits → Slotted lists (set now (waits_of slot) xs) slot entry xs
@@ -32,7 +32,7 @@ Slotted-waits lists now slot entry waits xs inside s =
       size = length-set now (waits_of slot) xs ∙ s.size;
       keeps = λ k ne nw. get_or-set_other now (waits_of slot) k xs [] nw ∙ s.keeps k ne nw;
       entry_is = get_or-set_other now (waits_of slot) (entry_of slot) xs [] (λ e. absurd (omega arith)) ∙ s.entry_is;
-      waits_is = get_or-set_same now (waits_of slot) xs [] (omega (arith, s.size))
+      waits_is = get_or-set_same now (waits_of slot) xs [] (omega (arith, s.size));
     }
 
 -- threads come last in line

@@ -1,9 +1,9 @@
 -- A thread is in at most one list of one monitor.
-use Rattle.std.proofs.Common.{◌≡◌, ◌+◌, ◌*◌, ◌<◌, ◌≤◌, ℕ, false, List, [], Option, Some, None, length, map, nat_eq, get_or, sym, ◌∙◌, ap, subst, refl, arith, inl, inr}
+use Rattle.std.proofs.Common.{◌≡◌, ◌+◌, ◌<◌, ◌≤◌, ℕ, false, Option, Some, None, length, nat_eq, sym, ap, subst, refl, arith}
 use Rattle.std.specs.Cmp.{nat_eq_equiv}
 use Rattle.std.specs.HashMap.{IsUnique, get}
-use Rattle.std.specs.List.{All, IsDistinct}
-use Rattle.std.specs.Map.{keys_of, lookup, values_of}
+use Rattle.std.specs.List.{All}
+use Rattle.std.specs.Map.{lookup}
 use Rattle.std.specs.Option.{IfSome}
 use Rattle.std.proofs.lemmas.List.Elements.{All-map}
 use Rattle.std.proofs.lemmas.List.{get_or-map, length-map}
@@ -12,8 +12,8 @@ use Rattle.thread_lists.specs.Lists.{count, list_at, total}
 use Rattle.thread_lists.proofs.CountLaws.{total-two}
 use Rattle.monitors.specs.declared.records.Record.{Record}
 use Rattle.monitors.specs.declared.monitors.Monitors.TheInside.{Inside}
-use Rattle.monitors.specs.Monitors.{Monitor, free, is_free, lines, monitor_of}
-use Rattle.monitors.specs.Records.{Fits, IsKept, entry_of, known, seen, waits_of}
+use Rattle.monitors.specs.Monitors.{is_free, lines, monitor_of}
+use Rattle.monitors.specs.Records.{IsKept, entry_of, known, seen, waits_of}
 use Rattle.monitors.proofs.MonitorLaws.{in_use_is, unused_is}
 
 module _ (a : Inside) (kept : IsKept a) (once : (t : ℕ) → total (count t) a.lists.lists ≤ 1) where
@@ -53,8 +53,8 @@ module _ (a : Inside) (kept : IsKept a) (once : (t : ℕ) → total (count t) a.
   pub used_in : IsUnique nat_eq a.records → All (λ e. is_free e.1 ≡ false) (seen a).used
   used_in unique =
       All-map (λ e. is_free e.1 ≡ false) (λ (e : ℕ × Record). (e.0, known a.lists.lists e.1)) a.records.entries (λ k d h.
-        subst (λ r. is_free (known a.lists.lists r) ≡ false) (get_or-map (λ (e : ℕ × Record). e.1) a.records.entries k d d.1 h)
-          (All-values_from_lookup nat_eq_equiv (λ r. is_free (known a.lists.lists r) ≡ false) a.records.entries unique found k d.1 (omega (arith, length-map a.records.entries (λ (e : ℕ × Record). e.1)))))
+      subst (λ r. is_free (known a.lists.lists r) ≡ false) (get_or-map (λ (e : ℕ × Record). e.1) a.records.entries k d d.1 h)
+      (All-values_from_lookup nat_eq_equiv (λ r. is_free (known a.lists.lists r) ≡ false) a.records.entries unique found k d.1 (omega (arith, length-map a.records.entries (λ (e : ℕ × Record). e.1)))))
     where
       found : (o : ℕ) → IfSome (lookup (nat_eq o) a.records.entries) (λ r. is_free (known a.lists.lists r) ≡ false)
       found o = by (lookup (nat_eq o) a.records.entries) refl

@@ -10,10 +10,9 @@ use Rattle.thread_lists.specs.Lists.{Lists, count, list_at}
 use Rattle.thread_lists.proofs.CountLaws.{count-append, count-other, count-same}
 use Rattle.monitors.specs.declared.records.Record.{Record}
 use Rattle.monitors.specs.declared.monitors.Monitors.TheInside.{Inside}
-use Rattle.monitors.specs.Monitors.{Monitor, free, is_free, monitor_of}
-use Rattle.monitors.specs.Records.{Fits, Grows, IsKept, IsUsed, count_of, entry_of, known, seen, thread_of, waits_of}
+use Rattle.monitors.specs.Monitors.{free, is_free, monitor_of}
+use Rattle.monitors.specs.Records.{Fits, Grows, IsKept, count_of, entry_of, known, seen, thread_of, waits_of}
 use Rattle.monitors.proofs.MonitorLaws.{monitor_is}
-use Rattle.monitors.proofs.RecordLaws.{read}
 
 -- the lists of a slot that there was
 pub known-kept : (lists lists' : List (List ℕ)) (r : Record) → ((k : ℕ) → k < length lists → list_at lists' k ≡ list_at lists k) → waits_of r.slot < length lists → known lists' r ≡ known lists r
@@ -46,8 +45,8 @@ module _ (records : ℕ → Option Record) (vacant : List ℕ) (lists : List (Li
   new_or_old : (slot : ℕ) → 0 < count slot (vacant ++ n ∷ []) → (slot ≡ n) ⊎ (0 < count slot vacant)
   new_or_old slot h =
       elim (cases_eq slot n) [
-        inl e ↦ inl e
-      | inr ne ↦ inr (omega (arith, after slot, count-other slot n [] (λ e. ne (sym e)), h))
+        | inl e ↦ inl e
+        | inr ne ↦ inr (omega (arith, after slot, count-other slot n [] (λ e. ne (sym e)), h))
       ]
 
   pub Fits-more : Fits records vacant lists → Fits records (vacant ++ n ∷ []) more
@@ -57,20 +56,20 @@ module _ (records : ℕ → Option Record) (vacant : List ℕ) (lists : List (Li
         apart = fits.apart;
         vacant_inside = λ slot h. elim (new_or_old slot h) [ inl e ↦ omega (arith, longer, size, e) | inr v ↦ omega (arith, fits.vacant_inside slot v, longer) ];
         vacant_once = λ slot. elim (cases_eq slot n) [
-            inl e ↦ subst (λ s. count s (vacant ++ n ∷ []) ≤ 1) (sym e) (elim (cases_lt 0 (count n vacant)) [
-                inl h ↦ absurd (omega (arith, fits.vacant_inside n h, size))
-              | inr z ↦ omega (arith, after n, count-same n [], z)
-              ])
+          | inl e ↦ subst (λ s. count s (vacant ++ n ∷ []) ≤ 1) (sym e) (elim (cases_lt 0 (count n vacant)) [
+            | inl h ↦ absurd (omega (arith, fits.vacant_inside n h, size))
+            | inr z ↦ omega (arith, after n, count-same n [], z)
+          ])
           | inr ne ↦ omega (arith, after slot, count-other slot n [] (λ e. ne (sym e)), fits.vacant_once slot)
-          ];
+        ];
         vacant_apart = λ o r e. omega (arith, after r.slot, fits.vacant_apart o r e, count-other r.slot n [] (λ i. omega (arith, fits.inside o r e, size)));
         vacant_entry = λ slot h. elim (new_or_old slot h) [ inl e ↦ beyond (entry_of slot) (omega (arith, size, e)) | inr v ↦ keeps (entry_of slot) (omega (arith, fits.vacant_inside slot v)) ∙ fits.vacant_entry slot v ];
         vacant_waits = λ slot h. elim (new_or_old slot h) [ inl e ↦ beyond (waits_of slot) (omega (arith, size, e)) | inr v ↦ keeps (waits_of slot) (fits.vacant_inside slot v) ∙ fits.vacant_waits slot v ];
         used = λ k t h held. elim (cases_lt k (length lists)) [
-            inl l ↦ fits.used k t l (subst (λ xs. 0 < count t xs) (keeps k l) held)
+          | inl l ↦ fits.used k t l (subst (λ xs. 0 < count t xs) (keeps k l) held)
           | inr g ↦ let none : 0 < count t [] = subst (λ xs. 0 < count t xs) (beyond k g) held in absurd (omega (arith, none))
-          ];
-        in_use = λ o r e. ap is_free (known-kept lists more r keeps (fits.inside o r e)) ∙ fits.in_use o r e
+        ];
+        in_use = λ o r e. ap is_free (known-kept lists more r keeps (fits.inside o r e)) ∙ fits.in_use o r e;
       }
 
 pub Grows-same : (vacant vacant' : Vec ℕ) (n : ℕ) (lists : Lists) → vacant'.items ≡ vacant.items → vec_len vacant' ≡ vec_len vacant → vec_capacity vacant ≤ vec_capacity vacant' → 2 * n ≡ length lists.lists → n ≤ vec_capacity vacant → Grows vacant n lists vacant' n lists
@@ -82,7 +81,7 @@ Grows-same vacant vacant' n lists items len capacity size room =
       keeps = λ k h. refl;
       longer = omega arith;
       threads = refl;
-      len = omega arith
+      len = omega arith;
     }
 
 pub Grows-one : (vacant vacant' : Vec ℕ) (n : ℕ) (lists lists' : Lists) → vacant'.items ≡ vacant.items ++ n ∷ [] → vec_len vacant' ≡ vec_len vacant + 1 → n + 1 ≤ vec_capacity vacant' → 2 * n ≡ length lists.lists → lists' ≡ record lists { lists = lists.lists ++ [] ∷ [] ∷ [] } → Grows vacant n lists vacant' (n + 1) lists'
@@ -94,7 +93,7 @@ Grows-one vacant vacant' n lists lists' items len room size e =
       keeps = λ k h. get_or_append_left lists.lists ([] ∷ [] ∷ []) [] k h;
       longer = omega (arith, length-append lists.lists ([] ∷ [] ∷ []));
       threads = refl;
-      len = omega arith
+      len = omega arith;
     })
 
 pub Grows-trans : (u v w : Vec ℕ) (i j k : ℕ) (a b c : Lists) → Grows u i a v j b → Grows v j b w k c → Grows u i a w k c
@@ -106,7 +105,7 @@ Grows-trans u v w i j k a b c g h =
       keeps = λ n l. h.keeps n (omega (arith, g.longer, l)) ∙ g.keeps n l;
       longer = omega (arith, g.longer, h.longer);
       threads = h.threads ∙ g.threads;
-      len = omega (arith, g.len, h.len)
+      len = omega (arith, g.len, h.len);
     }
 
 -- monitors stay when there are more slots
@@ -116,7 +115,7 @@ module _ (a b : Inside) (kept : IsKept a) (same : (o : ℕ) → get nat_eq b.rec
       record {
         fits = grows.fits (get nat_eq b.records) (subst (λ (records : ℕ → Option Record). Fits records a.vacant.items a.lists.lists) (λ i o. sym (same o) i) kept.fits);
         slots = grows.slots;
-        capacity = grows.capacity
+        capacity = grows.capacity;
       }
 
   pub room-monitor : (o : ℕ) → monitor_of (seen b) o ≡ monitor_of (seen a) o

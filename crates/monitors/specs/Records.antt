@@ -1,5 +1,5 @@
 -- How monitors are kept: those in use have a record, and each record has a slot, with two lists of threads.
-use Rattle.std.specs.Prelude.{◌≡◌, ◌≤◌, ◌<◌, ◌+◌, ◌*◌, ◌⊎◌, ℕ, Bool, true, false, List, [], ◌∷◌, Option, None, Some, length, map, min, nat_eq, unwrap_or, vec_len}
+use Rattle.std.specs.Prelude.{◌≡◌, ◌≤◌, ◌<◌, ◌+◌, ◌*◌, ◌⊎◌, ℕ, false, List, [], Option, None, Some, length, map, min, nat_eq, vec_len}
 use Rattle.std.specs.HashMap.{get, spare}
 use Rattle.std.specs.Vec.{vec_capacity}
 use Rattle.monitors.specs.declared.records.Owner.{Owner}
@@ -7,7 +7,7 @@ use Rattle.monitors.specs.declared.records.Record.{Record}
 use Rattle.monitors.specs.declared.monitors.Monitors.TheInside.{Inside}
 use Rattle.std.specs.Global.{Vec}
 use Rattle.thread_lists.specs.Lists.{Lists, count, list_at}
-use Rattle.monitors.specs.Monitors.{Monitor, Monitors, free, is_free}
+use Rattle.monitors.specs.Monitors.{Monitor, Monitors, is_free}
 
 -- the entry list and the wait list of a slot
 abbrev pub entry_of : ℕ → ℕ
@@ -32,7 +32,7 @@ known lists r =
       owner = thread_of r.owner;
       count = count_of r.owner;
       entry = list_at lists (entry_of r.slot);
-      waits = list_at lists (waits_of r.slot)
+      waits = list_at lists (waits_of r.slot);
     }
 
 -- what contracts see
@@ -41,7 +41,7 @@ seen a =
     record {
       used = map (λ (e : ℕ × Record). (e.0, known a.lists.lists e.1)) a.records.entries;
       threads = a.lists.threads;
-      spare = min (spare a.records) (vec_len a.vacant)
+      spare = min (spare a.records) (vec_len a.vacant);
     }
 
 -- a list is one of a record's

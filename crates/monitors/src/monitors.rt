@@ -2,7 +2,9 @@ ghost use Rattle.std.specs.Prelude.{◌≡◌, ◌≢◌, ◌<◌, ◌≤◌, �
 ghost use Rattle.std.specs.Bool.{OnFalse, OnTrue};
 ghost use Rattle.monitors.specs.Monitors.{Becomes, InNoList, IsByOwner, IsInLine, IsInUse, IsWaiting, after_enter, after_exit, after_leave_wait, after_line_up, after_notify, after_notify_all, after_retake, after_wait, is_taken, lines, monitor_of, woken_by_exit};
 
-use crate::records::{NotOwner, Record, add_slots, drop_record, find, is_deserted, owned, put, take_slot};
+use crate::records::{
+    NotOwner, Record, add_slots, drop_record, find, is_deserted, owned, put, take_slot,
+};
 use items::NoMemory;
 use std::alloc::Global;
 use std::collections::HashMap;
@@ -115,7 +117,11 @@ impl Monitors {
         self.lists.once();
         let Some(kept) = find(&self.records, o) else {
             let slot = take_slot(&mut self.vacant);
-            put(&mut self.records, o, Record { owner: None, slot }.owned_by(t, 1));
+            put(
+                &mut self.records,
+                o,
+                Record { owner: None, slot }.owned_by(t, 1),
+            );
             return Enter::Got;
         };
         if kept.is_taken(t) {

@@ -184,7 +184,12 @@ fn add_slot(vacant: &mut Vec<u32>, slots: &mut u32, lists: &mut ThreadLists) -> 
 }
 
 /// Makes slots until this many are vacant. After an error there may be more than before.
-pub fn add_slots(vacant: &mut Vec<u32>, slots: &mut u32, lists: &mut ThreadLists, count: u32) -> Result<(), NoMemory>
+pub fn add_slots(
+    vacant: &mut Vec<u32>,
+    slots: &mut u32,
+    lists: &mut ThreadLists,
+    count: u32,
+) -> Result<(), NoMemory>
     requires slots { 2 * slots.old ≡ length lists.old.lists }
     requires capacity { slots.old ≤ vec_capacity vacant.old }
     ensures grows { Grows vacant.old slots.old lists.old vacant.new slots.new lists.new }

@@ -1,7 +1,9 @@
 ghost use Rattle.std.specs.Prelude.{◌≡◌, ◌≢◌, ◌+◌, ◌^◌, ◌<◌, ◌≤◌, ◌==◌, ℕ, [], ◌∷◌, ◌++◌, drop, length, max, not, replicate, slice_get, slice_set, IfOk, OnOk, OnErr};
 ghost use Rattle.thread_lists.specs.Lists.{append, count, first, list_at, push, total, without};
 
-use crate::ring::{Link, Place, add_heads, count_of, is_linked, link_all, link_last, thread_at, unlink};
+use crate::ring::{
+    Link, Place, add_heads, count_of, is_linked, link_all, link_last, thread_at, unlink,
+};
 use items::NoMemory;
 use std::alloc::Global;
 use std::marker::Model;
@@ -136,8 +138,10 @@ impl ThreadLists {
     pub fn remove(&mut self, list: u32, thread: u32)
         requires list { list < length self.old.lists }
         requires held { 0 < count thread (list_at self.old.lists list) }
-        ensures { self.new ≡ record self.old { lists =
-            slice_set self.old.lists list (without thread (list_at self.old.lists list)) } }
+        ensures { self.new ≡ record self.old {
+          lists =
+              slice_set self.old.lists list (without thread (list_at self.old.lists list));
+        } }
     {
         unlink(&mut self.heads, &mut self.threads, list, thread);
     }
@@ -146,8 +150,10 @@ impl ThreadLists {
     pub fn take_first(&mut self, list: u32) -> Option<u32>
         requires { list < length self.old.lists }
         ensures thread { result ≡ first self.old.lists list }
-        ensures lists { self.new ≡ record self.old { lists =
-            slice_set self.old.lists list (drop 1 (list_at self.old.lists list)) } }
+        ensures lists { self.new ≡ record self.old {
+          lists =
+              slice_set self.old.lists list (drop 1 (list_at self.old.lists list));
+        } }
     {
         self.once();
         let thread = self.first(list)?;
@@ -160,8 +166,10 @@ impl ThreadLists {
         requires from { from < length self.old.lists }
         requires to { to < length self.old.lists }
         requires held { 0 < count thread (list_at self.old.lists from) }
-        ensures { self.new ≡ record self.old { lists =
-            push (slice_set self.old.lists from (without thread (list_at self.old.lists from))) to (thread ∷ []) } }
+        ensures { self.new ≡ record self.old {
+          lists =
+              push (slice_set self.old.lists from (without thread (list_at self.old.lists from))) to (thread ∷ []);
+        } }
     {
         self.once();
         self.remove(from, thread);

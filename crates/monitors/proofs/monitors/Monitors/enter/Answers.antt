@@ -1,10 +1,7 @@
-use Rattle.std.proofs.Common.{ap, arith, if◌then◌else◌, subst, sym, ◌∙◌, ◌≡◌, ◌+◌, ◌<◌, ◌^◌, Bool, Some, None, nat_eq, List, [], ◌∷◌}
-use Rattle.std.specs.HashMap.{get}
+use Rattle.std.proofs.Common.{ap, arith, if◌then◌else◌, subst, sym, ◌∙◌, ◌+◌, Bool, Some, [], ◌∷◌}
 use Rattle.thread_lists.specs.Lists.{push}
 use Rattle.monitors.specs.declared.monitors.Enter.TheVariants.{Blocked, Got}
-use Rattle.monitors.specs.declared.records.Record.{Record}
 use Rattle.monitors.specs.Monitors.{InNoList, Monitor, Monitors, is_taken, monitor_of}
-use Rattle.monitors.specs.Records.{count_of, entry_of, seen, thread_of}
 use Rattle.monitors.proofs.CallLaws.{enter_blocks, enter_opens, enter_takes}
 use Rattle.monitors.proofs.MonitorLaws.{free_thread, in_use_is, unused_is}
 use Rattle.monitors.proofs.monitors.Monitors.enter.Goals as goal
@@ -28,19 +25,19 @@ push-requires-clause-free c =
 pub invariant_of-self-then-is_taken : goal.invariant_of-self-then-is_taken
 invariant_of-self-then-is_taken c =
     (enter_blocks c.self.inside c.self.invariant c.args.o c.in-Some.kept (sym c.find.ensures ∙ c.in-Some.is) c.args.t c.push.new.self (sym c.is_taken.ensures ∙ c.if-is_taken.true)
-      (c.push.ensures ∙ ap (λ k. record c.self.inside.lists { lists = push c.self.inside.lists.lists k (c.args.t ∷ []) }) c.entry.ensures)).kept
+    (c.push.ensures ∙ ap (λ k. record c.self.inside.lists { lists = push c.self.inside.lists.lists k (c.args.t ∷ []) }) c.entry.ensures)).kept
 
 pub returns-then-is_taken-clause-entered : goal.returns-then-is_taken-clause-entered
 returns-then-is_taken-clause-entered c =
     rw (← c.self.view_is)
-      (sym (ap (λ (m : Monitor). if is_taken m.owner c.args.t then Blocked else Got) (in_use_is c.self.inside c.args.o c.in-Some.kept (sym c.find.ensures ∙ c.in-Some.is))
-      ∙ ap (λ (b : Bool). if b then Blocked else Got) (sym c.is_taken.ensures ∙ c.if-is_taken.true)))
+    (sym (ap (λ (m : Monitor). if is_taken m.owner c.args.t then Blocked else Got) (in_use_is c.self.inside c.args.o c.in-Some.kept (sym c.find.ensures ∙ c.in-Some.is))
+    ∙ ap (λ (b : Bool). if b then Blocked else Got) (sym c.is_taken.ensures ∙ c.if-is_taken.true)))
 
 pub returns-then-is_taken-clause-monitor : goal.returns-then-is_taken-clause-monitor
 returns-then-is_taken-clause-monitor c =
     rw (← c.self.view_is)
-      (enter_blocks c.self.inside c.self.invariant c.args.o c.in-Some.kept (sym c.find.ensures ∙ c.in-Some.is) c.args.t c.push.new.self (sym c.is_taken.ensures ∙ c.if-is_taken.true)
-        (c.push.ensures ∙ ap (λ k. record c.self.inside.lists { lists = push c.self.inside.lists.lists k (c.args.t ∷ []) }) c.entry.ensures)).becomes
+    (enter_blocks c.self.inside c.self.invariant c.args.o c.in-Some.kept (sym c.find.ensures ∙ c.in-Some.is) c.args.t c.push.new.self (sym c.is_taken.ensures ∙ c.if-is_taken.true)
+    (c.push.ensures ∙ ap (λ k. record c.self.inside.lists { lists = push c.self.inside.lists.lists k (c.args.t ∷ []) }) c.entry.ensures)).becomes
 
 pub overflow_add-count : goal.overflow_add-count
 overflow_add-count c =
@@ -55,10 +52,10 @@ invariant_of-self-2 c =
 pub returns-clause-entered : goal.returns-clause-entered
 returns-clause-entered c =
     rw (← c.self.view_is)
-      (sym (ap (λ (m : Monitor). if is_taken m.owner c.args.t then Blocked else Got) (in_use_is c.self.inside c.args.o c.in-Some.kept (sym c.find.ensures ∙ c.in-Some.is))
-      ∙ ap (λ (b : Bool). if b then Blocked else Got) (sym c.is_taken.ensures ∙ c.if-is_taken.false)))
+    (sym (ap (λ (m : Monitor). if is_taken m.owner c.args.t then Blocked else Got) (in_use_is c.self.inside c.args.o c.in-Some.kept (sym c.find.ensures ∙ c.in-Some.is))
+    ∙ ap (λ (b : Bool). if b then Blocked else Got) (sym c.is_taken.ensures ∙ c.if-is_taken.false)))
 
 pub returns-clause-monitor : goal.returns-clause-monitor
 returns-clause-monitor c =
     rw (← c.self.view_is)
-      (enter_takes c.self.inside c.self.invariant c.args.o c.in-Some.kept (sym c.find.ensures ∙ c.in-Some.is) c.args.t (c.count.result + 1) c.put-2.new.records (sym c.is_taken.ensures ∙ c.if-is_taken.false) (ap (λ n. n + 1) c.count.ensures) (c.put-2.ensures.now ∙ ap Some c.owned_by-2.ensures) c.put-2.ensures.others c.put-2.ensures.spare).becomes
+    (enter_takes c.self.inside c.self.invariant c.args.o c.in-Some.kept (sym c.find.ensures ∙ c.in-Some.is) c.args.t (c.count.result + 1) c.put-2.new.records (sym c.is_taken.ensures ∙ c.if-is_taken.false) (ap (λ n. n + 1) c.count.ensures) (c.put-2.ensures.now ∙ ap Some c.owned_by-2.ensures) c.put-2.ensures.others c.put-2.ensures.spare).becomes

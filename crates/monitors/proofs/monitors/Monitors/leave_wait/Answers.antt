@@ -1,15 +1,8 @@
-use Rattle.std.proofs.Common.{ap, arith, if◌then◌else◌, is_none, length, not, set, subst, sym, ◌∙◌, ◌≡◌, ◌+◌, ◌-◌, ◌<◌, ◌≤◌, ◌^◌, Bool, Some, None, nat_eq, nat_lt, List, ℕ, [], ◌∷◌, slice_get}
-use Rattle.std.specs.HashMap.{get}
-use Rattle.std.proofs.lemmas.Bool.{le-ltb, lt-ltb}
-use Rattle.std.proofs.lemmas.Option.{slice_get_past}
-use Rattle.std.proofs.lemmas.Result.{err_from_is_err_and}
-use Rattle.thread_lists.specs.Lists.{Lists, count, first, list_at, push, without}
-use Rattle.thread_lists.proofs.CountLaws.{first-held, total-le}
-use Rattle.monitors.specs.declared.records.Record.{Record}
-use Rattle.monitors.specs.Monitors.{InNoList, IsByOwner, IsInLine, IsWaiting, Monitor, Monitors, monitor_of, woken_by_exit}
-use Rattle.monitors.specs.Records.{count_of, entry_of, seen, thread_of, waits_of}
+use Rattle.std.proofs.Common.{subst, sym, ◌∙◌, ◌<◌}
+use Rattle.thread_lists.specs.Lists.{count, list_at}
+use Rattle.monitors.specs.Monitors.{IsWaiting, Monitors, monitor_of}
 use Rattle.monitors.proofs.CallLaws as call
-use Rattle.monitors.proofs.MonitorLaws.{free_thread, in_use_is, unused_is}
+use Rattle.monitors.proofs.MonitorLaws.{in_use_is}
 use Rattle.monitors.proofs.monitors.Monitors.leave_wait.Goals as goal
 
 pub unreachable-requires : goal.unreachable-requires

@@ -1,22 +1,18 @@
-use Rattle.std.proofs.Common.{ap, arith, if◌then◌else◌, is_none, length, not, set, subst, sym, ◌∙◌, ◌≡◌, ◌+◌, ◌-◌, ◌<◌, ◌≤◌, ◌^◌, Bool, Some, None, nat_eq, nat_lt, List, ℕ, [], ◌∷◌, slice_get}
-use Rattle.std.specs.HashMap.{get}
-use Rattle.std.proofs.lemmas.Bool.{le-ltb, lt-ltb}
-use Rattle.std.proofs.lemmas.Option.{slice_get_past}
+use Rattle.std.proofs.Common.{ap, arith, subst, sym, ◌∙◌, ◌<◌, slice_get}
 use Rattle.std.proofs.lemmas.Result.{err_from_is_err_and}
-use Rattle.thread_lists.specs.Lists.{Lists, count, first, list_at, push, without}
+use Rattle.thread_lists.specs.Lists.{count, first, list_at}
 use Rattle.thread_lists.proofs.CountLaws.{first-held, total-le}
-use Rattle.monitors.specs.declared.records.Record.{Record}
-use Rattle.monitors.specs.Monitors.{InNoList, IsByOwner, IsInLine, IsWaiting, Monitor, Monitors, monitor_of, woken_by_exit}
-use Rattle.monitors.specs.Records.{count_of, entry_of, seen, thread_of, waits_of}
+use Rattle.monitors.specs.Monitors.{IsByOwner, Monitor, Monitors, monitor_of}
+use Rattle.monitors.specs.Records.{waits_of}
 use Rattle.monitors.proofs.CallLaws as call
-use Rattle.monitors.proofs.MonitorLaws.{free_thread, in_use_is, unused_is}
+use Rattle.monitors.proofs.MonitorLaws.{in_use_is}
 use Rattle.monitors.proofs.monitors.Monitors.notify.Goals as goal
 
 pub returns-in_err-kept-clause-owner : goal.returns-in_err-kept-clause-owner
 returns-in_err-kept-clause-owner c =
     let p = err_from_is_err_and c.from_residual.result c.from_residual.ensures.1 in
     subst (λ (v : Monitors). IsByOwner c.from_residual.result (monitor_of v c.args.o).owner c.args.t) c.self.view_is
-      (rw (p.1, p.2) (call.by_other c.self.inside c.args.o c.args.t c.in_err-kept.field-0.0.owner c.in_err-kept.ensures.refused c.in_err-kept.ensures.other))
+    (rw (p.1, p.2) (call.by_other c.self.inside c.args.o c.args.t c.in_err-kept.field-0.0.owner c.in_err-kept.ensures.refused c.in_err-kept.ensures.other))
 
 pub returns-in_default-clause-owner : goal.returns-in_default-clause-owner
 returns-in_default-clause-owner c =
@@ -37,7 +33,7 @@ move_last-requires-clause-held c =
 pub invariant_of-self : goal.invariant_of-self
 invariant_of-self c =
     (call.notify_moves c.self.inside c.self.invariant c.args.o c.in_ok-kept.kept c.in_ok-kept.ensures.found c.in-Some.waiter c.move_last.new.self (sym (ap (first c.self.inside.lists.lists) c.waits.ensures) ∙ sym c.first.ensures ∙ c.in-Some.is) (omega (arith, c.once.ensures.once c.in-Some.waiter, total-le c.in-Some.waiter c.self.inside.lists.lists (waits_of c.in_ok-kept.kept.slot) (c.self.invariant.fits.inside c.args.o c.in_ok-kept.kept c.in_ok-kept.ensures.found)))
-      (c.move_last.ensures ∙ call.move_is c.self.inside.lists c.in-Some.waiter _ _ _ _ c.waits-2.ensures c.entry.ensures)).kept
+    (c.move_last.ensures ∙ call.move_is c.self.inside.lists c.in-Some.waiter _ _ _ _ c.waits-2.ensures c.entry.ensures)).kept
 
 pub returns-clause-owner : goal.returns-clause-owner
 returns-clause-owner c =
@@ -50,4 +46,4 @@ returns-clause-moved c =
 pub returns-clause-ok : goal.returns-clause-ok
 returns-clause-ok c =
     rw (← c.self.view_is) (call.notify_moves c.self.inside c.self.invariant c.args.o c.in_ok-kept.kept c.in_ok-kept.ensures.found c.in-Some.waiter c.move_last.new.self (sym (ap (first c.self.inside.lists.lists) c.waits.ensures) ∙ sym c.first.ensures ∙ c.in-Some.is) (omega (arith, c.once.ensures.once c.in-Some.waiter, total-le c.in-Some.waiter c.self.inside.lists.lists (waits_of c.in_ok-kept.kept.slot) (c.self.invariant.fits.inside c.args.o c.in_ok-kept.kept c.in_ok-kept.ensures.found)))
-      (c.move_last.ensures ∙ call.move_is c.self.inside.lists c.in-Some.waiter _ _ _ _ c.waits-2.ensures c.entry.ensures)).becomes
+    (c.move_last.ensures ∙ call.move_is c.self.inside.lists c.in-Some.waiter _ _ _ _ c.waits-2.ensures c.entry.ensures)).becomes

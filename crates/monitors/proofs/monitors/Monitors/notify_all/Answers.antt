@@ -1,22 +1,16 @@
-use Rattle.std.proofs.Common.{ap, arith, if◌then◌else◌, is_none, length, not, set, subst, sym, ◌∙◌, ◌≡◌, ◌+◌, ◌-◌, ◌<◌, ◌≤◌, ◌^◌, Bool, Some, None, nat_eq, nat_lt, List, ℕ, [], ◌∷◌, slice_get}
-use Rattle.std.specs.HashMap.{get}
-use Rattle.std.proofs.lemmas.Bool.{le-ltb, lt-ltb}
-use Rattle.std.proofs.lemmas.Option.{slice_get_past}
+use Rattle.std.proofs.Common.{ap, length, subst, sym, ◌∙◌}
 use Rattle.std.proofs.lemmas.Result.{err_from_is_err_and}
-use Rattle.thread_lists.specs.Lists.{Lists, count, first, list_at, push, without}
-use Rattle.thread_lists.proofs.CountLaws.{first-held, total-le}
-use Rattle.monitors.specs.declared.records.Record.{Record}
-use Rattle.monitors.specs.Monitors.{InNoList, IsByOwner, IsInLine, IsWaiting, Monitor, Monitors, monitor_of, woken_by_exit}
-use Rattle.monitors.specs.Records.{count_of, entry_of, seen, thread_of, waits_of}
+use Rattle.thread_lists.specs.Lists.{list_at}
+use Rattle.monitors.specs.Monitors.{IsByOwner, Monitor, Monitors, monitor_of}
 use Rattle.monitors.proofs.CallLaws as call
-use Rattle.monitors.proofs.MonitorLaws.{free_thread, in_use_is, unused_is}
+use Rattle.monitors.proofs.MonitorLaws.{in_use_is}
 use Rattle.monitors.proofs.monitors.Monitors.notify_all.Goals as goal
 
 pub returns-in_err-kept-clause-owner : goal.returns-in_err-kept-clause-owner
 returns-in_err-kept-clause-owner c =
     let p = err_from_is_err_and c.from_residual.result c.from_residual.ensures.1 in
     subst (λ (v : Monitors). IsByOwner c.from_residual.result (monitor_of v c.args.o).owner c.args.t) c.self.view_is
-      (rw (p.1, p.2) (call.by_other c.self.inside c.args.o c.args.t c.in_err-kept.field-0.0.owner c.in_err-kept.ensures.refused c.in_err-kept.ensures.other))
+    (rw (p.1, p.2) (call.by_other c.self.inside c.args.o c.args.t c.in_err-kept.field-0.0.owner c.in_err-kept.ensures.refused c.in_err-kept.ensures.other))
 
 pub invariant_of-self : goal.invariant_of-self
 invariant_of-self c =

@@ -1,6 +1,3 @@
-use Rattle.std.proofs.Common.{subst}
-use Rattle.std.specs.List.{All}
-use Rattle.monitors.specs.Monitors.{IsInUse, Monitors}
 use Rattle.monitors.proofs.OnceLaws.{apart_in, once_in, used_in}
 use Rattle.monitors.proofs.monitors.Monitors.once.Goals as goal
 

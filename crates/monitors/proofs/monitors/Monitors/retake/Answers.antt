@@ -1,15 +1,8 @@
-use Rattle.std.proofs.Common.{ap, arith, if◌then◌else◌, is_none, length, not, set, subst, sym, ◌∙◌, ◌≡◌, ◌+◌, ◌-◌, ◌<◌, ◌≤◌, ◌^◌, Bool, Some, None, nat_eq, nat_lt, List, ℕ, [], ◌∷◌, slice_get}
-use Rattle.std.specs.HashMap.{get}
-use Rattle.std.proofs.lemmas.Bool.{le-ltb, lt-ltb}
-use Rattle.std.proofs.lemmas.Option.{slice_get_past}
-use Rattle.std.proofs.lemmas.Result.{err_from_is_err_and}
-use Rattle.thread_lists.specs.Lists.{Lists, count, first, list_at, push, without}
-use Rattle.thread_lists.proofs.CountLaws.{first-held, total-le}
-use Rattle.monitors.specs.declared.records.Record.{Record}
-use Rattle.monitors.specs.Monitors.{InNoList, IsByOwner, IsInLine, IsWaiting, Monitor, Monitors, monitor_of, woken_by_exit}
-use Rattle.monitors.specs.Records.{count_of, entry_of, seen, thread_of, waits_of}
+use Rattle.std.proofs.Common.{ap, is_none, not, set, subst, sym, ◌∙◌, ◌<◌, Some}
+use Rattle.thread_lists.specs.Lists.{count, list_at, without}
+use Rattle.monitors.specs.Monitors.{IsInLine, Monitor, Monitors, monitor_of}
 use Rattle.monitors.proofs.CallLaws as call
-use Rattle.monitors.proofs.MonitorLaws.{free_thread, in_use_is, unused_is}
+use Rattle.monitors.proofs.MonitorLaws.{in_use_is}
 use Rattle.monitors.proofs.monitors.Monitors.retake.Goals as goal
 
 pub unreachable-requires : goal.unreachable-requires
@@ -27,7 +20,7 @@ remove-requires-clause-held c =
 pub invariant_of-self : goal.invariant_of-self
 invariant_of-self c =
     (call.retake_takes c.self.inside c.self.invariant c.args.o c.in-Some.kept (sym c.find.ensures ∙ c.in-Some.is) c.args.t c.args.count c.put.new.records c.remove.new.self (c.put.ensures.now ∙ ap Some c.owned_by.ensures) c.put.ensures.others c.put.ensures.spare
-      (c.remove.ensures ∙ ap (λ k. record c.self.inside.lists { lists = set c.self.inside.lists.lists k (without c.args.t (list_at c.self.inside.lists.lists k)) }) c.entry.ensures)).kept
+    (c.remove.ensures ∙ ap (λ k. record c.self.inside.lists { lists = set c.self.inside.lists.lists k (without c.args.t (list_at c.self.inside.lists.lists k)) }) c.entry.ensures)).kept
 
 pub returns-clause-taken : goal.returns-clause-taken
 returns-clause-taken c =
@@ -36,4 +29,4 @@ returns-clause-taken c =
 pub returns-clause-yes : goal.returns-clause-yes
 returns-clause-yes c =
     rw (← c.self.view_is) (call.retake_takes c.self.inside c.self.invariant c.args.o c.in-Some.kept (sym c.find.ensures ∙ c.in-Some.is) c.args.t c.args.count c.put.new.records c.remove.new.self (c.put.ensures.now ∙ ap Some c.owned_by.ensures) c.put.ensures.others c.put.ensures.spare
-      (c.remove.ensures ∙ ap (λ k. record c.self.inside.lists { lists = set c.self.inside.lists.lists k (without c.args.t (list_at c.self.inside.lists.lists k)) }) c.entry.ensures)).becomes
+    (c.remove.ensures ∙ ap (λ k. record c.self.inside.lists { lists = set c.self.inside.lists.lists k (without c.args.t (list_at c.self.inside.lists.lists k)) }) c.entry.ensures)).becomes

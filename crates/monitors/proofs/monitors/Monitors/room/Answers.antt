@@ -6,7 +6,7 @@ pub invariant_of-self : goal.invariant_of-self
 invariant_of-self c =
     let a = c.self.inside in
     room-kept a (record a { records = c.reserve.new.self }) c.self.invariant c.reserve.ensures.entries.2
-      (Grows-same a.vacant a.vacant a.slots a.lists refl refl (omega arith) c.self.invariant.slots c.self.invariant.capacity)
+    (Grows-same a.vacant a.vacant a.slots a.lists refl refl (omega arith) c.self.invariant.slots c.self.invariant.capacity)
 
 pub invariant_of-self-2 : goal.invariant_of-self-2
 invariant_of-self-2 c =
