@@ -118,7 +118,7 @@ module _ (a : Inside) (kept : IsKept a) (o : ℕ) (r : Record) (was : get nat_eq
       ∙ ap (after_enter t) (sym (in_use_is a o r was)))
       (owner_change records (Some (record { thread = t; count = n })) now others more refl)
 
-  -- a thread lines up
+  -- a thread count_in up
   pub line_up_adds : (t : ℕ) (lists : Lists) → lists ≡ record a.lists { lists = push a.lists.lists (entry_of r.slot) (t ∷ []) } → After a o (after_line_up t (monitor_of (seen a) o)) (record a { lists = lists })
   line_up_adds t lists e =
       After-is a o (monitor r.owner (entry ++ t ∷ []) waits) (after_line_up t (monitor_of (seen a) o)) (record a { lists = lists }) (ap (after_line_up t) (sym (in_use_is a o r was)))
@@ -167,7 +167,7 @@ module _ (a : Inside) (kept : IsKept a) (o : ℕ) (r : Record) (was : get nat_eq
       (both_change records lists (record a.lists { lists = push a.lists.lists (waits_of r.slot) (t ∷ []) }) None entry (waits ++ t ∷ []) now others more e
       (Slotted-wait a.lists.lists a.lists.lists r.slot entry waits (t ∷ []) inside (Slotted-same a.lists.lists r.slot)) refl (used-waits (monitor None entry (waits ++ t ∷ [])) (is_empty-push waits t)))
 
-  -- the first that waits lines up
+  -- the first that waits count_in up
   pub notify_moves : (w : ℕ) (lists : Lists) → slice_get waits 0 ≡ Some w → count w waits ≤ 1 → lists ≡ record a.lists { lists = push (set a.lists.lists (waits_of r.slot) (without w waits)) (entry_of r.slot) (w ∷ []) } → After a o (after_notify (monitor_of (seen a) o)) (record a { lists = lists })
   notify_moves w lists first once e =
       After-is a o (monitor r.owner (entry ++ w ∷ []) (without w waits)) (after_notify (monitor_of (seen a) o)) (record a { lists = lists })
@@ -197,7 +197,7 @@ module _ (a : Inside) (kept : IsKept a) (o : ℕ) (r : Record) (was : get nat_eq
       (Slotted-push a.lists.lists a.lists.lists r.slot entry waits waits inside (Slotted-same a.lists.lists r.slot)))
       refl (used-owner (monitor r.owner (entry ++ waits) []) t owned))
 
-  -- a thread that waits lines up
+  -- a thread that waits count_in up
   pub leave_wait_moves : (t : ℕ) (lists : Lists) → lists ≡ record a.lists { lists = push (set a.lists.lists (waits_of r.slot) (without t waits)) (entry_of r.slot) (t ∷ []) } → After a o (after_leave_wait t (monitor_of (seen a) o)) (record a { lists = lists })
   leave_wait_moves t lists e =
       After-is a o (monitor r.owner (entry ++ t ∷ []) (without t waits)) (after_leave_wait t (monitor_of (seen a) o)) (record a { lists = lists }) (ap (after_leave_wait t) (sym (in_use_is a o r was)))
@@ -221,7 +221,7 @@ module _ (a : Inside) (kept : IsKept a) (o slot : ℕ) (was : get nat_eq a.recor
       After-is a o (record { owner = Some t; count = 1; entry = []; waits = [] }) (after_enter t (monitor_of (seen a) o)) (record a { records = records; vacant = vacant }) (ap (after_enter t) (sym (unused_is a o was)))
       (After-open a (record a { records = records; vacant = vacant }) kept o slot was taken [] [] nothing (Some (record { thread = t; count = 1 })) now others more len capacity refl refl refl)
 
-  -- a thread lines up
+  -- a thread count_in up
   pub line_up_opens : (t : ℕ) (records : Records) (lists : Lists) → get nat_eq records o ≡ Some (record { owner = None; slot = slot }) → KeepsRecords (get nat_eq a.records) (get nat_eq records) o → spare a.records ≤ spare records + 1 → lists ≡ record a.lists { lists = push a.lists.lists (entry_of slot) (t ∷ []) } → After a o (after_line_up t (monitor_of (seen a) o)) (record a { records = records; vacant = vacant; lists = lists })
   line_up_opens t records lists now others more e =
       subst (λ (ls : Lists). After a o (after_line_up t (monitor_of (seen a) o)) (record a { records = records; vacant = vacant; lists = ls })) (sym e)

@@ -11,7 +11,7 @@ use Rattle.thread_lists.proofs.CountLaws.{found}
 use Rattle.monitors.specs.declared.records.Owner.{Owner}
 use Rattle.monitors.specs.declared.records.Record.{Record}
 use Rattle.monitors.specs.declared.monitors.Monitors.TheInside.{Inside}
-use Rattle.monitors.specs.Monitors.{Becomes, InNoList, Monitor, free, is_free, lines, monitor_of}
+use Rattle.monitors.specs.Monitors.{Becomes, InNoList, Monitor, free, is_free, count_in, monitor_of}
 use Rattle.monitors.specs.Records.{Fits, IsKept, count_of, entry_of, known, seen, thread_of, waits_of}
 use Rattle.monitors.proofs.ListLaws.{Slotted}
 use Rattle.monitors.proofs.RecordLaws.{Changes, Closes, Fits-changes, Fits-closes, Fits-opens, KeepsRecords, Opens, read, read-changed, read-closed, read-opened, read-unchanged, read-unclosed, read-unopened}
@@ -33,7 +33,7 @@ free_thread a kept t none =
       | inl some ↦
           let at = found t a.lists.lists some in
           let u = kept.fits.used at.0 t at.1 at.2 in
-          let gone : lines t (known a.lists.lists u.found) ≡ 0 = ap (lines t) (sym (in_use_is a u.object u.found u.here)) ∙ none u.object in
+          let gone : count_in t (known a.lists.lists u.found) ≡ 0 = ap (count_in t) (sym (in_use_is a u.object u.found u.here)) ∙ none u.object in
           absurd (elim u.list [
             | inl e ↦ omega (arith, gone, subst (λ k. 0 < count t (list_at a.lists.lists k)) e at.2)
             | inr e ↦ omega (arith, gone, subst (λ k. 0 < count t (list_at a.lists.lists k)) e at.2)

@@ -37,8 +37,8 @@ abbrev pub monitor_of : Monitors → ℕ → Monitor
 monitor_of all o = unwrap_or (lookup (λ p. o == p) all.used) free
 
 -- how often a thread is in the two lists of a monitor
-abbrev pub lines : ℕ → Monitor → ℕ
-lines t m = count t m.entry + count t m.waits
+abbrev pub count_in : ℕ → Monitor → ℕ
+count_in t m = count t m.entry + count t m.waits
 
 -- a thread waits to take the monitor; it waits to be notified
 abbrev pub IsInLine : ℕ → Monitor → Type 0
@@ -49,7 +49,7 @@ IsWaiting t m = 0 < count t m.waits
 
 -- the thread is in no list of any monitor
 abbrev pub InNoList : Monitors → ℕ → Type 0
-InNoList all t = (o : ℕ) → lines t (monitor_of all o) ≡ 0
+InNoList all t = (o : ℕ) → count_in t (monitor_of all o) ≡ 0
 
 -- one monitor changes to m, and all others stay
 pub record Becomes (old new : Monitors) (o : ℕ) (m : Monitor) : Type 0 where

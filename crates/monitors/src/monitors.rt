@@ -1,9 +1,9 @@
 ghost use Rattle.std.specs.Prelude.{◌≡◌, ◌≢◌, ◌<◌, ◌≤◌, ◌+◌, ◌^◌, ℕ, [], All, if◌then◌else◌, is_none, length, slice_get, IfOk, OnErr, OnOk};
 ghost use Rattle.std.specs.Bool.{OnFalse, OnTrue};
-ghost use Rattle.monitors.specs.Monitors.{Becomes, InNoList, IsByOwner, IsInLine, IsInUse, IsWaiting, after_enter, after_exit, after_leave_wait, after_line_up, after_notify, after_notify_all, after_retake, after_wait, is_taken, lines, monitor_of, woken_by_exit};
+ghost use Rattle.monitors.specs.Monitors.{Becomes, InNoList, IsByOwner, IsInLine, IsInUse, IsWaiting, after_enter, after_exit, after_leave_wait, after_line_up, after_notify, after_notify_all, after_retake, after_wait, is_taken, count_in, monitor_of, woken_by_exit};
 
 use crate::records::{
-    NotOwner, Record, add_slots, drop_record, find, is_deserted, owned, put, take_slot,
+    NotOwner, Record, add_slots, drop_record, find, find_owned, is_deserted, put, take_slot,
 };
 use items::NoMemory;
 use std::alloc::Global;
@@ -76,8 +76,9 @@ impl Monitors {
 
     /// Every call keeps this: a thread is in at most one list of one monitor, once, and no monitor that is free is kept.
     pub fn once(&self)
-        ensures once { (t o : ℕ) → lines t (monitor_of self.now o) ≤ 1 }
-        ensures apart { (t o p : ℕ) → o ≢ p → lines t (monitor_of self.now o) + lines t (monitor_of self.now p) ≤ 1 }
+        ensures once { (t o : ℕ) → count_in t (monitor_of self.now o) ≤ 1 }
+        ensures apart { (t o p : ℕ) → o ≢ p
+            → count_in t (monitor_of self.now o) + count_in t (monitor_of self.now p) ≤ 1 }
         ensures used { All (λ entry. IsInUse entry.1) self.now.used }
     {
         self.lists.once();
@@ -111,7 +112,8 @@ impl Monitors {
         requires thread { t < self.old.threads }
         requires free { InNoList self.old t }
         requires count { (monitor_of self.old o).count + 1 < 2 ^ 32 }
-        ensures entered { result ≡ (if is_taken (monitor_of self.old o).owner t then Enter.Blocked else Enter.Got) }
+        ensures entered { result ≡
+            (if is_taken (monitor_of self.old o).owner t then Enter.Blocked else Enter.Got) }
         ensures monitor { Becomes self.old self.new o (after_enter t (monitor_of self.old o)) }
     {
         self.lists.once();
@@ -155,7 +157,8 @@ impl Monitors {
     pub fn retake(&mut self, o: u32, t: u32, count: u32) -> bool
         requires { IsInLine t (monitor_of self.old o) }
         ensures taken { result ≡ is_none (monitor_of self.old o).owner }
-        ensures yes { OnTrue result (Becomes self.old self.new o (after_retake t count (monitor_of self.old o))) }
+        ensures yes { OnTrue result
+            (Becomes self.old self.new o (after_retake t count (monitor_of self.old o))) }
         ensures no { OnFalse result (self.new ≡ self.old) }
     {
         self.lists.once();
@@ -179,7 +182,7 @@ impl Monitors {
         ensures err { OnErr result (self.new ≡ self.old) }
     {
         self.lists.once();
-        let kept = owned(&self.records, o, t)?;
+        let kept = find_owned(&self.records, o, t)?;
         if kept.count() > 1 {
             put(&mut self.records, o, kept.owned_by(t, kept.count() - 1));
             return Ok(None);
@@ -201,11 +204,12 @@ impl Monitors {
         ensures owner { IsByOwner result (monitor_of self.old o).owner t }
         ensures count { IfOk result (λ left. left.0 ≡ (monitor_of self.old o).count) }
         ensures woken { IfOk result (λ left. left.1 ≡ slice_get (monitor_of self.old o).entry 0) }
-        ensures ok { OnOk result (Becomes self.old self.new o (after_wait t (monitor_of self.old o))) }
+        ensures ok { OnOk result
+            (Becomes self.old self.new o (after_wait t (monitor_of self.old o))) }
         ensures err { OnErr result (self.new ≡ self.old) }
     {
         self.lists.once();
-        let kept = owned(&self.records, o, t)?;
+        let kept = find_owned(&self.records, o, t)?;
         let next = self.lists.first(kept.entry());
         self.lists.push(kept.waits(), t);
         put(&mut self.records, o, kept.without_owner());
@@ -216,11 +220,12 @@ impl Monitors {
     pub fn notify(&mut self, o: u32, t: u32) -> Result<Option<u32>, NotOwner>
         ensures owner { IsByOwner result (monitor_of self.old o).owner t }
         ensures moved { IfOk result (λ thread. thread ≡ slice_get (monitor_of self.old o).waits 0) }
-        ensures ok { OnOk result (Becomes self.old self.new o (after_notify (monitor_of self.old o))) }
+        ensures ok { OnOk result
+            (Becomes self.old self.new o (after_notify (monitor_of self.old o))) }
         ensures err { OnErr result (self.new ≡ self.old) }
     {
         self.lists.once();
-        let kept = owned(&self.records, o, t)?;
+        let kept = find_owned(&self.records, o, t)?;
         let Some(waiter) = self.lists.first(kept.waits()) else {
             return Ok(None);
         };
@@ -232,17 +237,18 @@ impl Monitors {
     pub fn notify_all(&mut self, o: u32, t: u32) -> Result<u32, NotOwner>
         ensures owner { IsByOwner result (monitor_of self.old o).owner t }
         ensures moved { IfOk result (λ count. count ≡ length (monitor_of self.old o).waits) }
-        ensures ok { OnOk result (Becomes self.old self.new o (after_notify_all (monitor_of self.old o))) }
+        ensures ok { OnOk result
+            (Becomes self.old self.new o (after_notify_all (monitor_of self.old o))) }
         ensures err { OnErr result (self.new ≡ self.old) }
     {
         self.lists.once();
-        let kept = owned(&self.records, o, t)?;
+        let kept = find_owned(&self.records, o, t)?;
         let count = self.lists.len(kept.waits());
         self.lists.append(kept.waits(), kept.entry());
         Ok(count)
     }
 
-    /// A thread that waits to be notified lines up for the monitor.
+    /// A thread that waits to be notified count_in up for the monitor.
     pub fn leave_wait(&mut self, o: u32, t: u32)
         requires { IsWaiting t (monitor_of self.old o) }
         ensures { Becomes self.old self.new o (after_leave_wait t (monitor_of self.old o)) }

@@ -81,7 +81,8 @@ impl Record {
 
     /// The same with this owner, which entered the monitor so often.
     pub fn owned_by(self, thread: u32, count: u32) -> Self
-        ensures { result ≡ record self { owner = Some (record { thread = thread; count = count }) } }
+        ensures { result ≡
+            record self { owner = Some (record { thread = thread; count = count }) } }
     {
         Record {
             owner: Some(Owner { thread, count }),
@@ -104,7 +105,8 @@ impl Record {
 pub fn is_deserted(lists: &ThreadLists, kept: Record) -> bool
     requires inside { waits_of kept.slot < length lists.now.lists }
     requires fits { waits_of kept.slot < 2 ^ 32 }
-    ensures { result ≡ (is_empty (list_at lists.now.lists (entry_of kept.slot)) && is_empty (list_at lists.now.lists (waits_of kept.slot))) }
+    ensures { result ≡ (is_empty (list_at lists.now.lists (entry_of kept.slot))
+        && is_empty (list_at lists.now.lists (waits_of kept.slot))) }
 {
     lists.first(kept.entry()).is_none() && lists.first(kept.waits()).is_none()
 }
@@ -117,7 +119,7 @@ pub fn find(records: &HashMap<u32, Record>, o: u32) -> Option<Record>
 }
 
 /// The record of an object's monitor, where this thread is the owner.
-pub fn owned(records: &HashMap<u32, Record>, o: u32, thread: u32) -> Result<Record, NotOwner>
+pub fn find_owned(records: &HashMap<u32, Record>, o: u32, thread: u32) -> Result<Record, NotOwner>
     ensures found { IfOk result (λ kept. get nat_eq records.now o ≡ Some kept) }
     ensures owner { IfOk result (λ kept. thread_of kept.owner ≡ Some thread) }
     ensures other { IfErr result (λ refusal. refusal.owner ≢ Some thread) }
