@@ -1,9 +1,9 @@
 -- What each call leaves of the monitor that it changes.
-use Rattle.std.proofs.Common.{◌≡◌, ◌+◌, ◌-◌, ◌<◌, ◌≤◌, ◌&&◌, ℕ, Bool, true, false, List, [], ◌∷◌, ◌++◌, Option, Some, None, append-nil, drop, if◌then◌else◌, is_none, is_some, not, length, length-append, nat_eq, nat_lt, set, slice_get, take, sym, ◌∙◌, ap, subst, refl, arith, inl, inr, vec_len}
+use Rattle.std.proofs.Common.{◌≡◌, ◌+◌, ◌-◌, ◌<◌, ◌≤◌, ◌&&◌, ℕ, Bool, true, false, List, [], ◌∷◌, ◌++◌, Option, Some, None, append-nil, drop, if◌then◌else◌, is_none, is_some, add-zero, not, length, length-append, nat_eq, nat_lt, set, slice_get, take, sym, ◌∙◌, ap, subst, refl, arith, inl, inr, vec_len}
 use Rattle.std.specs.declared.hash.BuildHasherDefault.{BuildHasherDefault}
 use Rattle.std.specs.declared.hash.FoldHasher.{FoldHasher}
 use Rattle.std.specs.Global.{Vec}
-use Rattle.std.specs.HashMap.{HashMap, get, spare}
+use Rattle.std.specs.HashMap.{HashMap, get, hash_map_len, spare}
 use Rattle.std.specs.Option.{option_and_then}
 use Rattle.std.specs.Vec.{vec_capacity}
 use Rattle.std.proofs.lemmas.Bool.{cases_eq, cases_lt}
@@ -83,16 +83,16 @@ module _ (a : Inside) (kept : IsKept a) (o : ℕ) (r : Record) (was : get nat_eq
   lists_change : (lists new : Lists) (xs ys : List ℕ) → lists ≡ new → Slotted a.lists.lists new.lists r.slot xs ys → new.threads ≡ a.lists.threads → is_free (monitor r.owner xs ys) ≡ false → After a o (monitor r.owner xs ys) (record a { lists = lists })
   lists_change lists new xs ys e slotted threads used =
       subst (λ (ls : Lists). After a o (monitor r.owner xs ys) (record a { lists = ls })) (sym e)
-      (After-change a (record a { lists = new }) kept o r was xs ys slotted r.owner was (λ p ne. refl) (omega arith) refl refl threads used)
+      (After-change a (record a { lists = new }) kept o r was xs ys slotted r.owner was (λ p ne. refl) refl (omega arith) refl refl threads used)
 
-  owner_change : (records : Records) (owner : Option Owner) → get nat_eq records o ≡ Some (record r { owner = owner }) → KeepsRecords (get nat_eq a.records) (get nat_eq records) o → spare a.records ≤ spare records + 1 → is_free (monitor owner entry waits) ≡ false → After a o (monitor owner entry waits) (record a { records = records })
-  owner_change records owner now others more used =
-      After-change a (record a { records = records }) kept o r was entry waits (Slotted-same a.lists.lists r.slot) owner now others more refl refl refl used
+  owner_change : (records : Records) (owner : Option Owner) → get nat_eq records o ≡ Some (record r { owner = owner }) → KeepsRecords (get nat_eq a.records) (get nat_eq records) o → hash_map_len records ≡ hash_map_len a.records + (if is_some (get nat_eq a.records o) then 0 else 1) → spare a.records ≤ spare records + 1 → is_free (monitor owner entry waits) ≡ false → After a o (monitor owner entry waits) (record a { records = records })
+  owner_change records owner now others size more used =
+      After-change a (record a { records = records }) kept o r was entry waits (Slotted-same a.lists.lists r.slot) owner now others (size ∙ ap (λ x. hash_map_len a.records + (if is_some x then 0 else 1)) was ∙ add-zero (hash_map_len a.records)) more refl refl refl used
 
-  both_change : (records : Records) (lists new : Lists) (owner : Option Owner) (xs ys : List ℕ) → get nat_eq records o ≡ Some (record r { owner = owner }) → KeepsRecords (get nat_eq a.records) (get nat_eq records) o → spare a.records ≤ spare records + 1 → lists ≡ new → Slotted a.lists.lists new.lists r.slot xs ys → new.threads ≡ a.lists.threads → is_free (monitor owner xs ys) ≡ false → After a o (monitor owner xs ys) (record a { records = records; lists = lists })
-  both_change records lists new owner xs ys now others more e slotted threads used =
+  both_change : (records : Records) (lists new : Lists) (owner : Option Owner) (xs ys : List ℕ) → get nat_eq records o ≡ Some (record r { owner = owner }) → KeepsRecords (get nat_eq a.records) (get nat_eq records) o → hash_map_len records ≡ hash_map_len a.records + (if is_some (get nat_eq a.records o) then 0 else 1) → spare a.records ≤ spare records + 1 → lists ≡ new → Slotted a.lists.lists new.lists r.slot xs ys → new.threads ≡ a.lists.threads → is_free (monitor owner xs ys) ≡ false → After a o (monitor owner xs ys) (record a { records = records; lists = lists })
+  both_change records lists new owner xs ys now others size more e slotted threads used =
       subst (λ (ls : Lists). After a o (monitor owner xs ys) (record a { records = records; lists = ls })) (sym e)
-      (After-change a (record a { records = records; lists = new }) kept o r was xs ys slotted owner now others more refl refl threads used)
+      (After-change a (record a { records = records; lists = new }) kept o r was xs ys slotted owner now others (size ∙ ap (λ x. hash_map_len a.records + (if is_some x then 0 else 1)) was ∙ add-zero (hash_map_len a.records)) more refl refl threads used)
 
   pushed : (t : ℕ) → Slotted a.lists.lists (push a.lists.lists (entry_of r.slot) (t ∷ [])) r.slot (entry ++ t ∷ []) waits
   pushed t = Slotted-push a.lists.lists a.lists.lists r.slot entry waits (t ∷ []) inside (Slotted-same a.lists.lists r.slot)
@@ -110,13 +110,13 @@ module _ (a : Inside) (kept : IsKept a) (o : ℕ) (r : Record) (was : get nat_eq
       (lists_change lists (record a.lists { lists = push a.lists.lists (entry_of r.slot) (t ∷ []) }) (entry ++ t ∷ []) waits e (pushed t) refl (used-entry (monitor r.owner (entry ++ t ∷ []) waits) (is_empty-push entry t)))
 
   -- a thread takes a monitor, or enters it once more
-  pub enter_takes : (t n : ℕ) (records : Records) → is_taken (thread_of r.owner) t ≡ false → n ≡ count_of r.owner + 1 → get nat_eq records o ≡ Some (record r { owner = Some (record { thread = t; count = n }) }) → KeepsRecords (get nat_eq a.records) (get nat_eq records) o → spare a.records ≤ spare records + 1 → After a o (after_enter t (monitor_of (seen a) o)) (record a { records = records })
-  enter_takes t n records taken e now others more =
+  pub enter_takes : (t n : ℕ) (records : Records) → is_taken (thread_of r.owner) t ≡ false → n ≡ count_of r.owner + 1 → get nat_eq records o ≡ Some (record r { owner = Some (record { thread = t; count = n }) }) → KeepsRecords (get nat_eq a.records) (get nat_eq records) o → hash_map_len records ≡ hash_map_len a.records + (if is_some (get nat_eq a.records o) then 0 else 1) → spare a.records ≤ spare records + 1 → After a o (after_enter t (monitor_of (seen a) o)) (record a { records = records })
+  enter_takes t n records taken e now others size more =
       After-is a o (monitor (Some (record { thread = t; count = n })) entry waits) (after_enter t (monitor_of (seen a) o)) (record a { records = records })
       (ap (λ k. record { owner = Some t; count = k; entry = entry; waits = waits }) e
       ∙ sym (ap (λ (b : Bool). if b then monitor r.owner (entry ++ t ∷ []) waits else record { owner = Some t; count = count_of r.owner + 1; entry = entry; waits = waits }) taken)
       ∙ ap (after_enter t) (sym (in_use_is a o r was)))
-      (owner_change records (Some (record { thread = t; count = n })) now others more refl)
+      (owner_change records (Some (record { thread = t; count = n })) now others size more refl)
 
   -- a thread count_in up
   pub line_up_adds : (t : ℕ) (lists : Lists) → lists ≡ record a.lists { lists = push a.lists.lists (entry_of r.slot) (t ∷ []) } → After a o (after_line_up t (monitor_of (seen a) o)) (record a { lists = lists })
@@ -125,21 +125,21 @@ module _ (a : Inside) (kept : IsKept a) (o : ℕ) (r : Record) (was : get nat_eq
       (lists_change lists (record a.lists { lists = push a.lists.lists (entry_of r.slot) (t ∷ []) }) (entry ++ t ∷ []) waits e (pushed t) refl (used-entry (monitor r.owner (entry ++ t ∷ []) waits) (is_empty-push entry t)))
 
   -- a thread in line takes a monitor
-  pub retake_takes : (t n : ℕ) (records : Records) (lists : Lists) → get nat_eq records o ≡ Some (record r { owner = Some (record { thread = t; count = n }) }) → KeepsRecords (get nat_eq a.records) (get nat_eq records) o → spare a.records ≤ spare records + 1 → lists ≡ record a.lists { lists = set a.lists.lists (entry_of r.slot) (without t entry) } → After a o (after_retake t n (monitor_of (seen a) o)) (record a { records = records; lists = lists })
-  retake_takes t n records lists now others more e =
+  pub retake_takes : (t n : ℕ) (records : Records) (lists : Lists) → get nat_eq records o ≡ Some (record r { owner = Some (record { thread = t; count = n }) }) → KeepsRecords (get nat_eq a.records) (get nat_eq records) o → hash_map_len records ≡ hash_map_len a.records + (if is_some (get nat_eq a.records o) then 0 else 1) → spare a.records ≤ spare records + 1 → lists ≡ record a.lists { lists = set a.lists.lists (entry_of r.slot) (without t entry) } → After a o (after_retake t n (monitor_of (seen a) o)) (record a { records = records; lists = lists })
+  retake_takes t n records lists now others size more e =
       After-is a o (monitor (Some (record { thread = t; count = n })) (without t entry) waits) (after_retake t n (monitor_of (seen a) o)) (record a { records = records; lists = lists }) (ap (after_retake t n) (sym (in_use_is a o r was)))
-      (both_change records lists (record a.lists { lists = set a.lists.lists (entry_of r.slot) (without t entry) }) (Some (record { thread = t; count = n })) (without t entry) waits now others more e
+      (both_change records lists (record a.lists { lists = set a.lists.lists (entry_of r.slot) (without t entry) }) (Some (record { thread = t; count = n })) (without t entry) waits now others size more e
       (Slotted-entry a.lists.lists a.lists.lists r.slot entry waits (without t entry) inside (Slotted-same a.lists.lists r.slot)) refl refl)
 
   -- the owner leaves a monitor that it entered more than once
-  pub exit_lowers : (t n : ℕ) (records : Records) → thread_of r.owner ≡ Some t → nat_lt 1 (count_of r.owner) ≡ true → n ≡ count_of r.owner - 1 → get nat_eq records o ≡ Some (record r { owner = Some (record { thread = t; count = n }) }) → KeepsRecords (get nat_eq a.records) (get nat_eq records) o → spare a.records ≤ spare records + 1 → After a o (after_exit (monitor_of (seen a) o)) (record a { records = records })
-  exit_lowers t n records owned more_than_once e now others more =
+  pub exit_lowers : (t n : ℕ) (records : Records) → thread_of r.owner ≡ Some t → nat_lt 1 (count_of r.owner) ≡ true → n ≡ count_of r.owner - 1 → get nat_eq records o ≡ Some (record r { owner = Some (record { thread = t; count = n }) }) → KeepsRecords (get nat_eq a.records) (get nat_eq records) o → hash_map_len records ≡ hash_map_len a.records + (if is_some (get nat_eq a.records o) then 0 else 1) → spare a.records ≤ spare records + 1 → After a o (after_exit (monitor_of (seen a) o)) (record a { records = records })
+  exit_lowers t n records owned more_than_once e now others size more =
       After-is a o (monitor (Some (record { thread = t; count = n })) entry waits) (after_exit (monitor_of (seen a) o)) (record a { records = records })
       (ap (λ x. record { owner = x; count = n; entry = entry; waits = waits }) (sym owned)
       ∙ ap (λ k. record { owner = thread_of r.owner; count = k; entry = entry; waits = waits }) e
       ∙ sym (ap (λ (b : Bool). if b then record { owner = thread_of r.owner; count = count_of r.owner - 1; entry = entry; waits = waits } else record { owner = None; count = 0; entry = entry; waits = waits }) more_than_once)
       ∙ ap after_exit (sym (in_use_is a o r was)))
-      (owner_change records (Some (record { thread = t; count = n })) now others more refl)
+      (owner_change records (Some (record { thread = t; count = n })) now others size more refl)
 
   exits : nat_lt 1 (count_of r.owner) ≡ false → record { owner = None; count = 0; entry = entry; waits = waits } ≡ after_exit (monitor_of (seen a) o)
   exits once =
@@ -147,24 +147,24 @@ module _ (a : Inside) (kept : IsKept a) (o : ℕ) (r : Record) (was : get nat_eq
       ∙ ap after_exit (sym (in_use_is a o r was))
 
   -- it leaves one for which others wait
-  pub exit_leaves : (records : Records) → nat_lt 1 (count_of r.owner) ≡ false → is_empty entry && is_empty waits ≡ false → get nat_eq records o ≡ Some (record r { owner = None }) → KeepsRecords (get nat_eq a.records) (get nat_eq records) o → spare a.records ≤ spare records + 1 → After a o (after_exit (monitor_of (seen a) o)) (record a { records = records })
-  exit_leaves records once lined now others more =
-      After-is a o (monitor None entry waits) (after_exit (monitor_of (seen a) o)) (record a { records = records }) (exits once) (owner_change records None now others more lined)
+  pub exit_leaves : (records : Records) → nat_lt 1 (count_of r.owner) ≡ false → is_empty entry && is_empty waits ≡ false → get nat_eq records o ≡ Some (record r { owner = None }) → KeepsRecords (get nat_eq a.records) (get nat_eq records) o → hash_map_len records ≡ hash_map_len a.records + (if is_some (get nat_eq a.records o) then 0 else 1) → spare a.records ≤ spare records + 1 → After a o (after_exit (monitor_of (seen a) o)) (record a { records = records })
+  exit_leaves records once lined now others size more =
+      After-is a o (monitor None entry waits) (after_exit (monitor_of (seen a) o)) (record a { records = records }) (exits once) (owner_change records None now others size more lined)
 
   -- it leaves one for which nobody waits
-  pub exit_closes : (records : Records) (vacant : Vec ℕ) → nat_lt 1 (count_of r.owner) ≡ false → is_empty entry && is_empty waits ≡ true → get nat_eq records o ≡ None → KeepsRecords (get nat_eq a.records) (get nat_eq records) o → spare a.records ≤ spare records → vacant.items ≡ a.vacant.items ++ r.slot ∷ [] → vec_len vacant ≡ vec_len a.vacant + 1 → vec_capacity vacant ≡ vec_capacity a.vacant → After a o (after_exit (monitor_of (seen a) o)) (record a { records = records; vacant = vacant })
-  exit_closes records vacant once deserted now others more items len capacity =
+  pub exit_closes : (records : Records) (vacant : Vec ℕ) → nat_lt 1 (count_of r.owner) ≡ false → is_empty entry && is_empty waits ≡ true → get nat_eq records o ≡ None → KeepsRecords (get nat_eq a.records) (get nat_eq records) o → hash_map_len records + (if is_some (get nat_eq a.records o) then 1 else 0) ≡ hash_map_len a.records → spare a.records ≤ spare records → vacant.items ≡ a.vacant.items ++ r.slot ∷ [] → vec_len vacant ≡ vec_len a.vacant + 1 → vec_capacity vacant ≡ vec_capacity a.vacant → After a o (after_exit (monitor_of (seen a) o)) (record a { records = records; vacant = vacant })
+  exit_closes records vacant once deserted now others size more items len capacity =
       let none = empty_first entry waits deserted in
       let nobody = empty_second entry waits deserted in
       After-is a o free (after_exit (monitor_of (seen a) o)) (record a { records = records; vacant = vacant })
       (sym (ap (λ xs. record { owner = None; count = 0; entry = xs; waits = waits }) none ∙ ap (λ xs. record { owner = None; count = 0; entry = []; waits = xs }) nobody) ∙ exits once)
-      (After-close a (record a { records = records; vacant = vacant }) kept o r was now others more items len capacity refl refl none nobody)
+      (After-close a (record a { records = records; vacant = vacant }) kept o r was now others (sym (ap (λ x. hash_map_len records + (if is_some x then 1 else 0)) was) ∙ size) more items len capacity refl refl none nobody)
 
   -- the owner leaves a monitor wholly and waits
-  pub wait_leaves : (t : ℕ) (records : Records) (lists : Lists) → get nat_eq records o ≡ Some (record r { owner = None }) → KeepsRecords (get nat_eq a.records) (get nat_eq records) o → spare a.records ≤ spare records + 1 → lists ≡ record a.lists { lists = push a.lists.lists (waits_of r.slot) (t ∷ []) } → After a o (after_wait t (monitor_of (seen a) o)) (record a { records = records; lists = lists })
-  wait_leaves t records lists now others more e =
+  pub wait_leaves : (t : ℕ) (records : Records) (lists : Lists) → get nat_eq records o ≡ Some (record r { owner = None }) → KeepsRecords (get nat_eq a.records) (get nat_eq records) o → hash_map_len records ≡ hash_map_len a.records + (if is_some (get nat_eq a.records o) then 0 else 1) → spare a.records ≤ spare records + 1 → lists ≡ record a.lists { lists = push a.lists.lists (waits_of r.slot) (t ∷ []) } → After a o (after_wait t (monitor_of (seen a) o)) (record a { records = records; lists = lists })
+  wait_leaves t records lists now others size more e =
       After-is a o (monitor None entry (waits ++ t ∷ [])) (after_wait t (monitor_of (seen a) o)) (record a { records = records; lists = lists }) (ap (after_wait t) (sym (in_use_is a o r was)))
-      (both_change records lists (record a.lists { lists = push a.lists.lists (waits_of r.slot) (t ∷ []) }) None entry (waits ++ t ∷ []) now others more e
+      (both_change records lists (record a.lists { lists = push a.lists.lists (waits_of r.slot) (t ∷ []) }) None entry (waits ++ t ∷ []) now others size more e
       (Slotted-wait a.lists.lists a.lists.lists r.slot entry waits (t ∷ []) inside (Slotted-same a.lists.lists r.slot)) refl (used-waits (monitor None entry (waits ++ t ∷ [])) (is_empty-push waits t)))
 
   -- the first that waits count_in up
@@ -216,18 +216,18 @@ module _ (a : Inside) (kept : IsKept a) (o slot : ℕ) (was : get nat_eq a.recor
       record { size = refl; keeps = λ k ne nw. refl; entry_is = kept.fits.vacant_entry slot vacant_held; waits_is = kept.fits.vacant_waits slot vacant_held }
 
   -- a thread takes it
-  pub enter_opens : (t : ℕ) (records : Records) → get nat_eq records o ≡ Some (record { owner = Some (record { thread = t; count = 1 }); slot = slot }) → KeepsRecords (get nat_eq a.records) (get nat_eq records) o → spare a.records ≤ spare records + 1 → After a o (after_enter t (monitor_of (seen a) o)) (record a { records = records; vacant = vacant })
-  enter_opens t records now others more =
+  pub enter_opens : (t : ℕ) (records : Records) → get nat_eq records o ≡ Some (record { owner = Some (record { thread = t; count = 1 }); slot = slot }) → KeepsRecords (get nat_eq a.records) (get nat_eq records) o → hash_map_len records ≡ hash_map_len a.records + (if is_some (get nat_eq a.records o) then 0 else 1) → spare a.records ≤ spare records + 1 → After a o (after_enter t (monitor_of (seen a) o)) (record a { records = records; vacant = vacant })
+  enter_opens t records now others size more =
       After-is a o (record { owner = Some t; count = 1; entry = []; waits = [] }) (after_enter t (monitor_of (seen a) o)) (record a { records = records; vacant = vacant }) (ap (after_enter t) (sym (unused_is a o was)))
-      (After-open a (record a { records = records; vacant = vacant }) kept o slot was taken [] [] nothing (Some (record { thread = t; count = 1 })) now others more len capacity refl refl refl)
+      (After-open a (record a { records = records; vacant = vacant }) kept o slot was taken [] [] nothing (Some (record { thread = t; count = 1 })) now others (size ∙ ap (λ x. hash_map_len a.records + (if is_some x then 0 else 1)) was) more len capacity refl refl refl)
 
   -- a thread count_in up
-  pub line_up_opens : (t : ℕ) (records : Records) (lists : Lists) → get nat_eq records o ≡ Some (record { owner = None; slot = slot }) → KeepsRecords (get nat_eq a.records) (get nat_eq records) o → spare a.records ≤ spare records + 1 → lists ≡ record a.lists { lists = push a.lists.lists (entry_of slot) (t ∷ []) } → After a o (after_line_up t (monitor_of (seen a) o)) (record a { records = records; vacant = vacant; lists = lists })
-  line_up_opens t records lists now others more e =
+  pub line_up_opens : (t : ℕ) (records : Records) (lists : Lists) → get nat_eq records o ≡ Some (record { owner = None; slot = slot }) → KeepsRecords (get nat_eq a.records) (get nat_eq records) o → hash_map_len records ≡ hash_map_len a.records + (if is_some (get nat_eq a.records o) then 0 else 1) → spare a.records ≤ spare records + 1 → lists ≡ record a.lists { lists = push a.lists.lists (entry_of slot) (t ∷ []) } → After a o (after_line_up t (monitor_of (seen a) o)) (record a { records = records; vacant = vacant; lists = lists })
+  line_up_opens t records lists now others size more e =
       subst (λ (ls : Lists). After a o (after_line_up t (monitor_of (seen a) o)) (record a { records = records; vacant = vacant; lists = ls })) (sym e)
       (After-is a o (record { owner = None; count = 0; entry = t ∷ []; waits = [] }) (after_line_up t (monitor_of (seen a) o)) (record a { records = records; vacant = vacant; lists = record a.lists { lists = push a.lists.lists (entry_of slot) (t ∷ []) } }) (ap (after_line_up t) (sym (unused_is a o was)))
       (After-open a (record a { records = records; vacant = vacant; lists = record a.lists { lists = push a.lists.lists (entry_of slot) (t ∷ []) } }) kept o slot was taken (t ∷ []) []
-      (Slotted-push a.lists.lists a.lists.lists slot [] [] (t ∷ []) slot_inside nothing) None now others more len capacity refl refl refl))
+      (Slotted-push a.lists.lists a.lists.lists slot [] [] (t ∷ []) slot_inside nothing) None now others (size ∙ ap (λ x. hash_map_len a.records + (if is_some x then 0 else 1)) was) more len capacity refl refl refl))
 
 -- a thread that is in a list of a monitor: that is in use
 pub in_line_used : (a : Inside) (o t : ℕ) → get nat_eq a.records o ≡ None → IsInLine t (monitor_of (seen a) o) → ⊥

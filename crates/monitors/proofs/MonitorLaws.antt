@@ -1,7 +1,7 @@
 -- What contracts see of the records and lists after each kind of change.
 use Rattle.std.proofs.Common.{◌≡◌, ◌+◌, ◌<◌, ◌≤◌, ℕ, false, List, [], ◌∷◌, ◌++◌, Option, Some, None, length, nat_eq, inl, inr, sym, ◌∙◌, ap, subst, refl, arith, unwrap_or, vec_len}
 use Rattle.std.specs.Option.{option_map}
-use Rattle.std.specs.HashMap.{get, spare}
+use Rattle.std.specs.HashMap.{get, hash_map_len, spare}
 use Rattle.std.specs.Global.{Vec}
 use Rattle.std.specs.Vec.{vec_capacity}
 use Rattle.std.proofs.lemmas.Map.Made.{lookup-map_values}
@@ -51,13 +51,14 @@ After-is a o m n b e after = subst (λ x. After a o x b) e after
 
 -- a monitor in use, of which the owner and the two lists change
 module _ (a b : Inside) (kept : IsKept a) (o : ℕ) (r : Record) (was : get nat_eq a.records o ≡ Some r) (entry waits : List ℕ) (slotted : Slotted a.lists.lists b.lists.lists r.slot entry waits) where
-  pub After-change : (owner : Option Owner) → get nat_eq b.records o ≡ Some (record r { owner = owner }) → KeepsRecords (get nat_eq a.records) (get nat_eq b.records) o → spare a.records ≤ spare b.records + 1 → b.vacant ≡ a.vacant → b.slots ≡ a.slots → b.lists.threads ≡ a.lists.threads → is_free (record { owner = thread_of owner; count = count_of owner; entry = entry; waits = waits }) ≡ false → After a o (record { owner = thread_of owner; count = count_of owner; entry = entry; waits = waits }) b
-  After-change owner now others more vacant slots threads used =
+  pub After-change : (owner : Option Owner) → get nat_eq b.records o ≡ Some (record r { owner = owner }) → KeepsRecords (get nat_eq a.records) (get nat_eq b.records) o → hash_map_len b.records ≡ hash_map_len a.records → spare a.records ≤ spare b.records + 1 → b.vacant ≡ a.vacant → b.slots ≡ a.slots → b.lists.threads ≡ a.lists.threads → is_free (record { owner = thread_of owner; count = count_of owner; entry = entry; waits = waits }) ≡ false → After a o (record { owner = thread_of owner; count = count_of owner; entry = entry; waits = waits }) b
+  After-change owner now others size more vacant slots threads used =
       record {
         kept = record {
           fits = subst (λ (v : Vec ℕ). Fits (get nat_eq b.records) v.items b.lists.lists) (sym vacant) (Fits-changes (get nat_eq a.records) (get nat_eq b.records) a.vacant.items a.lists.lists b.lists.lists o r (record r { owner = owner }) kept.fits change);
           slots = omega (arith, kept.slots, slots, slotted.size);
           capacity = omega (arith, kept.capacity, slots, ap (λ (v : Vec ℕ). vec_capacity v) vacant);
+          whole = omega (arith, kept.whole, size, slots, ap (λ (v : Vec ℕ). vec_len v) vacant);
         };
         becomes = record {
           changed = monitor_is b o ∙ read-changed (get nat_eq a.records) (get nat_eq b.records) a.vacant.items a.lists.lists b.lists.lists o r (record r { owner = owner }) kept.fits change ∙ reads;
@@ -76,13 +77,14 @@ module _ (a b : Inside) (kept : IsKept a) (o : ℕ) (r : Record) (was : get nat_
 
 -- a monitor comes into use
 module _ (a b : Inside) (kept : IsKept a) (o slot : ℕ) (was : get nat_eq a.records o ≡ None) (taken : a.vacant.items ≡ b.vacant.items ++ slot ∷ []) (entry waits : List ℕ) (slotted : Slotted a.lists.lists b.lists.lists slot entry waits) where
-  pub After-open : (owner : Option Owner) → get nat_eq b.records o ≡ Some (record { owner = owner; slot = slot }) → KeepsRecords (get nat_eq a.records) (get nat_eq b.records) o → spare a.records ≤ spare b.records + 1 → vec_len a.vacant ≡ vec_len b.vacant + 1 → vec_capacity b.vacant ≡ vec_capacity a.vacant → b.slots ≡ a.slots → b.lists.threads ≡ a.lists.threads → is_free (record { owner = thread_of owner; count = count_of owner; entry = entry; waits = waits }) ≡ false → After a o (record { owner = thread_of owner; count = count_of owner; entry = entry; waits = waits }) b
-  After-open owner now others more len capacity slots threads used =
+  pub After-open : (owner : Option Owner) → get nat_eq b.records o ≡ Some (record { owner = owner; slot = slot }) → KeepsRecords (get nat_eq a.records) (get nat_eq b.records) o → hash_map_len b.records ≡ hash_map_len a.records + 1 → spare a.records ≤ spare b.records + 1 → vec_len a.vacant ≡ vec_len b.vacant + 1 → vec_capacity b.vacant ≡ vec_capacity a.vacant → b.slots ≡ a.slots → b.lists.threads ≡ a.lists.threads → is_free (record { owner = thread_of owner; count = count_of owner; entry = entry; waits = waits }) ≡ false → After a o (record { owner = thread_of owner; count = count_of owner; entry = entry; waits = waits }) b
+  After-open owner now others size more len capacity slots threads used =
       record {
         kept = record {
           fits = Fits-opens (get nat_eq a.records) (get nat_eq b.records) a.vacant.items b.vacant.items a.lists.lists b.lists.lists o (record { owner = owner; slot = slot }) kept.fits opens;
           slots = omega (arith, kept.slots, slots, slotted.size);
           capacity = omega (arith, kept.capacity, slots, capacity);
+          whole = omega (arith, kept.whole, size, slots, len);
         };
         becomes = record {
           changed = monitor_is b o ∙ read-opened (get nat_eq a.records) (get nat_eq b.records) a.vacant.items b.vacant.items a.lists.lists b.lists.lists o (record { owner = owner; slot = slot }) kept.fits opens ∙ reads;
@@ -101,14 +103,15 @@ module _ (a b : Inside) (kept : IsKept a) (o slot : ℕ) (was : get nat_eq a.rec
 
 -- a monitor falls free
 module _ (a b : Inside) (kept : IsKept a) (o : ℕ) (r : Record) (was : get nat_eq a.records o ≡ Some r) where
-  pub After-close : get nat_eq b.records o ≡ None → KeepsRecords (get nat_eq a.records) (get nat_eq b.records) o → spare a.records ≤ spare b.records → b.vacant.items ≡ a.vacant.items ++ r.slot ∷ [] → vec_len b.vacant ≡ vec_len a.vacant + 1 → vec_capacity b.vacant ≡ vec_capacity a.vacant → b.slots ≡ a.slots → b.lists ≡ a.lists → list_at a.lists.lists (entry_of r.slot) ≡ [] → list_at a.lists.lists (waits_of r.slot) ≡ [] → After a o free b
-  After-close now others more vacant len capacity slots lists entry waits =
+  pub After-close : get nat_eq b.records o ≡ None → KeepsRecords (get nat_eq a.records) (get nat_eq b.records) o → hash_map_len b.records + 1 ≡ hash_map_len a.records → spare a.records ≤ spare b.records → b.vacant.items ≡ a.vacant.items ++ r.slot ∷ [] → vec_len b.vacant ≡ vec_len a.vacant + 1 → vec_capacity b.vacant ≡ vec_capacity a.vacant → b.slots ≡ a.slots → b.lists ≡ a.lists → list_at a.lists.lists (entry_of r.slot) ≡ [] → list_at a.lists.lists (waits_of r.slot) ≡ [] → After a o free b
+  After-close now others size more vacant len capacity slots lists entry waits =
       record {
         kept = record {
           fits = subst (λ (ls : Lists). Fits (get nat_eq b.records) b.vacant.items ls.lists) (sym lists)
               (subst (λ xs. Fits (get nat_eq b.records) xs a.lists.lists) (sym vacant) (Fits-closes (get nat_eq a.records) (get nat_eq b.records) a.vacant.items a.lists.lists o r kept.fits closes));
           slots = omega (arith, kept.slots, slots, ap (λ (ls : Lists). length ls.lists) lists);
           capacity = omega (arith, kept.capacity, slots, capacity);
+          whole = omega (arith, kept.whole, size, slots, len);
         };
         becomes = record {
           changed = monitor_is b o ∙ ap (λ (ls : Lists). read (get nat_eq b.records) ls.lists o) lists ∙ read-closed (get nat_eq a.records) (get nat_eq b.records) a.vacant.items a.lists.lists o r kept.fits closes;

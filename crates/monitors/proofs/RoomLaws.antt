@@ -1,7 +1,7 @@
 -- What stays when slots are made.
 use Rattle.std.proofs.Common.{◌≡◌, ◌+◌, ◌*◌, ◌<◌, ◌≤◌, ◌⊎◌, ℕ, zero, suc, List, [], ◌∷◌, ◌++◌, Option, Some, None, inl, inr, length, length-append, nat_eq, sym, ◌∙◌, ap, subst, refl, arith, unwrap_or, vec_len, get_or}
 use Rattle.std.specs.Global.{Vec}
-use Rattle.std.specs.HashMap.{get}
+use Rattle.std.specs.HashMap.{get, hash_map_len}
 use Rattle.std.specs.Option.{option_map}
 use Rattle.std.specs.Vec.{vec_capacity}
 use Rattle.std.proofs.lemmas.Bool.{cases_eq, cases_lt}
@@ -82,6 +82,7 @@ Grows-same vacant vacant' n lists items len capacity size room =
       longer = omega arith;
       threads = refl;
       len = omega arith;
+      more = omega arith;
     }
 
 pub Grows-one : (vacant vacant' : Vec ℕ) (n : ℕ) (lists lists' : Lists) → vacant'.items ≡ vacant.items ++ n ∷ [] → vec_len vacant' ≡ vec_len vacant + 1 → n + 1 ≤ vec_capacity vacant' → 2 * n ≡ length lists.lists → lists' ≡ record lists { lists = lists.lists ++ [] ∷ [] ∷ [] } → Grows vacant n lists vacant' (n + 1) lists'
@@ -94,6 +95,7 @@ Grows-one vacant vacant' n lists lists' items len room size e =
       longer = omega (arith, length-append lists.lists ([] ∷ [] ∷ []));
       threads = refl;
       len = omega arith;
+      more = omega arith;
     })
 
 pub Grows-trans : (u v w : Vec ℕ) (i j k : ℕ) (a b c : Lists) → Grows u i a v j b → Grows v j b w k c → Grows u i a w k c
@@ -106,16 +108,18 @@ Grows-trans u v w i j k a b c g h =
       longer = omega (arith, g.longer, h.longer);
       threads = h.threads ∙ g.threads;
       len = omega (arith, g.len, h.len);
+      more = omega (arith, g.more, h.more);
     }
 
 -- monitors stay when there are more slots
-module _ (a b : Inside) (kept : IsKept a) (same : (o : ℕ) → get nat_eq b.records o ≡ get nat_eq a.records o) (grows : Grows a.vacant a.slots a.lists b.vacant b.slots b.lists) where
+module _ (a b : Inside) (kept : IsKept a) (same : (o : ℕ) → get nat_eq b.records o ≡ get nat_eq a.records o) (size : hash_map_len b.records ≡ hash_map_len a.records) (grows : Grows a.vacant a.slots a.lists b.vacant b.slots b.lists) where
   pub room-kept : IsKept b
   room-kept =
       record {
         fits = grows.fits (get nat_eq b.records) (subst (λ (records : ℕ → Option Record). Fits records a.vacant.items a.lists.lists) (λ i o. sym (same o) i) kept.fits);
         slots = grows.slots;
         capacity = grows.capacity;
+        whole = omega (arith, kept.whole, grows.len, grows.more, size);
       }
 
   pub room-monitor : (o : ℕ) → monitor_of (seen b) o ≡ monitor_of (seen a) o

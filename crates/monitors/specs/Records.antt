@@ -1,6 +1,6 @@
 -- How monitors are kept: those in use have a record, and each record has a slot, with two lists of threads.
 use Rattle.std.specs.Prelude.{◌≡◌, ◌≤◌, ◌<◌, ◌+◌, ◌*◌, ◌⊎◌, ℕ, false, List, [], Option, None, Some, length, map, min, nat_eq, vec_len}
-use Rattle.std.specs.HashMap.{get, spare}
+use Rattle.std.specs.HashMap.{get, hash_map_len, spare}
 use Rattle.std.specs.Vec.{vec_capacity}
 use Rattle.monitors.specs.declared.records.Owner.{Owner}
 use Rattle.monitors.specs.declared.records.Record.{Record}
@@ -51,7 +51,7 @@ pub record IsUsed (records : ℕ → Option Record) (k : ℕ) : Type 0 where
   pub here : records object ≡ Some found
   pub list : (k ≡ entry_of found.slot) ⊎ (k ≡ waits_of found.slot)
 
--- each slot is one record's or vacant, the lists of a vacant slot are empty, and no record is of a monitor that is free
+-- no slot is two records', or one's and vacant; the lists of a vacant slot are empty; no record is of a monitor that is free
 pub record Fits (records : ℕ → Option Record) (vacant : List ℕ) (lists : List (List ℕ)) : Type 0 where
   pub inside : (o : ℕ) (r : Record) → records o ≡ Some r → waits_of r.slot < length lists
   pub apart : (o p : ℕ) (r q : Record) → records o ≡ Some r → records p ≡ Some q → r.slot ≡ q.slot → o ≡ p
@@ -63,10 +63,12 @@ pub record Fits (records : ℕ → Option Record) (vacant : List ℕ) (lists : L
   pub used : (k t : ℕ) → k < length lists → 0 < count t (list_at lists k) → IsUsed records k
   pub in_use : (o : ℕ) (r : Record) → records o ≡ Some r → is_free (known lists r) ≡ false
 
+-- no slot is lost: each is one record's or vacant
 pub record IsKept (a : Inside) : Type 0 where
   pub fits : Fits (get nat_eq a.records) a.vacant.items a.lists.lists
   pub slots : 2 * a.slots ≡ length a.lists.lists
   pub capacity : a.slots ≤ vec_capacity a.vacant
+  pub whole : hash_map_len a.records + vec_len a.vacant ≡ a.slots
 
 -- from n slots on more were made, which are vacant, up to n', and all else stays
 pub record Grows (vacant : Vec ℕ) (n : ℕ) (lists : Lists) (vacant' : Vec ℕ) (n' : ℕ) (lists' : Lists) : Type 0 where
@@ -76,4 +78,5 @@ pub record Grows (vacant : Vec ℕ) (n : ℕ) (lists : Lists) (vacant' : Vec ℕ
   pub keeps : (k : ℕ) → k < length lists.lists → list_at lists'.lists k ≡ list_at lists.lists k
   pub longer : length lists.lists ≤ length lists'.lists
   pub threads : lists'.threads ≡ lists.threads
-  pub len : vec_len vacant ≤ vec_len vacant'
+  pub len : n + vec_len vacant' ≡ n' + vec_len vacant
+  pub more : n ≤ n'

@@ -1,5 +1,5 @@
-ghost use Rattle.std.specs.Prelude.{◌≡◌, ◌≢◌, ◌+◌, ◌*◌, ◌<◌, ◌≤◌, ◌^◌, ◌&&◌, ℕ, None, Some, [], ◌∷◌, ◌++◌, length, nat_eq, not, vec_len, IfErr, IfOk, OnOk};
-ghost use Rattle.std.specs.HashMap.{get, spare};
+ghost use Rattle.std.specs.Prelude.{◌≡◌, ◌≢◌, ◌+◌, ◌*◌, ◌<◌, ◌≤◌, ◌^◌, ◌&&◌, ℕ, None, Some, [], ◌∷◌, ◌++◌, if◌then◌else◌, is_some, length, nat_eq, not, vec_len, IfErr, IfOk, OnOk};
+ghost use Rattle.std.specs.HashMap.{get, hash_map_len, spare};
 ghost use Rattle.std.specs.Option.{option_and_then, option_map_or};
 ghost use Rattle.std.specs.Vec.{vec_capacity};
 ghost use Rattle.thread_lists.specs.Lists.{list_at};
@@ -140,6 +140,8 @@ pub fn put(records: &mut HashMap<u32, Record>, o: u32, new: Record)
     requires { get nat_eq records.old o ≡ None → 0 < spare records.old }
     ensures now { get nat_eq records.new o ≡ Some new }
     ensures others { (p : ℕ) → p ≢ o → get nat_eq records.new p ≡ get nat_eq records.old p }
+    ensures len { hash_map_len records.new ≡
+        hash_map_len records.old + (if is_some (get nat_eq records.old o) then 0 else 1) }
     ensures spare { spare records.old ≤ spare records.new + 1 }
 {
     let Ok(_) = records.insert(o, new) else {
@@ -151,6 +153,8 @@ pub fn put(records: &mut HashMap<u32, Record>, o: u32, new: Record)
 pub fn drop_record(records: &mut HashMap<u32, Record>, o: u32)
     ensures now { get nat_eq records.new o ≡ None }
     ensures others { (p : ℕ) → p ≢ o → get nat_eq records.new p ≡ get nat_eq records.old p }
+    ensures len { hash_map_len records.new + (if is_some (get nat_eq records.old o) then 1 else 0)
+        ≡ hash_map_len records.old }
     ensures spare { spare records.old ≤ spare records.new }
 {
     let _ = records.remove(&o);

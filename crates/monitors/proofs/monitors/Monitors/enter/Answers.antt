@@ -8,7 +8,7 @@ use Rattle.monitors.proofs.monitors.Monitors.enter.Goals as goal
 
 pub invariant_of-self : goal.invariant_of-self
 invariant_of-self c =
-    (enter_opens c.self.inside c.self.invariant c.args.o c.take_slot-slot.result (sym c.find.ensures ∙ c.in_default.is) c.take_slot-slot.new.vacant c.take_slot-slot.ensures.items c.take_slot-slot.ensures.len c.take_slot-slot.ensures.capacity c.args.t c.put.new.records (c.put.ensures.now ∙ ap Some c.owned_by.ensures) c.put.ensures.others c.put.ensures.spare).kept
+    (enter_opens c.self.inside c.self.invariant c.args.o c.take_slot-slot.result (sym c.find.ensures ∙ c.in_default.is) c.take_slot-slot.new.vacant c.take_slot-slot.ensures.items c.take_slot-slot.ensures.len c.take_slot-slot.ensures.capacity c.args.t c.put.new.records (c.put.ensures.now ∙ ap Some c.owned_by.ensures) c.put.ensures.others c.put.ensures.len c.put.ensures.spare).kept
 
 pub returns-in_default-clause-entered : goal.returns-in_default-clause-entered
 returns-in_default-clause-entered c =
@@ -16,7 +16,7 @@ returns-in_default-clause-entered c =
 
 pub returns-in_default-clause-monitor : goal.returns-in_default-clause-monitor
 returns-in_default-clause-monitor c =
-    rw (← c.self.view_is) (enter_opens c.self.inside c.self.invariant c.args.o c.take_slot-slot.result (sym c.find.ensures ∙ c.in_default.is) c.take_slot-slot.new.vacant c.take_slot-slot.ensures.items c.take_slot-slot.ensures.len c.take_slot-slot.ensures.capacity c.args.t c.put.new.records (c.put.ensures.now ∙ ap Some c.owned_by.ensures) c.put.ensures.others c.put.ensures.spare).becomes
+    rw (← c.self.view_is) (enter_opens c.self.inside c.self.invariant c.args.o c.take_slot-slot.result (sym c.find.ensures ∙ c.in_default.is) c.take_slot-slot.new.vacant c.take_slot-slot.ensures.items c.take_slot-slot.ensures.len c.take_slot-slot.ensures.capacity c.args.t c.put.new.records (c.put.ensures.now ∙ ap Some c.owned_by.ensures) c.put.ensures.others c.put.ensures.len c.put.ensures.spare).becomes
 
 pub push-requires-clause-free : goal.push-requires-clause-free
 push-requires-clause-free c =
@@ -47,7 +47,7 @@ overflow_add-count c =
 
 pub invariant_of-self-2 : goal.invariant_of-self-2
 invariant_of-self-2 c =
-    (enter_takes c.self.inside c.self.invariant c.args.o c.in-Some.kept (sym c.find.ensures ∙ c.in-Some.is) c.args.t (c.count.result + 1) c.put-2.new.records (sym c.is_taken.ensures ∙ c.if-is_taken.false) (ap (λ n. n + 1) c.count.ensures) (c.put-2.ensures.now ∙ ap Some c.owned_by-2.ensures) c.put-2.ensures.others c.put-2.ensures.spare).kept
+    (enter_takes c.self.inside c.self.invariant c.args.o c.in-Some.kept (sym c.find.ensures ∙ c.in-Some.is) c.args.t (c.count.result + 1) c.put-2.new.records (sym c.is_taken.ensures ∙ c.if-is_taken.false) (ap (λ n. n + 1) c.count.ensures) (c.put-2.ensures.now ∙ ap Some c.owned_by-2.ensures) c.put-2.ensures.others c.put-2.ensures.len c.put-2.ensures.spare).kept
 
 pub returns-clause-entered : goal.returns-clause-entered
 returns-clause-entered c =
@@ -58,4 +58,4 @@ returns-clause-entered c =
 pub returns-clause-monitor : goal.returns-clause-monitor
 returns-clause-monitor c =
     rw (← c.self.view_is)
-    (enter_takes c.self.inside c.self.invariant c.args.o c.in-Some.kept (sym c.find.ensures ∙ c.in-Some.is) c.args.t (c.count.result + 1) c.put-2.new.records (sym c.is_taken.ensures ∙ c.if-is_taken.false) (ap (λ n. n + 1) c.count.ensures) (c.put-2.ensures.now ∙ ap Some c.owned_by-2.ensures) c.put-2.ensures.others c.put-2.ensures.spare).becomes
+    (enter_takes c.self.inside c.self.invariant c.args.o c.in-Some.kept (sym c.find.ensures ∙ c.in-Some.is) c.args.t (c.count.result + 1) c.put-2.new.records (sym c.is_taken.ensures ∙ c.if-is_taken.false) (ap (λ n. n + 1) c.count.ensures) (c.put-2.ensures.now ∙ ap Some c.owned_by-2.ensures) c.put-2.ensures.others c.put-2.ensures.len c.put-2.ensures.spare).becomes

@@ -16,7 +16,7 @@ returns-in_err-kept-clause-owner c =
 
 pub invariant_of-self : goal.invariant_of-self
 invariant_of-self c =
-    (call.exit_lowers c.self.inside c.self.invariant c.args.o c.in_ok-kept.kept c.in_ok-kept.ensures.found c.args.t (c.count-then-count-gt1.result - 1) c.put.new.records c.in_ok-kept.ensures.owner (lt-ltb 1 (count_of c.in_ok-kept.kept.owner) (omega (arith, c.count.ensures, c.if-count-gt1.true))) (ap (λ n. n - 1) c.count-then-count-gt1.ensures) (c.put.ensures.now ∙ ap Some c.owned_by.ensures) c.put.ensures.others c.put.ensures.spare).kept
+    (call.exit_lowers c.self.inside c.self.invariant c.args.o c.in_ok-kept.kept c.in_ok-kept.ensures.found c.args.t (c.count-then-count-gt1.result - 1) c.put.new.records c.in_ok-kept.ensures.owner (lt-ltb 1 (count_of c.in_ok-kept.kept.owner) (omega (arith, c.count.ensures, c.if-count-gt1.true))) (ap (λ n. n - 1) c.count-then-count-gt1.ensures) (c.put.ensures.now ∙ ap Some c.owned_by.ensures) c.put.ensures.others c.put.ensures.len c.put.ensures.spare).kept
 
 pub returns-then-count-gt1-clause-owner : goal.returns-then-count-gt1-clause-owner
 returns-then-count-gt1-clause-owner c =
@@ -28,7 +28,7 @@ returns-then-count-gt1-clause-woken c =
 
 pub returns-then-count-gt1-clause-ok : goal.returns-then-count-gt1-clause-ok
 returns-then-count-gt1-clause-ok c =
-    rw (← c.self.view_is) (call.exit_lowers c.self.inside c.self.invariant c.args.o c.in_ok-kept.kept c.in_ok-kept.ensures.found c.args.t (c.count-then-count-gt1.result - 1) c.put.new.records c.in_ok-kept.ensures.owner (lt-ltb 1 (count_of c.in_ok-kept.kept.owner) (omega (arith, c.count.ensures, c.if-count-gt1.true))) (ap (λ n. n - 1) c.count-then-count-gt1.ensures) (c.put.ensures.now ∙ ap Some c.owned_by.ensures) c.put.ensures.others c.put.ensures.spare).becomes
+    rw (← c.self.view_is) (call.exit_lowers c.self.inside c.self.invariant c.args.o c.in_ok-kept.kept c.in_ok-kept.ensures.found c.args.t (c.count-then-count-gt1.result - 1) c.put.new.records c.in_ok-kept.ensures.owner (lt-ltb 1 (count_of c.in_ok-kept.kept.owner) (omega (arith, c.count.ensures, c.if-count-gt1.true))) (ap (λ n. n - 1) c.count-then-count-gt1.ensures) (c.put.ensures.now ∙ ap Some c.owned_by.ensures) c.put.ensures.others c.put.ensures.len c.put.ensures.spare).becomes
 
 pub push_reserved-requires : goal.push_reserved-requires
 push_reserved-requires c =
@@ -36,7 +36,7 @@ push_reserved-requires c =
 
 pub invariant_of-self-then-is_deserted : goal.invariant_of-self-then-is_deserted
 invariant_of-self-then-is_deserted c =
-    (call.exit_closes c.self.inside c.self.invariant c.args.o c.in_ok-kept.kept c.in_ok-kept.ensures.found c.drop_record.new.records c.push_reserved.new.self (le-ltb 1 (count_of c.in_ok-kept.kept.owner) (omega (arith, c.count.ensures, c.if-count-gt1.false))) (sym c.is_deserted.ensures ∙ c.if-is_deserted.true) c.drop_record.ensures.now c.drop_record.ensures.others c.drop_record.ensures.spare c.push_reserved.ensures.items c.push_reserved.ensures.len c.push_reserved.ensures.capacity).kept
+    (call.exit_closes c.self.inside c.self.invariant c.args.o c.in_ok-kept.kept c.in_ok-kept.ensures.found c.drop_record.new.records c.push_reserved.new.self (le-ltb 1 (count_of c.in_ok-kept.kept.owner) (omega (arith, c.count.ensures, c.if-count-gt1.false))) (sym c.is_deserted.ensures ∙ c.if-is_deserted.true) c.drop_record.ensures.now c.drop_record.ensures.others c.drop_record.ensures.len c.drop_record.ensures.spare c.push_reserved.ensures.items c.push_reserved.ensures.len c.push_reserved.ensures.capacity).kept
 
 pub returns-then-is_deserted-clause-owner : goal.returns-then-is_deserted-clause-owner
 returns-then-is_deserted-clause-owner c =
@@ -48,11 +48,11 @@ returns-then-is_deserted-clause-woken c =
 
 pub returns-then-is_deserted-clause-ok : goal.returns-then-is_deserted-clause-ok
 returns-then-is_deserted-clause-ok c =
-    rw (← c.self.view_is) (call.exit_closes c.self.inside c.self.invariant c.args.o c.in_ok-kept.kept c.in_ok-kept.ensures.found c.drop_record.new.records c.push_reserved.new.self (le-ltb 1 (count_of c.in_ok-kept.kept.owner) (omega (arith, c.count.ensures, c.if-count-gt1.false))) (sym c.is_deserted.ensures ∙ c.if-is_deserted.true) c.drop_record.ensures.now c.drop_record.ensures.others c.drop_record.ensures.spare c.push_reserved.ensures.items c.push_reserved.ensures.len c.push_reserved.ensures.capacity).becomes
+    rw (← c.self.view_is) (call.exit_closes c.self.inside c.self.invariant c.args.o c.in_ok-kept.kept c.in_ok-kept.ensures.found c.drop_record.new.records c.push_reserved.new.self (le-ltb 1 (count_of c.in_ok-kept.kept.owner) (omega (arith, c.count.ensures, c.if-count-gt1.false))) (sym c.is_deserted.ensures ∙ c.if-is_deserted.true) c.drop_record.ensures.now c.drop_record.ensures.others c.drop_record.ensures.len c.drop_record.ensures.spare c.push_reserved.ensures.items c.push_reserved.ensures.len c.push_reserved.ensures.capacity).becomes
 
 pub invariant_of-self-2 : goal.invariant_of-self-2
 invariant_of-self-2 c =
-    (call.exit_leaves c.self.inside c.self.invariant c.args.o c.in_ok-kept.kept c.in_ok-kept.ensures.found c.put-2.new.records (le-ltb 1 (count_of c.in_ok-kept.kept.owner) (omega (arith, c.count.ensures, c.if-count-gt1.false))) (sym c.is_deserted.ensures ∙ c.if-is_deserted.false) (c.put-2.ensures.now ∙ ap Some c.without_owner.ensures) c.put-2.ensures.others c.put-2.ensures.spare).kept
+    (call.exit_leaves c.self.inside c.self.invariant c.args.o c.in_ok-kept.kept c.in_ok-kept.ensures.found c.put-2.new.records (le-ltb 1 (count_of c.in_ok-kept.kept.owner) (omega (arith, c.count.ensures, c.if-count-gt1.false))) (sym c.is_deserted.ensures ∙ c.if-is_deserted.false) (c.put-2.ensures.now ∙ ap Some c.without_owner.ensures) c.put-2.ensures.others c.put-2.ensures.len c.put-2.ensures.spare).kept
 
 pub returns-clause-owner : goal.returns-clause-owner
 returns-clause-owner c =
@@ -64,4 +64,4 @@ returns-clause-woken c =
 
 pub returns-clause-ok : goal.returns-clause-ok
 returns-clause-ok c =
-    rw (← c.self.view_is) (call.exit_leaves c.self.inside c.self.invariant c.args.o c.in_ok-kept.kept c.in_ok-kept.ensures.found c.put-2.new.records (le-ltb 1 (count_of c.in_ok-kept.kept.owner) (omega (arith, c.count.ensures, c.if-count-gt1.false))) (sym c.is_deserted.ensures ∙ c.if-is_deserted.false) (c.put-2.ensures.now ∙ ap Some c.without_owner.ensures) c.put-2.ensures.others c.put-2.ensures.spare).becomes
+    rw (← c.self.view_is) (call.exit_leaves c.self.inside c.self.invariant c.args.o c.in_ok-kept.kept c.in_ok-kept.ensures.found c.put-2.new.records (le-ltb 1 (count_of c.in_ok-kept.kept.owner) (omega (arith, c.count.ensures, c.if-count-gt1.false))) (sym c.is_deserted.ensures ∙ c.if-is_deserted.false) (c.put-2.ensures.now ∙ ap Some c.without_owner.ensures) c.put-2.ensures.others c.put-2.ensures.len c.put-2.ensures.spare).becomes

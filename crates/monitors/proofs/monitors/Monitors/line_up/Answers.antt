@@ -19,11 +19,11 @@ push-requires-clause-free c =
 
 pub invariant_of-self : goal.invariant_of-self
 invariant_of-self c =
-    (call.line_up_opens c.self.inside c.self.invariant c.args.o c.take_slot-slot.result (sym c.find.ensures ∙ c.in_default.is) c.take_slot-slot.new.vacant c.take_slot-slot.ensures.items c.take_slot-slot.ensures.len c.take_slot-slot.ensures.capacity c.args.t c.put.new.records c.push.new.self c.put.ensures.now c.put.ensures.others c.put.ensures.spare (c.push.ensures ∙ ap (λ k. record c.self.inside.lists { lists = push c.self.inside.lists.lists k (c.args.t ∷ []) }) c.entry.ensures)).kept
+    (call.line_up_opens c.self.inside c.self.invariant c.args.o c.take_slot-slot.result (sym c.find.ensures ∙ c.in_default.is) c.take_slot-slot.new.vacant c.take_slot-slot.ensures.items c.take_slot-slot.ensures.len c.take_slot-slot.ensures.capacity c.args.t c.put.new.records c.push.new.self c.put.ensures.now c.put.ensures.others c.put.ensures.len c.put.ensures.spare (c.push.ensures ∙ ap (λ k. record c.self.inside.lists { lists = push c.self.inside.lists.lists k (c.args.t ∷ []) }) c.entry.ensures)).kept
 
 pub returns-in_default : goal.returns-in_default
 returns-in_default c =
-    rw (← c.self.view_is) (call.line_up_opens c.self.inside c.self.invariant c.args.o c.take_slot-slot.result (sym c.find.ensures ∙ c.in_default.is) c.take_slot-slot.new.vacant c.take_slot-slot.ensures.items c.take_slot-slot.ensures.len c.take_slot-slot.ensures.capacity c.args.t c.put.new.records c.push.new.self c.put.ensures.now c.put.ensures.others c.put.ensures.spare (c.push.ensures ∙ ap (λ k. record c.self.inside.lists { lists = push c.self.inside.lists.lists k (c.args.t ∷ []) }) c.entry.ensures)).becomes
+    rw (← c.self.view_is) (call.line_up_opens c.self.inside c.self.invariant c.args.o c.take_slot-slot.result (sym c.find.ensures ∙ c.in_default.is) c.take_slot-slot.new.vacant c.take_slot-slot.ensures.items c.take_slot-slot.ensures.len c.take_slot-slot.ensures.capacity c.args.t c.put.new.records c.push.new.self c.put.ensures.now c.put.ensures.others c.put.ensures.len c.put.ensures.spare (c.push.ensures ∙ ap (λ k. record c.self.inside.lists { lists = push c.self.inside.lists.lists k (c.args.t ∷ []) }) c.entry.ensures)).becomes
 
 pub push-requires-2-clause-free : goal.push-requires-2-clause-free
 push-requires-2-clause-free c =

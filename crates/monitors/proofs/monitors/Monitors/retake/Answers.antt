@@ -19,7 +19,7 @@ remove-requires-clause-held c =
 
 pub invariant_of-self : goal.invariant_of-self
 invariant_of-self c =
-    (call.retake_takes c.self.inside c.self.invariant c.args.o c.in-Some.kept (sym c.find.ensures ∙ c.in-Some.is) c.args.t c.args.count c.put.new.records c.remove.new.self (c.put.ensures.now ∙ ap Some c.owned_by.ensures) c.put.ensures.others c.put.ensures.spare
+    (call.retake_takes c.self.inside c.self.invariant c.args.o c.in-Some.kept (sym c.find.ensures ∙ c.in-Some.is) c.args.t c.args.count c.put.new.records c.remove.new.self (c.put.ensures.now ∙ ap Some c.owned_by.ensures) c.put.ensures.others c.put.ensures.len c.put.ensures.spare
     (c.remove.ensures ∙ ap (λ k. record c.self.inside.lists { lists = set c.self.inside.lists.lists k (without c.args.t (list_at c.self.inside.lists.lists k)) }) c.entry.ensures)).kept
 
 pub returns-clause-taken : goal.returns-clause-taken
@@ -28,5 +28,5 @@ returns-clause-taken c =
 
 pub returns-clause-yes : goal.returns-clause-yes
 returns-clause-yes c =
-    rw (← c.self.view_is) (call.retake_takes c.self.inside c.self.invariant c.args.o c.in-Some.kept (sym c.find.ensures ∙ c.in-Some.is) c.args.t c.args.count c.put.new.records c.remove.new.self (c.put.ensures.now ∙ ap Some c.owned_by.ensures) c.put.ensures.others c.put.ensures.spare
+    rw (← c.self.view_is) (call.retake_takes c.self.inside c.self.invariant c.args.o c.in-Some.kept (sym c.find.ensures ∙ c.in-Some.is) c.args.t c.args.count c.put.new.records c.remove.new.self (c.put.ensures.now ∙ ap Some c.owned_by.ensures) c.put.ensures.others c.put.ensures.len c.put.ensures.spare
     (c.remove.ensures ∙ ap (λ k. record c.self.inside.lists { lists = set c.self.inside.lists.lists k (without c.args.t (list_at c.self.inside.lists.lists k)) }) c.entry.ensures)).becomes
