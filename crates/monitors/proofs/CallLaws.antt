@@ -1,21 +1,22 @@
 -- What each call leaves of the monitor that it changes.
-use Rattle.std.proofs.Common.{◌≡◌, ◌+◌, ◌-◌, ◌<◌, ◌≤◌, ◌&&◌, ℕ, Bool, true, false, List, [], ◌∷◌, ◌++◌, Option, Some, None, append-nil, drop, if◌then◌else◌, is_none, is_some, add-zero, not, length, length-append, nat_eq, nat_lt, set, slice_get, take, sym, ◌∙◌, ap, subst, refl, arith, inl, inr, vec_len}
+use Rattle.std.proofs.Common.{◌≡◌, ◌+◌, ◌-◌, ◌<◌, ◌≤◌, ◌&&◌, ◌==◌, ◌↔◌, ℕ, Bool, true, false, List, [], ◌∷◌, ◌++◌, Option, Some, None, append-nil, drop, if◌then◌else◌, is_none, is_some, add-zero, not, length, length-append, nat_eq, nat_lt, set, slice_get, take, sym, ◌∙◌, ap, subst, refl, arith, inl, inr, vec_len}
 use Rattle.std.specs.declared.hash.BuildHasherDefault.{BuildHasherDefault}
 use Rattle.std.specs.declared.hash.FoldHasher.{FoldHasher}
 use Rattle.std.specs.Global.{Vec}
 use Rattle.std.specs.HashMap.{HashMap, get, hash_map_len, spare}
 use Rattle.std.specs.Option.{option_and_then}
 use Rattle.std.specs.Vec.{vec_capacity}
-use Rattle.std.proofs.lemmas.Bool.{cases_eq, cases_lt}
-use Rattle.thread_lists.specs.Lists.{Lists, append, count, list_at, push, without}
-use Rattle.thread_lists.proofs.CountLaws.{count-append, count-other, count-same, length-le, without-first}
+use Rattle.std.proofs.lemmas.Bool.{cases_eq, cases_lt, eq-eqb}
+use Rattle.std.proofs.lemmas.Bool.Decides.{nat_tests}
+use Rattle.thread_lists.specs.Lists.{Lists, append, count, list_at, push, total, without}
+use Rattle.thread_lists.proofs.CountLaws.{count-append, count-other, count-same, length-le, total-le, without-first}
 use Rattle.monitors.specs.declared.records.Owner.{Owner}
 use Rattle.monitors.specs.declared.records.Record.{Record}
 use Rattle.monitors.specs.declared.monitors.Monitors.TheInside.{Inside}
-use Rattle.monitors.specs.Monitors.{IsInLine, IsWaiting, Monitor, after_enter, after_exit, after_leave_wait, after_line_up, after_notify, after_notify_all, after_retake, after_wait, free, is_empty, is_free, is_taken, monitor_of}
+use Rattle.monitors.specs.Monitors.{InNoList, IsInLine, IsWaiting, Monitor, after_enter, after_exit, after_leave_wait, after_line_up, after_notify, after_notify_all, after_retake, after_wait, free, is_empty, is_free, is_taken, count_in, monitor_of}
 use Rattle.monitors.specs.Records.{IsKept, count_of, entry_of, seen, thread_of, waits_of}
 use Rattle.monitors.proofs.ListLaws.{Slotted, Slotted-entry, Slotted-push, Slotted-same, Slotted-wait, Slotted-waits}
-use Rattle.monitors.proofs.MonitorLaws.{After, After-change, After-close, After-is, After-open, in_use_is, unused_is}
+use Rattle.monitors.proofs.MonitorLaws.{After, After-change, After-close, After-is, After-open, free_thread, in_use_is, unused_is}
 use Rattle.monitors.proofs.RecordLaws.{KeepsRecords}
 
 abbrev pub Records : Type 0
@@ -283,3 +284,19 @@ vacant_has_room a kept o r was =
           | inl h ↦ absurd (omega (arith, kept.fits.vacant_inside slot h, kept.slots))
           | inr z ↦ omega (arith, after slot, count-other slot r.slot [] here, z)
         ]
+
+-- whether a thread is in a list of a monitor
+pub holds_is : (a : Inside) → IsKept a → (t : ℕ) (holds : Bool) → holds ≡ not (total (count t) a.lists.lists == 0) → (holds ≡ false) ↔ InNoList (seen a) t
+holds_is a kept t holds e = (
+  λ h. λ o. in_none (no_total h) o (get nat_eq a.records o) refl,
+  λ none. e ∙ ap not (eq-eqb (total (count t) a.lists.lists) 0 (free_thread a kept t none)),
+)
+  where
+    no_total : holds ≡ false → total (count t) a.lists.lists ≡ 0
+    no_total h = grind (arith, nat_tests)
+
+    in_none : total (count t) a.lists.lists ≡ 0 → (o : ℕ) (x : Option Record) → get nat_eq a.records o ≡ x → count_in t (monitor_of (seen a) o) ≡ 0
+    in_none zero_of o None i = ap (count_in t) (unused_is a o i)
+    in_none zero_of o (Some r) i =
+        let inside = kept.fits.inside o r i in
+        ap (count_in t) (in_use_is a o r i) ∙ omega (arith, zero_of, total-le t a.lists.lists (entry_of r.slot) (omega (arith, inside)), total-le t a.lists.lists (waits_of r.slot) inside)

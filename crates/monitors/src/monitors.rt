@@ -1,9 +1,10 @@
-ghost use Rattle.std.specs.Prelude.{◌≡◌, ◌≢◌, ◌<◌, ◌≤◌, ◌+◌, ◌^◌, ℕ, [], All, if◌then◌else◌, is_none, length, slice_get, IfOk, OnErr, OnOk};
+ghost use Rattle.std.specs.Prelude.{◌≡◌, ◌≢◌, ◌↔◌, ◌<◌, ◌≤◌, ◌+◌, ◌^◌, ℕ, [], All, if◌then◌else◌, is_none, length, slice_get, IsFalse, IfOk, OnErr, OnOk};
 ghost use Rattle.std.specs.Bool.{OnFalse, OnTrue};
 ghost use Rattle.monitors.specs.Monitors.{Becomes, InNoList, IsByOwner, IsInLine, IsInUse, IsWaiting, after_enter, after_exit, after_leave_wait, after_line_up, after_notify, after_notify_all, after_retake, after_wait, is_taken, count_in, monitor_of, woken_by_exit};
 
 use crate::records::{
-    NotOwner, Record, add_slots, drop_record, find, find_owned, is_deserted, put, take_slot,
+    NotOwner, Record, add_slots, drop_record, find, find_owned, first_in_line, first_waiter,
+    is_deserted, put, take_slot,
 };
 use items::NoMemory;
 use std::alloc::Global;
@@ -83,6 +84,13 @@ impl Monitors {
     {
         self.lists.once();
         let _ = self.records.len();
+    }
+
+    /// Whether a thread is in a list of a monitor.
+    pub fn holds(&self, t: u32) -> bool
+        ensures { IsFalse result ↔ InNoList self.now t }
+    {
+        self.lists.holds(t)
     }
 
     /// The owner of a monitor.
@@ -183,8 +191,9 @@ impl Monitors {
     {
         self.lists.once();
         let kept = find_owned(&self.records, o, t)?;
-        if kept.count() > 1 {
-            put(&mut self.records, o, kept.owned_by(t, kept.count() - 1));
+        let left = kept.count().saturating_sub(1);
+        if left > 0 {
+            put(&mut self.records, o, kept.owned_by(t, left));
             return Ok(None);
         }
         if is_deserted(&self.lists, kept) {
@@ -193,7 +202,7 @@ impl Monitors {
             return Ok(None);
         }
         put(&mut self.records, o, kept.without_owner());
-        Ok(self.lists.first(kept.entry()))
+        Ok(first_in_line(&self.lists, kept))
     }
 
     /// The owner leaves a monitor wholly and waits to be notified (JLS 17.2.1). The answer is how often it had entered the
@@ -210,7 +219,7 @@ impl Monitors {
     {
         self.lists.once();
         let kept = find_owned(&self.records, o, t)?;
-        let next = self.lists.first(kept.entry());
+        let next = first_in_line(&self.lists, kept);
         self.lists.push(kept.waits(), t);
         put(&mut self.records, o, kept.without_owner());
         Ok((kept.count(), next))
@@ -226,7 +235,7 @@ impl Monitors {
     {
         self.lists.once();
         let kept = find_owned(&self.records, o, t)?;
-        let Some(waiter) = self.lists.first(kept.waits()) else {
+        let Some(waiter) = first_waiter(&self.lists, kept) else {
             return Ok(None);
         };
         self.lists.move_last(kept.waits(), kept.entry(), waiter);

@@ -2,7 +2,7 @@ ghost use Rattle.std.specs.Prelude.{◌≡◌, ◌≢◌, ◌+◌, ◌*◌, ◌<
 ghost use Rattle.std.specs.HashMap.{get, hash_map_len, spare};
 ghost use Rattle.std.specs.Option.{option_and_then, option_map_or};
 ghost use Rattle.std.specs.Vec.{vec_capacity};
-ghost use Rattle.thread_lists.specs.Lists.{list_at};
+ghost use Rattle.thread_lists.specs.Lists.{first, list_at};
 ghost use Rattle.monitors.specs.Monitors.{is_empty, is_taken};
 ghost use Rattle.monitors.specs.Records.{Grows, count_of, entry_of, thread_of, waits_of};
 
@@ -101,6 +101,24 @@ impl Record {
     }
 }
 
+/// The first thread that waits to take a monitor.
+pub fn first_in_line(lists: &ThreadLists, kept: Record) -> Option<u32>
+    requires inside { waits_of kept.slot < length lists.now.lists }
+    requires fits { waits_of kept.slot < 2 ^ 32 }
+    ensures { result ≡ first lists.now.lists (entry_of kept.slot) }
+{
+    lists.first(kept.entry())
+}
+
+/// The first thread that waits to be notified.
+pub fn first_waiter(lists: &ThreadLists, kept: Record) -> Option<u32>
+    requires inside { waits_of kept.slot < length lists.now.lists }
+    requires fits { waits_of kept.slot < 2 ^ 32 }
+    ensures { result ≡ first lists.now.lists (waits_of kept.slot) }
+{
+    lists.first(kept.waits())
+}
+
 /// Whether no thread is in a list of a monitor.
 pub fn is_deserted(lists: &ThreadLists, kept: Record) -> bool
     requires inside { waits_of kept.slot < length lists.now.lists }
@@ -108,7 +126,7 @@ pub fn is_deserted(lists: &ThreadLists, kept: Record) -> bool
     ensures { result ≡ (is_empty (list_at lists.now.lists (entry_of kept.slot))
         && is_empty (list_at lists.now.lists (waits_of kept.slot))) }
 {
-    lists.first(kept.entry()).is_none() && lists.first(kept.waits()).is_none()
+    first_in_line(lists, kept).is_none() && first_waiter(lists, kept).is_none()
 }
 
 /// The record of an object's monitor, where that is in use.

@@ -1,6 +1,6 @@
 use Rattle.std.proofs.Common.{ap, subst, sym, ◌∙◌, Some, [], ◌∷◌, slice_get}
 use Rattle.std.proofs.lemmas.Result.{err_from_is_err_and}
-use Rattle.thread_lists.specs.Lists.{first, push}
+use Rattle.thread_lists.specs.Lists.{push}
 use Rattle.monitors.specs.Monitors.{InNoList, IsByOwner, Monitor, Monitors, monitor_of}
 use Rattle.monitors.proofs.CallLaws as call
 use Rattle.monitors.proofs.MonitorLaws.{free_thread, in_use_is}
@@ -30,7 +30,7 @@ returns-clause-count c =
 
 pub returns-clause-woken : goal.returns-clause-woken
 returns-clause-woken c =
-    rw (← c.self.view_is) (c.first-next.ensures ∙ ap (first c.self.inside.lists.lists) c.entry.ensures ∙ sym (ap (λ (m : Monitor). slice_get m.entry 0) (in_use_is c.self.inside c.args.o c.in_ok-kept.kept c.in_ok-kept.ensures.found)))
+    rw (← c.self.view_is) (c.first_in_line-next.ensures ∙ sym (ap (λ (m : Monitor). slice_get m.entry 0) (in_use_is c.self.inside c.args.o c.in_ok-kept.kept c.in_ok-kept.ensures.found)))
 
 pub returns-clause-ok : goal.returns-clause-ok
 returns-clause-ok c =
