@@ -1,0 +1,4 @@
+pub mod Java
+pub mod TraceText
+pub mod Parsing
+pub mod FirstBadLine

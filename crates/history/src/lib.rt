@@ -1,0 +1,15 @@
+//! Histories: entries, which of them the Java program can tell, and their text.
+#![tactic(auto)]
+
+mod entry;
+mod error;
+mod java_part;
+mod kept;
+mod line_parser;
+mod printer;
+
+pub use entry::{Entry, What};
+pub use error::TraceError;
+pub use java_part::java;
+pub use kept::Kept;
+pub use printer::print;
