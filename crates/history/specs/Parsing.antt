@@ -42,12 +42,14 @@ field_at most bytes = do
   rest ← after (codes " ") bytes
   number_at most rest
 
+-- none, where these bytes are left behind its mark, or else a thread
+abbrev pub pick_by : Option (List ℕ) → List ℕ → Option (Option ℕ × List ℕ)
+pick_by (Some rest) bytes = Some (None, rest)
+pick_by None bytes = field_at most32 bytes >>= λ t. Some (Some t.0, t.1)
+
 -- a space, and the number of a thread or a minus sign for none
 abbrev pub pick_at : List ℕ → Option (Option ℕ × List ℕ)
-pick_at bytes = elim (after (codes " -") bytes) [
-    | Some rest ↦ Some (None, rest)
-    | None ↦ (field_at most32 bytes >>= λ t. Some (Some t.0, t.1))
-  ]
+pick_at bytes = pick_by (after (codes " -") bytes) bytes
 
 -- the fields of a step: the thread, the number of steps, and the pick
 abbrev pub step_at : List ℕ → Option (What × List ℕ)

@@ -1,0 +1,3 @@
+pub mod Tests
+pub mod NumberLaws
+pub mod LineLaws
