@@ -101,7 +101,7 @@ code_of (Unmount t) = 85
 code_of (Step t n pick) = 83
 code_of (Clock now) = 67
 
-letter_is : (w : What) → letter w ≡ code_of w ∷ []
+pub letter_is : (w : What) → letter w ≡ code_of w ∷ []
 letter_is (Mount t) = refl
 letter_is (Unmount t) = refl
 letter_is (Step t n pick) = refl

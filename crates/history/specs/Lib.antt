@@ -2,3 +2,4 @@ pub mod Java
 pub mod TraceText
 pub mod Parsing
 pub mod FirstBadLine
+pub mod Reading

@@ -7,9 +7,11 @@ mod java_part;
 mod kept;
 mod line_parser;
 mod printer;
+mod reader;
 
 pub use entry::{Entry, What};
 pub use error::TraceError;
 pub use java_part::java;
 pub use kept::Kept;
 pub use printer::print;
+pub use reader::read;
