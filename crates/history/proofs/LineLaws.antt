@@ -1,5 +1,5 @@
 -- Each part of a trace text is read from just its bytes.
-use Rattle.std.proofs.Common.{◌≡◌, ◌≢◌, ℕ, ◌^◌, ◌<◌, ◌≤◌, Bool, true, false, cond, List, [], ◌∷◌, ◌++◌, length, take, drop, Option, Some, None, refl, sym, ap, subst, ◌∙◌, append_assoc, arith, inl, inr, eqb}
+use Rattle.std.proofs.Common.{◌≡◌, ◌≢◌, ℕ, ◌^◌, ◌<◌, ◌≤◌, true, false, cond, List, [], ◌∷◌, ◌++◌, length, take, drop, Option, Some, None, refl, sym, ap, subst, ◌∙◌, append_assoc, arith, inl, inr, eqb}
 use Rattle.std.specs.Prelude.{decimal, codes, nat_eq}
 use Rattle.std.specs.Cmp.Lexicographic.{pointwise, same_text}
 use Rattle.std.proofs.lemmas.Bool.{eqb-true, eqb-false, eq-eqb}
@@ -11,7 +11,7 @@ use Rattle.history.specs.declared.entry.What.{What}
 use Rattle.history.specs.declared.entry.What.TheVariants.{Mount, Unmount, Step, Clock}
 use Rattle.history.specs.TraceText.{field, newline, letter, pick_field, fields, line, first_line, last_line, IsPick, IsWhat, IsEntry}
 use Rattle.history.specs.Parsing.{after, number_at, most32, most64, field_at, pick_by, pick_at, step_at, what_at, entry_at, first_line_at, last_line_at}
-use Rattle.history.proofs.Tests.{bool_cases, some_is, bind_is, cond_some, cond_none, some, some_same, none}
+use Rattle.history.proofs.Tests.{bool_cases, some_is, bind_is, cond_some, cond_none, some_same}
 use Rattle.history.proofs.NumberLaws.{Stops, number_takes, number_again}
 
 three_parts : (a b c rest : List ℕ) → (a ++ (b ++ c)) ++ rest ≡ a ++ (b ++ (c ++ rest))
@@ -112,23 +112,25 @@ pub record TakesWhat (code : ℕ) (bytes : List ℕ) (x : What × List ℕ) : Ty
   pub parts : bytes ≡ fields x.0 ++ x.1
   pub is_what : IsWhat x.0
 
+-- a step whose fields were taken one after the other
+step_made : (bytes : List ℕ) (t : ℕ) (behind : List ℕ) (n : ℕ) (after_steps : List ℕ) (pick : Option ℕ) (rest : List ℕ) → (bytes ≡ field t ++ behind) × (t < 2 ^ 32)
+    → (behind ≡ field n ++ after_steps) × (n < 2 ^ 32) → TakesPick after_steps (pick, rest) → eqb n 0 ≡ false → TakesWhat 83 bytes (Step t n pick, rest)
+step_made bytes t behind n after_steps pick rest one two three some_steps =
+    let more : n ≢ 0 = eqb-false _ _ some_steps in
+    record {
+      code_is = refl;
+      parts = one.0 ∙ ap (λ (s : List ℕ). field t ++ s) (two.0 ∙ ap (λ (s : List ℕ). field n ++ s) three.0) ∙ sym (three_parts (field t) (field n) (pick_field pick) rest);
+      is_what = (one.1, omega arith, two.1, three.1);
+    }
+
 step_takes : (bytes : List ℕ) (x : What × List ℕ) → step_at bytes ≡ Some x → TakesWhat 83 bytes x
 step_takes bytes x e =
     let thread = some_is (field_at most32 bytes) (λ t. field_at most32 t.1 >>= λ n. pick_at n.1 >>= λ p. cond (eqb n.0 0) None (Some (Step t.0 n.0 p.0, p.1))) x e in
     let steps = some_is (field_at most32 thread.0.1) (λ n. pick_at n.1 >>= λ p. cond (eqb n.0 0) None (Some (Step thread.0.0 n.0 p.0, p.1))) x thread.2 in
     let pick = some_is (pick_at steps.0.1) (λ p. cond (eqb steps.0.0 0) None (Some (Step thread.0.0 steps.0.0 p.0, p.1))) x steps.2 in
     let some_steps = cond_none (eqb steps.0.0 0) (Some (Step thread.0.0 steps.0.0 pick.0.0, pick.0.1)) x pick.2 in
-    let one = short_takes bytes thread.0 thread.1 in
-    let two = short_takes thread.0.1 steps.0 steps.1 in
-    let three = pick_takes steps.0.1 pick.0 pick.1 in
-    let more : steps.0.0 ≢ 0 = eqb-false _ _ some_steps.0 in
-    let regroup = three_parts (field thread.0.0) (field steps.0.0) (pick_field pick.0.0) pick.0.1 in
-    subst (TakesWhat 83 bytes) (some_same (Step thread.0.0 steps.0.0 pick.0.0, pick.0.1) x some_steps.1)
-    (record {
-      code_is = refl;
-      parts = one.0 ∙ ap (λ (t : List ℕ). field thread.0.0 ++ t) (two.0 ∙ ap (λ (t : List ℕ). field steps.0.0 ++ t) three.0) ∙ sym regroup;
-      is_what = (one.1, omega arith, two.1, three.1);
-    })
+    subst (TakesWhat 83 bytes) (some_same _ x some_steps.1)
+    (step_made bytes thread.0.0 thread.0.1 steps.0.0 steps.0.1 pick.0.0 pick.0.1 (short_takes bytes thread.0 thread.1) (short_takes thread.0.1 steps.0 steps.1) (pick_takes steps.0.1 pick.0 pick.1) some_steps.0)
 
 step_again : (t n : ℕ) (pick : Option ℕ) (rest : List ℕ) → IsWhat (Step t n pick) → Stops rest → step_at (fields (Step t n pick) ++ rest) ≡ Some (Step t n pick, rest)
 step_again t n pick rest is stop =
@@ -151,24 +153,24 @@ what_takes code bytes x e =
           let n = short_takes bytes s.0 s.1 in
           subst (TakesWhat code bytes) (some_same (Mount s.0.0, s.0.1) x s.2) (record { code_is = eqb-true _ _ mount; parts = n.0; is_what = n.1 })
       | inr no_mount ↦ elim (bool_cases (eqb code 85)) [
-          | inl unmount ↦
-              let f : (field_at most32 bytes >>= λ t. Some (Unmount t.0, t.1)) ≡ Some x = rw (no_mount, unmount) at e in
-              let s = some_is (field_at most32 bytes) (λ t. Some (Unmount t.0, t.1)) x f in
-              let n = short_takes bytes s.0 s.1 in
-              subst (TakesWhat code bytes) (some_same (Unmount s.0.0, s.0.1) x s.2) (record { code_is = eqb-true _ _ unmount; parts = n.0; is_what = n.1 })
-          | inr no_unmount ↦ elim (bool_cases (eqb code 83)) [
-              | inl step ↦
-                  let f : step_at bytes ≡ Some x = rw (no_mount, no_unmount, step) at e in
-                  let t = step_takes bytes x f in
-                  record { code_is = eqb-true _ _ step ∙ t.code_is; parts = t.parts; is_what = t.is_what }
-              | inr no_step ↦
-                  let g : cond (eqb code 67) (field_at most64 bytes >>= λ now. Some (Clock now.0, now.1)) None ≡ Some x = rw (no_mount, no_unmount, no_step) at e in
-                  let clock = cond_some (eqb code 67) (field_at most64 bytes >>= λ now. Some (Clock now.0, now.1)) x g in
-                  let s = some_is (field_at most64 bytes) (λ now. Some (Clock now.0, now.1)) x clock.1 in
-                  let n = long_takes bytes s.0 s.1 in
-                  subst (TakesWhat code bytes) (some_same (Clock s.0.0, s.0.1) x s.2) (record { code_is = eqb-true _ _ clock.0; parts = n.0; is_what = n.1 })
-            ]
+        | inl unmount ↦
+            let f : (field_at most32 bytes >>= λ t. Some (Unmount t.0, t.1)) ≡ Some x = rw (no_mount, unmount) at e in
+            let s = some_is (field_at most32 bytes) (λ t. Some (Unmount t.0, t.1)) x f in
+            let n = short_takes bytes s.0 s.1 in
+            subst (TakesWhat code bytes) (some_same (Unmount s.0.0, s.0.1) x s.2) (record { code_is = eqb-true _ _ unmount; parts = n.0; is_what = n.1 })
+        | inr no_unmount ↦ elim (bool_cases (eqb code 83)) [
+          | inl step ↦
+              let f : step_at bytes ≡ Some x = rw (no_mount, no_unmount, step) at e in
+              let t = step_takes bytes x f in
+              record { code_is = eqb-true _ _ step ∙ t.code_is; parts = t.parts; is_what = t.is_what }
+          | inr no_step ↦
+              let g : cond (eqb code 67) (field_at most64 bytes >>= λ now. Some (Clock now.0, now.1)) None ≡ Some x = rw (no_mount, no_unmount, no_step) at e in
+              let clock = cond_some (eqb code 67) (field_at most64 bytes >>= λ now. Some (Clock now.0, now.1)) x g in
+              let s = some_is (field_at most64 bytes) (λ now. Some (Clock now.0, now.1)) x clock.1 in
+              let n = long_takes bytes s.0 s.1 in
+              subst (TakesWhat code bytes) (some_same (Clock s.0.0, s.0.1) x s.2) (record { code_is = eqb-true _ _ clock.0; parts = n.0; is_what = n.1 })
         ]
+      ]
     ]
 
 what_again : (w : What) (rest : List ℕ) → IsWhat w → Stops rest → what_at (code_of w) (fields w ++ rest) ≡ Some (w, rest)
@@ -198,8 +200,8 @@ entry_takes (code ∷ bytes) x e =
     let first : letter what.0.0 ≡ code ∷ [] = letter_is what.0.0 ∙ ap (λ (k : ℕ). k ∷ []) (sym two.code_is) in
     let rest_is = one.0 ∙ ap (λ (t : List ℕ). field carrier.0.0 ++ t) (two.parts ∙ ap (λ (t : List ℕ). fields what.0.0 ++ t) three) in
     let parts : (code ∷ bytes) ≡ line made.0 ++ made.1 =
-        (λ i. code ∷ rest_is i) ∙ ap (λ (t : List ℕ). t ++ (field carrier.0.0 ++ (fields what.0.0 ++ (newline ++ end.0)))) (sym first)
-        ∙ sym (four_parts (letter what.0.0) (field carrier.0.0) (fields what.0.0) newline end.0) in
+    (λ i. code ∷ rest_is i) ∙ ap (λ (t : List ℕ). t ++ (field carrier.0.0 ++ (fields what.0.0 ++ (newline ++ end.0)))) (sym first)
+    ∙ sym (four_parts (letter what.0.0) (field carrier.0.0) (fields what.0.0) newline end.0) in
     subst (λ (y : Entry × List ℕ). ((code ∷ bytes) ≡ line y.0 ++ y.1) × IsEntry y.0) (some_same made x end.2) (parts, record { carrier = one.1; what = two.is_what })
 
 pub entry_again : (e : Entry) (rest : List ℕ) → IsEntry e → entry_at (line e ++ rest) ≡ Some (e, rest)
@@ -209,7 +211,7 @@ entry_again e rest is =
     let code = code_of w in
     let end : Option (Entry × List ℕ) = Some (e, rest) in
     let parts : line e ++ rest ≡ code ∷ (field c ++ (fields w ++ (newline ++ rest))) =
-        four_parts (letter w) (field c) (fields w) newline rest ∙ ap (λ (t : List ℕ). t ++ (field c ++ (fields w ++ (newline ++ rest)))) (letter_is w) in
+    four_parts (letter w) (field c) (fields w) newline rest ∙ ap (λ (t : List ℕ). t ++ (field c ++ (fields w ++ (newline ++ rest)))) (letter_is w) in
     ap entry_at parts
     ∙ bind_is (field_at most32 (field c ++ (fields w ++ (newline ++ rest)))) (λ x. what_at code x.1 >>= λ y. after (codes "\n") y.1 >>= λ behind. Some (record { carrier = x.0; what = y.0 }, behind)) (c, fields w ++ (newline ++ rest)) end
     (short_again c (fields w ++ (newline ++ rest)) is.carrier (what_stops w (newline ++ rest)))
@@ -226,7 +228,7 @@ first_line_takes text x e =
     let two = short_takes behind.0 carriers.0 carriers.1 in
     let three = after_takes (codes "\n") carriers.0.1 end.0 end.1 in
     let parts = one ∙ ap (λ (t : List ℕ). codes "jvt-trace carriers" ++ t) (two.0 ∙ ap (λ (t : List ℕ). field carriers.0.0 ++ t) three)
-        ∙ sym (three_parts (codes "jvt-trace carriers") (field carriers.0.0) newline end.0) in
+    ∙ sym (three_parts (codes "jvt-trace carriers") (field carriers.0.0) newline end.0) in
     subst (λ (y : ℕ × List ℕ). (text ≡ first_line y.0 ++ y.1) × (y.0 < 2 ^ 32)) (some_same (carriers.0.0, end.0) x end.2) (parts, two.1)
 
 pub first_line_again : (c : ℕ) (rest : List ℕ) → c < 2 ^ 32 → first_line_at (first_line c ++ rest) ≡ Some (c, rest)

@@ -1,7 +1,7 @@
 -- A number is read from just its decimal digits.
-use Rattle.std.proofs.Common.{◌≡◌, ◌≢◌, ℕ, ◌+◌, ◌-◌, ◌*◌, ◌/◌, ◌%◌, ◌^◌, ◌<◌, ◌≤◌, Bool, true, false, cond, List, [], ◌∷◌, ◌++◌, Option, Some, None, refl, sym, ap, subst, ◌∙◌, append_assoc, arith, inl, inr, eqb, leb}
+use Rattle.std.proofs.Common.{◌≡◌, ◌≢◌, ℕ, ◌+◌, ◌-◌, ◌*◌, ◌/◌, ◌%◌, ◌^◌, ◌<◌, ◌≤◌, true, false, cond, List, [], ◌∷◌, ◌++◌, Some, None, refl, sym, ap, subst, ◌∙◌, append_assoc, arith, inl, inr, eqb, leb}
 use Rattle.std.specs.Prelude.{decimal}
-use Rattle.std.proofs.lemmas.Bool.{leb-true, le-leb, eqb-true, eqb-false, eq-eqb}
+use Rattle.std.proofs.lemmas.Bool.{leb-true, le-leb, eqb-true, eqb-false}
 use Rattle.std.proofs.lemmas.Bool.Decides.{nat_tests}
 use Rattle.std.proofs.lemmas.Fmt.{decimal_digit, decimal_step, decimal_by_steps}
 use Rattle.items.specs.Options.{◌>>=◌}
@@ -81,6 +81,7 @@ digits_again most n big = decimal_by_steps (λ m ds. 0 < m → m ≤ most → (r
         let value : 0 * 10 + (48 + m - 48) ≡ m = omega arith in
         let fits : leb m most ≡ true = le-leb _ _ low in
         rw (other, digit, value, fits) refl
+
     more : (m : ℕ) (ds : List ℕ) → 10 ≤ m → (0 < m / 10 → m / 10 ≤ most → (rest : List ℕ) → number_at most (ds ++ rest) ≡ digits_from most (m / 10) rest)
         → 0 < m → m ≤ most → (rest : List ℕ) → number_at most ((ds ++ ((48 + m % 10) ∷ [])) ++ rest) ≡ digits_from most m rest
     more m ds large before positive low rest =

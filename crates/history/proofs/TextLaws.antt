@@ -1,6 +1,6 @@
 -- A trace text is the text of one history.
-use Rattle.std.proofs.Common.{◌≡◌, ℕ, suc, ◌+◌, ◌^◌, ◌<◌, ◌≤◌, List, [], ◌∷◌, ◌++◌, length, Option, Some, None, refl, sym, ap, subst, ◌∙◌, append_assoc, arith, length-append, append-nil}
-use Rattle.std.proofs.Common.{Bool, true, false, eqb}
+use Rattle.std.proofs.Common.{◌≡◌, ℕ, ◌+◌, ◌^◌, ◌<◌, ◌≤◌, List, [], ◌∷◌, ◌++◌, length, Option, Some, None, refl, sym, ap, subst, ◌∙◌, append_assoc, arith, length-append, append-nil}
+use Rattle.std.proofs.Common.{true, false, eqb}
 use Rattle.std.specs.List.{flat_map}
 use Rattle.std.proofs.lemmas.Bool.{eqb-true}
 use Rattle.std.proofs.lemmas.Bool.Decides.{nat_tests}
@@ -38,9 +38,9 @@ lines_same (x ∷ xs) [] a b p q e f g =
     absurd cc
 lines_same (x ∷ xs) (y ∷ es) a b p q e f g =
     let here : some (x, flat_map line xs ++ a) ≡ Some (y, flat_map line es ++ b) =
-        sym (entry_again x (flat_map line xs ++ a) p.0)
-        ∙ ap entry_at (sym (append_assoc (line x) (flat_map line xs) a) ∙ e ∙ append_assoc (line y) (flat_map line es) b)
-        ∙ entry_again y (flat_map line es ++ b) q.0 in
+    sym (entry_again x (flat_map line xs ++ a) p.0)
+    ∙ ap entry_at (sym (append_assoc (line x) (flat_map line xs) a) ∙ e ∙ append_assoc (line y) (flat_map line es) b)
+    ∙ entry_again y (flat_map line es ++ b) q.0 in
     let both = some_same (x, flat_map line xs ++ a) (y, flat_map line es ++ b) here in
     let rest = lines_same xs es a b p.1 q.1 (ap (λ (t : Entry × List ℕ). t.1) both) f g in
     ((λ i. (both i).0 ∷ rest.0 i), rest.1)
@@ -169,3 +169,9 @@ entry_more lines es new rest e behind h is pushed =
     let takes = entry_takes rest (e, behind) (sym is) in
     let parts : lines ≡ flat_map line (es ++ e ∷ []) ++ behind = h.0 ∙ ap (λ (t : List ℕ). flat_map line es ++ t) takes.0 ∙ sym (line_more es e behind) in
     subst (λ (xs : List Entry). (lines ≡ flat_map line xs ++ behind) × AreEntries xs) (sym pushed) (parts, are_entries_push es e h.1 takes.1)
+
+-- a text is that of one history at most
+pub one_text : (c d : ℕ) (es fs : List Entry) → c < 2 ^ 32 → d < 2 ^ 32 → AreEntries es → AreEntries fs → trace_text c es ≡ trace_text d fs → (c ≡ d) × (es ≡ fs)
+one_text c d es fs small low are be e =
+    let both : (c, flat_map line es ++ last_line (length es)) ≡ (d, flat_map line fs ++ last_line (length fs)) = some_same _ _ (sym (trace_begins (trace_text c es) c es small refl) ∙ trace_begins (trace_text c es) d fs low e) in
+    (ap (λ (t : ℕ × List ℕ). t.0) both, (lines_same es fs (last_line (length es)) (last_line (length fs)) are be (ap (λ (t : ℕ × List ℕ). t.1) both) refl refl).0)

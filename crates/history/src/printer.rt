@@ -3,8 +3,8 @@ ghost use Rattle.std.specs.List.{flat_map};
 ghost use Rattle.history.specs.TraceText.{field, pick_field, fields, line, trace_text, newline};
 
 use crate::entry::{Entry, What};
-use itoa::{Buffer, Integer};
 use items::NoMemory;
+use itoa::{Buffer, Integer};
 use std::alloc::{AllocError, Global};
 
 /// The text of a history of so many carriers (own).

@@ -1,6 +1,4 @@
-use Rattle.std.proofs.Common.{◌≡◌, ◌<◌, ◌+◌, ℕ, List, [], length, Some, None, Err, refl, sym, ap, subst, ◌∙◌, arith, rules}
-use Rattle.history.specs.TraceText.{trace_text}
-use Rattle.history.specs.Parsing.{last_line_at}
+use Rattle.std.proofs.Common.{◌≡◌, ◌+◌, ℕ, length, sym, subst, arith, rules}
 use Rattle.history.specs.FirstBadLine.{IsFirstBadLine}
 use Rattle.history.specs.FirstBadLine.IsFirstBadLine.{first, next, last}
 use Rattle.history.proofs.TextLaws.{no_first_line, begins, entries_below, trace_same, trace_ends, no_next_line, goes_on, is_trace, not_empty, no_more, at_end}
