@@ -11,7 +11,8 @@ use Rattle.history.specs.declared.entry.What.{What}
 use Rattle.history.specs.declared.entry.What.TheVariants.{Mount, Unmount, Step, Clock}
 use Rattle.history.specs.TraceText.{field, newline, letter, pick_field, fields, line, first_line, last_line, IsPick, IsWhat, IsEntry}
 use Rattle.history.specs.Parsing.{after, number_at, most32, most64, field_at, pick_by, pick_at, step_at, what_at, entry_at, first_line_at, last_line_at}
-use Rattle.history.proofs.Tests.{bool_cases, some_is, bind_is, cond_some, cond_none, some_same}
+use Rattle.items.proofs.Binds.{some_is, bind_is}
+use Rattle.history.proofs.Tests.{bool_cases, cond_some, cond_none, some_same}
 use Rattle.history.proofs.NumberLaws.{Stops, number_takes, number_again}
 
 three_parts : (a b c rest : List ℕ) → (a ++ (b ++ c)) ++ rest ≡ a ++ (b ++ (c ++ rest))

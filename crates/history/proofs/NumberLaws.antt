@@ -6,7 +6,8 @@ use Rattle.std.proofs.lemmas.Bool.Decides.{nat_tests}
 use Rattle.std.proofs.lemmas.Fmt.{decimal_digit, decimal_step, decimal_by_steps}
 use Rattle.items.specs.Options.{◌>>=◌}
 use Rattle.history.specs.Parsing.{is_digit, with_digit, digits_from, number_at}
-use Rattle.history.proofs.Tests.{bool_cases, some_is, cond_some, some, some_same}
+use Rattle.items.proofs.Binds.{some_is}
+use Rattle.history.proofs.Tests.{bool_cases, cond_some, some, some_same}
 
 digit_range : (b : ℕ) → is_digit b ≡ true → (48 ≤ b) × (b ≤ 57)
 digit_range b h = grind (arith, nat_tests)

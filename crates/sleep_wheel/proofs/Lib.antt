@@ -1,0 +1,4 @@
+pub mod OrderLaws
+pub mod SlotLaws
+pub mod AlarmLaws
+pub mod DueLaws
