@@ -1,18 +1,17 @@
 -- The heap of alarms through each change.
-use Rattle.std.proofs.Common.{◌≡◌, ◌≢◌, ℕ, zero, suc, ◌<◌, ◌≤◌, Bool, true, false, List, [], ◌∷◌, ◌++◌, length, get_or, Option, Some, None, refl, sym, ap, subst, ◌∙◌, ◌⊎◌, inl, inr, arith, leb, ltb, eqb}
-use Rattle.std.specs.Prelude.{slice_set, IsPermutation, Contains, IfSome, IfNone}
-use Rattle.std.specs.Ordering.{is_lt}
+use Rattle.std.proofs.Common.{◌≡◌, ℕ, ◌<◌, ◌≤◌, false, List, [], ◌∷◌, length, get_or, Option, Some, None, refl, sym, ap, subst, ◌∙◌, inl, inr, arith, leb, eqb}
+use Rattle.std.specs.Prelude.{slice_set, IsPermutation, IfSome, IfNone}
 use Rattle.std.specs.declared.cmp.Reverse.{Reverse}
 use Rattle.std.specs.BinaryHeap.{IsHeap, IsUpperBound, PopsGreatest}
 use Rattle.std.proofs.lemmas.List.Sorted.{Contains-permutation, length_permutation}
-use Rattle.std.proofs.lemmas.Bool.{ltb-true, eqb-true, eqb-false}
+use Rattle.std.proofs.lemmas.Bool.{eqb-true, eqb-false}
 use Rattle.std.proofs.lemmas.Bool.Decides.{nat_tests}
 use Rattle.slab.proofs.SlabLemmas.{Contains-cons, Contains-cons_cases}
 use Rattle.slab.specs.Slab.{Slab, Updates}
 use Rattle.sleep_wheel.specs.declared.sleeper.Sleeper.{Sleeper}
 use Rattle.sleep_wheel.specs.declared.alarms.Alarm.{Alarm}
-use Rattle.sleep_wheel.specs.Sleepers.{Sleepers, slot_at, is_due, IsEarliest, TakesFirst, NoneDue}
-use Rattle.sleep_wheel.specs.Alarms.{alarm_of, alarm_cmp, IsLive, Covers, IsOnTop}
+use Rattle.sleep_wheel.specs.Sleepers.{Sleepers, slot_at, IsEarliest, TakesFirst, NoneDue}
+use Rattle.sleep_wheel.specs.Alarms.{alarm_of, alarm_cmp, IsLive, Covers}
 use Rattle.sleep_wheel.proofs.OrderLaws.{first_of_all, deadline_le}
 use Rattle.sleep_wheel.proofs.SlotLaws.{slot_kept, bool_cases}
 

@@ -1,5 +1,5 @@
 -- Those that are due, taken out one after the other.
-use Rattle.std.proofs.Common.{◌≡◌, ℕ, suc, ◌+◌, ◌-◌, ◌<◌, ◌≤◌, Bool, true, false, List, [], ◌∷◌, ◌++◌, length, get_or, map, Option, Some, None, refl, sym, ap, subst, ◌∙◌, arith, length-append, append-nil, ltb}
+use Rattle.std.proofs.Common.{◌≡◌, ℕ, ◌-◌, ◌<◌, false, List, [], ◌∷◌, ◌++◌, length, get_or, map, Option, Some, None, refl, sym, ap, subst, ◌∙◌, arith, length-append, append-nil}
 use Rattle.std.specs.Prelude.{slice_set, IsPermutation, IsSorted}
 use Rattle.std.specs.List.{filter}
 use Rattle.std.specs.Ordering.{is_lt}
@@ -8,7 +8,7 @@ use Rattle.std.proofs.Math.Seq.{get_or-append_seam}
 use Rattle.std.proofs.lemmas.List.Sorted.{IsPermutation-refl, IsPermutation-pop_more}
 use Rattle.sleep_wheel.specs.declared.sleeper.Sleeper.{Sleeper}
 use Rattle.sleep_wheel.specs.Sleepers.{slot_at, values_of, sleeper_cmp, is_due, left_after, IsDueList, TakesFirst, NoneDue}
-use Rattle.sleep_wheel.proofs.OrderLaws.{sorted_push}
+use Rattle.std.proofs.lemmas.List.Kept.{IsSortedBy-push}
 use Rattle.sleep_wheel.proofs.SlotLaws.{slot_kept, filter_out, filter_none, left_of_cleared, left_of_none}
 
 abbrev pub thread_of : Sleeper → ℕ
@@ -42,7 +42,7 @@ due_more now old slots after threads more s d f pushed =
       taken = d.taken ++ s ∷ [];
       threads_are = pushed ∙ ap (λ (t : List ℕ). t ++ s.thread ∷ []) d.threads_are ∙ sym (map-append thread_of d.taken (s ∷ []));
       just_these = IsPermutation-pop_more _ d.taken _ _ s d.just_these out;
-      in_order = sorted_push (λ x y. is_lt (sleeper_cmp x y)) d.taken s d.in_order (λ e some. d.later f.key s f.here e some);
+      in_order = IsSortedBy-push (λ x y. is_lt (sleeper_cmp x y)) d.taken s d.in_order (λ e some. d.later f.key s f.here e some);
       later = λ key u here e some.
           let last : get_or (d.taken ++ s ∷ []) (length (d.taken ++ s ∷ []) - 1) e ≡ s = ap (λ (n : ℕ). get_or (d.taken ++ s ∷ []) n e) longer ∙ get_or-append_seam d.taken s [] e in
           ap (λ (x : Sleeper). is_lt (sleeper_cmp u x)) last ∙ f.first key u (slot_kept slots f.key key u here);

@@ -1,17 +1,13 @@
 -- The order of sleepers and of alarms.
-use Rattle.std.proofs.Common.{◌≡◌, ◌≢◌, ℕ, zero, suc, ◌+◌, ◌-◌, ◌<◌, ◌≤◌, Bool, true, false, cond, List, [], ◌∷◌, ◌++◌, length, get_or, refl, sym, ap, ◌∙◌, arith, inl, inr, ◌⊎◌, ltb, eqb}
+use Rattle.std.proofs.Common.{◌≡◌, ℕ, zero, suc, ◌≤◌, true, false, List, [], ◌∷◌, refl, arith, inl, inr, ltb}
 use Rattle.std.specs.Prelude.{Contains}
 use Rattle.std.specs.List.{AllByRecursion}
-use Rattle.std.specs.List.Sorted.{IsSortedBy}
 use Rattle.std.specs.Ordering.{ordering_then, is_lt, nat_cmp}
 use Rattle.std.specs.declared.cmp.Ordering.{Ordering}
 use Rattle.std.specs.declared.cmp.Ordering.TheVariants.{Less, Equal, Greater}
 use Rattle.std.specs.declared.cmp.Reverse.{Reverse}
 use Rattle.std.specs.BinaryHeap.{IsUpperBound}
 use Rattle.std.proofs.lemmas.Bool.{lt-ltb, cases_lt}
-use Rattle.std.proofs.lemmas.List.{length-append}
-use Rattle.std.proofs.Math.ListN.{get_or-append}
-use Rattle.std.proofs.Math.Seq.{get_or-append_seam}
 use Rattle.sleep_wheel.specs.declared.sleeper.Sleeper.{Sleeper}
 use Rattle.sleep_wheel.specs.declared.alarms.Alarm.{Alarm}
 use Rattle.sleep_wheel.specs.Sleepers.{sleeper_cmp}
@@ -49,20 +45,3 @@ all_at P (y ∷ ys) all x (suc k, lt, is) = all_at P ys all.1 x (k, omega arith,
 pub first_of_all : (top : Reverse Alarm) (alarms : List (Reverse Alarm)) → IsUpperBound alarm_cmp top alarms → (u : Sleeper) (key : ℕ) → Contains alarms (alarm_of u key)
     → is_lt (sleeper_cmp u top.0.sleeper) ≡ false
 first_of_all top alarms bound u key held = not_less_first _ _ (all_at _ alarms bound (alarm_of u key) held)
-
--- one more at the end of an ordered list
-pub sorted_push : {X : Type 0} (lt : X → X → Bool) (xs : List X) (x : X) → IsSortedBy lt xs → ((d : X) → 0 < length xs → lt x (get_or xs (length xs - 1) d) ≡ false) → IsSortedBy lt (xs ++ x ∷ [])
-sorted_push {X} lt xs x sorted last k d low high =
-    elim (cases_lt (k + 1) (length xs)) [
-      | inl inside ↦
-          let e : get_or (xs ++ x ∷ []) (k + 1) d ≡ get_or xs (k + 1) d = get_or-append xs (x ∷ []) d (k + 1) inside in
-          let f : get_or (xs ++ x ∷ []) k d ≡ get_or xs k d = get_or-append xs (x ∷ []) d k (omega arith) in
-          (λ i. lt (e i) (f i)) ∙ sorted k d low inside
-      | inr past ↦
-          let long = length-append xs (x ∷ []) in
-          let at : k + 1 ≡ length xs = omega (arith, long) in
-          let before : k ≡ length xs - 1 = omega arith in
-          let e : get_or (xs ++ x ∷ []) (k + 1) d ≡ x = ap (λ (n : ℕ). get_or (xs ++ x ∷ []) n d) at ∙ get_or-append_seam xs x [] d in
-          let f : get_or (xs ++ x ∷ []) k d ≡ get_or xs (length xs - 1) d = get_or-append xs (x ∷ []) d k (omega arith) ∙ ap (λ (n : ℕ). get_or xs n d) before in
-          (λ i. lt (e i) (f i)) ∙ last d (omega arith)
-    ]

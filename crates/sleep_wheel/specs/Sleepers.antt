@@ -1,5 +1,5 @@
 -- Sleepers by their keys.
-use Rattle.std.specs.Prelude.{◌≡◌, ◌≢◌, ℕ, ◌≤◌, Bool, true, false, List, [], ◌∷◌, map, Option, Some, None, slice_index_or, slice_set, nat_le, filter_map, if◌then◌else◌, IsPermutation, IsSorted}
+use Rattle.std.specs.Prelude.{◌≡◌, ◌≢◌, ℕ, ◌≤◌, Bool, true, false, List, map, Option, Some, None, slice_index_or, slice_set, nat_le, filter_map, if◌then◌else◌, IsPermutation, IsSorted}
 use Rattle.std.specs.List.{filter}
 use Rattle.std.specs.Ordering.{ordering_then, is_lt, nat_cmp}
 use Rattle.std.specs.declared.cmp.Ordering.{Ordering}

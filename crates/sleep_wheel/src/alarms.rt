@@ -54,6 +54,31 @@ pub fn drop_stale(alarms: &mut BinaryHeap<Reverse<Alarm>>, sleepers: &Slab<Sleep
     }
 }
 
+/// Drops all stale alarms, where they are more than the others. So the heap has at most twice as many alarms as there are sleepers
+/// before it grows.
+pub fn make_compact(alarms: &mut BinaryHeap<Reverse<Alarm>>, sleepers: &Slab<Sleeper>)
+    requires covers { Covers sleepers.now.slots (heap_items alarms.old) }
+    requires top { IsOnTop sleepers.now.slots (heap_items alarms.old) }
+    ensures covers { Covers sleepers.now.slots (heap_items alarms.new) }
+    ensures top { IsOnTop sleepers.now.slots (heap_items alarms.new) }
+    ensures len { heap_len alarms.new ≤ heap_len alarms.old }
+    ensures capacity { heap_capacity alarms.new ≡ heap_capacity alarms.old }
+{
+    if alarms.len() / 2 > sleepers.len() {
+        drop_all_stale(alarms, sleepers);
+        drop_stale(alarms, sleepers);
+    }
+}
+
+fn drop_all_stale(alarms: &mut BinaryHeap<Reverse<Alarm>>, sleepers: &Slab<Sleeper>)
+    requires { Covers sleepers.now.slots (heap_items alarms.old) }
+    ensures covers { Covers sleepers.now.slots (heap_items alarms.new) }
+    ensures len { heap_len alarms.new ≤ heap_len alarms.old }
+    ensures capacity { heap_capacity alarms.new ≡ heap_capacity alarms.old }
+{
+    alarms.retain(|alarm| is_live(sleepers, alarm.0));
+}
+
 /// Takes out the sleeper that wakes first, where it is due.
 pub fn take_due(
     alarms: &mut BinaryHeap<Reverse<Alarm>>,

@@ -1,7 +1,7 @@
 ghost use Rattle.std.specs.Prelude.{◌≡◌, ◌↔◌, ◌<◌, ◌≤◌, ◌+◌, ℕ, [], None, Some, IsSome, IsNone, IfSome, IfOk, OnOk, OnErr};
 ghost use Rattle.sleep_wheel.specs.Sleepers.{sleeper_at, left_after, sleepers_of, Changes, IsEarliest, IsDueList};
 
-use crate::alarms::{Alarm, drop_stale, push_reserved, take_due};
+use crate::alarms::{Alarm, drop_stale, make_compact, push_reserved, take_due};
 use crate::sleeper::{Key, Sleeper};
 use items::NoMemory;
 use slab::Slab;
@@ -48,6 +48,7 @@ impl Wheel {
         ensures sleepers { self.new.slots ≡ self.old.slots }
         ensures spare { self.old.spare ≤ self.new.spare }
     {
+        make_compact(&mut self.alarms, &self.sleepers);
         self.sleepers.reserve(n as usize)?;
         self.alarms.reserve(n as usize)?;
         Ok(())

@@ -1,5 +1,4 @@
-use Rattle.std.proofs.Common.{rules, ◌≡◌, sym, arith, subst, List, Option, ℕ, None}
-use Rattle.std.specs.Prelude.{slice_set}
+use Rattle.std.proofs.Common.{rules, sym, subst, List, Option}
 use Rattle.sleep_wheel.specs.declared.sleeper.Sleeper.{Sleeper}
 use Rattle.sleep_wheel.specs.Sleepers.{TakesFirst}
 use Rattle.sleep_wheel.proofs.AlarmLaws.{none_due, takes_first}

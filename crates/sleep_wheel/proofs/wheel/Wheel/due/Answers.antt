@@ -1,4 +1,4 @@
-use Rattle.std.proofs.Common.{rules, refl, sym, subst, ap, ◌≡◌, arith}
+use Rattle.std.proofs.Common.{rules, subst}
 use Rattle.sleep_wheel.specs.Sleepers.{Sleepers, sleepers_of, IsDueList}
 use Rattle.sleep_wheel.proofs.DueLaws.{due_more, due_ends}
 use Rattle.sleep_wheel.proofs.wheel.Wheel.due.Goals as goal
