@@ -1,13 +1,30 @@
-// A library with one function.
+//! The table of threads: what each is, what it is at, and who waits for its end.
+//!
+//! A thread is New, Live or Done. A live thread is in one of these phases:
+//!
+//! | Phase | What it means | What ends it |
+//! |---|---|---|
+//! | Run | its next step is its next instruction | an instruction that waits, throws or ends the thread |
+//! | Throwing | an exception looks for its handler, frame by frame | a handler; the end of the stack |
+//! | Entering | it waits to enter a monitor | the monitor has no owner, and the thread takes it |
+//! | Waiting | it waits in `Object.wait` | `notify`, an interrupt, its deadline: then it is in Reenter |
+//! | Reenter | its wait ended, and it waits to enter the monitor again | the monitor has no owner, and the thread takes it |
+//! | Parked | it waits in `LockSupport.park` | its permit, an interrupt, its deadline |
+//! | Asleep | it waits in `Thread.sleep` | its deadline, an interrupt |
+//! | Joining | it waits in `Thread.join` | the end of its target, its deadline, an interrupt |
+//!
+//!     New --start--> Live(Run) --set_phase--> Live(any phase) --finish--> Done
 #![tactic(auto)]
 
-ghost use Rattle.std.specs.Prelude.{◌≡◌};
-ghost use Rattle.vthread_state.specs.Echo.{echo_of};
+mod error;
+mod java_state;
+mod joiners;
+mod phase;
+mod table;
+mod thread;
 
-// The `ensures` clause is the contract: what `echo` returns is `echo_of` of its argument, a definition
-// in `specs/Echo.antt`, which a caller's clause can cite too.
-pub fn echo(x: usize) -> usize
-    ensures { result ≡ echo_of x }
-{
-    x
-}
+pub use error::{NotNew, ThreadError};
+pub use java_state::JavaState;
+pub use phase::{Phase, Wake};
+pub use table::ThreadTable;
+pub use thread::{Status, Thread, ThreadKind};
