@@ -1,5 +1,5 @@
 ghost use Rattle.std.specs.Prelude.{◌≡◌};
-ghost use Rattle.vthread_state.specs.JavaState.{java_state, waiting};
+ghost use Rattle.vthread_state.specs.JavaState.{waiting};
 
 use crate::phase::Phase;
 use crate::thread::Status;
@@ -15,20 +15,24 @@ pub enum JavaState {
     Terminated,
 }
 
-/// The state that a status is (`Thread.getState`).
-pub fn state_of(status: Status) -> JavaState
-    ensures { result ≡ java_state status }
-{
-    match status {
-        Status::New => JavaState::New,
-        Status::Live(Phase::Run | Phase::Throwing(_)) => JavaState::Runnable,
-        Status::Live(Phase::Entering(_) | Phase::Reenter { .. }) => JavaState::Blocked,
-        Status::Live(Phase::Waiting { deadline, .. } | Phase::Joining { deadline, .. }) => {
-            waiting_until(deadline)
+impl From<Status> for JavaState {
+    ghost use Rattle.std.specs.Prelude.{◌≡◌};
+    ghost use Rattle.vthread_state.specs.JavaState.{java_state};
+
+    ghost from_gives = { λ status state. state ≡ java_state status };
+
+    fn from(status: Status) -> Self {
+        match status {
+            Status::New => JavaState::New,
+            Status::Live(Phase::Run | Phase::Throwing(_)) => JavaState::Runnable,
+            Status::Live(Phase::Entering(_) | Phase::Reenter { .. }) => JavaState::Blocked,
+            Status::Live(Phase::Waiting { deadline, .. } | Phase::Joining { deadline, .. }) => {
+                waiting_until(deadline)
+            }
+            Status::Live(Phase::Parked(deadline)) => waiting_until(deadline),
+            Status::Live(Phase::Asleep(_)) => JavaState::TimedWaiting,
+            Status::Done => JavaState::Terminated,
         }
-        Status::Live(Phase::Parked(deadline)) => waiting_until(deadline),
-        Status::Live(Phase::Asleep(_)) => JavaState::TimedWaiting,
-        Status::Done => JavaState::Terminated,
     }
 }
 

@@ -19,12 +19,14 @@
 mod error;
 mod java_state;
 mod joiners;
+mod laws;
 mod phase;
 mod table;
 mod thread;
 
 pub use error::{NotNew, ThreadError};
 pub use java_state::JavaState;
+pub use laws::one_thread_changes;
 pub use phase::{Phase, Wake};
 pub use table::ThreadTable;
 pub use thread::{Status, Thread, ThreadKind};

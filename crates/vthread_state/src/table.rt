@@ -8,7 +8,7 @@ ghost use Rattle.vthread_state.specs.JavaState.{java_state};
 ghost use Rattle.vthread_state.specs.Threads.{IsInTable, joins, phase_at, target_of_status, thread_at, with_status, with_thread};
 
 use crate::error::{NotNew, ThreadError};
-use crate::java_state::{JavaState, state_of};
+use crate::java_state::JavaState;
 use crate::joiners::{come, leave, target_of};
 use crate::phase::Phase;
 use crate::thread::{Status, Thread, ThreadKind};
@@ -140,7 +140,7 @@ impl ThreadTable {
         requires { t < length self.now.threads }
         ensures { option_map (λ thread. java_state thread.status) (thread_at self.now t) ≡ Some result }
     {
-        state_of(self.threads[t as usize].status)
+        JavaState::from(self.threads[t as usize].status)
     }
 
     /// The threads that wait to join a thread, in rising order. It takes time by their number, and not by that of all threads.
