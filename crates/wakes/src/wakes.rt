@@ -17,6 +17,10 @@ impl Model for Wakes {
     ghost Value = { Flags };
 
     ghost view = { λ a. record { permits = a.permits.items; interrupts = a.interrupts.items } };
+
+    ghost use Rattle.std.specs.Prelude.{◌≡◌, vec_len};
+
+    ghost invariant = { λ a. vec_len a.permits ≡ vec_len a.interrupts };
 }
 
 impl Wakes {
@@ -41,6 +45,14 @@ impl Wakes {
         self.permits.push_reserved(false);
         self.interrupts.push_reserved(false);
         Ok(())
+    }
+
+    /// How many threads there are.
+    pub fn count(&self) -> usize
+        ensures permits { result ≡ length self.now.permits }
+        ensures interrupts { result ≡ length self.now.interrupts }
+    {
+        self.permits.len()
     }
 
     /// Makes a thread's permit available. Permits don't add up (`LockSupport.unpark`).
