@@ -1,4 +1,4 @@
-ghost use Rattle.std.specs.Prelude.{◌≡◌, ◌↔◌, ◌<◌, ℕ, [], ◌∷◌, ◌++◌, length, Some, Ok, Err, IsSome, IfOk, OnOk, OnErr, Contains};
+ghost use Rattle.std.specs.Prelude.{◌≡◌, ◌↔◌, ◌<◌, ℕ, [], ◌∷◌, ◌++◌, length, Some, Ok, Err, IsSome, IsTrue, IfOk, OnOk, OnErr, Contains};
 ghost use Rattle.std.specs.List.Sorted.{IsStrictlyIncreasing};
 ghost use Rattle.std.specs.Option.{ForSome, option_map};
 ghost use Rattle.vthread_state.specs.declared.error.ThreadError.TheVariants as errors;
@@ -105,6 +105,14 @@ impl ThreadTable {
             }
             _ => Err(NotNew),
         }
+    }
+
+    /// Whether a thread was started and didn't end (`Thread.isAlive`).
+    pub fn is_alive(&self, t: u32) -> bool
+        requires { t < length self.now.threads }
+        ensures { IsTrue result ↔ IsSome (phase_at self.now t) }
+    {
+        matches!(self.threads[t as usize].status, Status::Live(_))
     }
 
     /// The phase of a live thread.
