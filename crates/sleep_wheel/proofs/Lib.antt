@@ -2,4 +2,4 @@ pub mod OrderLaws
 pub mod SlotLaws
 pub mod AlarmLaws
 pub mod DueLaws
-pub mod RetainLaws
+pub mod RebuildLaws

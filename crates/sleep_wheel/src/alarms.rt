@@ -1,7 +1,7 @@
 //! The sleepers of a wheel in a heap, the first to wake on top. A sleeper that is removed stays in the heap, where its alarm is stale,
 //! until it comes to the top or the stale ones are more than the others. The alarm on top is never stale.
 
-ghost use Rattle.std.specs.Prelude.{◌≡◌, ◌↔◌, ◌+◌, ◌<◌, ◌≤◌, ◌∷◌, IsTrue, IfSome, IfNone, OnSome, IsPermutation};
+ghost use Rattle.std.specs.Prelude.{◌≡◌, ◌↔◌, ◌+◌, ◌*◌, ◌<◌, ◌≤◌, ◌∷◌, IsTrue, IfSome, IfNone, OnSome, IsPermutation};
 ghost use Rattle.std.specs.BinaryHeap.{heap_items, heap_len, heap_capacity, KeepsHeap};
 ghost use Rattle.slab.specs.Slab.{slab_len};
 ghost use Rattle.sleep_wheel.specs.Sleepers.{TakesFirst, NoneDue};
@@ -54,29 +54,38 @@ pub fn drop_stale(alarms: &mut BinaryHeap<Reverse<Alarm>>, sleepers: &Slab<Sleep
     }
 }
 
-/// Drops all stale alarms, where they are more than the others. So the heap has at most twice as many alarms as there are sleepers
-/// before it grows.
+/// Makes the heap anew where more than half of its alarms are stale. So there are hardly more than twice as many alarms as sleepers
+/// when room is made for more.
 pub fn make_compact(alarms: &mut BinaryHeap<Reverse<Alarm>>, sleepers: &Slab<Sleeper>)
     requires covers { Covers sleepers.now.slots (heap_items alarms.old) }
     requires top { IsOnTop sleepers.now.slots (heap_items alarms.old) }
     ensures covers { Covers sleepers.now.slots (heap_items alarms.new) }
     ensures top { IsOnTop sleepers.now.slots (heap_items alarms.new) }
+    ensures few { heap_len alarms.new ≤ 2 * slab_len sleepers.now + 1 }
     ensures len { heap_len alarms.new ≤ heap_len alarms.old }
-    ensures capacity { heap_capacity alarms.new ≡ heap_capacity alarms.old }
+    ensures capacity { heap_capacity alarms.old ≤ heap_capacity alarms.new }
 {
     if alarms.len() / 2 > sleepers.len() {
-        drop_all_stale(alarms, sleepers);
-        drop_stale(alarms, sleepers);
+        rebuild(alarms, sleepers);
     }
 }
 
-fn drop_all_stale(alarms: &mut BinaryHeap<Reverse<Alarm>>, sleepers: &Slab<Sleeper>)
-    requires { Covers sleepers.now.slots (heap_items alarms.old) }
+/// Puts one alarm for each sleeper into an empty heap.
+fn rebuild(alarms: &mut BinaryHeap<Reverse<Alarm>>, sleepers: &Slab<Sleeper>)
+    requires { slab_len sleepers.now ≤ heap_len alarms.old }
     ensures covers { Covers sleepers.now.slots (heap_items alarms.new) }
-    ensures len { heap_len alarms.new ≤ heap_len alarms.old }
-    ensures capacity { heap_capacity alarms.new ≡ heap_capacity alarms.old }
+    ensures top { IsOnTop sleepers.now.slots (heap_items alarms.new) }
+    ensures len { heap_len alarms.new ≡ slab_len sleepers.now }
+    ensures capacity { heap_capacity alarms.old ≤ heap_capacity alarms.new }
 {
-    alarms.retain(|alarm| is_live(sleepers, alarm.0));
+    alarms.clear();
+    for (key, sleeper) in sleepers.iter() {
+        let alarm = Alarm {
+            sleeper: *sleeper,
+            key,
+        };
+        push_reserved(alarms, alarm);
+    }
 }
 
 /// Takes out the sleeper that wakes first, where it is due.
