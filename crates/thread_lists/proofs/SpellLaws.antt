@@ -1,5 +1,5 @@
 -- How the lists that the links spell change with the links.
-use Rattle.std.proofs.Common.{◌≡◌, ◌+◌, ◌<◌, ◌≤◌, ◌==◌, ℕ, zero, suc, List, [], ◌∷◌, ◌++◌, length, sym, ◌∙◌, ap, subst, refl, arith, add-one, append-nil, append_assoc, not, replicate, drop, slice_get, Some, None, ◌^◌, ◌⊎◌, inl, inr, set, get_or}
+use Rattle.std.proofs.Common.{◌≡◌, ◌+◌, ◌<◌, ◌≤◌, ◌==◌, ℕ, zero, suc, List, [], ◌∷◌, ◌++◌, length, map, sym, ◌∙◌, ap, subst, refl, arith, add-one, append-nil, append_assoc, not, replicate, drop, take, slice_get, Some, None, ◌^◌, ◌⊎◌, inl, inr, set, get_or}
 use Rattle.std.proofs.lemmas.Bool.{cases_eq, cases_lt, eq-eqb}
 use Rattle.std.proofs.lemmas.Bool.Decides.{eqb_tells}
 use Rattle.std.proofs.lemmas.List.{get_or-set_other, get_or-set_same, get_or-map, get_or_append_left, ext_get_or, length-append, length-map, replicate_more, set-get_or}
@@ -447,3 +447,21 @@ pub place_behind : (heads threads : List Link) (lists : List (List ℕ)) → Spe
 place_behind heads threads lists s k t h e =
     let begins = first_in_ring heads threads lists s k t h e in
     IsPlace-InRing heads threads lists s k h _ (inr (t, subst (λ xs. 0 < count t xs) (sym begins.1) (count-here t begins.0), e))
+
+-- one more thread of a list, and all of them
+pub take_more : (xs found more : List ℕ) (n t : ℕ) → found ≡ take n xs → slice_get xs n ≡ Some t → more ≡ found ++ t ∷ [] → more ≡ take (n + 1) xs
+take_more xs found more n t e at pushed = pushed ∙ ap (λ (ys : List ℕ). ys ++ t ∷ []) e ∙ one_more xs n t at
+  where
+    one_more : (ys : List ℕ) (k u : ℕ) → slice_get ys k ≡ Some u → take k ys ++ u ∷ [] ≡ take (k + 1) ys
+    one_more [] k u e = absurd cc
+    one_more (y ∷ ys) zero u e = let same : u ≡ y = cc in rw same refl
+    one_more (y ∷ ys) (suc k) u e = rw (add-one) (ap (λ (zs : List ℕ). y ∷ zs) (one_more ys k u e ∙ rw add-one refl))
+
+pub take_all : (xs found : List ℕ) (n : ℕ) → found ≡ take n xs → length xs ≤ n → found ≡ xs
+take_all xs found n e past = e ∙ all_of xs n past
+  where
+    all_of : (ys : List ℕ) (k : ℕ) → length ys ≤ k → take k ys ≡ ys
+    all_of [] zero h = refl
+    all_of [] (suc k) h = refl
+    all_of (y ∷ ys) zero h = absurd (omega arith)
+    all_of (y ∷ ys) (suc k) h = ap (λ (zs : List ℕ). y ∷ zs) (all_of ys k (omega arith))

@@ -1,14 +1,12 @@
 ghost use Rattle.std.specs.Prelude.{◌≡◌, ◌≢◌, ◌+◌, ◌^◌, ◌<◌, ◌≤◌, ◌==◌, ℕ, [], ◌∷◌, ◌++◌, length, max, not, replicate, slice_get, IfOk, OnOk, OnErr};
 ghost use Rattle.thread_lists.specs.Lists.{append, count, drop_first, first, leave, list_at, push, total};
 
-use crate::ring::{
-    Link, Place, add_heads, count_of, is_linked, link_all, link_last, thread_at, unlink,
-};
+use crate::ring::{Link, Place, add_heads, count_of, is_linked, link_all, link_last, thread_at, threads_of, unlink};
 use items::NoMemory;
 use std::alloc::Global;
 use std::marker::Model;
 
-/// Lists of threads by number. A thread is in at most one list. Each call but `get` and `len` takes the same time however
+/// Lists of threads by number. A thread is in at most one list. Each call but `get`, `len` and `to_vec` takes the same time however
 /// long the lists are, and none but `add_lists`, `add_thread` and `room` takes memory.
 #[derive(Debug, Drop)]
 pub struct ThreadLists {
@@ -125,6 +123,14 @@ impl ThreadLists {
         ensures { result ≡ length (list_at self.now.lists list) }
     {
         count_of(&self.heads, &self.threads, list)
+    }
+
+    /// The threads of a list, in order. This goes along the list.
+    pub fn to_vec(&self, alloc: Global, list: u32) -> Result<Vec<u32>, NoMemory>
+        requires { list < length self.now.lists }
+        ensures { IfOk result (λ v. v.items ≡ list_at self.now.lists list) }
+    {
+        Ok(threads_of(alloc, &self.heads, &self.threads, list)?)
     }
 
     /// Puts a thread that is in no list last in a list.

@@ -1,9 +1,10 @@
-ghost use Rattle.std.specs.Prelude.{◌≡◌, ◌≢◌, ◌<◌, ◌==◌, ℕ, List, [], ◌∷◌, ◌++◌, length, not, replicate, slice_get, OnErr, OnOk};
+ghost use Rattle.std.specs.Prelude.{◌≡◌, ◌≢◌, ◌<◌, ◌==◌, ℕ, List, [], ◌∷◌, ◌++◌, length, not, replicate, slice_get, slice_set, IfOk, OnErr, OnOk};
 ghost use Rattle.thread_lists.specs.declared.ring.Link.{Link};
 ghost use Rattle.thread_lists.specs.Lists.{append, count, leave, list_at, push, total};
 ghost use Rattle.thread_lists.specs.Ring.{IsLinked, IsPlace, Joined, SetsNext, SetsPrevious, Spells, link_of, spelled};
 
 use items::NoMemory;
+use std::alloc::{AllocError, Global};
 
 /// The lists have numbers of 32 bits.
 const MOST_LISTS: usize = 1 << 32;
@@ -171,6 +172,26 @@ pub fn count_of(heads: &[Link], threads: &[Link], list: u32) -> u32
         count += 1;
     }
     count
+}
+
+/// The threads of a list, in order.
+pub fn threads_of(
+    alloc: Global,
+    heads: &[Link],
+    threads: &[Link],
+    list: u32,
+) -> Result<Vec<u32>, AllocError>
+    requires linked { IsLinked heads.now threads.now }
+    requires list { list < length heads.now }
+    ensures { IfOk result (λ v. v.items ≡ list_at (spelled heads.now threads.now) list) }
+{
+    let mut found = Vec::new(alloc);
+    let mut place = link_at(heads, threads, Place::Head(list)).next;
+    while let Place::Thread(thread) = place {
+        found.push(thread)?;
+        place = link_at(heads, threads, place).next;
+    }
+    Ok(found)
 }
 
 /// Whether a thread is in a list.
