@@ -18,4 +18,3 @@ some_same x y e = cc
 pub cond_none : {A : Type 0} (b : Bool) (o : Option A) (y : A) → cond b None o ≡ Some y → (b ≡ false) × (o ≡ Some y)
 cond_none true o y e = absurd cc
 cond_none false o y e = (refl, e)
-

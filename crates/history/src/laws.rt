@@ -10,9 +10,10 @@ pub fn java_joins()
     ensures { (front back : List Entry) → java (front ++ back) ≡ java front ++ java back }
 {}
 
-/// A text is that of one history at most. So what is printed is read as what it was printed from, and printed again what was read
-/// is the same text.
+/// A text is that of one history at most. So a history that is printed and read is the same history, and a text that is read
+/// and printed is the same text.
 pub fn one_history()
-    ensures { (c d : ℕ) (es fs : List Entry) → c < 2 ^ 32 → d < 2 ^ 32 → AreEntries es → AreEntries fs
+    ensures { (c d : ℕ) (es fs : List Entry) → c < 2 ^ 32 → d < 2 ^ 32
+        → AreEntries es → AreEntries fs
         → trace_text c es ≡ trace_text d fs → (c ≡ d) × (es ≡ fs) }
 {}

@@ -7,7 +7,7 @@ use Rattle.std.proofs.lemmas.List.{map-append}
 use Rattle.std.proofs.Math.Seq.{get_or-append_seam}
 use Rattle.std.proofs.lemmas.List.Sorted.{IsPermutation-refl, IsPermutation-pop_more}
 use Rattle.sleep_wheel.specs.declared.sleeper.Sleeper.{Sleeper}
-use Rattle.sleep_wheel.specs.Sleepers.{slot_at, values_of, sleeper_cmp, is_due, left_after, IsDueList, TakesFirst, NoneDue}
+use Rattle.sleep_wheel.specs.Sleepers.{slot_at, values_of, sleeper_cmp, is_due, unless_due, IsDueList, TakesFirst, NoneDue}
 use Rattle.std.proofs.lemmas.List.Kept.{IsSortedBy-push}
 use Rattle.sleep_wheel.proofs.SlotLaws.{slot_kept, filter_out, filter_none, left_of_cleared, left_of_none}
 
@@ -21,7 +21,7 @@ pub record DueSoFar (now : ℕ) (old slots : List (Option Sleeper)) (threads : L
   pub just_these : IsPermutation (filter (is_due now) (values_of old)) (taken ++ filter (is_due now) (values_of slots))
   pub in_order : IsSorted sleeper_cmp taken
   pub later : (key : ℕ) (u : Sleeper) → slot_at slots key ≡ Some u → (d : Sleeper) → 0 < length taken → is_lt (sleeper_cmp u (get_or taken (length taken - 1) d)) ≡ false
-  pub left : (key : ℕ) → left_after now (slot_at slots key) ≡ left_after now (slot_at old key)
+  pub left : (key : ℕ) → unless_due now (slot_at slots key) ≡ unless_due now (slot_at old key)
 
 pub due_begins : (now : ℕ) (slots : List (Option Sleeper)) → DueSoFar now slots slots []
 due_begins now slots = record {
@@ -61,5 +61,5 @@ due_ends now old slots threads d none = record {
 }
 
 pub due_leaves : (now : ℕ) (old slots : List (Option Sleeper)) (threads : List ℕ) → DueSoFar now old slots threads → NoneDue now slots
-    → (key : ℕ) → slot_at slots key ≡ left_after now (slot_at old key)
+    → (key : ℕ) → slot_at slots key ≡ unless_due now (slot_at old key)
 due_leaves now old slots threads d none key = sym (left_of_none now slots none key (slot_at slots key) refl) ∙ d.left key

@@ -4,7 +4,7 @@ use Rattle.std.specs.Prelude.{slice_set, IsPermutation}
 use Rattle.std.specs.List.{filter}
 use Rattle.std.proofs.lemmas.List.Sorted.{IsPermutation-refl, IsPermutation-cons, IsPermutation-trans, IsPermutation-middle}
 use Rattle.sleep_wheel.specs.declared.sleeper.Sleeper.{Sleeper}
-use Rattle.sleep_wheel.specs.Sleepers.{slot_at, values_of, is_due, left_after, NoneDue}
+use Rattle.sleep_wheel.specs.Sleepers.{slot_at, values_of, is_due, unless_due, NoneDue}
 
 pub bool_cases : (b : Bool) → (b ≡ true) ⊎ (b ≡ false)
 bool_cases true = inl refl
@@ -57,14 +57,14 @@ filter_none p (Some x ∷ slots) none = let no = none 0 x refl in rw no (filter_
 
 -- what is left of a key that is cleared, where its sleeper was due
 pub left_of_cleared : (now : ℕ) (slots : List (Option Sleeper)) (key : ℕ) (s : Sleeper) → slot_at slots key ≡ Some s → is_due now s ≡ true
-    → (other : ℕ) → left_after now (slot_at (slice_set slots key None) other) ≡ left_after now (slot_at slots other)
+    → (other : ℕ) → unless_due now (slot_at (slice_set slots key None) other) ≡ unless_due now (slot_at slots other)
 left_of_cleared now [] key s e due other = refl
-left_of_cleared now (x ∷ slots) zero s e due zero = let gone : left_after now (Some s) ≡ None = rw due refl in sym (ap (left_after now) e ∙ gone)
+left_of_cleared now (x ∷ slots) zero s e due zero = let gone : unless_due now (Some s) ≡ None = rw due refl in sym (ap (unless_due now) e ∙ gone)
 left_of_cleared now (x ∷ slots) zero s e due (suc other) = refl
 left_of_cleared now (x ∷ slots) (suc key) s e due zero = refl
 left_of_cleared now (x ∷ slots) (suc key) s e due (suc other) = left_of_cleared now slots key s e due other
 
 -- where none is due, all are left
-pub left_of_none : (now : ℕ) (slots : List (Option Sleeper)) → NoneDue now slots → (key : ℕ) (slot : Option Sleeper) → slot_at slots key ≡ slot → left_after now slot ≡ slot
+pub left_of_none : (now : ℕ) (slots : List (Option Sleeper)) → NoneDue now slots → (key : ℕ) (slot : Option Sleeper) → slot_at slots key ≡ slot → unless_due now slot ≡ slot
 left_of_none now slots none key None e = refl
 left_of_none now slots none key (Some s) e = let no = none.none key s e in rw no refl

@@ -39,9 +39,9 @@ abbrev pub is_due : ℕ → Sleeper → Bool
 is_due now s = nat_le s.deadline now
 
 -- a key's sleeper, unless it is due
-abbrev pub left_after : ℕ → Option Sleeper → Option Sleeper
-left_after now None = None
-left_after now (Some s) = if is_due now s then None else Some s
+abbrev pub unless_due : ℕ → Option Sleeper → Option Sleeper
+unless_due now None = None
+unless_due now (Some s) = if is_due now s then None else Some s
 
 -- some sleeper has this deadline, and none has an earlier one
 pub record IsEarliest (w : Sleepers) (deadline : ℕ) : Type 0 where

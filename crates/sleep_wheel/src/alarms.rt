@@ -5,7 +5,7 @@ ghost use Rattle.std.specs.Prelude.{◌≡◌, ◌↔◌, ◌+◌, ◌*◌, ◌<
 ghost use Rattle.std.specs.BinaryHeap.{heap_items, heap_len, heap_capacity, KeepsHeap};
 ghost use Rattle.slab.specs.Slab.{slab_len};
 ghost use Rattle.sleep_wheel.specs.Sleepers.{TakesFirst, NoneDue};
-ghost use Rattle.sleep_wheel.specs.Alarms.{alarm_cmp, IsLive, Covers, IsOnTop};
+ghost use Rattle.sleep_wheel.specs.Alarms.{alarm_cmp, alarm_of, IsLive, Covers, IsOnTop};
 
 use crate::sleeper::Sleeper;
 use slab::Slab;
@@ -28,7 +28,8 @@ fn is_live(sleepers: &Slab<Sleeper>, alarm: Alarm) -> bool
 /// Adds an alarm, for which there is room.
 pub fn push_reserved(alarms: &mut BinaryHeap<Reverse<Alarm>>, alarm: Alarm)
     requires { heap_len alarms.old < heap_capacity alarms.old }
-    ensures added { IsPermutation (record { 0 = alarm } ∷ heap_items alarms.old) (heap_items alarms.new) }
+    ensures added { IsPermutation (alarm_of alarm.sleeper alarm.key ∷ heap_items alarms.old)
+        (heap_items alarms.new) }
     ensures heap { KeepsHeap alarm_cmp (heap_items alarms.old) (heap_items alarms.new) }
     ensures len { heap_len alarms.new ≡ heap_len alarms.old + 1 }
     ensures capacity { heap_capacity alarms.old ≤ heap_capacity alarms.new }

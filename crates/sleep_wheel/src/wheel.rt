@@ -1,5 +1,5 @@
 ghost use Rattle.std.specs.Prelude.{◌≡◌, ◌↔◌, ◌<◌, ◌≤◌, ◌+◌, ℕ, [], None, Some, IsSome, IsNone, IfSome, IfOk, OnOk, OnErr};
-ghost use Rattle.sleep_wheel.specs.Sleepers.{sleeper_at, left_after, sleepers_of, Changes, IsEarliest, IsDueList};
+ghost use Rattle.sleep_wheel.specs.Sleepers.{sleeper_at, unless_due, sleepers_of, Changes, IsEarliest, IsDueList};
 
 use crate::alarms::{Alarm, drop_stale, make_compact, push_reserved, take_due};
 use crate::sleeper::{Key, Sleeper};
@@ -11,7 +11,7 @@ use std::collections::BinaryHeap;
 use std::marker::Model;
 
 /// The threads that sleep until a deadline, each under a key.
-#[derive(Drop)]
+#[derive(Debug, Drop)]
 pub struct Wheel {
     alloc: Global,
     sleepers: Slab<Sleeper>,
@@ -58,7 +58,8 @@ impl Wheel {
     pub fn add(&mut self, thread: u32, deadline: u64) -> Key
         requires { 0 < self.old.spare }
         ensures vacant { sleeper_at self.old result.number ≡ None }
-        ensures sleepers { Changes self.old self.new result.number (Some (record { deadline = deadline; thread = thread })) }
+        ensures sleepers { Changes self.old self.new result.number
+            (Some (record { deadline = deadline; thread = thread })) }
         ensures spare { self.old.spare ≤ self.new.spare + 1 }
     {
         let sleeper = Sleeper { deadline, thread };
@@ -82,7 +83,8 @@ impl Wheel {
     /// threads at one deadline. Where memory runs out nothing changes.
     pub fn due(&mut self, now: u64) -> Result<Vec<u32>, NoMemory>
         ensures due { IfOk result (λ v. IsDueList now (sleepers_of self.old) v.items) }
-        ensures left { OnOk result ((key : ℕ) → sleeper_at self.new key ≡ left_after now (sleeper_at self.old key)) }
+        ensures left { OnOk result ((key : ℕ) →
+            sleeper_at self.new key ≡ unless_due now (sleeper_at self.old key)) }
         ensures err { OnErr result (self.new ≡ self.old) }
         ensures spare { self.old.spare ≤ self.new.spare }
     {

@@ -3,16 +3,16 @@ use Rattle.std.proofs.Common.{◌≡◌, ◌≢◌, ℕ, zero, suc, ◌<◌, Lis
 use Rattle.items.specs.Options.{◌>>=◌}
 use Rattle.vthread_state.specs.declared.thread.Thread.{Thread}
 use Rattle.std.proofs.Math.ListN.{length-set}
-use Rattle.vthread_state.specs.Threads.{Threads, changed, joins_in, target_of_status, thread_at, with_thread}
+use Rattle.vthread_state.specs.Threads.{Threads, threads_with, joins_in, target_of_status, thread_at, with_thread}
 
 pub here : (threads : List Thread) (t : ℕ) (thread : Thread) → t < length threads → thread ≡ get_or threads t thread → slice_get threads t ≡ Some thread
 here [] t thread low is = absurd (omega arith)
 here (x ∷ threads) zero thread low is = ap (λ (y : Thread). Some y) (sym is)
 here (x ∷ threads) (suc t) thread low is = here threads t thread (omega arith) is
 
-pub changed_is : (f : Thread → Thread) (threads : List Thread) (t : ℕ) (thread : Thread) → t < length threads → thread ≡ get_or threads t thread
-    → set threads t (f thread) ≡ changed f threads t (slice_get threads t)
-changed_is f threads t thread low is = let e = here threads t thread low is in rw e refl
+pub threads_with_is : (f : Thread → Thread) (threads : List Thread) (t : ℕ) (thread : Thread) → t < length threads → thread ≡ get_or threads t thread
+    → set threads t (f thread) ≡ threads_with f threads t (slice_get threads t)
+threads_with_is f threads t thread low is = let e = here threads t thread low is in rw e refl
 
 pub slice_get-set_same : (threads : List Thread) (t : ℕ) (thread : Thread) → t < length threads → slice_get (set threads t thread) t ≡ Some thread
 slice_get-set_same [] t thread low = absurd (omega arith)
@@ -41,16 +41,16 @@ in_table (x ∷ threads) (suc t) thread e = omega (arith, in_table threads t thr
 
 pub changed_here : (table : Threads) (t : ℕ) (f : Thread → Thread) (thread : Thread) → thread_at table t ≡ Some thread → thread_at (with_thread table t f) t ≡ Some (f thread)
 changed_here table t f thread e =
-    ap (λ (o : Option Thread). slice_get (changed f table.threads t o) t) e ∙ slice_get-set_same table.threads t (f thread) (in_table table.threads t thread e)
+    ap (λ (o : Option Thread). slice_get (threads_with f table.threads t o) t) e ∙ slice_get-set_same table.threads t (f thread) (in_table table.threads t thread e)
 
-other_kept : (f : Thread → Thread) (threads : List Thread) (t u : ℕ) (o : Option Thread) → u ≢ t → slice_get (changed f threads t o) u ≡ slice_get threads u
+other_kept : (f : Thread → Thread) (threads : List Thread) (t u : ℕ) (o : Option Thread) → u ≢ t → slice_get (threads_with f threads t o) u ≡ slice_get threads u
 other_kept f threads t u None differ = refl
 other_kept f threads t u (Some thread) differ = slice_get-set_other threads t u (f thread) differ
 
 pub others_kept : (table : Threads) (t u : ℕ) (f : Thread → Thread) → u ≢ t → thread_at (with_thread table t f) u ≡ thread_at table u
 others_kept table t u f differ = other_kept f table.threads t u (thread_at table t) differ
 
-length_kept : (f : Thread → Thread) (threads : List Thread) (t : ℕ) (o : Option Thread) → length (changed f threads t o) ≡ length threads
+length_kept : (f : Thread → Thread) (threads : List Thread) (t : ℕ) (o : Option Thread) → length (threads_with f threads t o) ≡ length threads
 length_kept f threads t None = refl
 length_kept f threads t (Some thread) = length-set threads t (f thread)
 

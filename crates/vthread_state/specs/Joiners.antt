@@ -17,14 +17,14 @@ pub record IsJoined (threads : List Thread) (lists : Lists) : Type 0 where
   pub room : length threads ≤ lists.threads
 
 -- a thread leaves the list of the thread that it joins
-abbrev pub left : List (List ℕ) → ℕ → Option ℕ → List (List ℕ)
-left lists u None = lists
-left lists u (Some target) = slice_set lists target (without u (list_at lists target))
+abbrev pub lists_without : List (List ℕ) → ℕ → Option ℕ → List (List ℕ)
+lists_without lists u None = lists
+lists_without lists u (Some target) = slice_set lists target (without u (list_at lists target))
 
 -- a thread comes to the list of the thread that it joins
-abbrev pub come : List (List ℕ) → ℕ → Option ℕ → List (List ℕ)
-come lists u None = lists
-come lists u (Some target) = push lists target (u ∷ [])
+abbrev pub lists_with : List (List ℕ) → ℕ → Option ℕ → List (List ℕ)
+lists_with lists u None = lists
+lists_with lists u (Some target) = push lists target (u ∷ [])
 
 abbrev pub IsList : List (List ℕ) → Option ℕ → Type 0
 IsList lists o = ForSome o (λ target. target < length lists)

@@ -1,6 +1,6 @@
 -- The table of threads.
 use Rattle.std.specs.Prelude.{ℕ, ◌<◌, List, length, Option, Some, None, slice_get, slice_set}
-use Rattle.std.specs.Option.{ForSome}
+use Rattle.std.specs.Option.{ForSome, option_map}
 use Rattle.items.specs.Options.{◌>>=◌}
 use Rattle.vthread_state.specs.declared.phase.Phase.{Phase}
 use Rattle.vthread_state.specs.declared.phase.Phase.TheVariants.{Joining}
@@ -22,17 +22,20 @@ phase_of New = None
 phase_of (Live phase) = Some phase
 phase_of Done = None
 
+abbrev pub status_at : Threads → ℕ → Option Status
+status_at table t = option_map (λ (thread : Thread). thread.status) (thread_at table t)
+
 -- the phase of a live thread
 abbrev pub phase_at : Threads → ℕ → Option Phase
-phase_at table t = thread_at table t >>= λ thread. phase_of thread.status
+phase_at table t = status_at table t >>= phase_of
 
--- a thread is changed, and all others stay
-abbrev pub changed : (Thread → Thread) → List Thread → ℕ → Option Thread → List Thread
-changed f threads t None = threads
-changed f threads t (Some thread) = slice_set threads t (f thread)
+-- a thread is threads_with, and all others stay
+abbrev pub threads_with : (Thread → Thread) → List Thread → ℕ → Option Thread → List Thread
+threads_with f threads t None = threads
+threads_with f threads t (Some thread) = slice_set threads t (f thread)
 
 abbrev pub with_thread : Threads → ℕ → (Thread → Thread) → Threads
-with_thread table t f = record table { threads = changed f table.threads t (thread_at table t) }
+with_thread table t f = record table { threads = threads_with f table.threads t (thread_at table t) }
 
 -- a thread has this status now
 abbrev pub with_status : Threads → ℕ → Status → Threads
@@ -55,6 +58,6 @@ joins_in threads u = slice_get threads u >>= λ thread. target_of_status thread.
 abbrev pub joins : Threads → ℕ → Option ℕ
 joins table u = joins_in table.threads u
 
--- a phase waits for the end of one of the threads, if for any
-abbrev pub IsInTable : Threads → Phase → Type 0
-IsInTable table phase = ForSome (target_of phase) (λ target. target < length table.threads)
+-- it is the number of one of the threads, if there is one
+abbrev pub IsInTable : Threads → Option ℕ → Type 0
+IsInTable table target = ForSome target (λ t. t < length table.threads)

@@ -11,7 +11,7 @@ use crate::thread::Status;
 use thread_lists::ThreadLists;
 
 /// The thread whose end a thread with this status waits for.
-pub fn target_of(status: Status) -> Option<u32>
+pub fn joined_by(status: Status) -> Option<u32>
     ensures { result ≡ target_of_status status }
 {
     match status {
@@ -24,7 +24,10 @@ pub fn target_of(status: Status) -> Option<u32>
 pub fn leave(joiners: &mut ThreadLists, t: u32, target: Option<u32>)
     requires list { joiner_lists.IsList joiners.old.lists target }
     requires held { ForSome target (λ k. 0 < count t (list_at joiners.old.lists k)) }
-    ensures { joiners.new ≡ record joiners.old { lists = joiner_lists.left joiners.old.lists t target } }
+    ensures { joiners.new ≡ record joiners.old {
+      lists =
+          joiner_lists.lists_without joiners.old.lists t target;
+    } }
 {
     if let Some(target) = target {
         joiners.remove(target, t);
@@ -36,7 +39,10 @@ pub fn come(joiners: &mut ThreadLists, t: u32, target: Option<u32>)
     requires list { joiner_lists.IsList joiners.old.lists target }
     requires thread { t < joiners.old.threads }
     requires free { total (count t) joiners.old.lists ≡ 0 }
-    ensures { joiners.new ≡ record joiners.old { lists = joiner_lists.come joiners.old.lists t target } }
+    ensures { joiners.new ≡ record joiners.old {
+      lists =
+          joiner_lists.lists_with joiners.old.lists t target;
+    } }
 {
     if let Some(target) = target {
         joiners.push(target, t);

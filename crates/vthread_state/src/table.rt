@@ -1,15 +1,15 @@
 ghost use Rattle.std.specs.Prelude.{◌≡◌, ◌↔◌, ◌<◌, ℕ, [], ◌∷◌, ◌++◌, length, Some, Ok, Err, IsSome, IsTrue, IfOk, OnOk, OnErr, Contains};
 ghost use Rattle.std.specs.List.Sorted.{IsStrictlyIncreasing};
-ghost use Rattle.std.specs.Option.{ForSome, option_map};
+ghost use Rattle.std.specs.Option.{option_map};
 ghost use Rattle.vthread_state.specs.declared.error.ThreadError.TheVariants as errors;
 ghost use Rattle.vthread_state.specs.declared.phase.Phase.TheVariants as phases;
 ghost use Rattle.vthread_state.specs.declared.thread.Status.TheVariants as statuses;
 ghost use Rattle.vthread_state.specs.JavaState.{java_state};
-ghost use Rattle.vthread_state.specs.Threads.{IsInTable, joins, phase_at, target_of_status, thread_at, with_status, with_thread};
+ghost use Rattle.vthread_state.specs.Threads.{IsInTable, joins, phase_at, status_at, target_of, target_of_status, thread_at, with_status, with_thread};
 
 use crate::error::{NotNew, ThreadError};
 use crate::java_state::JavaState;
-use crate::joiners::{come, leave, target_of};
+use crate::joiners::{come, joined_by, leave};
 use crate::phase::Phase;
 use crate::thread::{Status, Thread, ThreadKind};
 use items::NoMemory;
@@ -94,7 +94,7 @@ impl ThreadTable {
     /// Starts a new thread: it is live, in phase Run (`Thread.start`). After an error nothing changed.
     pub fn start(&mut self, t: u32) -> Result<(), NotNew>
         requires { t < length self.old.threads }
-        ensures new { (result ≡ Ok tt) ↔ (option_map (λ thread. thread.status) (thread_at self.old t) ≡ Some statuses.New) }
+        ensures new { (result ≡ Ok tt) ↔ (status_at self.old t ≡ Some statuses.New) }
         ensures ok { OnOk result (self.new ≡ with_status self.old t (statuses.Live phases.Run)) }
         ensures err { OnErr result (self.new ≡ self.old) }
     {
@@ -129,7 +129,7 @@ impl ThreadTable {
     /// Gives a live thread another phase. This takes no memory.
     pub fn set_phase(&mut self, t: u32, phase: Phase)
         requires live { IsSome (phase_at self.old t) }
-        requires target { IsInTable self.old phase }
+        requires target { IsInTable self.old (target_of phase) }
         ensures { self.new ≡ with_status self.old t (statuses.Live phase) }
     {
         self.set_status(t, Status::Live(phase));
@@ -146,7 +146,7 @@ impl ThreadTable {
     /// The state of a thread as the Java program sees it (`Thread.getState`).
     pub fn state(&self, t: u32) -> JavaState
         requires { t < length self.now.threads }
-        ensures { option_map (λ thread. java_state thread.status) (thread_at self.now t) ≡ Some result }
+        ensures { option_map java_state (status_at self.now t) ≡ Some result }
     {
         JavaState::from(self.threads[t as usize].status)
     }
@@ -154,7 +154,8 @@ impl ThreadTable {
     /// The threads that wait to join a thread, in rising order. It takes time by their number, and not by that of all threads.
     pub fn joiners(&self, t: u32) -> Result<Vec<u32>, NoMemory>
         requires { t < length self.now.threads }
-        ensures just_these { IfOk result (λ v. (u : ℕ) → Contains v.items u ↔ (joins self.now u ≡ Some t)) }
+        ensures just_these { IfOk result (λ v. (u : ℕ) →
+            Contains v.items u ↔ (joins self.now u ≡ Some t)) }
         ensures rising { IfOk result (λ v. IsStrictlyIncreasing v.items) }
     {
         let mut threads = self.joiners.to_vec(self.alloc, t)?;
@@ -214,13 +215,13 @@ impl ThreadTable {
 
     fn set_status(&mut self, t: u32, status: Status)
         requires thread { t < length self.old.threads }
-        requires target { ForSome (target_of_status status) (λ target. target < length self.old.threads) }
+        requires target { IsInTable self.old (target_of_status status) }
         ensures { self.new ≡ with_status self.old t status }
     {
         let thread = &mut self.threads[t as usize];
-        let target = target_of(thread.status);
+        let target = joined_by(thread.status);
         thread.status = status;
         leave(&mut self.joiners, t, target);
-        come(&mut self.joiners, t, target_of(status));
+        come(&mut self.joiners, t, joined_by(status));
     }
 }

@@ -85,7 +85,10 @@ impl Wakes {
     /// Sets a thread's interrupt status (`Thread.interrupt`).
     pub fn interrupt(&mut self, t: u32)
         requires { t < length self.old.interrupts }
-        ensures { self.new ≡ record self.old { interrupts = slice_set self.old.interrupts t true } }
+        ensures { self.new ≡ record self.old {
+          interrupts =
+              slice_set self.old.interrupts t true;
+        } }
     {
         self.interrupts[t as usize] = true;
     }
@@ -102,7 +105,10 @@ impl Wakes {
     pub fn take_interrupt(&mut self, t: u32) -> bool
         requires { t < length self.old.interrupts }
         ensures was { slice_get self.old.interrupts t ≡ Some result }
-        ensures after { self.new ≡ record self.old { interrupts = slice_set self.old.interrupts t false } }
+        ensures after { self.new ≡ record self.old {
+          interrupts =
+              slice_set self.old.interrupts t false;
+        } }
     {
         let set = self.interrupts[t as usize];
         self.interrupts[t as usize] = false;

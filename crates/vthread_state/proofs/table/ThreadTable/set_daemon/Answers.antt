@@ -1,7 +1,7 @@
 use Rattle.std.proofs.Common.{◌<◌, length, List, refl, sym, ap, subst, ◌∙◌, rules}
 use Rattle.vthread_state.specs.declared.thread.Thread.{Thread}
 use Rattle.vthread_state.specs.Threads.{Threads, with_thread}
-use Rattle.vthread_state.proofs.TableLaws.{here, changed_is}
+use Rattle.vthread_state.proofs.TableLaws.{here, threads_with_is}
 use Rattle.vthread_state.proofs.JoinLaws.{joined_same}
 use Rattle.vthread_state.proofs.table.ThreadTable.set_daemon.Goals as goal
 
@@ -19,5 +19,5 @@ pub returns : goal.returns
 returns c =
     let low : c.args.t < length c.self.inside.threads.items = subst (λ (w : Threads). c.args.t < length w.threads) (sym c.self.view_is) c.requires in
     let f = λ (thread : Thread). record thread { daemon = c.args.daemon } in
-    let is = changed_is f _ _ c.index_mut-thread.result.now low c.index_mut-thread.ensures.value in
+    let is = threads_with_is f _ _ c.index_mut-thread.result.now low c.index_mut-thread.ensures.value in
     ap (λ (xs : List Thread). record { threads = xs; limit = c.self.inside.limit }) is ∙ ap (λ (w : Threads). with_thread w c.args.t f) c.self.view_is
