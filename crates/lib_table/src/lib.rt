@@ -1,0 +1,16 @@
+//! The built-in classes: those of the Java API that programs may use, as class files.
+#![tactic(auto)]
+
+mod declarations;
+mod instruction;
+mod native;
+mod objects;
+mod pool;
+mod system;
+mod texts;
+mod thread_builders;
+mod threads;
+mod throwables;
+mod words;
+
+pub use native::Native;
