@@ -11,6 +11,8 @@ use Rattle.lib_table.specs.declared.declarations.MethodBody.{MethodBody}
 use Rattle.lib_table.specs.declared.declarations.MethodBody.TheVariants as bodies
 use Rattle.lib_table.specs.declared.declarations.MethodCode.{MethodCode}
 use Rattle.lib_table.specs.declared.instruction.Instruction as declared
+use Rattle.lib_table.specs.declared.instruction.Operand as behind
+use Rattle.lib_table.specs.declared.instruction.Operand.TheVariants as operands
 use Rattle.lib_table.specs.declared.instruction.Instruction.TheVariants as ops
 
 -- ---- what a declaration says
@@ -98,6 +100,15 @@ meaning ops.Athrow = op 191 nothing
 
 -- ---- what the declarations of the code say
 
+abbrev pub operand_of : behind.Operand → Operand
+operand_of operands.Nothing = nothing
+operand_of (operands.Text text) = text_index text.now
+operand_of (operands.Class name) = class_index name.now
+operand_of (operands.Field class name descriptor) = field_index class.now name.now descriptor.now
+operand_of (operands.Method class name descriptor) = method_index class.now name.now descriptor.now
+operand_of (operands.InterfaceMethod class name descriptor count) = interface_index class.now name.now descriptor.now count
+operand_of (operands.Target pc) = offset_to pc
+
 abbrev pub code_of : MethodCode → Code
 code_of c = record { max_stack = c.max_stack; max_locals = c.max_locals; instructions = map meaning c.instructions.now; frame = c.frame }
 
@@ -112,12 +123,21 @@ method_of m = record { flags = m.flags; name = m.name.now; descriptor = m.descri
 abbrev pub field_of : FieldDeclaration → Field
 field_of f = record { flags = f.flags; name = f.name.now; descriptor = f.descriptor.now }
 
+abbrev pub name_of : Bor (List ℕ) → List ℕ
+name_of name = name.now
+
+abbrev pub parent_of : Option (Bor (List ℕ)) → Option (List ℕ)
+parent_of name = option_map name_of name
+
 abbrev pub class_of : ClassDeclaration → Class
 class_of c = record {
   flags = c.flags;
   name = c.name.now;
-  parent = option_map (λ (name : Bor (List ℕ)). name.now) c.parent;
-  interfaces = map (λ (name : Bor (List ℕ)). name.now) c.interfaces.now;
+  parent = parent_of c.parent;
+  interfaces = map name_of c.interfaces.now;
   fields = map field_of c.fields.now;
   methods = map method_of c.methods.now;
 }
+
+abbrev pub group_of : Bor (List ClassDeclaration) → List Class
+group_of declarations = map class_of declarations.now

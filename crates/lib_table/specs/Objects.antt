@@ -72,7 +72,7 @@ enum =
     ∷ areturn ∷ [])
     ∷ [])
 
-abbrev pub classes : List Class
+unfoldable pub classes : List Class
 classes =
     object
     ∷ objects

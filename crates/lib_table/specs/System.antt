@@ -45,7 +45,7 @@ print_stream =
     ∷ return_void ∷ [])
     ∷ [])
 
-abbrev pub classes : List Class
+unfoldable pub classes : List Class
 classes =
     system
     ∷ print_stream

@@ -1,5 +1,5 @@
 -- The built-in classes in their order.
-use Rattle.std.specs.Prelude.{List, ◌++◌}
+use Rattle.std.specs.Prelude.{List, [], ◌∷◌}
 use Rattle.lib_table.specs.Declarations.{Class}
 use Rattle.lib_table.specs.Objects as objects
 use Rattle.lib_table.specs.Texts as texts
@@ -8,5 +8,6 @@ use Rattle.lib_table.specs.Threads as threads
 use Rattle.lib_table.specs.ThreadBuilders as thread_builders
 use Rattle.lib_table.specs.Throwables as throwables
 
-abbrev pub table : List Class
-table = objects.classes ++ texts.classes ++ system.classes ++ threads.classes ++ thread_builders.classes ++ throwables.classes
+-- by subject
+abbrev pub groups : List (List Class)
+groups = objects.classes ∷ texts.classes ∷ system.classes ∷ threads.classes ∷ thread_builders.classes ∷ throwables.classes ∷ []

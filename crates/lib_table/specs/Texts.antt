@@ -51,7 +51,7 @@ string_builder =
     ∷ native_method (public + native) "toString" "()Ljava/lang/String;" natives.StringBuilderToString
     ∷ [])
 
-abbrev pub classes : List Class
+unfoldable pub classes : List Class
 classes =
     string
     ∷ string_builder

@@ -143,7 +143,7 @@ platform_thread_builder =
     ∷ areturn ∷ [])
     ∷ [])
 
-abbrev pub classes : List Class
+unfoldable pub classes : List Class
 classes =
     builder
     ∷ of_virtual

@@ -158,7 +158,7 @@ native_holder =
     ∷ return_void ∷ [])
     ∷ [])
 
-abbrev pub classes : List Class
+unfoldable pub classes : List Class
 classes =
     runnable
     ∷ thread

@@ -25,7 +25,7 @@ throwable_itself =
     ∷ areturn ∷ [])
     ∷ [])
 
-abbrev pub classes : List Class
+unfoldable pub classes : List Class
 classes =
     throwable_itself
     ∷ throwable public "java/lang/Exception" "java/lang/Throwable"

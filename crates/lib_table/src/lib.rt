@@ -1,8 +1,11 @@
 //! The built-in classes: those of the Java API that programs may use, as class files.
 #![tactic(auto)]
 
+mod build;
+mod code;
 mod declarations;
 mod instruction;
+mod library;
 mod native;
 mod objects;
 mod pool;
@@ -13,4 +16,5 @@ mod threads;
 mod throwables;
 mod words;
 
+pub use library::classes;
 pub use native::Native;

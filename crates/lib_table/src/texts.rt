@@ -65,6 +65,7 @@ static CLASSES: [ClassDeclaration; 2] = [
 ];
 
 /// The declarations of these classes.
+#[tactic(auto, unfolding(crate::specs::Texts::classes))]
 pub fn text_classes() -> &'static [ClassDeclaration]
     ensures { map class_of result.now ≡ classes }
 {
