@@ -10,3 +10,4 @@ pub mod Table
 pub mod Pool
 pub mod Build
 pub mod Library
+pub mod Natives

@@ -7,6 +7,7 @@ mod declarations;
 mod instruction;
 mod library;
 mod native;
+mod natives;
 mod objects;
 mod pool;
 mod system;
@@ -18,3 +19,4 @@ mod words;
 
 pub use library::classes;
 pub use native::Native;
+pub use natives::native_of;
