@@ -1,0 +1,9 @@
+//! When the code of a program is well typed (JVMS 4.10.1), as this project's profile of it, and the first place where it
+//! isn't. `specs/` has the definitions; here are the plain types that they speak of, and the laws.
+#![tactic(auto)]
+
+mod fault;
+mod why;
+
+pub use fault::VerifyFault;
+pub use why::VerifyWhy;
