@@ -9,4 +9,5 @@ pub mod Effects
 pub mod Handlers
 pub mod Walk
 pub mod Faults
+pub mod Acceptance
 pub mod Typing

@@ -1,0 +1,3 @@
+pub mod KindLaws
+pub mod ListLaws
+pub mod FaultLaws
