@@ -1,3 +1,5 @@
 pub mod KindLaws
 pub mod ListLaws
 pub mod FaultLaws
+pub mod WalkLaws
+pub mod TypingLaws

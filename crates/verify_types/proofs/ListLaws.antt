@@ -1,8 +1,10 @@
 -- Lists of faults: none of them, the first of them, and what they are made of.
 use Rattle.std.proofs.Common.{◌≡◌, ℕ, zero, suc, ◌+◌, Bool, true, false, cond, List, [], ◌∷◌, ◌++◌, Option, Some, None, refl, ap, sym, ◌∙◌, subst, arith}
-use Rattle.std.specs.Prelude.{◌&&◌, not, map, filter, find, slice_get}
-use Rattle.std.specs.Option.{option_map}
-use Rattle.std.specs.List.{flat_map, enumerate_from}
+use Rattle.std.specs.Prelude.{◌&&◌, not, map, filter, find, slice_get, is_some}
+use Rattle.std.specs.Option.{option_map, option_map_or}
+use Rattle.std.specs.List.{flat_map, enumerate_from, list_all, IsAmong}
+use Rattle.std.proofs.lemmas.List.Sums.{AllPass-from_list_all}
+use Rattle.std.proofs.lemmas.Option.{slice_get_within, get_or_from_slice_get}
 use Rattle.verify_types.specs.Faults.{unless, first_some}
 use Rattle.verify_types.specs.Acceptance.{Each, AllNone, IsFirst}
 
@@ -78,6 +80,16 @@ pub each_found : {A : Type 0} (P : A → Type 0) (test : A → Bool) (xs : List 
 each_found P test [] x h e = absurd cc
 each_found P test (y ∷ xs) x h e = found_by P (test y) y x (find test xs) e h.0 (λ found. each_found P test xs x h.1 found)
 
+passes_by : {A : Type 0} (test : A → Bool) (b : Bool) (y x : A) (below : Option A) → test y ≡ b → cond b (Some y) below ≡ Some x
+    → (below ≡ Some x → test x ≡ true) → test x ≡ true
+passes_by test true y x below is e behind = let same : y ≡ x = cc in subst (λ z. test z ≡ true) same is
+passes_by test false y x below is e behind = behind e
+
+-- what is found passes the test
+pub found_passes : {A : Type 0} (test : A → Bool) (xs : List A) (x : A) → find test xs ≡ Some x → test x ≡ true
+found_passes test [] x e = absurd cc
+found_passes test (y ∷ xs) x e = passes_by test (test y) y x (find test xs) refl e (λ found. found_passes test xs x found)
+
 left_by : {A : Type 0} (b : Bool) (y : A) (xs : List A) → cond b (y ∷ xs) xs ≡ [] → (b ≡ false) × (xs ≡ [])
 left_by true y xs e = absurd cc
 left_by false y xs e = (refl, e)
@@ -90,7 +102,34 @@ none_left {A} p test (y ∷ xs) x none e =
     let P : A → Type 0 = λ z. p z ≡ false in
     found_by P (test y) y x (find test xs) e left.0 (λ found. none_left p test xs x left.1 found)
 
--- the item at an index, with its number
+-- ---- all of a list
+
+pub among_all : {A : Type 0} (p : A → Bool) (xs : List A) (x : A) → list_all p xs ≡ true → IsAmong xs x → p x ≡ true
+among_all {A} p xs x all among =
+    let P : A → Type 0 = λ z. p z ≡ true in
+    subst P (sym among.1.1) (AllPass-from_list_all p xs all among.0 x among.1.0)
+
+pub at_all : {A : Type 0} (p : A → Bool) (xs : List A) (k : ℕ) (x : A) → list_all p xs ≡ true → slice_get xs k ≡ Some x → p x ≡ true
+at_all {A} p xs k x all e =
+    let P : A → Type 0 = λ z. p z ≡ true in
+    subst P (get_or_from_slice_get xs k x x e) (AllPass-from_list_all p xs all k x (slice_get_within xs k x e))
+
+-- ---- an option
+
+pub option_true : {A : Type 0} (g : A → Bool) (o : Option A) → option_map_or g o false ≡ true → (x : A) × (o ≡ Some x) × (g x ≡ true)
+option_true g None e = absurd cc
+option_true g (Some x) e = (x, refl, e)
+
+pub some_is_some : {A : Type 0} (o : Option A) → is_some o ≡ true → (x : A) × (o ≡ Some x)
+some_is_some None e = absurd cc
+some_is_some (Some x) e = (x, refl)
+
+pub option_case : {A : Type 0} (G : Type 0) (o : Option A) → ((x : A) → o ≡ Some x → G) → (o ≡ None → G) → G
+option_case G None found none = none refl
+option_case G (Some x) found none = found x refl
+
+-- ---- the item at an index, with its number
+
 pub numbered : {A : Type 0} (P : ℕ × A → Type 0) (k n : ℕ) (xs : List A) (x : A) → Each P (enumerate_from k xs) → slice_get xs n ≡ Some x → P (k + n, x)
 numbered P k n [] x h e = absurd cc
 numbered {A} P k zero (y ∷ xs) x h e =
