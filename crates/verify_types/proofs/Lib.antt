@@ -1,5 +1,6 @@
 pub mod KindLaws
 pub mod ListLaws
 pub mod FaultLaws
+pub mod CodeLaws
 pub mod WalkLaws
 pub mod TypingLaws

@@ -23,7 +23,8 @@ use Rattle.verify_types.specs.Calls.{covers}
 use Rattle.verify_types.specs.Handlers.{fits_frame, caught_type, caught, is_satisfied, are_satisfied, is_returned, is_finished}
 use Rattle.verify_types.specs.Walk.{Placed, standing, behind, is_end, placed, walk, placed_at}
 use Rattle.verify_types.specs.Faults.{is_target, frame_at, fits_target, fits_next, is_inside, stray_frames, pc_fault, placed_faults, method_faults, IsWellTyped}
-use Rattle.verify_types.specs.Acceptance.{Each, AllNone, KeepsRules, InOrder, IsLinkedCode, AreLinked, IsAccepted}
+use Rattle.verify_types.specs.Acceptance.{Each, AllNone, KeepsRules, IsAccepted, AreAccepted, AreDecoded}
+use Rattle.verify_types.proofs.CodeLaws.{InOrder, IsLinkedCode, are_linked}
 use Rattle.verify_types.specs.Typing.{Leads, LeadsTo, IsFine, IsTypedMethod, AreTyped}
 use Rattle.verify_types.proofs.KindLaws.{fits_kept}
 use Rattle.verify_types.proofs.ListLaws.{and_true, passed, each_flat, each_found, found_passes, none_left, among_all, at_all, option_true, some_is_some, option_case}
@@ -281,8 +282,8 @@ faultless_accepted env code none =
         (each_flat (λ x. x ≡ None) (placed_faults env) (walk env) none.1)
     }
 
-pub world_accepted : (w : World) → IsWellTyped w → AreLinked w → (n : ℕ) (env : Environment) → environment w n ≡ Some env → IsAccepted env
-world_accepted w typed linked n env is = faultless_accepted env (linked n env is) (none_in_method w n env typed is)
+pub world_accepted : (w : World) → AreDecoded w → IsWellTyped w → AreAccepted w
+world_accepted w decoded typed = λ n env is. faultless_accepted env (are_linked w decoded n env is) (none_in_method w n env typed is)
 
-pub world_typed : (w : World) → IsWellTyped w → AreLinked w → AreTyped w
-world_typed w typed linked = λ n env is. accepted_typed env (linked n env is) (world_accepted w typed linked n env is)
+pub world_typed : (w : World) → AreDecoded w → IsWellTyped w → AreTyped w
+world_typed w decoded typed = λ n env is. accepted_typed env (are_linked w decoded n env is) (world_accepted w decoded typed n env is)

@@ -12,7 +12,8 @@ use Rattle.verify_types.specs.Effects.{row_of, state_after}
 use Rattle.verify_types.specs.Handlers.{fits_frame}
 use Rattle.verify_types.specs.Walk.{Placed, standing, behind, is_end, placed, walk}
 use Rattle.verify_types.specs.Faults.{unless, PcFault, fits_target, fits_next, state_whys, whys_at, pc_fault, stray_frames, placed_faults, method_faults}
-use Rattle.verify_types.specs.Acceptance.{Each, AllNone, KeepsRules, InOrder}
+use Rattle.verify_types.specs.Acceptance.{Each, AllNone, KeepsRules}
+use Rattle.verify_types.proofs.CodeLaws.{InOrder}
 use Rattle.verify_types.proofs.ListLaws.{and_true, passed, each_split, unmapped, empty}
 use Rattle.verify_types.proofs.FaultLaws.{keeps_rules, has_state}
 

@@ -1,10 +1,12 @@
 -- A well typed program as a relation for each instruction, without an order of rules (JVMS 4.10.1).
-use Rattle.std.specs.Prelude.{◌≡◌, ℕ, ◌<◌, Bool, true, false, List, [], ◌∷◌, ◌++◌, Option, Some, None, Ok, slice_get, ◌&&◌}
+use Rattle.std.specs.Prelude.{◌≡◌, ℕ, ◌<◌, Bool, true, false, List, [], ◌∷◌, ◌++◌, Option, Some, None, Ok, length, slice_get, ◌&&◌}
 use Rattle.std.specs.List.{list_all}
 use Rattle.instruction_rows.specs.Rows.{targets_of_row, row_goes_on}
 use Rattle.world_model.specs.World.{World}
 use Rattle.verify_types.specs.TypeStates.{TypeState}
-use Rattle.verify_types.specs.Environment.{Instruction, Environment, environment}
+use Rattle.opcodes.specs.Code.{IsCode}
+use Rattle.world_model.specs.declared.members.MethodCode.{MethodCode}
+use Rattle.verify_types.specs.Environment.{Environment, environment}
 use Rattle.verify_types.specs.Effects.{row_of, state_after}
 use Rattle.verify_types.specs.Handlers.{are_satisfied, is_returned, is_finished}
 use Rattle.verify_types.specs.Walk.{Placed, walk}
@@ -50,19 +52,17 @@ pub record IsAccepted (env : Environment) : Type 0 where
   pub mapped : env.is_mapped ≡ true
   pub each : Each (KeepsRules env) (walk env)
 
+-- each method with code is accepted
+abbrev pub AreAccepted : World → Type 0
+AreAccepted w = (n : ℕ) (env : Environment) → environment w n ≡ Some env → IsAccepted env
+
 -- ---- what a linked program has
 
--- the instructions stand one behind the other, the first at this pc
-abbrev pub InOrder : ℕ → List Instruction → Type 0
-InOrder pc [] = Unit {0}
-InOrder pc (i ∷ is) = (i.instr.pc ≡ pc) × (pc < i.instr.next) × InOrder i.instr.next is
+-- the instructions are those of some bytes, of which there is one at least (JVMS 4.7.3)
+pub record IsDecoded (code : MethodCode) : Type 0 where
+  pub bytes : List ℕ
+  pub is_code : IsCode bytes code.code
+  pub some : 0 < length bytes
 
--- there is an instruction, and they stand in order
-pub record IsLinkedCode (env : Environment) : Type 0 where
-  pub first : Instruction
-  pub rest : List Instruction
-  pub parts : env.instructions ≡ first ∷ rest
-  pub ordered : InOrder 0 env.instructions
-
-abbrev pub AreLinked : World → Type 0
-AreLinked w = (n : ℕ) (env : Environment) → environment w n ≡ Some env → IsLinkedCode env
+abbrev pub AreDecoded : World → Type 0
+AreDecoded w = (n : ℕ) (code : MethodCode) → slice_get w.codes n ≡ Some (Some code) → IsDecoded code
