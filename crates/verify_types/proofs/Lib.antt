@@ -4,3 +4,4 @@ pub mod FaultLaws
 pub mod CodeLaws
 pub mod WalkLaws
 pub mod TypingLaws
+pub mod AcceptanceLaws

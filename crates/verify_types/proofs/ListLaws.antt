@@ -76,6 +76,36 @@ found_by : {A : Type 0} (P : A → Type 0) (b : Bool) (y x : A) (below : Option 
 found_by P true y x below e here behind = let is : y ≡ x = cc in subst P is here
 found_by P false y x below e here behind = behind e
 
+-- ---- and back
+
+pub each_all : {A : Type 0} (P : A → Type 0) → ((x : A) → P x) → (xs : List A) → Each P xs
+each_all P all [] = tt
+each_all P all (x ∷ xs) = (all x, each_all P all xs)
+
+pub each_join : {A : Type 0} (P : A → Type 0) (xs ys : List A) → Each P xs → Each P ys → Each P (xs ++ ys)
+each_join P [] ys h g = g
+each_join P (x ∷ xs) ys h g = (h.0, each_join P xs ys h.1 g)
+
+pub flat_each : {A B : Type 0} (P : B → Type 0) (f : A → List B) (xs : List A) → Each (λ x. Each P (f x)) xs → Each P (flat_map f xs)
+flat_each P f [] h = tt
+flat_each P f (x ∷ xs) h = each_join P (f x) (flat_map f xs) h.0 (flat_each P f xs h.1)
+
+pub each_kept : {A : Type 0} (P Q : A → Type 0) → ((x : A) → P x → Q x) → (xs : List A) → Each P xs → Each Q xs
+each_kept P Q to [] h = tt
+each_kept P Q to (x ∷ xs) h = (to x h.0, each_kept P Q to xs h.1)
+
+pub mapped : {A B : Type 0} (f : A → B) (xs : List (Option A)) → AllNone xs → AllNone (map (option_map f) xs)
+mapped f [] none = tt
+mapped f (x ∷ xs) none = (ap (λ o. option_map f o) none.0, mapped f xs none.1)
+
+pub no_fault : {A : Type 0} (test : Bool) (x : A) → test ≡ true → unless test x ≡ None
+no_fault true x e = refl
+no_fault false x e = absurd cc
+
+pub true_and : (a b : Bool) → a ≡ true → b ≡ true → (a && b) ≡ true
+true_and true b e g = g
+true_and false b e g = absurd cc
+
 pub each_found : {A : Type 0} (P : A → Type 0) (test : A → Bool) (xs : List A) (x : A) → Each P xs → find test xs ≡ Some x → P x
 each_found P test [] x h e = absurd cc
 each_found P test (y ∷ xs) x h e = found_by P (test y) y x (find test xs) e h.0 (λ found. each_found P test xs x h.1 found)

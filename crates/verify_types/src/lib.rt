@@ -3,7 +3,9 @@
 #![tactic(auto)]
 
 mod fault;
+mod laws;
 mod why;
 
 pub use fault::VerifyFault;
+pub use laws::{first_faults, kinds_are_kept, typed_methods};
 pub use why::VerifyWhy;
