@@ -5,3 +5,4 @@ pub mod CodeLaws
 pub mod WalkLaws
 pub mod TypingLaws
 pub mod AcceptanceLaws
+mod WorkedRows
