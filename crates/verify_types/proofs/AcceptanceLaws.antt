@@ -1,14 +1,13 @@
 -- A program whose methods are accepted has no fault.
-use Rattle.std.proofs.Common.{◌≡◌, ℕ, Bool, true, false, List, [], ◌∷◌, Option, Some, None, Result, Ok, Err, refl, ap, sym, ◌∙◌, subst}
+use Rattle.std.proofs.Common.{◌≡◌, ℕ, true, List, [], ◌∷◌, Option, Some, None, Result, Ok, ap, sym, subst}
 use Rattle.std.specs.Prelude.{◌&&◌, not, map, is_none}
 use Rattle.std.specs.Option.{option_map, option_map_or}
-use Rattle.std.specs.List.{flat_map, enumerate_from, list_all}
+use Rattle.std.specs.List.{enumerate_from, list_all}
 use Rattle.instruction_rows.specs.declared.row_why.RowWhy.{RowWhy}
 use Rattle.instruction_rows.specs.declared.row_why.RowWhy.TheVariants as row_whys
 use Rattle.instruction_rows.specs.Rows.{targets_of_row, row_goes_on}
 use Rattle.world_model.specs.declared.members.MethodInfo.{MethodInfo}
 use Rattle.world_model.specs.World.{World}
-use Rattle.verify_types.specs.declared.why.VerifyWhy.{VerifyWhy}
 use Rattle.verify_types.specs.declared.why.VerifyWhy.TheVariants as whys
 use Rattle.verify_types.specs.TypeStates.{TypeState}
 use Rattle.verify_types.specs.Environment.{Environment, MapFrame, environment, map_at}
@@ -16,7 +15,7 @@ use Rattle.verify_types.specs.Effects.{row_of, state_after}
 use Rattle.verify_types.specs.Handlers.{are_satisfied, is_returned, is_finished}
 use Rattle.verify_types.specs.Walk.{Placed, walk}
 use Rattle.verify_types.specs.Faults.{unless, is_target, entry_fits, result_fits, keeps_rule, is_shallow, result_is_shallow, has_locals, state_whys, whys_at, pc_fault, stray_frames, placed_faults, method_faults, fault_in, environment_faults, numbered_faults, world_faults, IsWellTyped}
-use Rattle.verify_types.specs.Acceptance.{Each, AllNone, KeepsRules, IsAccepted, AreAccepted}
+use Rattle.verify_types.specs.Acceptance.{AllNone, KeepsRules, IsAccepted, AreAccepted}
 use Rattle.verify_types.proofs.ListLaws.{none_first, each_all, each_join, flat_each, each_kept, mapped, no_fault, true_and, option_case}
 
 -- ---- an instruction

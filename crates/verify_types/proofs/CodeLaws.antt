@@ -1,12 +1,11 @@
 -- The instructions of a linked method stand one behind the other.
-use Rattle.std.proofs.Common.{◌≡◌, ℕ, ◌+◌, ◌<◌, List, [], ◌∷◌, ◌++◌, length, Option, Some, None, refl, ap, sym, ◌∙◌, subst, arith}
+use Rattle.std.proofs.Common.{◌≡◌, ℕ, ◌<◌, List, [], ◌∷◌, length, Option, Some, None, refl, ap, sym, ◌∙◌, subst, arith}
 use Rattle.std.proofs.lemmas.List.{length-append}
 use Rattle.std.specs.Prelude.{get_or, drop, slice_get}
 use Rattle.std.specs.Option.{option_and_then}
 use Rattle.opcodes.specs.declared.op.Instr.{Instr}
 use Rattle.opcodes.specs.Code.{BeginsWith, BeginsWithAll, IsCode}
 use Rattle.opcodes.proofs.CodeLaws.{some_bytes}
-use Rattle.instruction_rows.specs.Options.{◌>>=◌}
 use Rattle.instruction_rows.proofs.Steps.{some_is}
 use Rattle.world_model.specs.declared.members.MethodInfo.{MethodInfo}
 use Rattle.world_model.specs.declared.members.MethodCode.{MethodCode}
@@ -14,7 +13,7 @@ use Rattle.world_model.specs.declared.sites.Naming.{Naming}
 use Rattle.world_model.specs.declared.sites.Site.TheVariants.{Plain}
 use Rattle.world_model.specs.World.{World}
 use Rattle.verify_types.specs.Environment.{Instruction, Environment, with_namings, environment_of, environment}
-use Rattle.verify_types.specs.Acceptance.{IsDecoded, AreDecoded}
+use Rattle.verify_types.specs.Acceptance.{AreDecoded}
 
 -- the instructions stand one behind the other, the first at this pc
 abbrev pub InOrder : ℕ → List Instruction → Type 0

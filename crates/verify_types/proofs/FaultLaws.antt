@@ -1,27 +1,23 @@
 -- Faults of a program, of a method and of an instruction.
-use Rattle.std.proofs.Common.{◌≡◌, ℕ, ◌+◌, Bool, true, false, List, [], ◌∷◌, ◌++◌, Option, Some, None, Result, Ok, Err, refl, ap, sym, subst, arith}
-use Rattle.std.specs.Prelude.{◌&&◌, not, map, slice_get, is_none}
-use Rattle.std.specs.Option.{option_map, option_map_or, option_and_then}
-use Rattle.std.specs.List.{flat_map, enumerate_from, list_all}
+use Rattle.std.proofs.Common.{◌≡◌, ℕ, ◌+◌, true, false, List, [], ◌∷◌, Option, Some, None, Result, Ok, Err, refl, subst, arith}
+use Rattle.std.specs.Prelude.{◌&&◌, slice_get, is_none}
+use Rattle.std.specs.Option.{option_map_or}
+use Rattle.std.specs.List.{enumerate_from, list_all}
 use Rattle.instruction_rows.specs.declared.row_why.RowWhy.{RowWhy}
 use Rattle.instruction_rows.specs.declared.row_why.RowWhy.TheVariants as row_whys
-use Rattle.instruction_rows.specs.Options.{◌>>=◌}
 use Rattle.instruction_rows.specs.Rows.{targets_of_row, row_goes_on}
 use Rattle.instruction_rows.proofs.Steps.{some_is}
-use Rattle.world_model.specs.declared.members.MethodInfo.{MethodInfo}
-use Rattle.world_model.specs.declared.members.MethodCode.{MethodCode}
 use Rattle.world_model.specs.World.{World}
 use Rattle.verify_types.specs.declared.why.VerifyWhy.{VerifyWhy}
 use Rattle.verify_types.specs.declared.why.VerifyWhy.TheVariants as whys
-use Rattle.verify_types.specs.declared.fault.VerifyFault.{VerifyFault}
 use Rattle.verify_types.specs.TypeStates.{TypeState}
-use Rattle.verify_types.specs.Environment.{Environment, MapFrame, environment, map_at}
+use Rattle.verify_types.specs.Environment.{Environment, MapFrame, environment}
 use Rattle.verify_types.specs.Effects.{row_of, state_after}
 use Rattle.verify_types.specs.Handlers.{are_satisfied, is_returned, is_finished}
-use Rattle.verify_types.specs.Walk.{Placed, walk}
-use Rattle.verify_types.specs.Faults.{unless, is_target, entry_fits, result_fits, keeps_rule, is_shallow, result_is_shallow, has_locals, state_whys, whys_at, pc_fault, stray_frames, placed_faults, method_faults, fault_in, environment_faults, numbered_faults, world_faults, first_fault, IsWellTyped}
-use Rattle.verify_types.specs.Acceptance.{Each, AllNone, KeepsRules}
-use Rattle.verify_types.proofs.ListLaws.{and_true, passed, not_true, first_none, each_split, each_flat, unmapped, empty, numbered}
+use Rattle.verify_types.specs.Walk.{Placed}
+use Rattle.verify_types.specs.Faults.{unless, is_target, entry_fits, result_fits, keeps_rule, is_shallow, result_is_shallow, has_locals, state_whys, stray_frames, method_faults, fault_in, environment_faults, numbered_faults, world_faults, IsWellTyped}
+use Rattle.verify_types.specs.Acceptance.{AllNone, KeepsRules}
+use Rattle.verify_types.proofs.ListLaws.{and_true, passed, not_true, first_none, each_flat, unmapped, numbered}
 
 -- ---- a program
 

@@ -1,28 +1,23 @@
 -- A method without a fault is typed: what each instruction leaves is known wherever it goes.
-use Rattle.std.proofs.Common.{◌≡◌, ℕ, ℤ, ◌<◌, ◌≤◌, ◌⊎◌, inl, inr, Bool, true, false, cond, List, [], ◌∷◌, length, get_or, eqb, ltb, Option, Some, None, Result, Ok, Err, eq-eqb, refl, ap, sym, ◌∙◌, subst, arith}
-use Rattle.std.specs.Prelude.{◌&&◌, ◌||◌, ◌==◌, not, find, filter, is_none, is_some, slice_get, nat_lt}
+use Rattle.std.proofs.Common.{◌≡◌, ℕ, ℤ, ◌<◌, ◌≤◌, inl, inr, Bool, true, false, cond, List, [], ◌∷◌, length, Option, Some, None, eq-eqb, refl, ap, sym, ◌∙◌, subst, arith}
+use Rattle.std.specs.Prelude.{◌&&◌, ◌||◌, ◌==◌, not, find, is_some, slice_get, nat_lt}
 use Rattle.std.specs.Option.{option_map_or, option_and_then}
-use Rattle.std.specs.List.{list_all, IsAmong}
+use Rattle.std.specs.List.{list_all}
 use Rattle.std.specs.Result.{result_ok}
 use Rattle.verify_types.specs.declared.why.VerifyWhy.TheVariants as whys
 use Rattle.std.proofs.lemmas.Bool.{ne_eqb, eqb-true, lt-ltb, leb-true, cases_lt}
-use Rattle.std.proofs.lemmas.List.Sums.{AllPass-from_list_all}
-use Rattle.std.proofs.lemmas.Option.{slice_get_within, get_or_from_slice_get}
-use Rattle.instruction_rows.specs.declared.value.Slot.{Slot}
-use Rattle.instruction_rows.specs.Contents.{Contents}
-use Rattle.instruction_rows.specs.Soundness.{HasKinds}
 use Rattle.instruction_rows.specs.Pcs.{pc_of}
 use Rattle.instruction_rows.specs.Rows.{targets_of_row, row_goes_on}
 use Rattle.world_model.specs.World.{World}
 use Rattle.verify_types.specs.ClassTypes.{throwable_type}
 use Rattle.verify_types.specs.Assignability.{assignable}
 use Rattle.verify_types.specs.TypeStates.{TypeState, fits}
-use Rattle.verify_types.specs.Environment.{Instruction, Handler, Environment, MapFrame, environment, map_at, instruction_at}
+use Rattle.verify_types.specs.Environment.{Instruction, Handler, Environment, MapFrame, map_at, instruction_at}
 use Rattle.verify_types.specs.Effects.{row_of, state_after}
 use Rattle.verify_types.specs.Calls.{covers}
-use Rattle.verify_types.specs.Handlers.{fits_frame, caught_type, caught, is_satisfied, are_satisfied, is_returned, is_finished}
+use Rattle.verify_types.specs.Handlers.{fits_frame, caught_type, caught, is_satisfied, are_satisfied}
 use Rattle.verify_types.specs.Walk.{Placed, standing, behind, is_end, placed, walk, placed_at}
-use Rattle.verify_types.specs.Faults.{is_target, frame_at, fits_target, fits_next, is_inside, stray_frames, pc_fault, placed_faults, method_faults, IsWellTyped}
+use Rattle.verify_types.specs.Faults.{is_target, fits_target, fits_next, is_inside, pc_fault, placed_faults, method_faults, IsWellTyped}
 use Rattle.verify_types.specs.Acceptance.{Each, AllNone, KeepsRules, IsAccepted, AreAccepted, AreDecoded}
 use Rattle.verify_types.proofs.CodeLaws.{InOrder, IsLinkedCode, are_linked}
 use Rattle.verify_types.specs.Typing.{Leads, LeadsTo, IsFine, IsTypedMethod, AreTyped}

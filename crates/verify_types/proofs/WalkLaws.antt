@@ -1,20 +1,20 @@
 -- A walk without a fault: each instruction has a state and keeps to the rules.
-use Rattle.std.proofs.Common.{◌≡◌, ℕ, ◌<◌, Bool, true, false, cond, List, [], ◌∷◌, Option, Some, None, Result, Ok, Err, refl, ap, sym, ◌∙◌, subst}
-use Rattle.std.specs.Prelude.{◌&&◌, ◌||◌, map, is_none, is_some}
+use Rattle.std.proofs.Common.{◌≡◌, ℕ, Bool, true, false, cond, List, [], ◌∷◌, Option, Some, None, refl, ap, sym, subst}
+use Rattle.std.specs.Prelude.{map, is_none, is_some}
 use Rattle.std.specs.Option.{option_map, option_map_or}
 use Rattle.std.specs.Result.{result_ok}
-use Rattle.std.specs.List.{flat_map, list_all}
-use Rattle.instruction_rows.specs.Rows.{Row, targets_of_row, row_goes_on}
+use Rattle.std.specs.List.{list_all}
+use Rattle.instruction_rows.specs.Rows.{targets_of_row, row_goes_on}
 use Rattle.verify_types.specs.declared.why.VerifyWhy.TheVariants as whys
 use Rattle.verify_types.specs.TypeStates.{TypeState}
 use Rattle.verify_types.specs.Environment.{Instruction, Environment, MapFrame, map_at}
 use Rattle.verify_types.specs.Effects.{row_of, state_after}
 use Rattle.verify_types.specs.Handlers.{fits_frame}
-use Rattle.verify_types.specs.Walk.{Placed, standing, behind, is_end, placed, walk}
-use Rattle.verify_types.specs.Faults.{unless, PcFault, fits_target, fits_next, state_whys, whys_at, pc_fault, stray_frames, placed_faults, method_faults}
+use Rattle.verify_types.specs.Walk.{Placed, standing, behind, is_end, placed}
+use Rattle.verify_types.specs.Faults.{unless, fits_target, fits_next, state_whys, whys_at, pc_fault, stray_frames, placed_faults}
 use Rattle.verify_types.specs.Acceptance.{Each, AllNone, KeepsRules}
 use Rattle.verify_types.proofs.CodeLaws.{InOrder}
-use Rattle.verify_types.proofs.ListLaws.{and_true, passed, each_split, unmapped, empty}
+use Rattle.verify_types.proofs.ListLaws.{and_true, each_split, unmapped, empty}
 use Rattle.verify_types.proofs.FaultLaws.{keeps_rules, has_state}
 
 -- the first of these instructions is reached from the one before, or has a frame of the map

@@ -1,5 +1,5 @@
 -- Single methods and types, beside the text of JVMS 4.10.1.
-use Rattle.std.proofs.Common.{◌≡◌, ℕ, ◌+◌, ℤ, pos, Bool, true, false, List, [], ◌∷◌, Option, Some, None, refl}
+use Rattle.std.proofs.Common.{◌≡◌, ℕ, ◌+◌, pos, true, false, List, [], ◌∷◌, Some, None, refl}
 use Rattle.std.specs.Prelude.{codes}
 use Rattle.class_model.specs.declared.access_flags.TheConstants.{ACC_STATIC}
 use Rattle.class_model.specs.declared.attribute.Row.{Row}
@@ -8,7 +8,6 @@ use Rattle.opcodes.specs.declared.op.Op.TheVariants as ops
 use Rattle.opcodes.specs.declared.op.Instr.{Instr}
 use Rattle.opcodes.specs.declared.op.Simple.TheVariants as simples
 use Rattle.opcodes.specs.declared.op.Kind.TheVariants as kinds
-use Rattle.opcodes.specs.declared.op.Comparison.TheVariants as orders
 use Rattle.stack_maps.specs.declared.types.Base.TheVariants as bases
 use Rattle.stack_maps.specs.declared.types.VType.{VType}
 use Rattle.stack_maps.specs.declared.types.VType.TheVariants as types
@@ -20,7 +19,7 @@ use Rattle.verify_types.specs.declared.why.VerifyWhy.{VerifyWhy}
 use Rattle.verify_types.specs.declared.why.VerifyWhy.TheVariants as whys
 use Rattle.verify_types.specs.Assignability.{assignable}
 use Rattle.verify_types.specs.Environment.{Environment, environment_of}
-use Rattle.verify_types.specs.Faults.{PcFault, pc_fault, method_fault}
+use Rattle.verify_types.specs.Faults.{pc_fault, method_fault}
 
 -- a world of names alone, in which no class of a file stands
 abbrev names : World

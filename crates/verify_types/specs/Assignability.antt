@@ -1,6 +1,6 @@
 -- When a value of one type may stand for one of another (JVMS 4.10.1.2). Neither type is a constant of a pool: those are
 -- resolved first.
-use Rattle.std.specs.Prelude.{ℕ, zero, suc, Bool, true, false, List, codes, nat_le, ◌==◌, ◌&&◌, ◌||◌}
+use Rattle.std.specs.Prelude.{nat_lt, if◌then◌else◌, ℕ, Bool, true, false, List, Option, codes, nat_le, ◌==◌, ◌&&◌, ◌||◌}
 use Rattle.std.specs.Option.{option_map_or}
 use Rattle.class_grammar.specs.Names.{object_class}
 use Rattle.stack_maps.specs.declared.types.Base.{Base}
@@ -11,9 +11,13 @@ use Rattle.linkage.specs.Program.{is_interface}
 use Rattle.linkage.specs.Hierarchy.{is_below}
 use Rattle.world_model.specs.World.{World, class_count, name_number}
 
+-- whether the number that was found, if any, is this one
+abbrev pub is_number : Option ℕ → ℕ → Bool
+is_number found class = option_map_or (λ n. n == class) found false
+
 -- whether this is the number of the class of that name
 abbrev pub is_named : World → List ℕ → ℕ → Bool
-is_named w name class = option_map_or (λ n. n == class) (name_number w name) false
+is_named w name class = is_number (name_number w name) class
 
 abbrev pub is_object : World → ℕ → Bool
 is_object w class = is_named w object_class class
@@ -47,13 +51,10 @@ abbrev pub is_array_super : World → Base → Bool
 is_array_super w (bases.Class class) = is_above_arrays w class
 is_array_super w base = false
 
--- Named types, by their dimensions and what lies below them: an array of references to one whose elements its own are assignable
--- to.
+-- Named types, by their dimensions and what lies below them: with as many dimensions, where their last elements are assignable;
+-- with more, to what is above each array class, or an array of that.
 abbrev pub named_assignable : World → ℕ → Base → ℕ → Base → Bool
-named_assignable w (suc m) a (suc n) b = named_assignable w m a n b
-named_assignable w zero a zero b = base_assignable w a b
-named_assignable w (suc m) a zero b = is_array_super w b
-named_assignable w zero a (suc n) b = false
+named_assignable w m a n b = if m == n then base_assignable w a b else (nat_lt n m && is_array_super w b)
 
 -- Each type to itself and to Top, and null to each class, interface and array.
 abbrev pub assignable : World → VType → VType → Bool

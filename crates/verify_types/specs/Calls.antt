@@ -21,7 +21,7 @@ use Rattle.world_model.specs.declared.sites.Site.{Site}
 use Rattle.world_model.specs.declared.sites.Site.TheVariants as sites
 use Rattle.world_model.specs.World.{World, class_type}
 use Rattle.verify_types.specs.ClassTypes.{type_of_kind}
-use Rattle.verify_types.specs.Assignability.{assignable}
+use Rattle.verify_types.specs.Assignability.{is_number, assignable}
 use Rattle.verify_types.specs.TypeStates.{TypeState, with_stack, is_this, is_new, replaced}
 use Rattle.verify_types.specs.Environment.{Instruction, Handler, Environment, is_constructor, instruction_at}
 use Rattle.verify_types.specs.Operands.{only_if, wanted, all_wanted}
@@ -56,9 +56,6 @@ is_covered env pc = list_any (covers pc) env.handlers
 abbrev pub made_by : Op → Site → Option ℕ
 made_by (ops.New index) (sites.Class class) = Some class
 made_by op site = None
-
-abbrev pub is_number : Option ℕ → ℕ → Bool
-is_number found n = option_map_or (λ m. m == n) found false
 
 -- whether there is a `new` of this class at the pc
 abbrev pub is_new_of : Environment → ℕ → ℕ → Bool

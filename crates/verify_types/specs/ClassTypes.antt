@@ -1,8 +1,5 @@
 -- The verification types that names, descriptors and constants mean (JVMS 4.10.1.2), by numbers of the world.
-use Rattle.std.specs.Prelude.{ℕ, List, Option, Some, codes, length, slice_get, unwrap_or}
-use Rattle.std.specs.Option.{option_and_then}
-use Rattle.class_model.specs.declared.class_file.ClassFile.{ClassFile}
-use Rattle.class_grammar.specs.Pool.{class_name_at}
+use Rattle.std.specs.Prelude.{ℕ, List, Option, Some, codes, length, unwrap_or}
 use Rattle.class_grammar.specs.Names.{object_class}
 use Rattle.descriptors.specs.declared.kind.Kind.{Kind}
 use Rattle.descriptors.specs.declared.kind.Kind.TheVariants as kinds
@@ -14,18 +11,15 @@ use Rattle.stack_maps.specs.declared.types.VType.{VType}
 use Rattle.stack_maps.specs.declared.types.VType.TheVariants as types
 use Rattle.instruction_rows.specs.declared.value.Value.{Value}
 use Rattle.instruction_rows.specs.declared.value.Value.TheVariants as values
-use Rattle.world_model.specs.World.{World, name_number, named_type}
+use Rattle.world_model.specs.World.{World, name_number}
+use Rattle.world_model.specs.Pools.{pool_type}
 
 -- ---- types of a stack map
-
--- the type that a constant of this class file's pool means, where it is a class
-abbrev pub pool_type : World → ℕ → ClassFile → Option VType
-pool_type w index f = option_and_then (named_type w) (class_name_at f.pool index)
 
 -- What a type means in the code of a class: a constant of its pool becomes the class that it names, and every other type is
 -- itself. It is undefined where the constant isn't a class.
 abbrev pub resolve : World → ℕ → VType → Option VType
-resolve w class (types.Object index) = option_and_then (pool_type w index) (slice_get w.program.classes class)
+resolve w class (types.Object index) = pool_type w class index
 resolve w class t = Some t
 
 -- ---- types by name

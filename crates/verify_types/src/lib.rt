@@ -2,10 +2,14 @@
 //! isn't. `specs/` has the definitions; here are the plain types that they speak of, and the laws.
 #![tactic(auto)]
 
+mod assignability;
+mod class_types;
 mod fault;
 mod laws;
 mod why;
 
+pub use assignability::assignable;
+pub use class_types::resolve;
 pub use fault::VerifyFault;
 pub use laws::{first_faults, kinds_are_kept, typed_methods};
 pub use why::VerifyWhy;
