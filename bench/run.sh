@@ -38,3 +38,7 @@ for name in read write; do
     # Only the kinds of made files have a dash in their names.
     run "$name" $(cd "$work/data" && ls -- *-1 *-10 | sort)
 done
+add traces 'history'
+run traces
+add threads 'items sleep_wheel vthread_state wakes'
+run threads

@@ -109,8 +109,7 @@ impl Classes {
         built_in: Vec<ClassFile>,
         files: Vec<ClassFile>,
     ) -> Result<Self, NoMemory>
-        ensures { IfOk result (λ classes.
-            classes ≡ record { classes = built_in.items ++ files.items; built_in = vec_len built_in }) }
+        ensures { IfOk result (λ classes. classes ≡ spec.program built_in.items files.items) }
     {
         let count = u32::try_from(built_in.len()).map_err(|_| NoMemory)?;
         let files = joined(built_in, files)?;

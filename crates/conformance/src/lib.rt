@@ -11,10 +11,20 @@ mod edges;
 #[cfg(test)]
 mod instructions;
 #[cfg(test)]
+mod linking;
+#[cfg(test)]
 mod member_types;
 #[cfg(test)]
 mod memory;
 #[cfg(test)]
+mod permits;
+#[cfg(test)]
+mod sleepers;
+#[cfg(test)]
 mod stack_map_frames;
 #[cfg(test)]
 mod texts;
+#[cfg(test)]
+mod thread_states;
+#[cfg(test)]
+mod traces;

@@ -11,7 +11,7 @@ use Rattle.jvm_edges.specs.Bytes.{Appends}
 use Rattle.jvm_edges.specs.Causes.{Rose}
 use Rattle.jvm_edges.specs.Files.{file_named}
 use Rattle.jvm_edges.specs.Files as store
-use Rattle.ref_model.specs.declared.entry.Entry.{Entry}
+use Rattle.history.specs.declared.entry.Entry.{Entry}
 use Rattle.ref_model.specs.Program.{Method}
 use Rattle.ref_model.specs.Alone.{alone}
 use Rattle.jvm_edges.specs.declared.output.PartWritten.{PartWritten}

@@ -7,7 +7,8 @@ use Rattle.jvm_edges.specs.Files.{Files}
 use Rattle.ref_model.specs.declared.ending.Ending.TheVariants as endings
 use Rattle.ref_model.specs.Program.{Program}
 use Rattle.ref_model.specs.State.{State, ending}
-use Rattle.ref_model.specs.Run.{run, java}
+use Rattle.history.specs.Java.{java}
+use Rattle.ref_model.specs.Run.{run}
 use Rattle.java_cli.specs.declared.report.Report.{Report}
 use Rattle.java_cli.specs.declared.report.SinkName.TheVariants.{Out}
 use Rattle.java_cli.specs.declared.report.Why.{Why}

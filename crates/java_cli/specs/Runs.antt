@@ -1,6 +1,6 @@
 -- What a run of a command leaves.
 use Rattle.std.specs.Prelude.{ℕ, List, Option}
-use Rattle.ref_model.specs.declared.entry.Entry.{Entry}
+use Rattle.history.specs.declared.entry.Entry.{Entry}
 use Rattle.class_model.specs.declared.class_file.ClassFile.{ClassFile}
 use Rattle.ref_model.specs.Program.{Program}
 use Rattle.jvm_edges.specs.Files.{Files}

@@ -2,7 +2,7 @@ ghost use Rattle.std.specs.Prelude.{◌≡◌};
 
 use class_file::ClassWhy;
 use items::Items;
-use ref_model::Entry;
+use history::Entry;
 use std::alloc::AllocError;
 
 /// Which sink.

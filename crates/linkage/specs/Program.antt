@@ -1,5 +1,5 @@
 -- A program: its classes in order, the built-in ones first. A class is told by its index in this list. (own)
-use Rattle.std.specs.Prelude.{ℕ, Bool, true, false, not, List, [], ◌∷◌, ◌++◌, Option, Some, None, codes, drop, is_some, unwrap_or, slice_get, position, filter_map, bit_and, nat_lt, nat_le, ◌==◌, ◌&&◌, ◌||◌, if◌then◌else◌}
+use Rattle.std.specs.Prelude.{ℕ, Bool, true, false, not, List, [], ◌∷◌, ◌++◌, length, Option, Some, None, codes, drop, is_some, unwrap_or, slice_get, position, filter_map, bit_and, nat_lt, nat_le, ◌==◌, ◌&&◌, ◌||◌, if◌then◌else◌}
 use Rattle.std.specs.Option.{option_map, option_map_or, option_to_list}
 use Rattle.std.specs.List.{list_any}
 use Rattle.class_model.specs.declared.access_flags.TheConstants.{ACC_FINAL, ACC_INTERFACE, ACC_ABSTRACT, ACC_PUBLIC}
@@ -12,6 +12,10 @@ pub record Program : Type 0 where
   pub classes : List ClassFile
   -- how many of them are built in
   pub built_in : ℕ
+
+-- the program that these built-in classes and these files are
+abbrev pub program : List ClassFile → List ClassFile → Program
+program built_in files = record { classes = built_in ++ files; built_in = length built_in }
 
 -- ---- names of classes
 

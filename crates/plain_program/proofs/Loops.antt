@@ -2,7 +2,7 @@
 use Rattle.std.proofs.Common.{◌≡◌, ◌+◌, ◌≤◌, List, ℕ, reverse, length}
 use Rattle.ref_model.specs.declared.instruction.Instr.{Instr}
 use Rattle.instruction_rows.specs.declared.value.Value.{Value}
-use Rattle.ref_model.specs.declared.entry.Entry.{Entry}
+use Rattle.history.specs.declared.entry.Entry.{Entry}
 use Rattle.ref_model.specs.Program.{Method}
 use Rattle.plain_program.specs.Standing.{Stands}
 

@@ -9,9 +9,9 @@ use Rattle.ref_model.specs.declared.instruction.Op.TheVariants.{Bipush, Getstati
 use Rattle.ref_model.specs.declared.instruction.Instr.{Instr}
 use Rattle.instruction_rows.specs.declared.value.Value.{Value}
 use Rattle.instruction_rows.specs.declared.value.Value.TheVariants as values
-use Rattle.ref_model.specs.declared.entry.Entry.{Entry}
-use Rattle.ref_model.specs.declared.entry.What.{What}
-use Rattle.ref_model.specs.declared.entry.What.TheVariants.{Mount, Unmount, Step, Clock}
+use Rattle.history.specs.declared.entry.Entry.{Entry}
+use Rattle.history.specs.declared.entry.What.{What}
+use Rattle.history.specs.declared.entry.What.TheVariants.{Mount, Unmount, Step, Clock}
 use Rattle.class_grammar.specs.Pool.{MemberName}
 use Rattle.ref_model.specs.Instructions.{encoding, instr, instrs_from, behind}
 use Rattle.ref_model.specs.Program.{Method, instruction_at}
@@ -19,7 +19,8 @@ use Rattle.ref_model.specs.State.{out_stream}
 use Rattle.ref_model.specs.Alone.{alone, at, over}
 use Rattle.ref_model.specs.Names.{field_at, method_at, is_out, is_print_int}
 use Rattle.ref_model.specs.Step.{step}
-use Rattle.ref_model.specs.Run.{steps, java, is_java}
+use Rattle.history.specs.Java.{java, is_java}
+use Rattle.ref_model.specs.Run.{steps}
 use Rattle.ref_model.proofs.Pcs.{behind_more, found_at}
 use Rattle.ref_model.proofs.ReplayLaws.{run_more}
 use Rattle.ref_model.proofs.Straight.{bipush_steps, getstatic_steps, print_steps, return_steps}

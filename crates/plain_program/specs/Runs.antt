@@ -1,13 +1,14 @@
 -- What a run of a program leaves.
 use Rattle.std.specs.Prelude.{◌≡◌, ℕ, List, [], Some, None}
 use Rattle.std.specs.List.{AllByRecursion}
-use Rattle.ref_model.specs.declared.entry.Entry.{Entry}
-use Rattle.ref_model.specs.declared.entry.What.{What}
-use Rattle.ref_model.specs.declared.entry.What.TheVariants.{Step}
+use Rattle.history.specs.declared.entry.Entry.{Entry}
+use Rattle.history.specs.declared.entry.What.{What}
+use Rattle.history.specs.declared.entry.What.TheVariants.{Step}
 use Rattle.ref_model.specs.declared.ending.Ending.TheVariants.{Ended}
 use Rattle.ref_model.specs.Program.{Program}
 use Rattle.ref_model.specs.State.{State, ending}
-use Rattle.ref_model.specs.Run.{run, java}
+use Rattle.history.specs.Java.{java}
+use Rattle.ref_model.specs.Run.{run}
 
 -- steps of thread 0, none of which picks another
 abbrev pub IsMainStep : What → Type 0

@@ -7,7 +7,7 @@ use Rattle.instruction_rows.specs.declared.value.Value.{Value}
 use Rattle.instruction_rows.specs.declared.value.Value.TheVariants as values
 use Rattle.instruction_rows.specs.declared.value.Slot.{Slot}
 use Rattle.instruction_rows.specs.declared.value.Slot.TheVariants.{One}
-use Rattle.ref_model.specs.declared.entry.Entry.{Entry}
+use Rattle.history.specs.declared.entry.Entry.{Entry}
 use Rattle.ref_model.specs.Instructions.{instrs_from, behind}
 use Rattle.ref_model.specs.Program.{Method}
 use Rattle.ref_model.specs.State.{State, out_stream}

@@ -11,9 +11,10 @@ ghost use Rattle.plain_program.specs.Operands.{is_int_top, is_stream_top, CanPer
 ghost use Rattle.plain_program.specs.Standing.{Stands};
 
 use crate::plain_method::PlainMethod;
+use history::{Entry, What};
 use itoa::Buffer;
 use jvm_edges::Gate;
-use ref_model::{Entry, Instr, Op, Value, What};
+use ref_model::{Instr, Op, Value};
 use std::alloc::{AllocError, Global};
 
 /// The number of the object that java.lang.System.out holds.

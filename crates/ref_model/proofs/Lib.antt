@@ -1,4 +1,3 @@
-pub mod Binds
 pub mod ReplayLaws
 pub mod Pcs
 pub mod Straight

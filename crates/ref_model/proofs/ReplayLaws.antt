@@ -1,13 +1,13 @@
 -- A history that goes on.
 use Rattle.std.proofs.Common.{◌≡◌, ℕ, suc, List, [], ◌∷◌, ◌++◌, Option, Some, refl}
-use Rattle.ref_model.specs.declared.entry.Entry.{Entry}
-use Rattle.ref_model.specs.declared.entry.What.TheVariants.{Step}
-use Rattle.ref_model.specs.Options.{◌>>=◌}
+use Rattle.history.specs.declared.entry.Entry.{Entry}
+use Rattle.history.specs.declared.entry.What.TheVariants.{Step}
+use Rattle.items.specs.Options.{◌>>=◌}
 use Rattle.ref_model.specs.Program.{Program}
 use Rattle.ref_model.specs.State.{State, opening}
 use Rattle.ref_model.specs.Step.{step}
 use Rattle.ref_model.specs.Run.{World, steps, after_steps, world_after, replay, run, with_state}
-use Rattle.ref_model.proofs.Binds.{some_is, bind_is}
+use Rattle.items.proofs.Binds.{some_is, bind_is}
 
 -- one more entry at the end of the fold
 pub replay_more : (p : Program) (es : List Entry) (e : Entry) (w v x : World) → replay p es w ≡ Some v → world_after p v e.what ≡ Some x → replay p (es ++ e ∷ []) w ≡ Some x

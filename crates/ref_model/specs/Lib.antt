@@ -1,4 +1,3 @@
-pub mod Options
 pub mod Instructions
 pub mod Program
 pub mod State

@@ -4,7 +4,7 @@ use Rattle.class_model.specs.declared.constant.Const.{Const}
 use Rattle.class_model.specs.declared.constant.Const.TheVariants.{NameAndType, Fieldref, Methodref}
 use Rattle.class_grammar.specs.Text.{same_text}
 use Rattle.class_grammar.specs.Pool.{MemberName, text_at, class_name_at}
-use Rattle.ref_model.specs.Options.{◌>>=◌}
+use Rattle.items.specs.Options.{◌>>=◌}
 
 abbrev pub named_by : List Const → List ℕ → Const → Option MemberName
 named_by pool class (NameAndType name descriptor) =

@@ -7,7 +7,7 @@ use Rattle.ref_model.specs.declared.instruction.Instr.{Instr}
 use Rattle.instruction_rows.specs.declared.value.Value.TheVariants.{Int}
 use Rattle.instruction_rows.specs.declared.value.Slot.{Slot}
 use Rattle.instruction_rows.specs.declared.value.Slot.TheVariants.{One}
-use Rattle.ref_model.specs.Options.{◌>>=◌}
+use Rattle.items.specs.Options.{◌>>=◌}
 use Rattle.ref_model.specs.Program.{Program, Method, instruction_at}
 use Rattle.ref_model.specs.State.{Frame}
 

@@ -1,10 +1,10 @@
 -- Histories: what entries make of the state in which a program begins.
 use Rattle.std.specs.Prelude.{ℕ, zero, suc, Bool, true, false, List, [], ◌∷◌, Option, Some, None, nat_lt, if◌then◌else◌}
 use Rattle.std.specs.List.{filter}
-use Rattle.ref_model.specs.declared.entry.Entry.{Entry}
-use Rattle.ref_model.specs.declared.entry.What.{What}
-use Rattle.ref_model.specs.declared.entry.What.TheVariants.{Mount, Unmount, Step, Clock}
-use Rattle.ref_model.specs.Options.{◌>>=◌}
+use Rattle.history.specs.declared.entry.Entry.{Entry}
+use Rattle.history.specs.declared.entry.What.{What}
+use Rattle.history.specs.declared.entry.What.TheVariants.{Mount, Unmount, Step, Clock}
+use Rattle.items.specs.Options.{◌>>=◌}
 use Rattle.ref_model.specs.Program.{Program}
 use Rattle.ref_model.specs.State.{State, opening}
 use Rattle.ref_model.specs.Step.{step}
@@ -44,13 +44,3 @@ replay p (e ∷ es) w = world_after p w e.what >>= λ next. replay p es next
 -- the state after these entries
 abbrev pub run : Program → List Entry → Option State
 run p entries = opening p >>= λ r. replay p entries (record { state = r }) >>= λ w. Some w.state
-
-abbrev pub is_java : What → Bool
-is_java (Mount t) = false
-is_java (Unmount t) = false
-is_java (Step t n pick) = true
-is_java (Clock now) = true
-
--- the entries that change the state of the Java program
-abbrev pub java : List Entry → List Entry
-java entries = filter (λ (e : Entry). is_java e.what) entries

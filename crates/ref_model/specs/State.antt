@@ -6,7 +6,7 @@ use Rattle.instruction_rows.specs.declared.value.Slot.{Slot}
 use Rattle.instruction_rows.specs.declared.value.Slot.TheVariants.{One, Second}
 use Rattle.ref_model.specs.declared.ending.Ending.{Ending}
 use Rattle.ref_model.specs.declared.ending.Ending.TheVariants.{Ended}
-use Rattle.ref_model.specs.Options.{◌>>=◌}
+use Rattle.items.specs.Options.{◌>>=◌}
 use Rattle.ref_model.specs.Program.{Program, Method}
 
 -- A method's frame (JVMS 2.6): the pc of its instruction, its local variables by index, and its

@@ -10,7 +10,7 @@ use Rattle.instruction_rows.specs.declared.value.Value.TheVariants.{Int, Ref}
 use Rattle.instruction_rows.specs.declared.value.Slot.{Slot}
 use Rattle.instruction_rows.specs.declared.value.Slot.TheVariants.{One}
 use Rattle.class_grammar.specs.Pool.{MemberName}
-use Rattle.ref_model.specs.Options.{◌>>=◌}
+use Rattle.items.specs.Options.{◌>>=◌}
 use Rattle.ref_model.specs.Program.{Program, Method}
 use Rattle.ref_model.specs.State.{Frame, Run, Status, Live, Done, Thread, State, out_stream, ending}
 use Rattle.ref_model.specs.Names.{field_at, method_at, is_out, is_print_int}

@@ -1,5 +1,5 @@
 ghost use Rattle.std.specs.Prelude.{◌≡◌, ◌++◌, List, Some};
-ghost use Rattle.ref_model.specs.declared.entry.Entry.{Entry};
+ghost use Rattle.history.specs.declared.entry.Entry.{Entry};
 ghost use Rattle.ref_model.specs.Program.{Program};
 ghost use Rattle.ref_model.specs.Run.{run};
 ghost use Rattle.ref_model.specs.State.{State};

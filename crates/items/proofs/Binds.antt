@@ -1,6 +1,6 @@
 -- Steps that are defined.
 use Rattle.std.proofs.Common.{◌≡◌, Option, Some, None, refl}
-use Rattle.ref_model.specs.Options.{◌>>=◌}
+use Rattle.items.specs.Options.{◌>>=◌}
 
 -- the parts of two steps that are defined together
 pub some_is : {A B : Type 0} (o : Option A) (f : A → Option B) (b : B) → (o >>= f) ≡ Some b → (a : A) × (o ≡ Some a) × (f a ≡ Some b)

@@ -1,0 +1,4 @@
+pub mod Tests
+pub mod NumberLaws
+pub mod LineLaws
+pub mod TextLaws

@@ -1,0 +1,5 @@
+pub mod Java
+pub mod TraceText
+pub mod Parsing
+pub mod FirstBadLine
+pub mod Reading

@@ -1,0 +1,5 @@
+pub mod OrderLaws
+pub mod SlotLaws
+pub mod AlarmLaws
+pub mod DueLaws
+pub mod RebuildLaws

@@ -1,0 +1,3 @@
+pub mod Sleepers
+pub mod Alarms
+pub mod Wheel

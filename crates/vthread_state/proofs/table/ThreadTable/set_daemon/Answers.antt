@@ -1,0 +1,23 @@
+use Rattle.std.proofs.Common.{◌<◌, length, List, refl, sym, ap, subst, ◌∙◌, rules}
+use Rattle.vthread_state.specs.declared.thread.Thread.{Thread}
+use Rattle.vthread_state.specs.Threads.{Threads, with_thread}
+use Rattle.vthread_state.proofs.TableLaws.{here, changed_is}
+use Rattle.vthread_state.proofs.JoinLaws.{joined_same}
+use Rattle.vthread_state.proofs.table.ThreadTable.set_daemon.Goals as goal
+
+pub invariant_of-self : goal.invariant_of-self
+invariant_of-self c =
+    let low : c.args.t < length c.self.inside.threads.items = subst (λ (w : Threads). c.args.t < length w.threads) (sym c.self.view_is) c.requires in
+    let old = c.index_mut-thread.result.now in
+    record {
+      joined = joined_same _ _ _ old _ c.self.invariant.joined (here _ _ old low c.index_mut-thread.ensures.value) low refl;
+      few = search rules;
+      bound = c.self.invariant.bound;
+    }
+
+pub returns : goal.returns
+returns c =
+    let low : c.args.t < length c.self.inside.threads.items = subst (λ (w : Threads). c.args.t < length w.threads) (sym c.self.view_is) c.requires in
+    let f = λ (thread : Thread). record thread { daemon = c.args.daemon } in
+    let is = changed_is f _ _ c.index_mut-thread.result.now low c.index_mut-thread.ensures.value in
+    ap (λ (xs : List Thread). record { threads = xs; limit = c.self.inside.limit }) is ∙ ap (λ (w : Threads). with_thread w c.args.t f) c.self.view_is

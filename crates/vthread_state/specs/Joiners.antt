@@ -1,0 +1,30 @@
+-- The lists of those who join each thread.
+use Rattle.std.specs.Prelude.{◌≡◌, ℕ, ◌<◌, ◌≤◌, List, [], ◌∷◌, length, Option, Some, None, slice_set, ◌==◌, if◌then◌else◌}
+use Rattle.std.specs.Option.{ForSome}
+use Rattle.thread_lists.specs.Lists.{Lists, list_at, push, without, count}
+use Rattle.vthread_state.specs.declared.thread.Thread.{Thread}
+use Rattle.vthread_state.specs.Threads.{joins_in}
+
+-- how often a thread that joins this one stands in another's list
+abbrev pub times : Option ℕ → ℕ → ℕ
+times None target = 0
+times (Some t) target = if t == target then 1 else 0
+
+-- each thread stands in the list of the thread that it joins, and in no other
+pub record IsJoined (threads : List Thread) (lists : Lists) : Type 0 where
+  pub each : (u target : ℕ) → count u (list_at lists.lists target) ≡ times (joins_in threads u) target
+  pub sizes : length lists.lists ≡ length threads
+  pub room : length threads ≤ lists.threads
+
+-- a thread leaves the list of the thread that it joins
+abbrev pub left : List (List ℕ) → ℕ → Option ℕ → List (List ℕ)
+left lists u None = lists
+left lists u (Some target) = slice_set lists target (without u (list_at lists target))
+
+-- a thread comes to the list of the thread that it joins
+abbrev pub come : List (List ℕ) → ℕ → Option ℕ → List (List ℕ)
+come lists u None = lists
+come lists u (Some target) = push lists target (u ∷ [])
+
+abbrev pub IsList : List (List ℕ) → Option ℕ → Type 0
+IsList lists o = ForSome o (λ target. target < length lists)

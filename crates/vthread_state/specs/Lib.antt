@@ -1,0 +1,4 @@
+pub mod Threads
+pub mod JavaState
+pub mod Joiners
+pub mod Table

@@ -1,0 +1,13 @@
+-- What the table keeps.
+use Rattle.std.specs.Prelude.{◌≤◌, ◌<◌, ◌^◌, length}
+use Rattle.vthread_state.specs.declared.table.ThreadTable.TheInside.{Inside}
+use Rattle.vthread_state.specs.Threads.{Threads}
+use Rattle.vthread_state.specs.Joiners.{IsJoined}
+
+abbrev pub table_view : Inside → Threads
+table_view a = record { threads = a.threads.items; limit = a.limit }
+
+pub record IsTable (a : Inside) : Type 0 where
+  pub joined : IsJoined a.threads.items a.joiners
+  pub few : length a.threads.items ≤ a.limit
+  pub bound : a.limit < 2 ^ 32

@@ -1,0 +1,60 @@
+-- The table of threads.
+use Rattle.std.specs.Prelude.{ℕ, ◌<◌, List, length, Option, Some, None, slice_get, slice_set}
+use Rattle.std.specs.Option.{ForSome}
+use Rattle.items.specs.Options.{◌>>=◌}
+use Rattle.vthread_state.specs.declared.phase.Phase.{Phase}
+use Rattle.vthread_state.specs.declared.phase.Phase.TheVariants.{Joining}
+use Rattle.vthread_state.specs.declared.thread.Status.{Status}
+use Rattle.vthread_state.specs.declared.thread.Status.TheVariants.{New, Live, Done}
+use Rattle.vthread_state.specs.declared.thread.Thread.{Thread}
+
+-- the threads by number, and how many there may be
+pub record Threads : Type 0 where
+  pub threads : List Thread
+  pub limit : ℕ
+
+-- the thread with a number
+abbrev pub thread_at : Threads → ℕ → Option Thread
+thread_at table t = slice_get table.threads t
+
+abbrev pub phase_of : Status → Option Phase
+phase_of New = None
+phase_of (Live phase) = Some phase
+phase_of Done = None
+
+-- the phase of a live thread
+abbrev pub phase_at : Threads → ℕ → Option Phase
+phase_at table t = thread_at table t >>= λ thread. phase_of thread.status
+
+-- a thread is changed, and all others stay
+abbrev pub changed : (Thread → Thread) → List Thread → ℕ → Option Thread → List Thread
+changed f threads t None = threads
+changed f threads t (Some thread) = slice_set threads t (f thread)
+
+abbrev pub with_thread : Threads → ℕ → (Thread → Thread) → Threads
+with_thread table t f = record table { threads = changed f table.threads t (thread_at table t) }
+
+-- a thread has this status now
+abbrev pub with_status : Threads → ℕ → Status → Threads
+with_status table t status = with_thread table t (λ thread. record thread { status = status })
+
+-- ---- who joins whom
+
+-- the thread whose end a phase waits for
+abbrev pub target_of : Phase → Option ℕ
+target_of (Joining target deadline) = Some target
+target_of phase = None
+
+abbrev pub target_of_status : Status → Option ℕ
+target_of_status status = phase_of status >>= target_of
+
+abbrev pub joins_in : List Thread → ℕ → Option ℕ
+joins_in threads u = slice_get threads u >>= λ thread. target_of_status thread.status
+
+-- the thread whose end a thread waits for
+abbrev pub joins : Threads → ℕ → Option ℕ
+joins table u = joins_in table.threads u
+
+-- a phase waits for the end of one of the threads, if for any
+abbrev pub IsInTable : Threads → Phase → Type 0
+IsInTable table phase = ForSome (target_of phase) (λ target. target < length table.threads)
