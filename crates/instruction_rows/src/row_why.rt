@@ -8,4 +8,7 @@ pub enum RowWhy {
     Depth,
     /// There is no local variable of that index.
     Locals,
+    /// An object would be created or initialized where that isn't allowed (JVMS 4.10.1.9, `new` and `invokespecial`). No
+    /// local row is refused so.
+    Init,
 }

@@ -2,8 +2,10 @@
 //! the numbers: own). `specs/` says which world a program has.
 #![tactic(auto)]
 
+mod lookups;
 mod members;
 mod sites;
 
+pub use lookups::Lookups;
 pub use members::{FieldInfo, MethodCode, MethodInfo};
 pub use sites::{ArrayType, Naming, Site};
