@@ -17,7 +17,7 @@ use Rattle.jvm_words.specs.Words.{is_zero, int_result, long_result}
 use Rattle.instruction_rows.specs.declared.value.Value.TheVariants.{Int, Long}
 use Rattle.instruction_rows.specs.declared.value.Slot.{Slot}
 use Rattle.instruction_rows.specs.declared.value.Slot.TheVariants.{One}
-use Rattle.instruction_rows.specs.Options.{◌>>=◌}
+use Rattle.items.specs.Options.{◌>>=◌}
 use Rattle.instruction_rows.specs.Contents.{Contents}
 use Rattle.instruction_rows.specs.Rows.{LocalRow, int, long, local}
 use Rattle.instruction_rows.specs.Table.{simple_row, new_array_row, row}

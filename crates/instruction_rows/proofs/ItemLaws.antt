@@ -4,7 +4,7 @@ use Rattle.std.specs.List.{AllZip}
 use Rattle.stack_maps.specs.declared.types.VType.{VType}
 use Rattle.stack_maps.specs.declared.types.VType.TheVariants as types
 use Rattle.instruction_rows.specs.declared.value.Slot.{Slot}
-use Rattle.instruction_rows.specs.Options.{◌>>=◌}
+use Rattle.items.specs.Options.{◌>>=◌}
 use Rattle.instruction_rows.specs.Results.{◌then◌}
 use Rattle.instruction_rows.specs.Contents.{is_wide, is_narrow}
 use Rattle.instruction_rows.specs.StackItems.{Width, one, two, item_of, items_of, items_on}

@@ -11,7 +11,7 @@ use Rattle.instruction_rows.specs.declared.value.Value.{Value}
 use Rattle.instruction_rows.specs.declared.value.Value.TheVariants as values
 use Rattle.instruction_rows.specs.declared.value.Slot.{Slot}
 use Rattle.instruction_rows.specs.declared.value.Slot.TheVariants as slots
-use Rattle.instruction_rows.specs.Options.{◌>>=◌}
+use Rattle.items.specs.Options.{◌>>=◌}
 use Rattle.instruction_rows.specs.Results.{◌then◌}
 use Rattle.instruction_rows.specs.Kinds.{Of, Function, kind_of, kind_of_type, value, held}
 use Rattle.instruction_rows.specs.Contents.{Contents, with_items, slots_of, types_of}

@@ -1,7 +1,7 @@
 -- Steps that are defined, and steps that aren't refused.
 use Rattle.std.proofs.Common.{◌≡◌, Bool, true, false, cond, Option, Some, None, Result, Ok, Err, refl, ap}
 use Rattle.std.specs.Option.{ok_or}
-use Rattle.instruction_rows.specs.Options.{◌>>=◌}
+use Rattle.items.specs.Options.{◌>>=◌}
 use Rattle.instruction_rows.specs.Results.{◌then◌}
 
 -- the parts of two steps that are defined together

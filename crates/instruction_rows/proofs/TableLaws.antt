@@ -18,7 +18,7 @@ use Rattle.jvm_words.specs.declared.operation.IntOp.TheVariants as ints
 use Rattle.jvm_words.specs.declared.operation.LongOp.{LongOp}
 use Rattle.jvm_words.specs.declared.operation.LongOp.TheVariants as longs
 use Rattle.instruction_rows.specs.declared.value.Slot.{Slot}
-use Rattle.instruction_rows.specs.Options.{◌>>=◌}
+use Rattle.items.specs.Options.{◌>>=◌}
 use Rattle.instruction_rows.specs.Kinds.{Of, Function}
 use Rattle.instruction_rows.specs.Contents.{Contents}
 use Rattle.instruction_rows.specs.Switches.{table_target, table_targets, match_target, lookup_target, lookup_targets}

@@ -1,4 +1,3 @@
-pub mod Options
 pub mod Results
 pub mod Kinds
 pub mod Contents

@@ -1,7 +1,7 @@
 -- Items of the operand stack, as the stack instructions take and give them (JVMS 6.5: pop to swap). They lie in the
 -- same way for slots and for types.
 use Rattle.std.specs.Prelude.{ℕ, List, [], ◌∷◌, ◌++◌, get_or, Option, Some, None}
-use Rattle.instruction_rows.specs.Options.{◌>>=◌}
+use Rattle.items.specs.Options.{◌>>=◌}
 
 -- how many slots an item takes: an item of two is two values of one slot, or one value of two
 pub data Width : Type 0 where

@@ -12,7 +12,7 @@ use Rattle.stack_maps.specs.declared.types.VType.TheVariants as types
 use Rattle.stack_maps.specs.declared.types.FrameTypes.{FrameTypes}
 use Rattle.stack_maps.specs.declared.error.MapWhy.{MapWhy}
 use Rattle.stack_maps.specs.Expansion.{expansion}
-use Rattle.instruction_rows.specs.Options.{◌>>=◌}
+use Rattle.items.specs.Options.{◌>>=◌}
 use Rattle.instruction_rows.specs.Contents.{slot_types}
 use Rattle.linkage.specs.Program.{has_flag}
 use Rattle.world_model.specs.declared.members.MethodInfo.{MethodInfo}
