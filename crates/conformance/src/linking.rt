@@ -446,3 +446,10 @@ fn code_is_judged(rt: HostRuntime) -> Result<(), Fail> {
     }
     Ok(())
 }
+
+#[test]
+fn the_built_in_classes_link(rt: HostRuntime) -> Result<(), Fail> {
+    let classes = lib_table::classes(rt.alloc())?;
+    assert!(rt; link(rt.alloc(), classes, Vec::new(rt.alloc())).is_ok());
+    Ok(())
+}
