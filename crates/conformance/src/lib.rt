@@ -18,3 +18,5 @@ mod memory;
 mod stack_map_frames;
 #[cfg(test)]
 mod texts;
+#[cfg(test)]
+mod waiting_threads;
