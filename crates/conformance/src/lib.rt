@@ -28,3 +28,5 @@ mod texts;
 mod thread_states;
 #[cfg(test)]
 mod traces;
+#[cfg(test)]
+mod waiting_threads;
