@@ -54,14 +54,14 @@ fn check_constant(pool: &Pool, left: usize, constant: &Const) -> Result<usize, C
     }
 }
 
-// A tag, and a index with this fault.
+// A tag, and an index with this fault.
 fn check_index(left: usize, fault: Option<ClassWhy>) -> Result<usize, ClassFault>
     ensures { result ≡ left_after left (sound_bytes 1 ∷ item fault ∷ []) }
 {
     check_numbers(left.saturating_sub(1), &[fault])
 }
 
-// A tag, and two entries with these faults.
+// A tag, and two indices with these faults.
 fn check_indices(
     left: usize,
     first: Option<ClassWhy>,

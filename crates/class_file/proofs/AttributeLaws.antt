@@ -17,7 +17,7 @@ use Rattle.class_grammar.specs.declared.class_why.ClassWhy.TheVariants.{Short}
 use Rattle.class_grammar.specs.declared.holder.Holder.{Holder}
 use Rattle.class_grammar.specs.declared.holder.Holder.TheVariants as holders
 use Rattle.class_grammar.specs.Pool.{text_at}
-use Rattle.class_grammar.specs.Layout.{u2, u4, sized, code_extra, code_attribute, row, code, body, attribute}
+use Rattle.class_grammar.specs.Layout.{u2, u4, length_and_bytes, code_extra, code_attribute, row, code, body, attribute}
 use Rattle.class_grammar.specs.Layout as layout
 use Rattle.class_grammar.specs.Ranges.{IsU2, IsU4}
 use Rattle.class_grammar.specs.Ranges as ranges
@@ -69,7 +69,7 @@ all_bytes [] h i = omega arith
 all_bytes (x ∷ xs) h zero = h.0
 all_bytes (x ∷ xs) h (suc i) = all_bytes xs h.1 i
 
-pub sized_bytes_reads : IsReader sized_bytes_at sized ranges.IsSized
+pub sized_bytes_reads : IsReader sized_bytes_at length_and_bytes ranges.IsSized
 sized_bytes_reads =
     same_reads ranges.IsSized (λ bs h. (h.0, bytes_all bs h.1)) (λ bs h. (h.0, all_bytes bs h.1))
     (count_then_reads {P = IsBytes} Short length wide32 (λ n. run_reads n))
@@ -142,7 +142,7 @@ test_map a = is_map a.body
 -- what is read after the name of an attribute of a Code
 record TakesExtra (seen : Bool) (name : Name) (bytes : List ℕ) (p : CodeAttribute × List ℕ) : Type 0 where
   pub named : p.0.name ≡ name.index
-  pub takes : Takes bytes (sized (code_extra p.0.body)) p.1
+  pub takes : Takes bytes (length_and_bytes (code_extra p.0.body)) p.1
   pub fits : ranges.IsSized (code_extra p.0.body)
   pub extra : has_extra_name p.0.body name.text ≡ true
   pub once : is_map p.0.body ≡ true → seen ≡ false
@@ -187,13 +187,13 @@ extra_again pool seen name (extras.StackMap bytes) rest h once =
     let n = named_by is_stack_map_name (text_at pool name) h.1 in
     let known : is_stack_map_name n.0 ≡ true = n.2 in
     let first : seen ≡ false = once refl in
-    let front = (name_reads pool).again (record { index = name; text = n.0 }) (sized bytes ++ rest) (record { index = h.0.name; text = n.1 }) in
-    ap (extra_at pool seen) (append_assoc (u2 name) (sized bytes) rest) ∙ rw (front, known, first, sized_bytes_reads.again bytes rest h.0.contents) refl
+    let front = (name_reads pool).again (record { index = name; text = n.0 }) (length_and_bytes bytes ++ rest) (record { index = h.0.name; text = n.1 }) in
+    ap (extra_at pool seen) (append_assoc (u2 name) (length_and_bytes bytes) rest) ∙ rw (front, known, first, sized_bytes_reads.again bytes rest h.0.contents) refl
 extra_again pool seen name (extras.Other bytes) rest h once =
     let n = named_by (λ t. not (is_stack_map_name t)) (text_at pool name) h.1 in
     let known : is_stack_map_name n.0 ≡ false = not_so (is_stack_map_name n.0) n.2 in
-    let front = (name_reads pool).again (record { index = name; text = n.0 }) (sized bytes ++ rest) (record { index = h.0.name; text = n.1 }) in
-    ap (extra_at pool seen) (append_assoc (u2 name) (sized bytes) rest) ∙ rw (front, known, sized_bytes_reads.again bytes rest h.0.contents) refl
+    let front = (name_reads pool).again (record { index = name; text = n.0 }) (length_and_bytes bytes ++ rest) (record { index = h.0.name; text = n.1 }) in
+    ap (extra_at pool seen) (append_assoc (u2 name) (length_and_bytes bytes) rest) ∙ rw (front, known, sized_bytes_reads.again bytes rest h.0.contents) refl
 
 extra_reads : (pool : List Const) (seen : Bool) (more : ℕ) → IsReader (extra_at pool seen) code_attribute (IsOnce (IsExtra pool) test_map seen more)
 unfolding extra_at
@@ -202,9 +202,9 @@ extra_reads pool seen more = record {
       let a = ok_of (name_at pool bytes) (λ name. extra_of_name seen bytes name.0 name.1) p e in
       let one = (name_reads pool).takes bytes a.0 fits a.1 in
       let two = extra_takes (is_stack_map_name a.0.0.text) seen bytes a.0.0 a.0.1 p refl one.0.rest_fits a.2 in
-      let whole = Takes-then bytes (u2 a.0.0.index) a.0.1 (sized (code_extra p.0.body)) p.1 one.0 two.takes in
+      let whole = Takes-then bytes (u2 a.0.0.index) a.0.1 (length_and_bytes (code_extra p.0.body)) p.1 one.0 two.takes in
       let text : text_at pool p.0.name ≡ Some a.0.0.text = ap (text_at pool) two.named ∙ one.1.text in (
-        subst (λ (n : ℕ). Takes bytes (u2 n ++ sized (code_extra p.0.body)) p.1) (sym two.named) whole,
+        subst (λ (n : ℕ). Takes bytes (u2 n ++ length_and_bytes (code_extra p.0.body)) p.1) (sym two.named) whole,
         ((record { name = subst IsU2 (sym two.named) one.1.index; contents = two.fits }, naming (has_extra_name p.0.body) (text_at pool p.0.name) a.0.0.text text two.extra), two.once),
       );
   again = λ a rest h. extra_again pool seen a.name a.body rest h.0 h.1;
@@ -234,7 +234,7 @@ rows_reads n = many_reads row_reads n
 abbrev IsCodeBytes : List ℕ → Type 0
 IsCodeBytes bytes = (0 < length bytes) × IsU2 (length bytes) × AllByRecursion ranges.IsU1 bytes
 
-code_bytes_reads : IsReader code_bytes_at sized IsCodeBytes
+code_bytes_reads : IsReader code_bytes_at length_and_bytes IsCodeBytes
 unfolding code_bytes_at
 code_bytes_reads = record {
   takes = λ bytes p fits e.
@@ -280,10 +280,10 @@ code_reads pool =
     (count_then_reads {P = AreOnce (IsExtra pool) test_map false} Short length wide16 (extras_reads pool))))
   where
     to : (p : ((ℕ × ℕ) × List ℕ) × (List Row × List CodeAttribute)) → ((IsU2 p.0.0.0 × IsU2 p.0.0.1) × IsCodeBytes p.0.1) × (ranges.IsTable ranges.IsRow p.1.0 × (IsU2 (length p.1.1) × AreOnce (IsExtra pool) test_map false p.1.1))
-        → (((u2 p.0.0.0 ++ u2 p.0.0.1) ++ sized p.0.1) ++ (layout.table row p.1.0 ++ layout.table code_attribute p.1.1) ≡ code (record { max_stack = p.0.0.0; max_locals = p.0.0.1; code = p.0.1; rows = p.1.0; attributes = p.1.1 }))
+        → (((u2 p.0.0.0 ++ u2 p.0.0.1) ++ length_and_bytes p.0.1) ++ (layout.table row p.1.0 ++ layout.table code_attribute p.1.1) ≡ code (record { max_stack = p.0.0.0; max_locals = p.0.0.1; code = p.0.1; rows = p.1.0; attributes = p.1.1 }))
         × IsCode pool (record { max_stack = p.0.0.0; max_locals = p.0.0.1; code = p.0.1; rows = p.1.0; attributes = p.1.1 })
     to p h = (
-      sym (append_assoc ((u2 p.0.0.0 ++ u2 p.0.0.1) ++ sized p.0.1) (layout.table row p.1.0) (layout.table code_attribute p.1.1)),
+      sym (append_assoc ((u2 p.0.0.0 ++ u2 p.0.0.1) ++ length_and_bytes p.0.1) (layout.table row p.1.0) (layout.table code_attribute p.1.1)),
       record {
         fits = record {
           max_stack = h.0.0.0;
@@ -315,7 +315,7 @@ test_recognized a = is_recognized_body a.body
 -- what is read after the name of an attribute
 record TakesBody (pool : List Const) (holder : Holder) (seen : Bool) (name : Name) (bytes : List ℕ) (p : Attribute × List ℕ) : Type 0 where
   pub named : p.0.name ≡ name.index
-  pub takes : Takes bytes (sized (body p.0.body)) p.1
+  pub takes : Takes bytes (length_and_bytes (body p.0.body)) p.1
   pub contents : ranges.IsBody p.0.body
   pub size : IsU4 (length (body p.0.body))
   pub has : has_body_name holder p.0.body name.text ≡ true
@@ -352,7 +352,7 @@ body_takes pool holder false seen front name bytes p known fits e = bytes_take p
 
 -- a recognized body is that of the holder
 recognized_again : (pool : List Const) (holder : Holder) (name : ℕ) (b : Body) (text : List ℕ) (rest : List ℕ) → ranges.IsBody b → IsU4 (length (body b)) → has_body_name holder b text ≡ true → HasOwnAttributes pool b → is_recognized_body b ≡ true
-    → (is_recognized holder text ≡ true) × (recognized_at pool holder name (sized (body b) ++ rest) ≡ Ok (record { name = name; body = b }, rest))
+    → (is_recognized holder text ≡ true) × (recognized_at pool holder name (length_and_bytes (body b) ++ rest) ≡ Ok (record { name = name; body = b }, rest))
 recognized_again pool holders.Method name (Code c) text rest fits size has inside some = (has, rw ((sized_value_reads (code_reads pool)).again c rest (record { fits = fits; by_name = inside }, size)) refl)
 recognized_again pool holders.Field name (Code c) text rest fits size has inside some = absurd cc
 recognized_again pool holders.Class name (Code c) text rest fits size has inside some = absurd cc
@@ -367,22 +367,22 @@ unfolding attribute_at
 attribute_again pool holder seen name (Other bytes) rest h once =
     let n = named_by (λ t. not (is_recognized holder t)) (text_at pool name) h.1.named in
     let known : is_recognized holder n.0 ≡ false = not_so (is_recognized holder n.0) n.2 in
-    let front = (name_reads pool).again (record { index = name; text = n.0 }) (sized bytes ++ rest) (record { index = h.0.name; text = n.1 }) in
-    ap (attribute_at pool holder seen) (append_assoc (u2 name) (sized bytes) rest) ∙ rw (front, known, sized_bytes_reads.again bytes rest (h.0.size, h.0.contents)) refl
+    let front = (name_reads pool).again (record { index = name; text = n.0 }) (length_and_bytes bytes ++ rest) (record { index = h.0.name; text = n.1 }) in
+    ap (attribute_at pool holder seen) (append_assoc (u2 name) (length_and_bytes bytes) rest) ∙ rw (front, known, sized_bytes_reads.again bytes rest (h.0.size, h.0.contents)) refl
 attribute_again pool holder seen name (Code c) rest h once =
     let n = named_by (has_body_name holder (Code c)) (text_at pool name) h.1.named in
-    let front = (name_reads pool).again (record { index = name; text = n.0 }) (sized (code c) ++ rest) (record { index = h.0.name; text = n.1 }) in
+    let front = (name_reads pool).again (record { index = name; text = n.0 }) (length_and_bytes (code c) ++ rest) (record { index = h.0.name; text = n.1 }) in
     let k = recognized_again pool holder name (Code c) n.0 rest h.0.contents h.0.size n.2 h.1.inside refl in
     let known = k.0 in
     let first : seen ≡ false = once refl in
-    ap (attribute_at pool holder seen) (append_assoc (u2 name) (sized (code c)) rest) ∙ rw (front, known, first) k.1
+    ap (attribute_at pool holder seen) (append_assoc (u2 name) (length_and_bytes (code c)) rest) ∙ rw (front, known, first) k.1
 attribute_again pool holder seen name (Constant value) rest h once =
     let n = named_by (has_body_name holder (Constant value)) (text_at pool name) h.1.named in
-    let front = (name_reads pool).again (record { index = name; text = n.0 }) (sized (u2 value) ++ rest) (record { index = h.0.name; text = n.1 }) in
+    let front = (name_reads pool).again (record { index = name; text = n.0 }) (length_and_bytes (u2 value) ++ rest) (record { index = h.0.name; text = n.1 }) in
     let k = recognized_again pool holder name (Constant value) n.0 rest h.0.contents h.0.size n.2 h.1.inside refl in
     let known = k.0 in
     let first : seen ≡ false = once refl in
-    ap (attribute_at pool holder seen) (append_assoc (u2 name) (sized (u2 value)) rest) ∙ rw (front, known, first) k.1
+    ap (attribute_at pool holder seen) (append_assoc (u2 name) (length_and_bytes (u2 value)) rest) ∙ rw (front, known, first) k.1
 
 attribute_reads : (pool : List Const) (holder : Holder) (seen : Bool) (more : ℕ) → IsReader (attribute_at pool holder seen) attribute (IsOnce (IsRead pool holder) test_recognized seen more)
 unfolding attribute_at
@@ -391,9 +391,9 @@ attribute_reads pool holder seen more = record {
       let a = ok_of (name_at pool bytes) (λ name. attribute_of_name pool holder seen bytes name.0 name.1) p e in
       let one = (name_reads pool).takes bytes a.0 fits a.1 in
       let two = body_takes pool holder (is_recognized holder a.0.0.text) seen bytes a.0.0 a.0.1 p refl one.0.rest_fits a.2 in
-      let whole = Takes-then bytes (u2 a.0.0.index) a.0.1 (sized (body p.0.body)) p.1 one.0 two.takes in
+      let whole = Takes-then bytes (u2 a.0.0.index) a.0.1 (length_and_bytes (body p.0.body)) p.1 one.0 two.takes in
       let text : text_at pool p.0.name ≡ Some a.0.0.text = ap (text_at pool) two.named ∙ one.1.text in (
-        subst (λ (n : ℕ). Takes bytes (u2 n ++ sized (body p.0.body)) p.1) (sym two.named) whole,
+        subst (λ (n : ℕ). Takes bytes (u2 n ++ length_and_bytes (body p.0.body)) p.1) (sym two.named) whole,
         (
           (
             record { name = subst IsU2 (sym two.named) one.1.index; contents = two.contents; size = two.size },

@@ -13,7 +13,7 @@ use Rattle.class_model.specs.declared.attribute.CodeAttribute.{CodeAttribute}
 use Rattle.class_model.specs.declared.member.Member.{Member}
 use Rattle.class_model.specs.declared.class_file.ClassFile.{ClassFile}
 use Rattle.jvm_utf8.specs.Text.{unit, text}
-use Rattle.class_grammar.specs.Layout.{u2, u4, table, sized, constant, row, code_attribute, code, body, attribute, member, class_file}
+use Rattle.class_grammar.specs.Layout.{u2, u4, table, length_and_bytes, constant, row, code_attribute, code, body, attribute, member, class_file}
 use Rattle.class_grammar.specs.Checks.{Item, sound_bytes, u2_item, class_fault, constant_items, class_items, row_items, extra_items, code_items, body_items, attribute_items, attributes_items, field_items, method_items, member_items, pool_items, items, size_of}
 
 size_of-append : (a b : List Item) → size_of (a ++ b) ≡ size_of a + size_of b
@@ -48,8 +48,8 @@ code_size pool c =
       size_of-append (flat_map (row_items pool (length c.code)) c.rows) (sound_bytes 2 ∷ flat_map extra_items c.attributes),
       flat_size (row_items pool (length c.code)) row (λ r. omega arith) c.rows,
       flat_size extra_items code_attribute extra_size c.attributes,
-      length-append ((u2 c.max_stack ++ u2 c.max_locals ++ sized c.code) ++ table row c.rows) (table code_attribute c.attributes),
-      length-append (u2 c.max_stack ++ u2 c.max_locals ++ sized c.code) (table row c.rows),
+      length-append ((u2 c.max_stack ++ u2 c.max_locals ++ length_and_bytes c.code) ++ table row c.rows) (table code_attribute c.attributes),
+      length-append (u2 c.max_stack ++ u2 c.max_locals ++ length_and_bytes c.code) (table row c.rows),
     )
 
 body_size : (pool : List Const) (m : Member) (b : Body) → size_of (body_items pool m b) ≡ length (body b)

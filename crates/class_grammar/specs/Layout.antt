@@ -1,5 +1,5 @@
 -- The bytes of a class file: its parts one after the other, each number with its highest byte first (JVMS 4.1
--- to 4.7). Which values have a spelling is said in Ranges and Spelling; here each value has at most one.
+-- to 4.7). Which values have a spelling is said in Grammar; here each value has at most one.
 use Rattle.std.specs.Prelude.{ℕ, List, [], ◌∷◌, ◌++◌, length}
 use Rattle.std.specs.Int.{w16, w32, w64, to_be_bytes, cast_unsigned}
 use Rattle.std.specs.List.{flat_map}
@@ -35,8 +35,8 @@ abbrev pub table : {X : Type 0} → (X → List ℕ) → List X → List ℕ
 table part xs = u2 (length xs) ++ flat_map part xs
 
 -- a length in four bytes, and that many bytes
-abbrev pub sized : List ℕ → List ℕ
-sized bytes = u4 (length bytes) ++ bytes
+abbrev pub length_and_bytes : List ℕ → List ℕ
+length_and_bytes bytes = u4 (length bytes) ++ bytes
 
 -- a length in two bytes, and that many bytes (JVMS 4.4.7)
 abbrev pub string : List ℕ → List ℕ
@@ -72,11 +72,11 @@ code_extra (extras.StackMap bytes) = bytes
 code_extra (extras.Other bytes) = bytes
 
 abbrev pub code_attribute : CodeAttribute → List ℕ
-code_attribute a = u2 a.name ++ sized (code_extra a.body)
+code_attribute a = u2 a.name ++ length_and_bytes (code_extra a.body)
 
 -- the body of a Code attribute (JVMS 4.7.3)
 abbrev pub code : CodeBody → List ℕ
-code c = u2 c.max_stack ++ u2 c.max_locals ++ sized c.code ++ table row c.rows ++ table code_attribute c.attributes
+code c = u2 c.max_stack ++ u2 c.max_locals ++ length_and_bytes c.code ++ table row c.rows ++ table code_attribute c.attributes
 
 abbrev pub body : Body → List ℕ
 body (Code c) = code c
@@ -85,7 +85,7 @@ body (Other bytes) = bytes
 
 -- an attribute (JVMS 4.7)
 abbrev pub attribute : Attribute → List ℕ
-attribute a = u2 a.name ++ sized (body a.body)
+attribute a = u2 a.name ++ length_and_bytes (body a.body)
 
 -- a field or a method (JVMS 4.5, 4.6)
 abbrev pub member : Member → List ℕ

@@ -9,9 +9,9 @@ use class_model::{Attribute, Body, CodeAttribute, CodeBody, CodeExtra, Row};
 use items::NoMemory;
 
 // Bytes after their number.
-fn sized(out: &mut Vec<u8>, bytes: &[u8]) -> Result<(), NoMemory>
+fn length_and_bytes(out: &mut Vec<u8>, bytes: &[u8]) -> Result<(), NoMemory>
     requires { IsU4 (length bytes.now) }
-    ensures { OnOk result (out.new.items ≡ out.old.items ++ spec.sized bytes.now) }
+    ensures { OnOk result (out.new.items ≡ out.old.items ++ spec.length_and_bytes bytes.now) }
 {
     u4(out, bytes.len() as u32)?;
     out.extend_from_slice(bytes)?;
@@ -45,8 +45,8 @@ fn code_attribute(out: &mut Vec<u8>, attribute: &CodeAttribute) -> Result<(), No
 {
     u2(out, attribute.name)?;
     match &attribute.body {
-        CodeExtra::StackMap(bytes) => sized(out, bytes),
-        CodeExtra::Other(bytes) => sized(out, bytes),
+        CodeExtra::StackMap(bytes) => length_and_bytes(out, bytes),
+        CodeExtra::Other(bytes) => length_and_bytes(out, bytes),
     }
 }
 
@@ -69,7 +69,7 @@ fn code(out: &mut Vec<u8>, code: &CodeBody) -> Result<(), NoMemory>
 {
     u2(out, code.max_stack)?;
     u2(out, code.max_locals)?;
-    sized(out, &code.code)?;
+    length_and_bytes(out, &code.code)?;
     rows(out, &code.rows)?;
     code_attributes(out, &code.attributes)
 }

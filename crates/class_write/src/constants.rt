@@ -14,7 +14,7 @@ use class_model::{
 use items::NoMemory;
 
 // A tag, and a number in two bytes.
-fn tagged(out: &mut Vec<u8>, tag: u8, n: u16) -> Result<(), NoMemory>
+fn tag_and_u2(out: &mut Vec<u8>, tag: u8, n: u16) -> Result<(), NoMemory>
     ensures { OnOk result (out.new.items ≡ out.old.items ++ spec.u1 tag ++ spec.u2 n) }
 {
     out.push(tag)?;
@@ -25,7 +25,7 @@ fn pair(out: &mut Vec<u8>, tag: u8, first: u16, second: u16) -> Result<(), NoMem
     ensures { OnOk result (out.new.items ≡
         out.old.items ++ spec.u1 tag ++ spec.u2 first ++ spec.u2 second) }
 {
-    tagged(out, tag, first)?;
+    tag_and_u2(out, tag, first)?;
     u2(out, second)
 }
 
@@ -58,8 +58,8 @@ fn constant(out: &mut Vec<u8>, constant: &Const) -> Result<(), NoMemory>
         Const::Float(bits) => word(out, TAG_FLOAT, *bits),
         Const::Long(n) => double_word(out, TAG_LONG, n.cast_unsigned()),
         Const::Double(bits) => double_word(out, TAG_DOUBLE, *bits),
-        Const::Class(name) => tagged(out, TAG_CLASS, *name),
-        Const::Text(units) => tagged(out, TAG_STRING, *units),
+        Const::Class(name) => tag_and_u2(out, TAG_CLASS, *name),
+        Const::Text(units) => tag_and_u2(out, TAG_STRING, *units),
         Const::Fieldref(class, member) => pair(out, TAG_FIELDREF, *class, *member),
         Const::Methodref(class, member) => pair(out, TAG_METHODREF, *class, *member),
         Const::InterfaceMethodref(class, member) => pair(
@@ -71,9 +71,9 @@ fn constant(out: &mut Vec<u8>, constant: &Const) -> Result<(), NoMemory>
         Const::NameAndType(name, descriptor) => pair(out, TAG_NAME_AND_TYPE, *name, *descriptor),
         Const::MethodHandle(kind, member) => {
             out.push(TAG_METHOD_HANDLE)?;
-            tagged(out, *kind, *member)
+            tag_and_u2(out, *kind, *member)
         }
-        Const::MethodType(descriptor) => tagged(out, TAG_METHOD_TYPE, *descriptor),
+        Const::MethodType(descriptor) => tag_and_u2(out, TAG_METHOD_TYPE, *descriptor),
         Const::Dynamic(bootstrap, member) => pair(out, TAG_DYNAMIC, *bootstrap, *member),
         Const::InvokeDynamic(bootstrap, member) => pair(
             out,
@@ -81,8 +81,8 @@ fn constant(out: &mut Vec<u8>, constant: &Const) -> Result<(), NoMemory>
             *bootstrap,
             *member,
         ),
-        Const::Module(name) => tagged(out, TAG_MODULE, *name),
-        Const::Package(name) => tagged(out, TAG_PACKAGE, *name),
+        Const::Module(name) => tag_and_u2(out, TAG_MODULE, *name),
+        Const::Package(name) => tag_and_u2(out, TAG_PACKAGE, *name),
     }
 }
 

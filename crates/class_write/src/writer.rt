@@ -60,6 +60,7 @@ pub fn write(alloc: Global, file: &ClassFile) -> Result<Vec<u8>, NoMemory>
     whole(alloc, file)
 }
 
+// The parts of the file. The clause of `write` follows from this one: the layout of a value has no other value.
 fn whole(alloc: Global, file: &ClassFile) -> Result<Vec<u8>, NoMemory>
     requires { IsInRange file.now }
     ensures { IfOk result (λ v. v.items ≡ spec.class_file file.now) }

@@ -11,6 +11,8 @@ mod edges;
 #[cfg(test)]
 mod instructions;
 #[cfg(test)]
+mod linking;
+#[cfg(test)]
 mod member_types;
 #[cfg(test)]
 mod memory;

@@ -20,11 +20,11 @@ semicolon = 59  -- ;
 abbrev pub bracket : ℕ
 bracket = 91  -- [
 
-abbrev pub opening : ℕ
-opening = 40  -- (
+abbrev pub open_parenthesis : ℕ
+open_parenthesis = 40  -- (
 
-abbrev pub closing : ℕ
-closing = 41  -- )
+abbrev pub close_parenthesis : ℕ
+close_parenthesis = 41  -- )
 
 abbrev pub class_letter : ℕ
 class_letter = 76  -- L
@@ -97,7 +97,7 @@ result_spelling None = void_letter ∷ []
 result_spelling (Some kind) = spelling kind
 
 abbrev pub method_spelling : Signature → List ℕ
-method_spelling s = opening ∷ (flat_map spelling s.args ++ closing ∷ result_spelling s.result)
+method_spelling s = open_parenthesis ∷ (flat_map spelling s.args ++ close_parenthesis ∷ result_spelling s.result)
 
 abbrev pub IsResult : Option Kind → Type 0
 IsResult None = Unit {0}

@@ -5,7 +5,7 @@ use Rattle.descriptors.specs.declared.fronts.Front.{Front}
 use Rattle.descriptors.specs.declared.fronts.Front.TheVariants.{Brackets, Name}
 use Rattle.descriptors.specs.declared.fronts.Turn.{Turn}
 use Rattle.descriptors.specs.declared.fronts.Turn.TheVariants.{Ends, GoesOn, Stops}
-use Rattle.descriptors.specs.Descriptors.{bracket, semicolon, slash, class_letter, opening, closing, void_letter, is_base, is_name_unit, unit_slots}
+use Rattle.descriptors.specs.Descriptors.{bracket, semicolon, slash, class_letter, open_parenthesis, close_parenthesis, void_letter, is_base, is_name_unit, unit_slots}
 
 -- ---- a unit in the descriptor of a kind
 
@@ -69,9 +69,9 @@ slots_with slots front u = if is_start front then slots + unit_slots u else slot
 -- the state with one more unit, unless it is not allowed there
 abbrev pub next : State → ℕ → Option State
 next (Field front) u = in_field (turn front u)
-next Method u = if u == opening then Some (Args 0 (Brackets 0)) else None
+next Method u = if u == open_parenthesis then Some (Args 0 (Brackets 0)) else None
 next (Args slots front) u =
-    if is_start front && u == closing then Some Result
+    if is_start front && u == close_parenthesis then Some Result
     else in_arg (slots_with slots front u) (turn front u)
 next Result u = if u == void_letter then Some Whole else in_field (turn (Brackets 0) u)
 next Whole u = None

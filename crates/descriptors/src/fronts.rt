@@ -144,7 +144,8 @@ fn whole_bad(units: &[u16], start: usize) -> Option<usize>
 /// the number of units where they end too early, or none.
 pub fn field_bad(units: &[u16], start: usize) -> Option<usize>
     requires { start ≤ length units.now }
-    ensures first { result ≡ spec.first_bad (spec.Field (fronts.Brackets 0)) start (drop start units.now) }
+    ensures first { result ≡
+        spec.first_bad (spec.Field (fronts.Brackets 0)) start (drop start units.now) }
     ensures within { IfSome result (λ at. at ≤ length units.now) }
 {
     let mut front = START;

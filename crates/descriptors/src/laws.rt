@@ -20,13 +20,16 @@ pub fn one_signature()
 
 /// A text has at most one first bad unit, and none if it is a descriptor.
 pub fn one_first_bad()
-    ensures of_field { (units : List ℕ) (a b : ℕ) → IsFirstBad IsField units a → IsFirstBad IsField units b → a ≡ b }
-    ensures of_method { (units : List ℕ) (a b : ℕ) → IsFirstBad IsMethod units a → IsFirstBad IsMethod units b → a ≡ b }
+    ensures of_field { (units : List ℕ) (a b : ℕ) → IsFirstBad IsField units a
+        → IsFirstBad IsField units b → a ≡ b }
+    ensures of_method { (units : List ℕ) (a b : ℕ) → IsFirstBad IsMethod units a
+        → IsFirstBad IsMethod units b → a ≡ b }
     ensures no_field { (units : List ℕ) (at : ℕ) → IsFirstBad IsField units at → IsField units → ⊥ }
-    ensures no_method { (units : List ℕ) (at : ℕ) → IsFirstBad IsMethod units at → IsMethod units → ⊥ }
+    ensures no_method { (units : List ℕ) (at : ℕ) → IsFirstBad IsMethod units at
+        → IsMethod units → ⊥ }
 {}
 
-/// The tests of units tell what is the descriptor of a field, and of a method.
+/// The tests decide whether units are the descriptor of a field, and of a method.
 pub fn tests_decide()
     ensures field { (units : List ℕ) → (is_field units ≡ true) ↔ IsField units }
     ensures method { (units : List ℕ) → (is_method units ≡ true) ↔ IsMethod units }

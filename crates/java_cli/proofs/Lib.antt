@@ -1,4 +1,4 @@
-pub mod Reading
-pub mod Naming
-pub mod Answering
-pub mod Due
+pub mod LoadLaws
+pub mod NameLaws
+pub mod AnswerLaws
+pub mod DueLaws

@@ -1,4 +1,4 @@
--- What each answer says to the outside (own): the exit status, as sysexits has it from 64 on, and the line on
+-- What each answer says to the outside: the exit status, as sysexits has it from 64 on, and the line on
 -- the fault output.
 use Rattle.std.specs.Prelude.{ℕ, List, [], ◌∷◌, ◌++◌, Option, Some, None, codes, map, unwrap_or, slice_get}
 use Rattle.std.specs.Fmt.{decimal}
@@ -97,10 +97,12 @@ abbrev pub line_for : Option Command → Why → List ℕ
 line_for None why = usage_line
 line_for (Some c) why = line_of c why
 
--- the line of this answer names something, so memory is taken for it
+-- the line of this answer names something, so memory is taken for it; that of no other answer may want memory
 abbrev pub NamesSomething : Why → Type 0
-NamesSomething Ended = ⊥
-NamesSomething Usage = ⊥
-NamesSomething (SinkFault which written) = ⊥
-NamesSomething NoMemory = ⊥
-NamesSomething why = Unit {0}
+NamesSomething (Limit which number) = Unit {0}
+NamesSomething (Missing file) = Unit {0}
+NamesSomething (SourceFault file) = Unit {0}
+NamesSomething (BadClass file at why) = Unit {0}
+NamesSomething NoMain = Unit {0}
+NamesSomething (LinkFault class why) = Unit {0}
+NamesSomething why = ⊥

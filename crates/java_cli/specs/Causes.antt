@@ -17,7 +17,7 @@ use Rattle.java_cli.specs.declared.report.LinkWhy.{LinkWhy}
 use Rattle.java_cli.specs.declared.report.LinkWhy.TheVariants.{Unsupported}
 use Rattle.java_cli.specs.declared.report.Which.TheVariants.{Files}
 use Rattle.java_cli.specs.declared.report.Why.{Why}
-use Rattle.java_cli.specs.declared.report.Why.TheVariants.{Ended, Usage, Limit, SourceFault, NoMain, LinkFault, SinkFault, NoMemory}
+use Rattle.java_cli.specs.declared.report.Why.TheVariants.{Ended, Usage, Limit, Missing, SourceFault, BadClass, NoMain, LinkFault, SinkFault, NoMemory}
 use Rattle.java_cli.specs.Limits.{most_files, most_bytes}
 use Rattle.java_cli.specs.Errors.{load_answer}
 use Rattle.java_cli.specs.Words.{Command}
@@ -135,12 +135,16 @@ pub record IsExact (known : Option store.Files) (faulty : Type 0) (c : Command) 
   pub cause : IsCaused known faulty c why
   pub due : (files : store.Files) (answer : Why) → known ≡ Some files → IsDue c (contents_of files c.files) answer → IsDueOrFault answer why
 
--- an answer to a command that was not run
+-- An answer to a command that was not run. No other answer is one, so that a new answer is refused until it has a row.
 abbrev pub IsRefusal : Why → Type 0
-IsRefusal Ended = ⊥
-IsRefusal Usage = ⊥
-IsRefusal (SinkFault which written) = ⊥
-IsRefusal why = Unit {0}
+IsRefusal (Limit which number) = Unit {0}
+IsRefusal (Missing file) = Unit {0}
+IsRefusal (SourceFault file) = Unit {0}
+IsRefusal (BadClass file at reason) = Unit {0}
+IsRefusal NoMain = Unit {0}
+IsRefusal (LinkFault class reason) = Unit {0}
+IsRefusal NoMemory = Unit {0}
+IsRefusal why = ⊥
 
 -- the answer to a run that went to its end, or to none
 abbrev pub answer_of : {X : Type 0} → Result X Why → Why

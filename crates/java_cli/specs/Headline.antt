@@ -1,5 +1,5 @@
 -- What a call of the machine did, from the words to what the sinks took.
-use Rattle.std.specs.Prelude.{◌≡◌, ◌⊎◌, ℕ, ◌<◌, List, [], Option, Some, length, take}
+use Rattle.std.specs.Prelude.{◌≡◌, ◌⊎◌, ℕ, ◌<◌, ◌≤◌, List, [], Option, Some, length, take}
 use Rattle.std.specs.List.{AllByRecursion}
 use Rattle.jvm_edges.specs.Bytes.{Appends}
 use Rattle.jvm_edges.specs.Causes.{Rose}
@@ -62,11 +62,12 @@ OutFaults (SinkFault which written) before now = Rose before now
 OutFaults why before now = now ≡ before
 
 -- The err sink took no fault output of the program, which has none, and then the answer's line: all of it, unless the
--- sink failed.
+-- sink failed. Its count of faults rose exactly where it didn't take all.
 pub record TakesLine {E : Type 0} (contents : E → Option (List ℕ)) (faults : E → ℕ) (old new : E) (line : List ℕ) : Type 0 where
   pub taken : ℕ
   pub written : Appends (contents old) (take taken line) (contents new)
   pub whole : taken < length line → Rose (faults old) (faults new)
+  pub kept : length line ≤ taken → faults new ≡ faults old
 
 -- an answer is as before, or its line names something and there was no memory for it
 abbrev pub IsKept : Why → Why → Type 0

@@ -7,7 +7,7 @@ pub mod Errors
 pub mod Answers
 pub mod Lines
 pub mod Causes
-pub mod Reading
-pub mod Linking
+pub mod LoadCauses
+pub mod LinkCauses
 pub mod Runs
 pub mod Headline

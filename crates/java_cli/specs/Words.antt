@@ -1,4 +1,4 @@
--- The command that a list of words spells (own).
+-- The command that a list of words spells.
 use Rattle.std.specs.Prelude.{ℕ, List, ◌∷◌, Option, Some, None, map, codes, String, if◌then◌else◌}
 use Rattle.std.specs.String.{string_bytes}
 use Rattle.std.specs.Global.{Global}

@@ -9,7 +9,7 @@ ghost use Rattle.java_cli.specs.Words.{texts};
 ghost use Rattle.java_cli.specs.Limits.{most_files, most_bytes};
 ghost use Rattle.java_cli.specs.Errors.{loaded_answer};
 ghost use Rattle.java_cli.specs.Causes.{IsBad, StoreFaults};
-ghost use Rattle.java_cli.specs.Reading.{IsRead, NotRead, IsStopped};
+ghost use Rattle.java_cli.specs.LoadCauses.{IsRead, NotRead, IsStopped};
 
 use crate::errors::LoadError;
 use class_file::{ReadError, read};

@@ -7,5 +7,6 @@ ghost use Rattle.java_cli.specs.Causes.{Contents, AreBytes, OneIsDue};
 
 /// Exactly one answer is due to a command whose files have these bytes.
 pub fn one_answer()
-    ensures { (c : Command) (contents : List Contents) → AllByRecursion AreBytes contents → OneIsDue c contents }
+    ensures { (c : Command) (contents : List Contents) →
+        AllByRecursion AreBytes contents → OneIsDue c contents }
 {}

@@ -1,6 +1,6 @@
 ghost use Rattle.std.specs.Prelude.{◌≡◌, IfOk, OnErr};
 ghost use Rattle.java_cli.specs.Answers.{line_of, line_with, limit_line, bad_class_line, link_line, NamesSomething, class_why_name as class_why_name_of, link_why_name as link_why_name_of, which_name as which_name_of, file_word as file_word_of};
-ghost use Rattle.java_cli.specs.Commands.{spelled};
+ghost use Rattle.java_cli.specs.Commands.{command_texts};
 ghost use Rattle.java_cli.specs.Lines.{bytes_of};
 
 use crate::report::{LinkWhy, Which, Why};
@@ -37,7 +37,7 @@ impl Line {
 /// The line that an answer to this command writes, with LF. Every case is listed, so that a new answer gets a line of
 /// its own.
 pub fn make_line(alloc: Global, why: &Why, command: &Command) -> Result<Line, AllocError>
-    ensures line { IfOk result (λ line. bytes_of line ≡ line_of (spelled command.now) why.now) }
+    ensures line { IfOk result (λ line. bytes_of line ≡ line_of (command_texts command.now) why.now) }
     ensures memory { OnErr result (NamesSomething why.now) }
 {
     let bytes = match why {
@@ -65,7 +65,7 @@ pub fn make_line(alloc: Global, why: &Why, command: &Command) -> Result<Line, Al
 
 // The word of the file of this index.
 fn file_word<'a>(command: &Command<'a>, file: u32) -> &'a str
-    ensures { result.now ≡ file_word_of (spelled command.now) file }
+    ensures { result.now ≡ file_word_of (command_texts command.now) file }
 {
     match command.files.get(file as usize) {
         Some(word) => word.as_str(),

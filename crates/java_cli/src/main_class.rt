@@ -6,11 +6,11 @@ ghost use Rattle.std.specs.Char.Escape.{encode_utf16};
 ghost use Rattle.java_cli.specs.MainClass as spec;
 
 use class_grammar::{has_text, is_class_named};
-use class_model::{ClassFile, Const, Member};
+use class_model::{ACC_PUBLIC, ACC_STATIC, ClassFile, Const, Member};
 use std::alloc::{AllocError, Global};
 
-/// `ACC_PUBLIC` and `ACC_STATIC` (JVMS 4.6).
-const PUBLIC_STATIC: u16 = 0x0001 | 0x0008;
+/// The flags of a main method (JLS 12.1.4).
+const PUBLIC_STATIC: u16 = ACC_PUBLIC | ACC_STATIC;
 
 /// The name of the class that a word names, in units of UTF-16: its dots are slashes.
 pub fn class_named(alloc: Global, word: &str) -> Result<Vec<u16>, AllocError>

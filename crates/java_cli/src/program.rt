@@ -5,7 +5,7 @@ ghost use Rattle.std.specs.List.{AllByRecursion};
 ghost use Rattle.plain_program.specs.Methods.{method_of};
 ghost use Rattle.plain_program.specs.Programs.{IsSpelled, IsLinked};
 ghost use Rattle.java_cli.specs.MainClass.{class_named as class_named_by, has_main as has_main_in};
-ghost use Rattle.java_cli.specs.Linking.{NotLinked, first_name as first_name_of};
+ghost use Rattle.java_cli.specs.LinkCauses.{NotLinked, first_name as first_name_of};
 ghost use Rattle.java_cli.specs.declared.errors.LinkError.TheVariants as errors;
 ghost use Rattle.java_cli.specs.declared.report.LinkWhy.TheVariants as link_whys;
 

@@ -5,14 +5,14 @@ use items::Items;
 use history::Entry;
 use std::alloc::AllocError;
 
-/// Which sink (own).
+/// Which sink.
 #[derive(Clone, Copy, Debug, PartialEq, Eq)]
 pub enum SinkName {
     Out,
     Err,
 }
 
-/// What has a limit (own).
+/// What has a limit.
 #[derive(Clone, Copy, Debug, PartialEq, Eq)]
 pub enum Which {
     /// The FILE words of a command.

@@ -5,7 +5,7 @@ ghost use Rattle.java_cli.specs.Answers.{line_of, line_for, usage_line, memory_l
 ghost use Rattle.java_cli.specs.Causes.{IsExact, StoreFaults};
 ghost use Rattle.java_cli.specs.Headline.{Ran, IsIdle, IsTaken, IsKept, OnRun, OnNoRun, OutFaults, TakesLine};
 ghost use Rattle.java_cli.specs.Words.{command_of, texts};
-ghost use Rattle.java_cli.specs.Commands.{spelled};
+ghost use Rattle.java_cli.specs.Commands.{command_texts};
 
 use crate::command_run::run_command;
 use crate::line::{NO_MEMORY, USAGE, make_line};
@@ -79,7 +79,7 @@ fn deliver<O: Sink, E: Sink>(
     ensures taken { IsTaken result.why result.out_written (length execution.out.items) }
     ensures out_faults { OutFaults result.why (O.faults out.old) (O.faults out.new) }
     ensures line { TakesLine E.contents E.faults err.old err.new
-        (line_of (spelled command.now) result.why) }
+        (line_of (command_texts command.now) result.why) }
     ensures no_faults { result.err_written ≡ 0 }
 {
     let Execution { history, out: text } = execution;
@@ -107,7 +107,7 @@ fn refuse<E: Sink>(alloc: Global, why: Why, command: &Command, err: &mut E) -> R
     ensures history { result.history.items ≡ [] }
     ensures out_written { result.out_written ≡ 0 }
     ensures line { TakesLine E.contents E.faults err.old err.new
-        (line_of (spelled command.now) result.why) }
+        (line_of (command_texts command.now) result.why) }
     ensures no_faults { result.err_written ≡ 0 }
 {
     idle_report(alloc, with_line(alloc, why, command, err))
@@ -133,7 +133,7 @@ fn idle_report(alloc: Global, why: Why) -> Report
 fn with_line<E: Sink>(alloc: Global, why: Why, command: &Command, err: &mut E) -> Why
     ensures why { IsKept why result }
     ensures line { TakesLine E.contents E.faults err.old err.new
-        (line_of (spelled command.now) result) }
+        (line_of (command_texts command.now) result) }
 {
     match make_line(alloc, &why, command) {
         Ok(line) => {

@@ -18,12 +18,13 @@ pub fn utf8(alloc: Global, units: &[u16]) -> Result<String, AllocError>
     Ok(text)
 }
 
-/// The character whose units begin at `at`, and where the next one begins. `None`: that unit is a surrogate
-/// without its partner.
+// The character whose units begin at the offset `at`, and the offset of the next one. `None`: that unit is a surrogate
+// without its partner.
 fn char_at(units: &[u16], at: usize) -> (Option<char>, usize)
     requires { at < length units.now }
     ensures bound { (at < result.1) × (result.1 ≤ length units.now) }
-    ensures first { utf16_chars (drop at units.now) ≡ result.0 ∷ utf16_chars (drop result.1 units.now) }
+    ensures first { utf16_chars (drop at units.now) ≡
+        result.0 ∷ utf16_chars (drop result.1 units.now) }
 {
     let high = units[at] as u32;
     if high < 0xd800 || 0xe000 <= high {

@@ -1,7 +1,7 @@
 ghost use Rattle.std.specs.Prelude.{◌≡◌};
 ghost use Rattle.std.specs.Option.{option_map};
 ghost use Rattle.java_cli.specs.Words.{command_of, texts};
-ghost use Rattle.java_cli.specs.Commands.{spelled};
+ghost use Rattle.java_cli.specs.Commands.{command_texts};
 
 /// The command `run MAIN FILE ..`, with one FILE or more.
 #[derive(Debug, Drop)]
@@ -14,7 +14,7 @@ pub struct Command<'a> {
 
 /// The command that the words spell, the program's name first. `None`: they spell no command.
 pub fn read_command(words: &[String]) -> Option<Command<'_>>
-    ensures { option_map spelled result ≡ command_of (texts words.now) }
+    ensures { option_map command_texts result ≡ command_of (texts words.now) }
 {
     let [_, verb, main, files @ ..] = words else {
         return None;

@@ -1,4 +1,4 @@
--- The bytes that a sink took (own).
+-- The bytes that a sink took.
 use Rattle.std.specs.Prelude.{◌≡◌, ℕ, List, ◌++◌, Option}
 use Rattle.std.specs.Option.{option_map}
 

@@ -1,4 +1,5 @@
--- Counts of faults (own): the count of a store or a sink rises exactly where it answers that it failed, so that every fault is answered.
+-- Counts of faults: the count of a store or a sink rises exactly where it answers that it failed, so that every fault is
+-- answered.
 use Rattle.std.specs.Prelude.{◌≡◌, ℕ, ◌+◌, ◌-◌, ◌^◌, ◌≤◌, min, Result, IsErrOf, OnOk, OnErr}
 use Rattle.jvm_edges.specs.declared.store.StoreError.{StoreError}
 use Rattle.jvm_edges.specs.declared.store.StoreError.TheVariants as store_errors

@@ -1,4 +1,4 @@
--- Files by name (own). A name and a file are lists of bytes.
+-- Files by name. A name and a file are lists of bytes.
 use Rattle.std.specs.Prelude.{ℕ, Bool, List, [], ◌∷◌, Option, Some, None, take, if◌then◌else◌, nat_eq}
 use Rattle.std.specs.Option.{option_map}
 use Rattle.std.specs.Cmp.Lexicographic.{pointwise}

@@ -1,4 +1,4 @@
--- Times in nanoseconds, as numbers of 64 bits (own).
+-- Times in nanoseconds, as numbers of 64 bits.
 use Rattle.std.specs.Prelude.{ℕ, ◌==◌, ◌-◌, ◌^◌, if◌then◌else◌, min}
 
 -- at most the greatest u64

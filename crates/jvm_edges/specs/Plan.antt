@@ -1,4 +1,5 @@
--- Which calls of a store or a sink in memory fail (own). Calls are next_count from 1, and each count stops at the greatest u64.
+-- Which calls of a store or a sink in memory fail. Calls are counted from 1, and each count stops at the greatest
+-- u64.
 use Rattle.std.specs.Prelude.{ℕ, ◌+◌, ◌-◌, ◌^◌, min, List, Contains}
 
 pub record Plan : Type 0 where

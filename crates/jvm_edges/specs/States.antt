@@ -1,4 +1,4 @@
--- The states of the store and the sinks that this crate has (own).
+-- The states of the store and the sinks that this crate has.
 use Rattle.std.specs.Prelude.{◌≡◌, ◌<◌, ◌-◌, ℕ, List, [], length, map, max, min, Option, String, string_bytes}
 use Rattle.std.specs.Global.{Vec, Global}
 use Rattle.jvm_edges.specs.Files.{Files}

@@ -22,7 +22,7 @@ impl Model for MapStore {
     ghost view = { λ store. record { files = named_files store.files.items; plan = store.plan } };
 }
 
-/// The first file of that name.
+// The first file of that name.
 fn find_file<'a>(files: &'a [(String, Vec<u8>)], name: &str) -> Option<&'a [u8]>
     ensures { option_map (λ bytes. bytes.now) result ≡ file_named name.now (named_files files.now) }
 {

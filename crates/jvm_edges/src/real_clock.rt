@@ -6,7 +6,7 @@ use crate::clock::Clock;
 use std::time::{Duration, Instant};
 use std::{rt, thread};
 
-/// How long a nap of no length takes, in nanoseconds (own).
+/// How long a nap of no length takes, in nanoseconds.
 const SHORT_NAP: u64 = 50_000;
 
 /// The clock of the system, in nanoseconds since `new` was called. It gives 0 where the system's clock fails.

@@ -1,1 +1,6 @@
+pub mod CallLaws
+pub mod ListLaws
+pub mod MonitorLaws
+pub mod OnceLaws
 pub mod RecordLaws
+pub mod RoomLaws

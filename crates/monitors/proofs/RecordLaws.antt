@@ -1,13 +1,13 @@
 -- How the records of monitors, the vacant slots and the lists of threads change together.
-use Rattle.std.proofs.Common.{◌≡◌, ◌+◌, ◌*◌, ◌<◌, ◌≤◌, ◌⊎◌, ℕ, Bool, true, false, List, [], ◌∷◌, ◌++◌, Option, Some, None, length, inl, inr, sym, ◌∙◌, ap, subst, refl, arith, unwrap_or}
-use Rattle.std.specs.Option.{option_map, option_map_or}
+use Rattle.std.proofs.Common.{◌≡◌, ◌+◌, ◌<◌, ◌≤◌, ◌⊎◌, ℕ, false, List, [], ◌∷◌, ◌++◌, Option, Some, None, length, inl, inr, sym, ◌∙◌, ap, subst, refl, arith, unwrap_or}
+use Rattle.std.specs.Option.{option_map}
 use Rattle.std.proofs.lemmas.Bool.{cases_eq}
 use Rattle.monitors.specs.declared.records.Owner.{Owner}
 use Rattle.monitors.specs.declared.records.Record.{Record}
 use Rattle.thread_lists.specs.Lists.{count, list_at}
 use Rattle.thread_lists.proofs.CountLaws.{count-append, count-other, count-same}
 use Rattle.monitors.specs.Monitors.{Monitor, free, is_free}
-use Rattle.monitors.specs.Records.{Fits, IsUsed, entry_of, known, waits_of}
+use Rattle.monitors.specs.Records.{Fits, IsUsed, count_of, entry_of, known, thread_of, waits_of}
 
 -- the monitor of an object
 abbrev pub read : (ℕ → Option Record) → List (List ℕ) → ℕ → Monitor
@@ -24,10 +24,10 @@ KeepsRecords records records' o = (p : ℕ) → (p ≡ o → ⊥) → records' p
 monitor_with : Option Owner → List ℕ → List ℕ → Monitor
 monitor_with owner entry waits =
     record {
-      owner = option_map (λ (o : Owner). o.thread) owner;
-      count = option_map_or (λ (o : Owner). o.count) owner 0;
+      owner = thread_of owner;
+      count = count_of owner;
       entry = entry;
-      waits = waits
+      waits = waits;
     }
 
 known-same : (lists lists' : List (List ℕ)) (slot : ℕ) (r : Record) → KeepsLists lists lists' slot → (r.slot ≡ slot → ⊥) → known lists' r ≡ known lists r
@@ -63,8 +63,8 @@ module _ (records records' : ℕ → Option Record) (vacant : List ℕ) (lists l
   old_slot : (p : ℕ) (q : Record) → records' p ≡ Some q → (old : Record) × (records p ≡ Some old) × (q.slot ≡ old.slot)
   old_slot p q e =
       elim (cases_eq p o) [
-        inl i ↦ (r, ap records i ∙ c.was, ap (λ (x : Record). x.slot) (same_record records' o p r' q i c.now e) ∙ c.slot)
-      | inr ne ↦ (q, sym (c.others p ne) ∙ e, refl)
+        | inl i ↦ (r, ap records i ∙ c.was, ap (λ (x : Record). x.slot) (same_record records' o p r' q i c.now e) ∙ c.slot)
+        | inr ne ↦ (q, sym (c.others p ne) ∙ e, refl)
       ]
 
   pub Fits-changes : Fits records' vacant lists'
@@ -79,32 +79,33 @@ module _ (records records' : ℕ → Option Record) (vacant : List ℕ) (lists l
         vacant_waits = λ slot h. c.keeps (waits_of slot) (λ e. absurd (omega arith)) (λ e. other slot h (omega arith)) ∙ fits.vacant_waits slot h;
         used = used_still;
         in_use = λ p q e.
-          elim (cases_eq p o) [
-            inl i ↦ subst (λ x. is_free (known lists' x) ≡ false) (sym (same_record records' o p r' q i c.now e)) c.in_use
-          | inr ne ↦
-              let old : records p ≡ Some q = sym (c.others p ne) ∙ e in
-              ap is_free (known-same lists lists' r.slot q c.keeps (λ i. ne (fits.apart p o q r old c.was i))) ∙ fits.in_use p q old
-          ]
+            elim (cases_eq p o) [
+              | inl i ↦ subst (λ x. is_free (known lists' x) ≡ false) (sym (same_record records' o p r' q i c.now e)) c.in_use
+              | inr ne ↦
+                  let old : records p ≡ Some q = sym (c.others p ne) ∙ e in
+                  ap is_free (known-same lists lists' r.slot q c.keeps (λ i. ne (fits.apart p o q r old c.was i))) ∙ fits.in_use p q old
+            ];
       }
     where
       other : (slot : ℕ) → 0 < count slot vacant → slot ≡ r.slot → ⊥
       other slot h e = omega (arith, fits.vacant_apart o r c.was, subst (λ s. 0 < count s vacant) e h)
+
       used_still : (k t : ℕ) → k < length lists' → 0 < count t (list_at lists' k) → IsUsed records' k
       used_still k t h n =
           elim (cases_eq k (entry_of r.slot)) [
-            inl e ↦ record { object = o; found = r'; here = c.now; list = inl (omega (arith, e, c.slot)) }
-          | inr ne ↦
-              elim (cases_eq k (waits_of r.slot)) [
-                inl e ↦ record { object = o; found = r'; here = c.now; list = inr (omega (arith, e, c.slot)) }
-              | inr nw ↦
-                  let u = fits.used k t (omega (arith, c.size)) (subst (λ xs. 0 < count t xs) (c.keeps k ne nw) n) in
-                  elim (cases_eq u.object o) [
-                    inl e ↦
-                      let same = same_record records o u.object r u.found e c.was u.here in
-                      record { object = o; found = r'; here = c.now; list = subst (λ slot. (k ≡ entry_of slot) ⊎ (k ≡ waits_of slot)) (ap (λ (x : Record). x.slot) same ∙ sym c.slot) u.list }
-                  | inr nu ↦ record { object = u.object; found = u.found; here = c.others u.object nu ∙ u.here; list = u.list }
-                  ]
-              ]
+            | inl e ↦ record { object = o; found = r'; here = c.now; list = inl (omega (arith, e, c.slot)) }
+            | inr ne ↦
+                elim (cases_eq k (waits_of r.slot)) [
+                  | inl e ↦ record { object = o; found = r'; here = c.now; list = inr (omega (arith, e, c.slot)) }
+                  | inr nw ↦
+                      let u = fits.used k t (omega (arith, c.size)) (subst (λ xs. 0 < count t xs) (c.keeps k ne nw) n) in
+                      elim (cases_eq u.object o) [
+                        | inl e ↦
+                            let same = same_record records o u.object r u.found e c.was u.here in
+                            record { object = o; found = r'; here = c.now; list = subst (λ slot. (k ≡ entry_of slot) ⊎ (k ≡ waits_of slot)) (ap (λ (x : Record). x.slot) same ∙ sym c.slot) u.list }
+                        | inr nu ↦ record { object = u.object; found = u.found; here = c.others u.object nu ∙ u.here; list = u.list }
+                      ]
+                ]
           ]
 
   pub read-changed : read records' lists' o ≡ known lists' r'
@@ -143,53 +144,54 @@ module _ (records records' : ℕ → Option Record) (vacant vacant' : List ℕ) 
   Fits-opens =
       record {
         inside = λ p q e. elim (cases_eq p o) [
-            inl i ↦ subst (λ (x : Record). waits_of x.slot < length lists') (sym (same_record records' o p r q i c.now e)) (omega (arith, fits.vacant_inside r.slot was_vacant, c.size))
+          | inl i ↦ subst (λ (x : Record). waits_of x.slot < length lists') (sym (same_record records' o p r q i c.now e)) (omega (arith, fits.vacant_inside r.slot was_vacant, c.size))
           | inr ne ↦ omega (arith, fits.inside p q (old_record p q ne e), c.size)
-          ];
+        ];
         apart = λ p q s t e f i. elim (cases_eq p o) [
-            inl ip ↦ elim (cases_eq q o) [
-                inl iq ↦ ip ∙ sym iq
-              | inr nq ↦ absurd (other_slot q t (old_record q t nq f) (sym i ∙ ap (λ (x : Record). x.slot) (same_record records' o p r s ip c.now e)))
-              ]
+          | inl ip ↦ elim (cases_eq q o) [
+            | inl iq ↦ ip ∙ sym iq
+            | inr nq ↦ absurd (other_slot q t (old_record q t nq f) (sym i ∙ ap (λ (x : Record). x.slot) (same_record records' o p r s ip c.now e)))
+          ]
           | inr np ↦ elim (cases_eq q o) [
-                inl iq ↦ absurd (other_slot p s (old_record p s np e) (i ∙ ap (λ (x : Record). x.slot) (same_record records' o q r t iq c.now f)))
-              | inr nq ↦ fits.apart p q s t (old_record p s np e) (old_record q t nq f) i
-              ]
-          ];
+            | inl iq ↦ absurd (other_slot p s (old_record p s np e) (i ∙ ap (λ (x : Record). x.slot) (same_record records' o q r t iq c.now f)))
+            | inr nq ↦ fits.apart p q s t (old_record p s np e) (old_record q t nq f) i
+          ]
+        ];
         vacant_inside = λ slot h. omega (arith, fits.vacant_inside slot (omega (arith, count_before slot, h)), c.size);
         vacant_once = λ slot. omega (arith, fits.vacant_once slot, count_before slot);
         vacant_apart = λ p q e. elim (cases_eq p o) [
-            inl i ↦ ap (λ (x : Record). count x.slot vacant') (same_record records' o p r q i c.now e) ∙ gone
+          | inl i ↦ ap (λ (x : Record). count x.slot vacant') (same_record records' o p r q i c.now e) ∙ gone
           | inr ne ↦ omega (arith, fits.vacant_apart p q (old_record p q ne e), count_before q.slot)
-          ];
+        ];
         vacant_entry = λ slot h. c.keeps (entry_of slot) (λ e. still slot h (omega arith)) (λ e. absurd (omega arith)) ∙ fits.vacant_entry slot (omega (arith, count_before slot, h));
         vacant_waits = λ slot h. c.keeps (waits_of slot) (λ e. absurd (omega arith)) (λ e. still slot h (omega arith)) ∙ fits.vacant_waits slot (omega (arith, count_before slot, h));
         used = used_still;
         in_use = λ p q e. elim (cases_eq p o) [
-            inl i ↦ subst (λ x. is_free (known lists' x) ≡ false) (sym (same_record records' o p r q i c.now e)) c.in_use
+          | inl i ↦ subst (λ x. is_free (known lists' x) ≡ false) (sym (same_record records' o p r q i c.now e)) c.in_use
           | inr ne ↦
               ap is_free (known-same lists lists' r.slot q c.keeps (other_slot p q (old_record p q ne e))) ∙ fits.in_use p q (old_record p q ne e)
-          ]
+        ];
       }
     where
       still : (slot : ℕ) → 0 < count slot vacant' → slot ≡ r.slot → ⊥
       still slot h e = omega (arith, gone, subst (λ s. 0 < count s vacant') e h)
+
       used_still : (k t : ℕ) → k < length lists' → 0 < count t (list_at lists' k) → IsUsed records' k
       used_still k t h n =
           elim (cases_eq k (entry_of r.slot)) [
-            inl e ↦ record { object = o; found = r; here = c.now; list = inl e }
-          | inr ne ↦
-              elim (cases_eq k (waits_of r.slot)) [
-                inl e ↦ record { object = o; found = r; here = c.now; list = inr e }
-              | inr nw ↦
-                  let u = fits.used k t (omega (arith, c.size)) (subst (λ xs. 0 < count t xs) (c.keeps k ne nw) n) in
-                  record {
-                    object = u.object;
-                    found = u.found;
-                    here = c.others u.object (λ e. let i : None ≡ Some u.found = sym c.was ∙ ap records (sym e) ∙ u.here in cc) ∙ u.here;
-                    list = u.list
-                  }
-              ]
+            | inl e ↦ record { object = o; found = r; here = c.now; list = inl e }
+            | inr ne ↦
+                elim (cases_eq k (waits_of r.slot)) [
+                  | inl e ↦ record { object = o; found = r; here = c.now; list = inr e }
+                  | inr nw ↦
+                      let u = fits.used k t (omega (arith, c.size)) (subst (λ xs. 0 < count t xs) (c.keeps k ne nw) n) in
+                      record {
+                        object = u.object;
+                        found = u.found;
+                        here = c.others u.object (λ e. let i : None ≡ Some u.found = sym c.was ∙ ap records (sym e) ∙ u.here in cc) ∙ u.here;
+                        list = u.list;
+                      }
+                ]
           ]
 
   pub read-opened : read records' lists' o ≡ known lists' r
@@ -219,8 +221,8 @@ module _ (records records' : ℕ → Option Record) (vacant : List ℕ) (lists :
   vacant_or_new : (slot : ℕ) → 0 < count slot (vacant ++ r.slot ∷ []) → (slot ≡ r.slot) ⊎ (0 < count slot vacant)
   vacant_or_new slot h =
       elim (cases_eq slot r.slot) [
-        inl e ↦ inl e
-      | inr ne ↦ inr (omega (arith, count_after slot, count-other slot r.slot [] (λ e. ne (sym e)), h))
+        | inl e ↦ inl e
+        | inr ne ↦ inr (omega (arith, count_after slot, count-other slot r.slot [] (λ e. ne (sym e)), h))
       ]
 
   pub Fits-closes : Fits records' (vacant ++ r.slot ∷ []) lists
@@ -230,30 +232,30 @@ module _ (records records' : ℕ → Option Record) (vacant : List ℕ) (lists :
         apart = λ p q s t e f i. fits.apart p q s t (old_one p s e) (old_one q t f) i;
         vacant_inside = λ slot h. elim (vacant_or_new slot h) [ inl e ↦ subst (λ s. waits_of s < length lists) (sym e) (fits.inside o r c.was) | inr v ↦ fits.vacant_inside slot v ];
         vacant_once = λ slot. elim (cases_eq slot r.slot) [
-            inl e ↦ subst (λ s. count s (vacant ++ r.slot ∷ []) ≤ 1) (sym e) (omega (arith, count_after r.slot, count-same r.slot [], fits.vacant_apart o r c.was))
+          | inl e ↦ subst (λ s. count s (vacant ++ r.slot ∷ []) ≤ 1) (sym e) (omega (arith, count_after r.slot, count-same r.slot [], fits.vacant_apart o r c.was))
           | inr ne ↦ omega (arith, count_after slot, count-other slot r.slot [] (λ e. ne (sym e)), fits.vacant_once slot)
-          ];
+        ];
         vacant_apart = λ p q e.
-          omega (arith, count_after q.slot, fits.vacant_apart p q (old_one p q e), count-other q.slot r.slot [] (λ i. elsewhere p q e (fits.apart p o q r (old_one p q e) c.was (sym i))));
+            omega (arith, count_after q.slot, fits.vacant_apart p q (old_one p q e), count-other q.slot r.slot [] (λ i. elsewhere p q e (fits.apart p o q r (old_one p q e) c.was (sym i))));
         vacant_entry = λ slot h. elim (vacant_or_new slot h) [ inl e ↦ ap (λ s. list_at lists (entry_of s)) e ∙ c.entry | inr v ↦ fits.vacant_entry slot v ];
         vacant_waits = λ slot h. elim (vacant_or_new slot h) [ inl e ↦ ap (λ s. list_at lists (waits_of s)) e ∙ c.waits | inr v ↦ fits.vacant_waits slot v ];
         used = λ k t h n.
-          let u = fits.used k t h n in
-          record {
-            object = u.object;
-            found = u.found;
-            here = c.others u.object (λ e. empty k t n u e) ∙ u.here;
-            list = u.list
-          };
-        in_use = λ p q e. fits.in_use p q (old_one p q e)
+            let u = fits.used k t h n in
+            record {
+              object = u.object;
+              found = u.found;
+              here = c.others u.object (λ e. empty k t n u e) ∙ u.here;
+              list = u.list;
+            };
+        in_use = λ p q e. fits.in_use p q (old_one p q e);
       }
     where
       empty : (k t : ℕ) → 0 < count t (list_at lists k) → (u : IsUsed records k) → u.object ≡ o → ⊥
       empty k t n u e =
           let same = same_record records o u.object r u.found e c.was u.here in
           elim (subst (λ (x : Record). (k ≡ entry_of x.slot) ⊎ (k ≡ waits_of x.slot)) same u.list) [
-            inl i ↦ let none : list_at lists k ≡ [] = ap (list_at lists) i ∙ c.entry in omega (arith, subst (λ xs. 0 < count t xs) none n)
-          | inr i ↦ let none : list_at lists k ≡ [] = ap (list_at lists) i ∙ c.waits in omega (arith, subst (λ xs. 0 < count t xs) none n)
+            | inl i ↦ let none : list_at lists k ≡ [] = ap (list_at lists) i ∙ c.entry in omega (arith, subst (λ xs. 0 < count t xs) none n)
+            | inr i ↦ let none : list_at lists k ≡ [] = ap (list_at lists) i ∙ c.waits in omega (arith, subst (λ xs. 0 < count t xs) none n)
           ]
 
   pub read-closed : read records' lists o ≡ free

@@ -1,7 +1,8 @@
 -- Monitors as contracts see them, and how each call changes one.
-use Rattle.std.specs.Prelude.{◌≡◌, ◌≢◌, ◌≤◌, ◌+◌, ◌-◌, ◌==◌, ◌&&◌, ℕ, Bool, true, false, List, [], ◌∷◌, ◌++◌, Option, None, Some, drop, if◌then◌else◌, is_none, not, nat_lt, slice_get, take, unwrap_or}
+use Rattle.std.specs.Prelude.{◌≡◌, ◌≢◌, ◌<◌, ◌≤◌, ◌+◌, ◌-◌, ◌==◌, ◌&&◌, ℕ, Bool, true, false, List, [], ◌∷◌, ◌++◌, Option, None, Some, drop, if◌then◌else◌, is_none, not, nat_lt, slice_get, take, unwrap_or, MatchResult, Result}
 use Rattle.std.specs.Map.{lookup}
 use Rattle.thread_lists.specs.Lists.{count, without}
+use Rattle.monitors.specs.declared.records.NotOwner.{NotOwner}
 
 -- a monitor: its owner and how often that entered it, the threads that wait to take it, and those that wait to be notified
 pub record Monitor : Type 0 where
@@ -28,17 +29,27 @@ is_empty (t ∷ ts) = false
 abbrev pub is_free : Monitor → Bool
 is_free m = is_none m.owner && (is_empty m.entry && is_empty m.waits)
 
+abbrev pub IsInUse : Monitor → Type 0
+IsInUse m = is_free m ≡ false
+
 -- the monitor of an object
 abbrev pub monitor_of : Monitors → ℕ → Monitor
 monitor_of all o = unwrap_or (lookup (λ p. o == p) all.used) free
 
 -- how often a thread is in the two lists of a monitor
-abbrev pub lines : ℕ → Monitor → ℕ
-lines t m = count t m.entry + count t m.waits
+abbrev pub count_in : ℕ → Monitor → ℕ
+count_in t m = count t m.entry + count t m.waits
+
+-- a thread waits to take the monitor; it waits to be notified
+abbrev pub IsInLine : ℕ → Monitor → Type 0
+IsInLine t m = 0 < count t m.entry
+
+abbrev pub IsWaiting : ℕ → Monitor → Type 0
+IsWaiting t m = 0 < count t m.waits
 
 -- the thread is in no list of any monitor
 abbrev pub InNoList : Monitors → ℕ → Type 0
-InNoList all t = (o : ℕ) → lines t (monitor_of all o) ≡ 0
+InNoList all t = (o : ℕ) → count_in t (monitor_of all o) ≡ 0
 
 -- one monitor changes to m, and all others stay
 pub record Becomes (old new : Monitors) (o : ℕ) (m : Monitor) : Type 0 where
@@ -51,6 +62,10 @@ pub record Becomes (old new : Monitors) (o : ℕ) (m : Monitor) : Type 0 where
 abbrev pub is_taken : Option ℕ → ℕ → Bool
 is_taken None t = false
 is_taken (Some owner) t = not (owner == t)
+
+-- a call by t succeeded and t is the owner, or was refused and another is or nobody
+abbrev pub IsByOwner : {T : Type 0} → Result T NotOwner → Option ℕ → ℕ → Type 0
+IsByOwner result owner t = MatchResult result (λ _. owner ≡ Some t) (λ refusal. (refusal.owner ≡ owner) × (owner ≢ Some t))
 
 -- a monitor that t takes or enters once more, or else waits to take
 abbrev pub after_enter : ℕ → Monitor → Monitor

@@ -5,4 +5,5 @@
 mod monitors;
 mod records;
 
-pub use monitors::{Enter, Monitors, NotOwner};
+pub use monitors::{Enter, Monitors};
+pub use records::NotOwner;

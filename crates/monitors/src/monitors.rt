@@ -1,12 +1,15 @@
-ghost use Rattle.std.specs.Prelude.{◌≡◌, ◌≢◌, ◌<◌, ◌≤◌, ◌+◌, ◌^◌, ℕ, [], if◌then◌else◌, slice_get, IfOk, OnErr, OnOk};
-ghost use Rattle.monitors.specs.Monitors.{Becomes, InNoList, after_enter, is_taken, monitor_of};
+ghost use Rattle.std.specs.Prelude.{◌≡◌, ◌≢◌, ◌↔◌, ◌<◌, ◌≤◌, ◌+◌, ◌^◌, ℕ, [], All, if◌then◌else◌, is_none, length, slice_get, IsFalse, IfOk, OnErr, OnOk};
+ghost use Rattle.std.specs.Bool.{OnFalse, OnTrue};
+ghost use Rattle.monitors.specs.Monitors.{Becomes, InNoList, IsByOwner, IsInLine, IsInUse, IsWaiting, after_enter, after_exit, after_leave_wait, after_line_up, after_notify, after_notify_all, after_retake, after_wait, is_taken, count_in, monitor_of, woken_by_exit};
 
-use crate::records::{Owner, Record, drop_record, find, put, take_slot};
+use crate::records::{
+    NotOwner, Record, add_slots, drop_record, find, find_owned, first_in_line, first_waiter,
+    is_deserted, put, take_slot,
+};
 use items::NoMemory;
 use std::alloc::Global;
 use std::collections::HashMap;
 use std::marker::Model;
-use thiserror::Error;
 use thread_lists::ThreadLists;
 
 /// What became of a thread that entered a monitor.
@@ -16,13 +19,6 @@ pub enum Enter {
     Got,
     /// Another thread is, and this one is last in line.
     Blocked,
-}
-
-/// The thread isn't the owner of the monitor.
-#[derive(Clone, Copy, Debug, PartialEq, Eq, Error)]
-#[error("not the owner")]
-pub struct NotOwner {
-    pub owner: Option<u32>,
 }
 
 /// The monitor of each object, by its number. A thread is in at most one list of one monitor.
@@ -59,6 +55,17 @@ impl Monitors {
         }
     }
 
+    /// Room for so many calls, which then need no memory. After an error there may be room for more than before.
+    pub fn room(&mut self, calls: u32) -> Result<(), NoMemory>
+        ensures ok { OnOk result (calls ≤ self.new.spare) }
+        ensures monitors { (o : ℕ) → monitor_of self.new o ≡ monitor_of self.old o }
+        ensures threads { self.new.threads ≡ self.old.threads }
+        ensures spare { self.old.spare ≤ self.new.spare }
+    {
+        self.records.reserve(calls as usize)?;
+        add_slots(&mut self.vacant, &mut self.slots, &mut self.lists, calls)
+    }
+
     /// One more thread that may use monitors: its number. More than 2^32 - 1 threads are want of memory too.
     pub fn add_thread(&mut self) -> Result<u32, NoMemory>
         ensures number { IfOk result (λ thread. thread ≡ self.old.threads) }
@@ -68,12 +75,30 @@ impl Monitors {
         self.lists.add_thread()
     }
 
+    /// Every call keeps this: a thread is in at most one list of one monitor, once, and no monitor that is free is kept.
+    pub fn once(&self)
+        ensures once { (t o : ℕ) → count_in t (monitor_of self.now o) ≤ 1 }
+        ensures apart { (t o p : ℕ) → o ≢ p
+            → count_in t (monitor_of self.now o) + count_in t (monitor_of self.now p) ≤ 1 }
+        ensures used { All (λ entry. IsInUse entry.1) self.now.used }
+    {
+        self.lists.once();
+        let _ = self.records.len();
+    }
+
+    /// Whether a thread is in a list of a monitor.
+    pub fn holds(&self, t: u32) -> bool
+        ensures { IsFalse result ↔ InNoList self.now t }
+    {
+        self.lists.holds(t)
+    }
+
     /// The owner of a monitor.
     pub fn owner(&self, o: u32) -> Option<u32>
         ensures { result ≡ (monitor_of self.now o).owner }
     {
         match find(&self.records, o) {
-            Some(kept) => kept.owner.map(|owner| owner.thread),
+            Some(kept) => kept.owner(),
             None => None,
         }
     }
@@ -89,34 +114,158 @@ impl Monitors {
         }
     }
 
-    /// A thread takes a monitor that it owns or nobody does, or else waits to take it (JLS 17.1). This takes no memory.
+    /// A thread takes a monitor that it owns or nobody does, or else waits to take it (JLS 17.1).
     pub fn enter(&mut self, o: u32, t: u32) -> Enter
         requires spare { 0 < self.old.spare }
         requires thread { t < self.old.threads }
         requires free { InNoList self.old t }
         requires count { (monitor_of self.old o).count + 1 < 2 ^ 32 }
-        ensures entered { result ≡ (if is_taken (monitor_of self.old o).owner t then Enter.Blocked else Enter.Got) }
+        ensures entered { result ≡
+            (if is_taken (monitor_of self.old o).owner t then Enter.Blocked else Enter.Got) }
         ensures monitor { Becomes self.old self.new o (after_enter t (monitor_of self.old o)) }
     {
         self.lists.once();
         let Some(kept) = find(&self.records, o) else {
             let slot = take_slot(&mut self.vacant);
-            let owner = Some(Owner {
-                thread: t,
-                count: 1,
-            });
-            put(&mut self.records, o, Record { owner, slot });
+            put(
+                &mut self.records,
+                o,
+                Record { owner: None, slot }.owned_by(t, 1),
+            );
             return Enter::Got;
         };
-        match kept.owner {
-            Some(owner) if owner.thread != t => {
-                self.lists.push(kept.entry(), t);
-                Enter::Blocked
-            }
-            owner => {
-                put(&mut self.records, o, kept.owned_by(t, owner.map_or(0, |owner| owner.count) + 1));
-                Enter::Got
-            }
+        if kept.is_taken(t) {
+            self.lists.push(kept.entry(), t);
+            return Enter::Blocked;
         }
+        put(&mut self.records, o, kept.owned_by(t, kept.count() + 1));
+        Enter::Got
+    }
+
+    /// A thread comes last in line for a monitor.
+    pub fn line_up(&mut self, o: u32, t: u32)
+        requires spare { 0 < self.old.spare }
+        requires thread { t < self.old.threads }
+        requires free { InNoList self.old t }
+        ensures { Becomes self.old self.new o (after_line_up t (monitor_of self.old o)) }
+    {
+        self.lists.once();
+        let Some(kept) = find(&self.records, o) else {
+            let slot = take_slot(&mut self.vacant);
+            let new = Record { owner: None, slot };
+            self.lists.push(new.entry(), t);
+            put(&mut self.records, o, new);
+            return;
+        };
+        self.lists.push(kept.entry(), t);
+    }
+
+    /// A thread that is in line takes the monitor, which it had entered so often, where that has no owner. Else this answers
+    /// false, and nothing changes.
+    pub fn retake(&mut self, o: u32, t: u32, count: u32) -> bool
+        requires { IsInLine t (monitor_of self.old o) }
+        ensures taken { result ≡ is_none (monitor_of self.old o).owner }
+        ensures yes { OnTrue result
+            (Becomes self.old self.new o (after_retake t count (monitor_of self.old o))) }
+        ensures no { OnFalse result (self.new ≡ self.old) }
+    {
+        self.lists.once();
+        let Some(kept) = find(&self.records, o) else {
+            unreachable!()
+        };
+        if kept.owner.is_some() {
+            return false;
+        }
+        self.lists.remove(kept.entry(), t);
+        put(&mut self.records, o, kept.owned_by(t, count));
+        true
+    }
+
+    /// The owner leaves a monitor once. The answer is the thread to be woken: where the monitor has no owner then, the first
+    /// in line.
+    pub fn exit(&mut self, o: u32, t: u32) -> Result<Option<u32>, NotOwner>
+        ensures owner { IsByOwner result (monitor_of self.old o).owner t }
+        ensures woken { IfOk result (λ thread. thread ≡ woken_by_exit (monitor_of self.old o)) }
+        ensures ok { OnOk result (Becomes self.old self.new o (after_exit (monitor_of self.old o))) }
+        ensures err { OnErr result (self.new ≡ self.old) }
+    {
+        self.lists.once();
+        let kept = find_owned(&self.records, o, t)?;
+        let left = kept.count().saturating_sub(1);
+        if left > 0 {
+            put(&mut self.records, o, kept.owned_by(t, left));
+            return Ok(None);
+        }
+        if is_deserted(&self.lists, kept) {
+            drop_record(&mut self.records, o);
+            self.vacant.push_reserved(kept.slot);
+            return Ok(None);
+        }
+        put(&mut self.records, o, kept.without_owner());
+        Ok(first_in_line(&self.lists, kept))
+    }
+
+    /// The owner leaves a monitor wholly and waits to be notified (JLS 17.2.1). The answer is how often it had entered the
+    /// monitor, and the thread to be woken: the first in line.
+    pub fn wait(&mut self, o: u32, t: u32) -> Result<(u32, Option<u32>), NotOwner>
+        requires thread { t < self.old.threads }
+        requires free { InNoList self.old t }
+        ensures owner { IsByOwner result (monitor_of self.old o).owner t }
+        ensures count { IfOk result (λ left. left.0 ≡ (monitor_of self.old o).count) }
+        ensures woken { IfOk result (λ left. left.1 ≡ slice_get (monitor_of self.old o).entry 0) }
+        ensures ok { OnOk result
+            (Becomes self.old self.new o (after_wait t (monitor_of self.old o))) }
+        ensures err { OnErr result (self.new ≡ self.old) }
+    {
+        self.lists.once();
+        let kept = find_owned(&self.records, o, t)?;
+        let next = first_in_line(&self.lists, kept);
+        self.lists.push(kept.waits(), t);
+        put(&mut self.records, o, kept.without_owner());
+        Ok((kept.count(), next))
+    }
+
+    /// The owner lets the first thread that waits to be notified line up for the monitor (JLS 17.2.2): that thread.
+    pub fn notify(&mut self, o: u32, t: u32) -> Result<Option<u32>, NotOwner>
+        ensures owner { IsByOwner result (monitor_of self.old o).owner t }
+        ensures moved { IfOk result (λ thread. thread ≡ slice_get (monitor_of self.old o).waits 0) }
+        ensures ok { OnOk result
+            (Becomes self.old self.new o (after_notify (monitor_of self.old o))) }
+        ensures err { OnErr result (self.new ≡ self.old) }
+    {
+        self.lists.once();
+        let kept = find_owned(&self.records, o, t)?;
+        let Some(waiter) = first_waiter(&self.lists, kept) else {
+            return Ok(None);
+        };
+        self.lists.move_last(kept.waits(), kept.entry(), waiter);
+        Ok(Some(waiter))
+    }
+
+    /// The owner lets all threads that wait to be notified line up for the monitor, in their order (JLS 17.2.2): how many.
+    pub fn notify_all(&mut self, o: u32, t: u32) -> Result<u32, NotOwner>
+        ensures owner { IsByOwner result (monitor_of self.old o).owner t }
+        ensures moved { IfOk result (λ count. count ≡ length (monitor_of self.old o).waits) }
+        ensures ok { OnOk result
+            (Becomes self.old self.new o (after_notify_all (monitor_of self.old o))) }
+        ensures err { OnErr result (self.new ≡ self.old) }
+    {
+        self.lists.once();
+        let kept = find_owned(&self.records, o, t)?;
+        let count = self.lists.len(kept.waits());
+        self.lists.append(kept.waits(), kept.entry());
+        Ok(count)
+    }
+
+    /// A thread that waits to be notified count_in up for the monitor.
+    pub fn leave_wait(&mut self, o: u32, t: u32)
+        requires { IsWaiting t (monitor_of self.old o) }
+        ensures { Becomes self.old self.new o (after_leave_wait t (monitor_of self.old o)) }
+    {
+        self.lists.once();
+        let Some(kept) = find(&self.records, o) else {
+            unreachable!()
+        };
+        self.lists.move_last(kept.waits(), kept.entry(), t);
     }
 }

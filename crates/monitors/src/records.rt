@@ -1,10 +1,22 @@
-ghost use Rattle.std.specs.Prelude.{◌≡◌, ◌≢◌, ◌+◌, ◌*◌, ◌<◌, ◌≤◌, ◌^◌, ◌↔◌, ℕ, [], ◌∷◌, ◌++◌, IsTrue, nat_eq, vec_len, None, Some, IfErr, IfOk};
-ghost use Rattle.std.specs.HashMap.{get, spare};
-ghost use Rattle.std.specs.Option.{option_and_then, option_map};
+ghost use Rattle.std.specs.Prelude.{◌≡◌, ◌≢◌, ◌+◌, ◌*◌, ◌<◌, ◌≤◌, ◌^◌, ◌&&◌, ℕ, None, Some, [], ◌∷◌, ◌++◌, if◌then◌else◌, is_some, length, nat_eq, not, vec_len, IfErr, IfOk, OnOk};
+ghost use Rattle.std.specs.HashMap.{get, hash_map_len, spare};
+ghost use Rattle.std.specs.Option.{option_and_then, option_map_or};
 ghost use Rattle.std.specs.Vec.{vec_capacity};
-ghost use Rattle.monitors.specs.Records.{entry_of, waits_of};
+ghost use Rattle.thread_lists.specs.Lists.{first, list_at};
+ghost use Rattle.monitors.specs.Monitors.{is_empty, is_taken};
+ghost use Rattle.monitors.specs.Records.{Grows, count_of, entry_of, thread_of, waits_of};
 
+use items::NoMemory;
 use std::collections::HashMap;
+use thiserror::Error;
+use thread_lists::ThreadLists;
+
+/// The thread isn't the owner of the monitor.
+#[derive(Clone, Copy, Debug, PartialEq, Eq, Error)]
+#[error("not the owner")]
+pub struct NotOwner {
+    pub owner: Option<u32>,
+}
 
 /// Who owns a monitor, and how often that thread entered it.
 #[derive(Clone, Copy, Debug)]
@@ -22,40 +34,99 @@ pub struct Record {
 
 impl Record {
     /// The list of the threads that wait to take the monitor.
-    pub fn entry(&self) -> u32
-        requires { waits_of self.now.slot < 2 ^ 32 }
-        ensures { result ≡ entry_of self.now.slot }
+    pub fn entry(self) -> u32
+        requires { waits_of self.slot < 2 ^ 32 }
+        ensures { result ≡ entry_of self.slot }
     {
         2 * self.slot
     }
 
     /// The list of the threads that wait to be notified.
-    pub fn waits(&self) -> u32
-        requires { waits_of self.now.slot < 2 ^ 32 }
-        ensures { result ≡ waits_of self.now.slot }
+    pub fn waits(self) -> u32
+        requires { waits_of self.slot < 2 ^ 32 }
+        ensures { result ≡ waits_of self.slot }
     {
         2 * self.slot + 1
     }
 
-    /// The same with this owner, which entered the monitor so often.
-    pub fn owned_by(self, thread: u32, count: u32) -> Self
-        ensures { result ≡ record self { owner = Some (record { thread = thread; count = count }) } }
+    /// The owner.
+    pub fn owner(self) -> Option<u32>
+        ensures { result ≡ thread_of self.owner }
     {
-        Record {
-            owner: Some(Owner { thread, count }),
-            ..self
+        match self.owner {
+            Some(owner) => Some(owner.thread),
+            None => None,
         }
     }
 
-    /// Whether a thread is the owner.
-    pub fn is_owned_by(&self, thread: u32) -> bool
-        ensures { IsTrue result ↔ (option_map (λ owner. owner.thread) self.now.owner ≡ Some thread) }
+    /// How often the owner entered the monitor.
+    pub fn count(self) -> u32
+        ensures { result ≡ count_of self.owner }
     {
         match self.owner {
-            Some(owner) => owner.thread == thread,
+            Some(owner) => owner.count,
+            None => 0,
+        }
+    }
+
+    /// Whether another thread than this is the owner.
+    pub fn is_taken(self, thread: u32) -> bool
+        ensures { result ≡ is_taken (thread_of self.owner) thread }
+    {
+        match self.owner {
+            Some(owner) => owner.thread != thread,
             None => false,
         }
     }
+
+    /// The same with this owner, which entered the monitor so often.
+    pub fn owned_by(self, thread: u32, count: u32) -> Self
+        ensures { result ≡
+            record self { owner = Some (record { thread = thread; count = count }) } }
+    {
+        Record {
+            owner: Some(Owner { thread, count }),
+            slot: self.slot,
+        }
+    }
+
+    /// The same without an owner.
+    pub fn without_owner(self) -> Self
+        ensures { result ≡ record self { owner = None } }
+    {
+        Record {
+            owner: None,
+            slot: self.slot,
+        }
+    }
+}
+
+/// The first thread that waits to take a monitor.
+pub fn first_in_line(lists: &ThreadLists, kept: Record) -> Option<u32>
+    requires inside { waits_of kept.slot < length lists.now.lists }
+    requires fits { waits_of kept.slot < 2 ^ 32 }
+    ensures { result ≡ first lists.now.lists (entry_of kept.slot) }
+{
+    lists.first(kept.entry())
+}
+
+/// The first thread that waits to be notified.
+pub fn first_waiter(lists: &ThreadLists, kept: Record) -> Option<u32>
+    requires inside { waits_of kept.slot < length lists.now.lists }
+    requires fits { waits_of kept.slot < 2 ^ 32 }
+    ensures { result ≡ first lists.now.lists (waits_of kept.slot) }
+{
+    lists.first(kept.waits())
+}
+
+/// Whether no thread is in a list of a monitor.
+pub fn is_deserted(lists: &ThreadLists, kept: Record) -> bool
+    requires inside { waits_of kept.slot < length lists.now.lists }
+    requires fits { waits_of kept.slot < 2 ^ 32 }
+    ensures { result ≡ (is_empty (list_at lists.now.lists (entry_of kept.slot))
+        && is_empty (list_at lists.now.lists (waits_of kept.slot))) }
+{
+    first_in_line(lists, kept).is_none() && first_waiter(lists, kept).is_none()
 }
 
 /// The record of an object's monitor, where that is in use.
@@ -65,11 +136,30 @@ pub fn find(records: &HashMap<u32, Record>, o: u32) -> Option<Record>
     records.get(&o).copied()
 }
 
+/// The record of an object's monitor, where this thread is the owner.
+pub fn find_owned(records: &HashMap<u32, Record>, o: u32, thread: u32) -> Result<Record, NotOwner>
+    ensures found { IfOk result (λ kept. get nat_eq records.now o ≡ Some kept) }
+    ensures owner { IfOk result (λ kept. thread_of kept.owner ≡ Some thread) }
+    ensures other { IfErr result (λ refusal. refusal.owner ≢ Some thread) }
+    ensures refused { IfErr result (λ refusal.
+        refusal.owner ≡ option_and_then (λ kept. thread_of kept.owner) (get nat_eq records.now o)) }
+{
+    let Some(kept) = find(records, o) else {
+        return Err(NotOwner { owner: None });
+    };
+    match kept.owner() {
+        Some(owner) if owner == thread => Ok(kept),
+        owner => Err(NotOwner { owner }),
+    }
+}
+
 /// Sets the record of an object's monitor. A new one needs room.
 pub fn put(records: &mut HashMap<u32, Record>, o: u32, new: Record)
     requires { get nat_eq records.old o ≡ None → 0 < spare records.old }
     ensures now { get nat_eq records.new o ≡ Some new }
     ensures others { (p : ℕ) → p ≢ o → get nat_eq records.new p ≡ get nat_eq records.old p }
+    ensures len { hash_map_len records.new ≡
+        hash_map_len records.old + (if is_some (get nat_eq records.old o) then 0 else 1) }
     ensures spare { spare records.old ≤ spare records.new + 1 }
 {
     let Ok(_) = records.insert(o, new) else {
@@ -81,6 +171,8 @@ pub fn put(records: &mut HashMap<u32, Record>, o: u32, new: Record)
 pub fn drop_record(records: &mut HashMap<u32, Record>, o: u32)
     ensures now { get nat_eq records.new o ≡ None }
     ensures others { (p : ℕ) → p ≢ o → get nat_eq records.new p ≡ get nat_eq records.old p }
+    ensures len { hash_map_len records.new + (if is_some (get nat_eq records.old o) then 1 else 0)
+        ≡ hash_map_len records.old }
     ensures spare { spare records.old ≤ spare records.new }
 {
     let _ = records.remove(&o);
@@ -97,4 +189,38 @@ pub fn take_slot(vacant: &mut Vec<u32>) -> u32
         unreachable!()
     };
     slot
+}
+
+/// Makes one more slot, which is vacant. After an error there are as many as before.
+fn add_slot(vacant: &mut Vec<u32>, slots: &mut u32, lists: &mut ThreadLists) -> Result<(), NoMemory>
+    requires slots { 2 * slots.old ≡ length lists.old.lists }
+    requires capacity { slots.old ≤ vec_capacity vacant.old }
+    ensures grows { Grows vacant.old slots.old lists.old vacant.new slots.new lists.new }
+    ensures ok { OnOk result (vec_len vacant.new ≡ vec_len vacant.old + 1) }
+{
+    lists.once();
+    let most = vacant.len().max(*slots as usize);
+    vacant.reserve(most + 1 - vacant.len())?;
+    lists.add_lists(2)?;
+    vacant.push_reserved(*slots);
+    *slots += 1;
+    Ok(())
+}
+
+/// Makes slots until this many are vacant. After an error there may be more than before.
+pub fn add_slots(
+    vacant: &mut Vec<u32>,
+    slots: &mut u32,
+    lists: &mut ThreadLists,
+    count: u32,
+) -> Result<(), NoMemory>
+    requires slots { 2 * slots.old ≡ length lists.old.lists }
+    requires capacity { slots.old ≤ vec_capacity vacant.old }
+    ensures grows { Grows vacant.old slots.old lists.old vacant.new slots.new lists.new }
+    ensures ok { OnOk result (count ≤ vec_len vacant.new) }
+{
+    for _i in vacant.len()..count as usize {
+        add_slot(vacant, slots, lists)?;
+    }
+    Ok(())
 }

@@ -15,9 +15,9 @@ use std::alloc::Global;
 /// `Operand`).
 pub fn decode(alloc: Global, code: &[u8]) -> Result<Vec<Instr>, CodeError>
     requires { length code.now < 2 ^ 32 }
-    // The code is the instructions that are answered.
+    // The code is the instructions that it returns.
     ensures found { IfOk result (λ v. IsCode code.now v.items) }
-    // The instructions that the code is are answered, unless memory ran out.
+    // The instructions that the code is are returned, unless memory ran out.
     ensures only { (is : List Instr) → IsCode code.now is
         → OkUnless result CodeError.NoMemory (λ v. v.items ≡ is) }
     // What is refused at `pc` is no instruction, and all before it are.

@@ -1,4 +1,4 @@
-//! What holds of the definitions in specs/, each as a call that does nothing.
+//! Laws of the definitions, each the contract of a function that does nothing.
 
 ghost use Rattle.std.specs.Prelude.{◌≡◌, ℕ, List};
 ghost use Rattle.opcodes.specs.declared.op.Instr.{Instr};

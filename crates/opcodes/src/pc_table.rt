@@ -6,10 +6,10 @@ ghost use Rattle.opcodes.specs.Indexes.{AreIndexesByPc};
 use crate::{CodeError, Instr};
 use std::alloc::Global;
 
-/// In place of an index, where no instruction starts (own).
+/// In place of an index, where no instruction starts.
 pub const NO_INSTR: u32 = u32::MAX;
 
-/// For each pc of a code the index of the instruction that starts there, or `NO_INSTR` (own). Together with each
+/// For each pc of a code the index of the instruction that starts there, or `NO_INSTR`. Together with each
 /// instruction's own `pc` it goes from pcs to instructions and back.
 pub fn index_by_pc(alloc: Global, code: &[u8], instrs: &[Instr]) -> Result<Vec<u32>, CodeError>
     requires size { length code.now < 2 ^ 32 }

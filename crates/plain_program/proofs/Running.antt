@@ -7,8 +7,8 @@ use Rattle.std.proofs.lemmas.Bool.{ltb-true, eqb-true}
 use Rattle.ref_model.specs.declared.instruction.Op.{Op}
 use Rattle.ref_model.specs.declared.instruction.Op.TheVariants.{Bipush, Getstatic, Invokevirtual, Return}
 use Rattle.ref_model.specs.declared.instruction.Instr.{Instr}
-use Rattle.ref_model.specs.declared.value.Value.{Value}
-use Rattle.ref_model.specs.declared.value.Value.TheVariants as values
+use Rattle.instruction_rows.specs.declared.value.Value.{Value}
+use Rattle.instruction_rows.specs.declared.value.Value.TheVariants as values
 use Rattle.history.specs.declared.entry.Entry.{Entry}
 use Rattle.history.specs.declared.entry.What.{What}
 use Rattle.history.specs.declared.entry.What.TheVariants.{Mount, Unmount, Step, Clock}

@@ -1,7 +1,7 @@
 -- The operands of a plain method as its interpreter keeps them.
 use Rattle.std.specs.Prelude.{◌≡◌, ℕ, Bool, true, false, List, ◌∷◌, ◌++◌, ◌==◌}
-use Rattle.ref_model.specs.declared.value.Value.{Value}
-use Rattle.ref_model.specs.declared.value.Value.TheVariants.{Int, Ref}
+use Rattle.instruction_rows.specs.declared.value.Value.{Value}
+use Rattle.instruction_rows.specs.declared.value.Value.TheVariants.{Int, Ref}
 use Rattle.ref_model.specs.declared.instruction.Op.{Op}
 use Rattle.ref_model.specs.declared.instruction.Op.TheVariants.{Bipush, Getstatic, Invokevirtual, Return}
 use Rattle.ref_model.specs.State.{out_stream}

@@ -3,10 +3,10 @@ use Rattle.std.specs.Prelude.{◌≡◌, ℕ, Bool, true, false, List, ◌++◌,
 use Rattle.std.specs.List.{list_all, AllByRecursion}
 use Rattle.ref_model.specs.declared.instruction.Op.{Op}
 use Rattle.ref_model.specs.declared.instruction.Instr.{Instr}
-use Rattle.ref_model.specs.declared.value.Value.{Value}
-use Rattle.ref_model.specs.declared.value.Value.TheVariants as values
-use Rattle.ref_model.specs.declared.value.Slot.{Slot}
-use Rattle.ref_model.specs.declared.value.Slot.TheVariants.{One}
+use Rattle.instruction_rows.specs.declared.value.Value.{Value}
+use Rattle.instruction_rows.specs.declared.value.Value.TheVariants as values
+use Rattle.instruction_rows.specs.declared.value.Slot.{Slot}
+use Rattle.instruction_rows.specs.declared.value.Slot.TheVariants.{One}
 use Rattle.history.specs.declared.entry.Entry.{Entry}
 use Rattle.ref_model.specs.Instructions.{instrs_from, behind}
 use Rattle.ref_model.specs.Program.{Method}

@@ -63,7 +63,7 @@ pub fn run<G: Gate>(alloc: Global, method: &PlainMethod, gate: &G) -> Result<Exe
     }
 }
 
-/// Makes local instructions, as far as they go. It answers how many, and the instructions that are left.
+/// Executes local instructions, as far as they go. It answers how many, and the instructions that are left.
 fn local_run<'a>(
     code: &'a [Instr],
     stack: &mut Vec<Value>,
@@ -89,7 +89,7 @@ fn local_run<'a>(
     Ok((steps, rest))
 }
 
-/// Makes one instruction. `true`: it ended the thread.
+/// Executes one instruction. `true`: it ended the thread.
 fn perform(op: Op, stack: &mut Vec<Value>, out: &mut Vec<u8>) -> Result<bool, AllocError>
     requires { CanPerform op (reverse stack.old.items) }
     ensures over { IfOk result (λ over. over ≡ is_return op) }

@@ -2,9 +2,9 @@
 use Rattle.std.proofs.Common.{◌≡◌, ℕ, ℤ, ◌<◌, List, [], ◌∷◌, ◌++◌, length, Some, None, refl, ltb, true}
 use Rattle.std.proofs.lemmas.Bool.{lt-ltb}
 use Rattle.ref_model.specs.declared.instruction.Op.TheVariants.{Bipush, Getstatic, Invokevirtual, Return}
-use Rattle.ref_model.specs.declared.value.Value.TheVariants.{Int, Ref}
-use Rattle.ref_model.specs.declared.value.Slot.{Slot}
-use Rattle.ref_model.specs.declared.value.Slot.TheVariants.{One}
+use Rattle.instruction_rows.specs.declared.value.Value.TheVariants.{Int, Ref}
+use Rattle.instruction_rows.specs.declared.value.Slot.{Slot}
+use Rattle.instruction_rows.specs.declared.value.Slot.TheVariants.{One}
 use Rattle.class_grammar.specs.Pool.{MemberName}
 use Rattle.ref_model.specs.Program.{Method, instruction_at}
 use Rattle.ref_model.specs.State.{opening, out_stream}

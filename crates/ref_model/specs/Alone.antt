@@ -1,8 +1,8 @@
 -- A program of one method, with its one thread going through it.
 use Rattle.std.specs.Prelude.{ℕ, ◌-◌, List, [], ◌∷◌, replicate}
-use Rattle.ref_model.specs.declared.value.Value.TheVariants.{Ref}
-use Rattle.ref_model.specs.declared.value.Slot.{Slot}
-use Rattle.ref_model.specs.declared.value.Slot.TheVariants.{One, Second}
+use Rattle.instruction_rows.specs.declared.value.Value.TheVariants.{Ref}
+use Rattle.instruction_rows.specs.declared.value.Slot.{Slot}
+use Rattle.instruction_rows.specs.declared.value.Slot.TheVariants.{One, Second}
 use Rattle.ref_model.specs.Program.{Program, Method}
 use Rattle.ref_model.specs.State.{State, Run, Live, Done, main_words}
 

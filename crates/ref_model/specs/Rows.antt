@@ -4,9 +4,9 @@ use Rattle.std.specs.Prelude.{List, [], ◌∷◌, Option, Some, None, length, s
 use Rattle.ref_model.specs.declared.instruction.Op.{Op}
 use Rattle.ref_model.specs.declared.instruction.Op.TheVariants.{Bipush}
 use Rattle.ref_model.specs.declared.instruction.Instr.{Instr}
-use Rattle.ref_model.specs.declared.value.Value.TheVariants.{Int}
-use Rattle.ref_model.specs.declared.value.Slot.{Slot}
-use Rattle.ref_model.specs.declared.value.Slot.TheVariants.{One}
+use Rattle.instruction_rows.specs.declared.value.Value.TheVariants.{Int}
+use Rattle.instruction_rows.specs.declared.value.Slot.{Slot}
+use Rattle.instruction_rows.specs.declared.value.Slot.TheVariants.{One}
 use Rattle.items.specs.Options.{◌>>=◌}
 use Rattle.ref_model.specs.Program.{Program, Method, instruction_at}
 use Rattle.ref_model.specs.State.{Frame}

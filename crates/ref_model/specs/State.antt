@@ -1,9 +1,9 @@
 -- The state of the reference machine (JVMS 2.5, 2.6).
 use Rattle.std.specs.Prelude.{ℕ, ◌-◌, Bool, true, false, List, [], ◌∷◌, Option, Some, None, slice_get, replicate, if◌then◌else◌}
 use Rattle.std.specs.List.{list_all}
-use Rattle.ref_model.specs.declared.value.Value.TheVariants.{Ref}
-use Rattle.ref_model.specs.declared.value.Slot.{Slot}
-use Rattle.ref_model.specs.declared.value.Slot.TheVariants.{One, Second}
+use Rattle.instruction_rows.specs.declared.value.Value.TheVariants.{Ref}
+use Rattle.instruction_rows.specs.declared.value.Slot.{Slot}
+use Rattle.instruction_rows.specs.declared.value.Slot.TheVariants.{One, Second}
 use Rattle.ref_model.specs.declared.ending.Ending.{Ending}
 use Rattle.ref_model.specs.declared.ending.Ending.TheVariants.{Ended}
 use Rattle.items.specs.Options.{◌>>=◌}

@@ -5,10 +5,10 @@ use Rattle.std.specs.Fmt.{signed_decimal}
 use Rattle.ref_model.specs.declared.instruction.Op.{Op}
 use Rattle.ref_model.specs.declared.instruction.Op.TheVariants.{Bipush, Getstatic, Invokevirtual, Return}
 use Rattle.ref_model.specs.declared.instruction.Instr.{Instr}
-use Rattle.ref_model.specs.declared.value.Value.{Value}
-use Rattle.ref_model.specs.declared.value.Value.TheVariants.{Int, Ref}
-use Rattle.ref_model.specs.declared.value.Slot.{Slot}
-use Rattle.ref_model.specs.declared.value.Slot.TheVariants.{One}
+use Rattle.instruction_rows.specs.declared.value.Value.{Value}
+use Rattle.instruction_rows.specs.declared.value.Value.TheVariants.{Int, Ref}
+use Rattle.instruction_rows.specs.declared.value.Slot.{Slot}
+use Rattle.instruction_rows.specs.declared.value.Slot.TheVariants.{One}
 use Rattle.class_grammar.specs.Pool.{MemberName}
 use Rattle.items.specs.Options.{◌>>=◌}
 use Rattle.ref_model.specs.Program.{Program, Method}

@@ -6,5 +6,6 @@ ghost use Rattle.ref_model.specs.State.{State};
 
 /// A history that runs has run up to each of its entries.
 pub fn prefixes_run()
-    ensures { (p : Program) (front back : List Entry) (r : State) → run p (front ++ back) ≡ Some r → (q : State) × (run p front ≡ Some q) }
+    ensures { (p : Program) (front back : List Entry) (r : State) →
+        run p (front ++ back) ≡ Some r → (q : State) × (run p front ≡ Some q) }
 {}

@@ -5,9 +5,8 @@
 mod ending;
 mod instruction;
 mod laws;
-mod value;
 
 pub use ending::Ending;
 pub use instruction::{Instr, Op};
+pub use instruction_rows::{Slot, Value};
 pub use laws::prefixes_run;
-pub use value::{Slot, Value};

@@ -1,5 +1,5 @@
 -- What a carrier takes next: where it is, and when there is nothing.
-use Rattle.std.proofs.Common.{◌≡◌, ◌+◌, ◌<◌, ◌≤◌, ℕ, suc, List, [], ◌∷◌, ◌++◌, Option, Some, None, drop, length, take, sym, ◌∙◌, ap, subst, refl, arith, ◌⊎◌, inl, inr}
+use Rattle.std.proofs.Common.{◌≡◌, ◌+◌, ◌<◌, ℕ, suc, List, [], ◌∷◌, Option, Some, None, drop, length, take, ◌∙◌, ap, subst, refl, arith, ◌⊎◌, inl, inr}
 use Rattle.std.proofs.lemmas.List.{length-drop, length-take, take-append-drop}
 use Rattle.std.proofs.lemmas.List.Elements.{All-append, All-cons, All-drop, All-head, All-nil, All-tail, All-take}
 use Rattle.std.specs.List.{All}
@@ -47,6 +47,6 @@ next-empty deques c h =
 pub next-inside : (deques : List (List ℕ)) (c k t : ℕ) → c < length deques → next deques c ≡ Some (k, t) → k < length deques
 next-inside deques c k t h e =
     elim (either (front c (drop c deques)) (front 0 (take c deques)) (k, t) e) [
-      inl own ↦ omega (arith, front-inside c (drop c deques) k t own, length-drop c deques)
-    | inr round ↦ omega (arith, front-inside 0 (take c deques) k t round, length-take c deques)
+      | inl own ↦ omega (arith, front-inside c (drop c deques) k t own, length-drop c deques)
+      | inr round ↦ omega (arith, front-inside 0 (take c deques) k t round, length-take c deques)
     ]

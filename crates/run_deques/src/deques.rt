@@ -1,6 +1,6 @@
-ghost use Rattle.std.specs.Prelude.{◌≡◌, ◌↔◌, ◌<◌, ◌≤◌, ◌==◌, ℕ, [], ◌∷◌, All, drop, length, max, not, replicate, slice_set, take, IfOk, IsNone, MatchOption, OnOk};
-ghost use Rattle.thread_lists.specs.Lists.{count, list_at, push, total};
-ghost use Rattle.run_deques.specs.Take.{front, next};
+ghost use Rattle.std.specs.Prelude.{◌≡◌, ◌↔◌, ◌<◌, ◌≤◌, ◌==◌, ℕ, [], ◌∷◌, All, drop, length, max, not, replicate, take, IfOk, IsNone, OnOk};
+ghost use Rattle.thread_lists.specs.Lists.{count, push, total};
+ghost use Rattle.run_deques.specs.Take.{after_take, front, next};
 
 use items::NoMemory;
 use std::alloc::Global;
@@ -42,7 +42,8 @@ fn front_between(lists: &ThreadLists, from: u32, to: u32) -> Option<(u32, u32)>
 impl Deques {
     /// An empty deque for each of this many carriers, and room for no thread.
     pub fn new(alloc: Global, carriers: u32) -> Result<Self, NoMemory>
-        ensures { IfOk result (λ deques. deques ≡ record { lists = replicate carriers []; threads = 0 }) }
+        ensures { IfOk result
+            (λ deques. deques ≡ record { lists = replicate carriers []; threads = 0 }) }
     {
         let mut lists = ThreadLists::new(alloc);
         lists.add_lists(carriers)?;
@@ -52,7 +53,8 @@ impl Deques {
     /// Room for this many threads, so that those with smaller numbers can be put, or for as many as there is room for if these
     /// are more. After an error there may be room for more than before.
     pub fn room(&mut self, threads: u32) -> Result<(), NoMemory>
-        ensures ok { OnOk result (self.new ≡ record self.old { threads = max self.old.threads threads }) }
+        ensures ok { OnOk result
+            (self.new ≡ record self.old { threads = max self.old.threads threads }) }
         ensures lists { self.new.lists ≡ self.old.lists }
         ensures grows { self.old.threads ≤ self.new.threads }
     {
@@ -85,8 +87,7 @@ impl Deques {
         requires { c < length self.old.lists }
         ensures value { result ≡ next self.old.lists c }
         ensures none { IsNone result ↔ All (λ deque. deque ≡ []) self.old.lists }
-        ensures leaves { MatchOption result (self.new ≡ self.old) (λ found. self.new ≡ record self.old
-            { lists = slice_set self.old.lists found.0 (drop 1 (list_at self.old.lists found.0)) }) }
+        ensures leaves { self.new ≡ record self.old { lists = after_take self.old.lists result } }
     {
         let (deque, thread) = self.next(c)?;
         let _ = self.lists.take_first(deque);

@@ -30,7 +30,8 @@ fn frames_of<'a>(
     count: u16,
     bytes: &'a [u8],
 ) -> Result<(Vec<(u32, FrameTypes)>, &'a [u8]), Stop<MapWhy>>
-    ensures { GivesBy (λ x. (x.0.items, x.1.now)) result (spec.frames_at first.now count bytes.now) }
+    ensures { GivesBy (λ x. (x.0.items, x.1.now)) result
+        (spec.frames_at first.now count bytes.now) }
 {
     let mut frames = Vec::new(alloc);
     let mut rest = bytes;

@@ -1,5 +1,5 @@
 -- How often a thread occurs in lists.
-use Rattle.std.proofs.Common.{◌≡◌, ◌+◌, ◌<◌, ◌≤◌, ◌==◌, ℕ, suc, zero, List, [], ◌∷◌, ◌++◌, length, sym, ◌∙◌, ap, subst, refl, append-nil, zero-add, add-zero, drop, slice_get, Some, arith, cond, eqb, ◌⊎◌, inl, inr, true, false, not, filter, set, get_or, sum_by}
+use Rattle.std.proofs.Common.{◌≡◌, ◌+◌, ◌<◌, ◌≤◌, ◌==◌, ℕ, suc, List, [], ◌∷◌, ◌++◌, length, sym, ◌∙◌, ap, subst, refl, zero-add, add-zero, drop, slice_get, Some, arith, cond, eqb, inl, inr, true, false, not, set}
 use Rattle.std.proofs.lemmas.Bool.{cases_eq, cases_lt, eq-eqb}
 use Rattle.std.proofs.lemmas.List.{get_or-set_other}
 use Rattle.std.proofs.Math.ListN.{length-set}
@@ -42,18 +42,18 @@ pub split : (t : ℕ) (xs : List ℕ) → 0 < count t xs → Split t xs
 split t [] h = absurd (omega arith)
 split t (x ∷ xs) h =
     elim (cases_eq x t) [
-      inl e ↦ record { before = []; after = xs; is = ap (λ y. y ∷ xs) e }
-    | inr n ↦
-        let s = split t xs (grind (arith, nat_tests, count-cons t x xs)) in
-        record { before = x ∷ s.before; after = s.after; is = ap (λ ys. x ∷ ys) s.is }
+      | inl e ↦ record { before = []; after = xs; is = ap (λ y. y ∷ xs) e }
+      | inr n ↦
+          let s = split t xs (grind (arith, nat_tests, count-cons t x xs)) in
+          record { before = x ∷ s.before; after = s.after; is = ap (λ ys. x ∷ ys) s.is }
     ]
 
 pub without-none : (t : ℕ) (xs : List ℕ) → count t xs ≡ 0 → without t xs ≡ xs
 without-none t [] h = refl
 without-none t (x ∷ xs) h =
     elim (eqb_tells x t) [
-      inl w ↦ absurd (never t (x ∷ xs) h (subst (λ y. 0 < count y (x ∷ xs)) w.1 (count-here x xs)))
-    | inr w ↦ ap (λ b. cond (not b) (x ∷ without t xs) (without t xs)) w.0 ∙ ap (λ ys. x ∷ ys) (without-none t xs (omega (arith, count-cons t x xs)))
+      | inl w ↦ absurd (never t (x ∷ xs) h (subst (λ y. 0 < count y (x ∷ xs)) w.1 (count-here x xs)))
+      | inr w ↦ ap (λ b. cond (not b) (x ∷ without t xs) (without t xs)) w.0 ∙ ap (λ ys. x ∷ ys) (without-none t xs (omega (arith, count-cons t x xs)))
     ]
 
 pub without-split : (t : ℕ) (us vs : List ℕ) → count t us ≡ 0 → count t vs ≡ 0 → without t (us ++ t ∷ vs) ≡ us ++ vs
@@ -80,16 +80,16 @@ pub list_any-count : (q : ℕ) (xs : List ℕ) → list_any (eqb q) xs ≡ true 
 list_any-count q [] h = cc
 list_any-count q (x ∷ xs) h =
     elim (cases_eq q x) [
-      inl e ↦ subst (λ y. 0 < count q (y ∷ xs)) e (count-here q xs)
-    | inr n ↦ count-there q x xs (list_any-count q xs (grind (arith, nat_tests)))
+      | inl e ↦ subst (λ y. 0 < count q (y ∷ xs)) e (count-here q xs)
+      | inr n ↦ count-there q x xs (list_any-count q xs (grind (arith, nat_tests)))
     ]
 
 differs : (x : ℕ) (xs : List ℕ) → count x xs ≡ 0 → AllByRecursion (λ y. eqb x y ≡ false) xs
 differs x [] h = tt
 differs x (y ∷ ys) h =
     elim (eqb_tells x y) [
-      inl w ↦ absurd (never x (y ∷ ys) h (subst (λ z. 0 < count z (y ∷ ys)) (sym w.1) (count-here y ys)))
-    | inr w ↦ (w.0, differs x ys (omega (arith, count-cons x y ys)))
+      | inl w ↦ absurd (never x (y ∷ ys) h (subst (λ z. 0 < count z (y ∷ ys)) (sym w.1) (count-here y ys)))
+      | inr w ↦ (w.0, differs x ys (omega (arith, count-cons x y ys)))
     ]
 
 distinct : (xs : List ℕ) → ((t : ℕ) → count t xs ≤ 1) → IsDistinct eqb xs
@@ -119,10 +119,10 @@ pub found : (t : ℕ) (lists : List (List ℕ)) → 0 < total (count t) lists �
 found t [] h = absurd (omega arith)
 found t (xs ∷ lists) h =
     elim (cases_lt 0 (count t xs)) [
-      inl here ↦ (0, omega arith, here)
-    | inr none ↦
-        let w = found t lists (omega (arith, sum_by-cons (count t) xs lists, none)) in
-        (suc w.0, omega (arith, w.1), w.2)
+      | inl here ↦ (0, omega arith, here)
+      | inr none ↦
+          let w = found t lists (omega (arith, sum_by-cons (count t) xs lists, none)) in
+          (suc w.0, omega (arith, w.1), w.2)
     ]
 
 pub total-one_more : (t : ℕ) (lists : List (List ℕ)) → total (count t) (lists ++ [] ∷ []) ≡ total (count t) lists
@@ -151,8 +151,8 @@ pub count-without : (t : ℕ) (xs : List ℕ) → count t (without t xs) ≡ 0
 count-without t [] = refl
 count-without t (x ∷ xs) =
     elim (eqb_tells x t) [
-      inl w ↦ ap (λ b. count t (cond (not b) (x ∷ without t xs) (without t xs))) w.0 ∙ count-without t xs
-    | inr w ↦ ap (λ b. count t (cond (not b) (x ∷ without t xs) (without t xs))) w.0 ∙ count-other t x (without t xs) w.1 ∙ count-without t xs
+      | inl w ↦ ap (λ b. count t (cond (not b) (x ∷ without t xs) (without t xs))) w.0 ∙ count-without t xs
+      | inr w ↦ ap (λ b. count t (cond (not b) (x ∷ without t xs) (without t xs))) w.0 ∙ count-other t x (without t xs) w.1 ∙ count-without t xs
     ]
 
 -- a thread that left its list is in none

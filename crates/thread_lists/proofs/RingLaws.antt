@@ -1,5 +1,5 @@
 -- How rings change where one place is made to follow another.
-use Rattle.std.proofs.Common.{◌≡◌, ◌+◌, ◌<◌, ◌≤◌, ◌==◌, ℕ, suc, zero, List, [], ◌∷◌, ◌++◌, length, sym, ◌∙◌, ap, subst, refl, append-nil, drop, slice_get, Some, None, arith, cond, eqb, ◌⊎◌, inl, inr, true, false}
+use Rattle.std.proofs.Common.{◌≡◌, ◌<◌, ◌≤◌, ℕ, suc, zero, List, [], ◌∷◌, ◌++◌, length, sym, ◌∙◌, ap, subst, refl, append-nil, drop, slice_get, Some, None, arith, ◌⊎◌, inl, inr}
 use Rattle.std.proofs.lemmas.Option.{slice_get_past}
 use Rattle.thread_lists.specs.declared.ring.Place.{Place}
 use Rattle.thread_lists.specs.declared.ring.Place.TheVariants.{Head, Thread}
@@ -40,10 +40,11 @@ Leads-last f g a b (x ∷ xs) r =
 -- c takes the place of b behind a list
 pub Leads-turned : (f g f' g' : Place → Place) (a b c : Place) (xs : List ℕ) → Leads f g a xs b → Follows f g f' g' (g b) c → f (g b) ≡ b → ((x : ℕ) → 0 < count x xs → Thread x ≡ b → ⊥) → ((x : ℕ) → 0 < count x xs → Thread x ≡ c → ⊥) → Leads f' g' a xs c
 Leads-turned f g f' g' a b c [] r j e nb nc = (ap f' (sym r.1) ∙ j.next, j.previous ∙ r.1)
-Leads-turned f g f' g' a b c (x ∷ xs) r j e nb nc =
-    (j.other_next a (λ i. nb x (count-here x xs) (sym r.0 ∙ ap f i ∙ e)) ∙ r.0,
-    j.other_previous (Thread x) (nc x (count-here x xs)) ∙ r.1,
-    Leads-turned f g f' g' (Thread x) b c xs r.2 j e (λ y h. nb y (count-there y x xs h)) (λ y h. nc y (count-there y x xs h)))
+Leads-turned f g f' g' a b c (x ∷ xs) r j e nb nc = (
+  j.other_next a (λ i. nb x (count-here x xs) (sym r.0 ∙ ap f i ∙ e)) ∙ r.0,
+  j.other_previous (Thread x) (nc x (count-here x xs)) ∙ r.1,
+  Leads-turned f g f' g' (Thread x) b c xs r.2 j e (λ y h. nb y (count-there y x xs h)) (λ y h. nc y (count-there y x xs h)),
+)
 
 -- following `next` gives the list
 pub threads_from-head : (f : Place → Place) (n k : ℕ) → threads_from f n (Head k) ≡ []
@@ -99,9 +100,10 @@ Leads-closed f g f1 g1 k us t (v ∷ vs) once j r =
     behind : (x : ℕ) → 0 < count x (v ∷ vs) → Thread x ≡ g (Thread t) → ⊥
     behind x c e =
         elim (Leads-last f g (Head k) (Thread t) us (Leads-front f g (Head k) (Head k) us t (v ∷ vs) r)) [
-          inl i ↦ cc
-        | inr w ↦ apart w.0 x us (t ∷ v ∷ vs) once w.1 (count-there x t (v ∷ vs) c) cc
+          | inl i ↦ cc
+          | inr w ↦ apart w.0 x us (t ∷ v ∷ vs) once w.1 (count-there x t (v ∷ vs) c) cc
         ]
+
     differs : (x : ℕ) → 0 < count x vs → Thread x ≡ Thread v → ⊥
     differs x c e = let i : x ≡ v = cc in omega (arith, once v, subst (λ y. 0 < count y vs) i c, count-append v us (t ∷ v ∷ vs), count-cons v t (v ∷ vs), count-same v vs)
 
@@ -147,21 +149,24 @@ Leads-append f g f1 g1 f2 g2 f3 g3 from to ys x xs ne other once j1 j2 j3 r s =
   where
     join : Follows f g f1 g1 (g (Head to)) (Thread x)
     join = subst (λ p. Follows f g f1 g1 (g (Head to)) p) s.0 j1
+
     before : (z : ℕ) → 0 < count z (x ∷ xs) → Thread z ≡ g (Head to) → ⊥
     before z c e =
         elim (Leads-last f g (Head to) (Head to) ys r) [
-          inl i ↦ cc
-        | inr w ↦ let i : w.0 ≡ z = cc in other z (subst (λ y. 0 < count y ys) i w.1) c
+          | inl i ↦ cc
+          | inr w ↦ let i : w.0 ≡ z = cc in other z (subst (λ y. 0 < count y ys) i w.1) c
         ]
+
     behind_head : Head to ≡ g (Head from) → ⊥
     behind_head e =
         elim (Leads-last f g (Head from) (Head from) (x ∷ xs) s) [
-          inl i ↦ ne (let w : Head to ≡ Head from = e ∙ i in cc)
-        | inr w ↦ cc
+          | inl i ↦ ne (let w : Head to ≡ Head from = e ∙ i in cc)
+          | inr w ↦ cc
         ]
+
     behind : (y : ℕ) → 0 < count y ys → Thread y ≡ g (Head from) → ⊥
     behind y c e =
         elim (Leads-last f g (Head from) (Head from) (x ∷ xs) s) [
-          inl i ↦ cc
-        | inr w ↦ let i : w.0 ≡ y = cc in other y c (subst (λ z. 0 < count z (x ∷ xs)) i w.1)
+          | inl i ↦ cc
+          | inr w ↦ let i : w.0 ≡ y = cc in other y c (subst (λ z. 0 < count z (x ∷ xs)) i w.1)
         ]

@@ -12,7 +12,7 @@ use Rattle.thread_lists.specs.declared.ring.Place.{Place}
 use Rattle.thread_lists.specs.declared.ring.Place.TheVariants.{Head, Thread}
 use Rattle.thread_lists.specs.declared.ring.Link.{Link}
 use Rattle.thread_lists.specs.Lists.{Lists, append, count, total, list_at, push, without}
-use Rattle.thread_lists.specs.Ring.{IsLinked, IsPlace, Leads, Follows, Joined, Spells, alone, link_of, next_of, previous_of, spelled, start_of, threads_from}
+use Rattle.thread_lists.specs.Ring.{IsLinked, IsPlace, Leads, Joined, Spells, alone, link_of, next_of, previous_of, spelled, start_of, threads_from}
 use Rattle.thread_lists.proofs.CountLaws.{count-append, count-cons, count-same, count-here, count-other, count-closed, length-le, never, Split, found, split, total-append, total-le, total-one_more, total-push, total-set, total-two, without-split}
 use Rattle.thread_lists.proofs.RingLaws.{Leads-back, Leads-closed, Leads-append, Leads-front, Leads-kept, Leads-last, Leads-outside, Leads-push, Outside, Outside-head, Outside-thread, threads_from-Leads, Leads-next, start-head, start-thread}
 
@@ -36,9 +36,9 @@ length_at heads threads lists s k h =
 pub spelled_is : (heads threads : List Link) (lists : List (List ℕ)) → Spells heads threads lists → spelled heads threads ≡ lists
 spelled_is heads threads lists s =
     ext_get_or [] (spelled heads threads) lists (length-map heads _ ∙ sym s.sizes) (λ k h.
-      let inside : k < length heads = omega (arith, length-map heads (λ (head : Link). threads_from (next_of heads threads) (length threads) head.next)) in
-      get_or-map _ heads k (alone (Head k)) [] inside
-      ∙ threads_from-Leads (next_of heads threads) (previous_of heads threads) (Head k) k (list_at lists k) (length threads) (s.rings k inside) (length_at heads threads lists s k inside))
+    let inside : k < length heads = omega (arith, length-map heads (λ (head : Link). threads_from (next_of heads threads) (length threads) head.next)) in
+    get_or-map _ heads k (alone (Head k)) [] inside
+    ∙ threads_from-Leads (next_of heads threads) (previous_of heads threads) (Head k) k (list_at lists k) (length threads) (s.rings k inside) (length_at heads threads lists s k inside))
 
 -- a place of one list's ring isn't in another's
 pub Outside-InRing : (lists : List (List ℕ)) (j k : ℕ) → ((t : ℕ) → total (count t) lists ≤ 1) → j < length lists → k < length lists → (j ≡ k → ⊥) → (p : Place) → InRing k (list_at lists k) p → Outside j (list_at lists j) p
@@ -47,9 +47,9 @@ Outside-InRing lists j k once hj hk ne p (inr w) =
     record {
       head = λ i. let v : Head j ≡ Thread w.0 = i ∙ w.2 in cc;
       thread = λ x c i.
-        let v : Thread x ≡ Thread w.0 = i ∙ w.2 in
-        let e : x ≡ w.0 = cc in
-        omega (arith, once w.0, total-two w.0 lists j k hj hk ne, subst (λ y. 0 < count y (list_at lists j)) e c, w.1)
+          let v : Thread x ≡ Thread w.0 = i ∙ w.2 in
+          let e : x ≡ w.0 = cc in
+          omega (arith, once w.0, total-two w.0 lists j k hj hk ne, subst (λ y. 0 < count y (list_at lists j)) e c, w.1);
     }
 
 -- a thread that is in no list isn't a place of a ring
@@ -90,6 +90,7 @@ last_in_ring heads threads lists s k h = Leads-last (next_of heads threads) (pre
 module _ (heads threads : List Link) (lists : List (List ℕ)) (s : Spells heads threads lists) (k t : ℕ) (h : k < length heads) (c : 0 < count t (list_at lists k)) where
   cut : Split t (list_at lists k)
   cut = split t (list_at lists k) c
+
   ring : Leads (next_of heads threads) (previous_of heads threads) (Head k) (cut.before ++ t ∷ cut.after) (Head k)
   ring = subst (λ xs. Leads (next_of heads threads) (previous_of heads threads) (Head k) xs (Head k)) cut.is (s.rings k h)
 
@@ -103,10 +104,10 @@ module _ (heads threads : List Link) (lists : List (List ℕ)) (s : Spells heads
 pub rings-set : (f g : Place → Place) (lists : List (List ℕ)) (k n : ℕ) (xs : List ℕ) → length lists ≡ n → k < n → Leads f g (Head k) xs (Head k) → ((j : ℕ) → j < n → (j ≡ k → ⊥) → Leads f g (Head j) (list_at lists j) (Head j)) → (j : ℕ) → j < n → Leads f g (Head j) (list_at (set lists k xs) j) (Head j)
 rings-set f g lists k n xs size h here others j hj =
     elim (cases_eq j k) [
-      inl e ↦
-        subst (λ i. Leads f g (Head i) (list_at (set lists k xs) i) (Head i)) (sym e)
+      | inl e ↦
+          subst (λ i. Leads f g (Head i) (list_at (set lists k xs) i) (Head i)) (sym e)
           (subst (λ ys. Leads f g (Head k) ys (Head k)) (sym (get_or-set_same lists k xs [] (omega arith))) here)
-    | inr ne ↦ subst (λ ys. Leads f g (Head j) ys (Head j)) (sym (get_or-set_other lists k j xs [] ne)) (others j hj ne)
+      | inr ne ↦ subst (λ ys. Leads f g (Head j) ys (Head j)) (sym (get_or-set_other lists k j xs [] ne)) (others j hj ne)
     ]
 
 module _ (h s h1 s1 h2 s2 : List Link) (lists : List (List ℕ)) (k t : ℕ) (same : length h2 ≡ length h) (same_threads : length s2 ≡ length s) (spells : Spells h s lists) (inside : k < length h) where
@@ -116,34 +117,37 @@ module _ (h s h1 s1 h2 s2 : List Link) (lists : List (List ℕ)) (k t : ℕ) (sa
       record {
         sizes = length-set lists k _ ∙ spells.sizes ∙ sym same;
         rings = λ j hj. rings-set (next_of h2 s2) (previous_of h2 s2) lists k (length h) (list_at lists k ++ t ∷ []) spells.sizes inside
-          (Leads-push (next_of h s) (previous_of h s) (next_of h1 s1) (previous_of h1 s1) (next_of h2 s2) (previous_of h2 s2) k t (list_at lists k) (not_at k inside) j1 j2 (spells.rings k inside))
-          others j (omega arith);
+            (Leads-push (next_of h s) (previous_of h s) (next_of h1 s1) (previous_of h1 s1) (next_of h2 s2) (previous_of h2 s2) k t (list_at lists k) (not_at k inside) j1 j2 (spells.rings k inside))
+            others j (omega arith);
         once = λ x. elim (cases_eq x t) [
-            inl e ↦ subst (λ y. total (count y) (push lists k (t ∷ [])) ≤ 1) (sym e) (omega (arith, total-push t lists k (t ∷ []) in_lists, count-same t []))
+          | inl e ↦ subst (λ y. total (count y) (push lists k (t ∷ [])) ≤ 1) (sym e) (omega (arith, total-push t lists k (t ∷ []) in_lists, count-same t []))
           | inr ne ↦ omega (arith, spells.once x, total-push x lists k (t ∷ []) in_lists, count-other x t [] (λ e. ne (sym e)))
-          ];
+        ];
         within = λ x le. omega (arith, spells.within x (omega arith), total-push x lists k (t ∷ []) in_lists, count-other x t [] (λ e. omega arith));
         alone = λ x none_of.
-          let ne : x ≡ t → ⊥ = λ e. omega (arith, total-push t lists k (t ∷ []) in_lists, count-same t [], subst (λ y. total (count y) (push lists k (t ∷ [])) ≡ 0) e none_of) in
-          let before : total (count x) lists ≡ 0 = omega (arith, total-push x lists k (t ∷ []) in_lists) in
-          j2.other_next (Thread x) (λ e. ne cc)
-          ∙ j1.other_next (Thread x) (not_in_ring k (list_at lists k) _ last x (omega (arith, total-le x lists k in_lists)))
-          ∙ spells.alone x before;
+            let ne : x ≡ t → ⊥ = λ e. omega (arith, total-push t lists k (t ∷ []) in_lists, count-same t [], subst (λ y. total (count y) (push lists k (t ∷ [])) ≡ 0) e none_of) in
+            let before : total (count x) lists ≡ 0 = omega (arith, total-push x lists k (t ∷ []) in_lists) in
+            j2.other_next (Thread x) (λ e. ne cc)
+            ∙ j1.other_next (Thread x) (not_in_ring k (list_at lists k) _ last x (omega (arith, total-le x lists k in_lists)))
+            ∙ spells.alone x before;
         few = omega (arith, spells.few);
-        few_lists = omega (arith, spells.few_lists)
+        few_lists = omega (arith, spells.few_lists);
       }
     where
       in_lists : k < length lists
       in_lists = omega (arith, spells.sizes)
+
       not_at : (j : ℕ) → j < length h → count t (list_at lists j) ≡ 0
       not_at j hj = omega (arith, total-le t lists j (omega (arith, spells.sizes)))
+
       last : InRing k (list_at lists k) (previous_of h s (Head k))
       last = last_in_ring h s lists spells k inside
+
       others : (j : ℕ) → j < length h → (j ≡ k → ⊥) → Leads (next_of h2 s2) (previous_of h2 s2) (Head j) (list_at lists j) (Head j)
       others j hj ne =
           let free = Outside-thread j t (list_at lists j) (not_at j hj) in
           Leads-outside (next_of h1 s1) (previous_of h1 s1) (next_of h2 s2) (previous_of h2 s2) j (list_at lists j) (Thread t) (Head k) free (Outside-head j k (list_at lists j) ne) j2
-            (Leads-outside (next_of h s) (previous_of h s) (next_of h1 s1) (previous_of h1 s1) j (list_at lists j) (previous_of h s (Head k)) (Thread t) (Outside-InRing lists j k spells.once (omega (arith, spells.sizes)) in_lists ne _ last) free j1 (spells.rings j hj))
+          (Leads-outside (next_of h s) (previous_of h s) (next_of h1 s1) (previous_of h1 s1) j (list_at lists j) (previous_of h s (Head k)) (Thread t) (Outside-InRing lists j k spells.once (omega (arith, spells.sizes)) in_lists ne _ last) free j1 (spells.rings j hj))
 
   -- a thread leaves list k
   pub Spells-remove : 0 < count t (list_at lists k) → Joined h s h1 s1 (previous_of h s (Thread t)) (next_of h s (Thread t)) → Joined h1 s1 h2 s2 (Thread t) (Thread t) → Spells h2 s2 (set lists k (without t (list_at lists k)))
@@ -151,54 +155,65 @@ module _ (h s h1 s1 h2 s2 : List Link) (lists : List (List ℕ)) (k t : ℕ) (sa
       subst (λ xs. Spells h2 s2 (set lists k xs)) (sym left) (record {
         sizes = length-set lists k _ ∙ spells.sizes ∙ sym same;
         rings = λ j hj. rings-set (next_of h2 s2) (previous_of h2 s2) lists k (length h) rest spells.sizes inside
-          (Leads-outside (next_of h1 s1) (previous_of h1 s1) (next_of h2 s2) (previous_of h2 s2) k rest (Thread t) (Thread t) gone gone j2
+            (Leads-outside (next_of h1 s1) (previous_of h1 s1) (next_of h2 s2) (previous_of h2 s2) k rest (Thread t) (Thread t) gone gone j2
             (Leads-closed (next_of h s) (previous_of h s) (next_of h1 s1) (previous_of h1 s1) k cut.before t cut.after once_here j1 ring))
-          others j (omega arith);
+            others j (omega arith);
         once = λ x. omega (arith, spells.once x, total_after x);
         within = λ x le. omega (arith, spells.within x (omega arith), total_after x);
         alone = λ x none. elim (cases_eq x t) [
-            inl e ↦ subst (λ y. next_of h2 s2 (Thread y) ≡ Thread y) (sym e) j2.next
+          | inl e ↦ subst (λ y. next_of h2 s2 (Thread y) ≡ Thread y) (sym e) j2.next
           | inr ne ↦
               let before : total (count x) lists ≡ 0 = omega (arith, total-set (count x) lists k rest in_lists, ap (count x) cut.is, count-closed x t cut.before cut.after ne) in
               let nowhere : count x (list_at lists k) ≡ 0 = omega (arith, total-le x lists k in_lists) in
               j2.other_next (Thread x) (λ e. ne cc)
               ∙ j1.other_next (Thread x) (not_in_ring k (list_at lists k) _ first x nowhere)
               ∙ spells.alone x before
-          ];
+        ];
         few = omega (arith, spells.few);
-        few_lists = omega (arith, spells.few_lists)
+        few_lists = omega (arith, spells.few_lists);
       })
     where
       in_lists : k < length lists
       in_lists = omega (arith, spells.sizes)
+
       cut : Split t (list_at lists k)
       cut = split t (list_at lists k) held
+
       rest : List ℕ
       rest = cut.before ++ cut.after
+
       ring : Leads (next_of h s) (previous_of h s) (Head k) (cut.before ++ t ∷ cut.after) (Head k)
       ring = subst (λ xs. Leads (next_of h s) (previous_of h s) (Head k) xs (Head k)) cut.is (spells.rings k inside)
+
       once_here : (x : ℕ) → count x (cut.before ++ t ∷ cut.after) ≤ 1
       once_here x = subst (λ xs. count x xs ≤ 1) cut.is (once_at h s lists spells k x in_lists)
+
       parts : count t cut.before + count t cut.after ≡ 0
       parts = omega (arith, once_here t, count-append t cut.before (t ∷ cut.after), count-same t cut.after)
+
       left : without t (list_at lists k) ≡ rest
       left = ap (without t) cut.is ∙ without-split t cut.before cut.after (omega (arith, parts)) (omega (arith, parts))
+
       gone : Outside k rest (Thread t)
       gone = Outside-thread k t rest (count-append t cut.before cut.after ∙ parts)
+
       first : InRing k (list_at lists k) (previous_of h s (Thread t))
       first = previous_at h s lists spells k t inside held
+
       second : InRing k (list_at lists k) (next_of h s (Thread t))
       second = next_at h s lists spells k t inside held
+
       total_after : (x : ℕ) → total (count x) (set lists k rest) ≤ total (count x) lists
       total_after x =
           omega (arith, total-set (count x) lists k rest in_lists, ap (count x) cut.is, count-append x cut.before (t ∷ cut.after), count-append x cut.before cut.after, count-cons x t cut.after)
+
       others : (j : ℕ) → j < length h → (j ≡ k → ⊥) → Leads (next_of h2 s2) (previous_of h2 s2) (Head j) (list_at lists j) (Head j)
       others j hj ne =
           let in_j : j < length lists = omega (arith, spells.sizes) in
           let free = Outside-thread j t (list_at lists j) (omega (arith, spells.once t, total-two t lists j k in_j in_lists ne)) in
           Leads-outside (next_of h1 s1) (previous_of h1 s1) (next_of h2 s2) (previous_of h2 s2) j (list_at lists j) (Thread t) (Thread t) free free j2
-            (Leads-outside (next_of h s) (previous_of h s) (next_of h1 s1) (previous_of h1 s1) j (list_at lists j) (previous_of h s (Thread t)) (next_of h s (Thread t))
-              (Outside-InRing lists j k spells.once in_j in_lists ne _ first) (Outside-InRing lists j k spells.once in_j in_lists ne _ second) j1 (spells.rings j hj))
+          (Leads-outside (next_of h s) (previous_of h s) (next_of h1 s1) (previous_of h1 s1) j (list_at lists j) (previous_of h s (Thread t)) (next_of h s (Thread t))
+          (Outside-InRing lists j k spells.once in_j in_lists ne _ first) (Outside-InRing lists j k spells.once in_j in_lists ne _ second) j1 (spells.rings j hj))
 
 begins_with : (f g : Place → Place) (k : ℕ) (xs : List ℕ) (t : ℕ) → Leads f g (Head k) xs (Head k) → f (Head k) ≡ Thread t → (ys : List ℕ) × (xs ≡ t ∷ ys)
 begins_with f g k [] t r e = let i : Head k ≡ Thread t = sym r.0 ∙ e in cc
@@ -242,7 +257,7 @@ step heads threads lists s k n p t h e is =
       next = rw add-one (ap (next_of heads threads) is ∙ next);
       at = w.0;
       below = w.2;
-      fits = omega (arith, w.2, length_at heads threads lists s k h, s.few)
+      fits = omega (arith, w.2, length_at heads threads lists s k h, s.few);
     }
 
 pub step_end : (k n : ℕ) (xs : List ℕ) (p : Place) (j : ℕ) → p ≡ start_of k (drop n xs) → p ≡ Head j → (slice_get xs n ≡ None) × (length xs ≤ n)
@@ -259,24 +274,24 @@ leads_on f g k us t (v ∷ vs) once r e =
 pub held_leads_on : (heads threads : List Link) (lists : List (List ℕ)) → Spells heads threads lists → (t : ℕ) → next_of heads threads (Thread t) ≡ Thread t → total (count t) lists ≡ 0
 held_leads_on heads threads lists s t e =
     elim (cases_lt 0 (total (count t) lists)) [
-      inl some ↦
-        let at = found t lists some in
-        let cut = split t (list_at lists at.0) at.2 in
-        let ring = subst (λ xs. Leads (next_of heads threads) (previous_of heads threads) (Head at.0) xs (Head at.0)) cut.is (s.rings at.0 (omega (arith, s.sizes, at.1))) in
-        absurd (leads_on (next_of heads threads) (previous_of heads threads) at.0 cut.before t cut.after (subst (λ xs. count t xs ≤ 1) cut.is (once_at heads threads lists s at.0 t at.1)) ring e)
-    | inr none ↦ omega (arith, none)
+      | inl some ↦
+          let at = found t lists some in
+          let cut = split t (list_at lists at.0) at.2 in
+          let ring = subst (λ xs. Leads (next_of heads threads) (previous_of heads threads) (Head at.0) xs (Head at.0)) cut.is (s.rings at.0 (omega (arith, s.sizes, at.1))) in
+          absurd (leads_on (next_of heads threads) (previous_of heads threads) at.0 cut.before t cut.after (subst (λ xs. count t xs ≤ 1) cut.is (once_at heads threads lists s at.0 t at.1)) ring e)
+      | inr none ↦ omega (arith, none)
     ]
 
 pub is_linked_by_next : (heads threads : List Link) (lists : List (List ℕ)) → Spells heads threads lists → (t next : ℕ) → next_of heads threads (Thread t) ≡ Thread next → not (next == t) ≡ not (total (count t) lists == 0)
 is_linked_by_next heads threads lists s t next e =
     elim (eqb_tells next t) [
-      inl same ↦
-        ap not (same.0 ∙ sym (eq-eqb (total (count t) lists) 0 (held_leads_on heads threads lists s t (e ∙ ap Thread same.1))))
-    | inr differs ↦
-        elim (eqb_tells (total (count t) lists) 0) [
-          inl none ↦ let i : Thread next ≡ Thread t = sym e ∙ s.alone t none.1 in absurd (differs.1 cc)
-        | inr some ↦ ap not (differs.0 ∙ sym some.0)
-        ]
+      | inl same ↦
+          ap not (same.0 ∙ sym (eq-eqb (total (count t) lists) 0 (held_leads_on heads threads lists s t (e ∙ ap Thread same.1))))
+      | inr differs ↦
+          elim (eqb_tells (total (count t) lists) 0) [
+            | inl none ↦ let i : Thread next ≡ Thread t = sym e ∙ s.alone t none.1 in absurd (differs.1 cc)
+            | inr some ↦ ap not (differs.0 ∙ sym some.0)
+          ]
     ]
 
 -- an empty list adds nothing to another
@@ -295,34 +310,40 @@ module _ (h s h1 s1 h2 s2 h3 s3 : List Link) (lists : List (List ℕ)) (from to 
       record {
         sizes = length-set (push lists to (list_at lists from)) from [] ∙ length-set lists to _ ∙ spells.sizes ∙ sym same;
         rings = λ j hj. rings-set (next_of h3 s3) (previous_of h3 s3) (push lists to (list_at lists from)) from (length h) [] (length-set lists to _ ∙ spells.sizes) from_in (j3.next, j3.previous)
-          (λ i hi ni. rings-set-one i hi ni) j (omega arith);
+            (λ i hi ni. rings-set-one i hi ni) j (omega arith);
         once = λ t. omega (arith, spells.once t, total-append t lists from to in_from in_to ne);
         within = λ t le. omega (arith, spells.within t (omega arith), total-append t lists from to in_from in_to ne);
         alone = λ t none.
-          let before : total (count t) lists ≡ 0 = omega (arith, total-append t lists from to in_from in_to ne) in
-          j3.other_next (Thread t) (λ e. cc)
-          ∙ j2.other_next (Thread t) (not_in_ring from (list_at lists from) _ last t (omega (arith, total-le t lists from in_from)))
-          ∙ j1.other_next (Thread t) (not_in_ring to (list_at lists to) _ end t (omega (arith, total-le t lists to in_to)))
-          ∙ spells.alone t before;
+            let before : total (count t) lists ≡ 0 = omega (arith, total-append t lists from to in_from in_to ne) in
+            j3.other_next (Thread t) (λ e. cc)
+            ∙ j2.other_next (Thread t) (not_in_ring from (list_at lists from) _ last t (omega (arith, total-le t lists from in_from)))
+            ∙ j1.other_next (Thread t) (not_in_ring to (list_at lists to) _ end t (omega (arith, total-le t lists to in_to)))
+            ∙ spells.alone t before;
         few = omega (arith, spells.few);
-        few_lists = omega (arith, spells.few_lists)
+        few_lists = omega (arith, spells.few_lists);
       }
     where
       in_from : from < length lists
       in_from = omega (arith, spells.sizes)
+
       in_to : to < length lists
       in_to = omega (arith, spells.sizes)
+
       last : InRing from (list_at lists from) (previous_of h s (Head from))
       last = last_in_ring h s lists spells from from_in
+
       end : InRing to (list_at lists to) (previous_of h s (Head to))
       end = last_in_ring h s lists spells to to_in
+
       first : InRing from (list_at lists from) (next_of h s (Head from))
       first = subst (λ ys. InRing from ys (next_of h s (Head from))) (sym is) (inr (x, count-here x xs, (subst (λ ys. Leads (next_of h s) (previous_of h s) (Head from) ys (Head from)) is (spells.rings from from_in)).0))
+
       whole : Leads (next_of h3 s3) (previous_of h3 s3) (Head to) (list_at lists to ++ x ∷ xs) (Head to)
       whole = Leads-append (next_of h s) (previous_of h s) (next_of h1 s1) (previous_of h1 s1) (next_of h2 s2) (previous_of h2 s2) (next_of h3 s3) (previous_of h3 s3) from to (list_at lists to) x xs ne
           (λ z c d. omega (arith, spells.once z, total-two z lists from to in_from in_to ne, subst (λ ys. 0 < count z ys) (sym is) d, c))
           (λ z. subst (λ ys. count z ys ≤ 1) is (once_at h s lists spells from z in_from))
           j1 j2 j3 (spells.rings to to_in) (subst (λ ys. Leads (next_of h s) (previous_of h s) (Head from) ys (Head from)) is (spells.rings from from_in))
+
       others : (j : ℕ) → j < length h → (j ≡ from → ⊥) → (j ≡ to → ⊥) → Leads (next_of h3 s3) (previous_of h3 s3) (Head j) (list_at lists j) (Head j)
       others j hj nf nt =
           let in_j : j < length lists = omega (arith, spells.sizes) in
@@ -330,15 +351,16 @@ module _ (h s h1 s1 h2 s2 h3 s3 : List Link) (lists : List (List ℕ)) (from to 
           let of_from = λ (p : Place) (i : InRing from (list_at lists from) p). Outside-InRing lists j from spells.once in_j in_from nf p i in
           let of_to = λ (p : Place) (i : InRing to (list_at lists to) p). Outside-InRing lists j to spells.once in_j in_to nt p i in
           Leads-outside (next_of h2 s2) (previous_of h2 s2) (next_of h3 s3) (previous_of h3 s3) j ys (Head from) (Head from) (Outside-head j from ys nf) (Outside-head j from ys nf) j3
-            (Leads-outside (next_of h1 s1) (previous_of h1 s1) (next_of h2 s2) (previous_of h2 s2) j ys (previous_of h s (Head from)) (Head to) (of_from _ last) (Outside-head j to ys nt) j2
-              (Leads-outside (next_of h s) (previous_of h s) (next_of h1 s1) (previous_of h1 s1) j ys (previous_of h s (Head to)) (next_of h s (Head from)) (of_to _ end) (of_from _ first) j1 (spells.rings j hj)))
+          (Leads-outside (next_of h1 s1) (previous_of h1 s1) (next_of h2 s2) (previous_of h2 s2) j ys (previous_of h s (Head from)) (Head to) (of_from _ last) (Outside-head j to ys nt) j2
+          (Leads-outside (next_of h s) (previous_of h s) (next_of h1 s1) (previous_of h1 s1) j ys (previous_of h s (Head to)) (next_of h s (Head from)) (of_to _ end) (of_from _ first) j1 (spells.rings j hj)))
+
       rings-set-one : (i : ℕ) → i < length h → (i ≡ from → ⊥) → Leads (next_of h3 s3) (previous_of h3 s3) (Head i) (list_at (push lists to (list_at lists from)) i) (Head i)
       rings-set-one i hi ni =
           elim (cases_eq i to) [
-            inl e ↦
-              subst (λ n. Leads (next_of h3 s3) (previous_of h3 s3) (Head n) (list_at (push lists to (list_at lists from)) n) (Head n)) (sym e)
+            | inl e ↦
+                subst (λ n. Leads (next_of h3 s3) (previous_of h3 s3) (Head n) (list_at (push lists to (list_at lists from)) n) (Head n)) (sym e)
                 (subst (λ ys. Leads (next_of h3 s3) (previous_of h3 s3) (Head to) ys (Head to)) (sym (get_or-set_same lists to _ [] in_to ∙ ap (λ ys. list_at lists to ++ ys) is)) whole)
-          | inr nt ↦ subst (λ ys. Leads (next_of h3 s3) (previous_of h3 s3) (Head i) ys (Head i)) (sym (get_or-set_other lists to i _ [] nt)) (others i hi ni nt)
+            | inr nt ↦ subst (λ ys. Leads (next_of h3 s3) (previous_of h3 s3) (Head i) ys (Head i)) (sym (get_or-set_other lists to i _ [] nt)) (others i hi ni nt)
           ]
 
 -- one more list, and one more thread
@@ -365,23 +387,23 @@ Spells-add_list h s lists fits spells =
     record {
       sizes = omega (arith, spells.sizes, length-append lists ([] ∷ []), length-append h (alone (Head (length h)) ∷ []));
       rings = λ j hj.
-        elim (cases_lt j (length h)) [
-          inl l ↦
-            subst (λ ys. Leads (next_of (h ++ alone (Head (length h)) ∷ []) s) (previous_of (h ++ alone (Head (length h)) ∷ []) s) (Head j) ys (Head j)) (sym (get_or_append_left lists ([] ∷ []) [] j (omega (arith, spells.sizes))))
-              (Leads-same h s (h ++ alone (Head (length h)) ∷ []) s (link_of-list h s) (Head j) (Head j) (list_at lists j) (spells.rings j l))
-        | inr g ↦
-            let beyond : get_or h j (alone (Head j)) ≡ alone (Head j) = get_or-eq_default h (alone (Head j)) g in
-            let link : link_of (h ++ alone (Head (length h)) ∷ []) s (Head j) ≡ alone (Head j) = link_of-list h s (Head j) ∙ beyond in
-            let here : j ≡ length lists = omega (arith, spells.sizes, length-append h (alone (Head (length h)) ∷ [])) in
-            subst (λ ys. Leads (next_of (h ++ alone (Head (length h)) ∷ []) s) (previous_of (h ++ alone (Head (length h)) ∷ []) s) (Head j) ys (Head j))
-              (sym (ap (list_at (lists ++ [] ∷ [])) here ∙ get_or-append_seam lists [] [] []))
-              (ap (λ (l : Link). l.next) link, ap (λ (l : Link). l.previous) link)
-        ];
+          elim (cases_lt j (length h)) [
+            | inl l ↦
+                subst (λ ys. Leads (next_of (h ++ alone (Head (length h)) ∷ []) s) (previous_of (h ++ alone (Head (length h)) ∷ []) s) (Head j) ys (Head j)) (sym (get_or_append_left lists ([] ∷ []) [] j (omega (arith, spells.sizes))))
+                (Leads-same h s (h ++ alone (Head (length h)) ∷ []) s (link_of-list h s) (Head j) (Head j) (list_at lists j) (spells.rings j l))
+            | inr g ↦
+                let beyond : get_or h j (alone (Head j)) ≡ alone (Head j) = get_or-eq_default h (alone (Head j)) g in
+                let link : link_of (h ++ alone (Head (length h)) ∷ []) s (Head j) ≡ alone (Head j) = link_of-list h s (Head j) ∙ beyond in
+                let here : j ≡ length lists = omega (arith, spells.sizes, length-append h (alone (Head (length h)) ∷ [])) in
+                subst (λ ys. Leads (next_of (h ++ alone (Head (length h)) ∷ []) s) (previous_of (h ++ alone (Head (length h)) ∷ []) s) (Head j) ys (Head j))
+                (sym (ap (list_at (lists ++ [] ∷ [])) here ∙ get_or-append_seam lists [] [] []))
+                (ap (λ (l : Link). l.next) link, ap (λ (l : Link). l.previous) link)
+          ];
       once = λ t. omega (arith, spells.once t, total-one_more t lists);
       within = λ t le. omega (arith, spells.within t le, total-one_more t lists);
       alone = λ t none. ap (λ (l : Link). l.next) (link_of-list h s (Thread t)) ∙ spells.alone t (omega (arith, total-one_more t lists));
       few = spells.few;
-      few_lists = omega (arith, length-append h (alone (Head (length h)) ∷ []))
+      few_lists = omega (arith, length-append h (alone (Head (length h)) ∷ []));
     }
 
 pub Spells-add_thread : (h s : List Link) (lists : List (List ℕ)) → length s + 1 < 2 ^ 32 → Spells h s lists → Spells h (s ++ alone (Thread (length s)) ∷ []) lists
@@ -393,7 +415,7 @@ Spells-add_thread h s lists fits spells =
       within = λ t le. spells.within t (omega (arith, length-append s (alone (Thread (length s)) ∷ [])));
       alone = λ t none. ap (λ (l : Link). l.next) (link_of-thread h s (Thread t)) ∙ spells.alone t none;
       few = omega (arith, length-append s (alone (Thread (length s)) ∷ []));
-      few_lists = spells.few_lists
+      few_lists = spells.few_lists;
     }
 
 pub added_list : (h s h' : List Link) (link : Link) (k : ℕ) (lists : List (List ℕ)) → h' ≡ h ++ link ∷ [] → link ≡ alone (Head k) → k ≡ length h → k < 2 ^ 32 → Spells h s lists → Spells h' s (lists ++ [] ∷ [])
@@ -403,7 +425,7 @@ added_list h s h' link k lists items is at fits spells =
 pub one_more_list : (h s h' : List Link) (link : Link) (k : ℕ) (lists : List (List ℕ)) (n m : ℕ) → h' ≡ h ++ link ∷ [] → link ≡ alone (Head k) → k ≡ length h → k < 2 ^ 32 → n + 1 ≡ m → Spells h s (lists ++ replicate n []) → Spells h' s (lists ++ replicate m [])
 one_more_list h s h' link k lists n m items is at fits more spells =
     subst (Spells h' s) (append_assoc lists (replicate n []) ([] ∷ []) ∙ ap (λ ls. lists ++ ls) (replicate_more n [] ∙ ap (λ i. replicate i []) more))
-      (added_list h s h' link k (lists ++ replicate n []) items is at fits spells)
+    (added_list h s h' link k (lists ++ replicate n []) items is at fits spells)
 
 pub added_thread : (h s s' : List Link) (link : Link) (t : ℕ) (lists : List (List ℕ)) → s' ≡ s ++ link ∷ [] → link ≡ alone (Thread t) → t ≡ length s → t + 1 < 2 ^ 32 → Spells h s lists → Spells h s' lists
 added_thread h s s' link t lists items is at fits spells =

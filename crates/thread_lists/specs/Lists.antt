@@ -1,5 +1,5 @@
 -- Lists of numbers by number.
-use Rattle.std.specs.Prelude.{◌≡◌, ◌==◌, ℕ, List, [], ◌++◌, Option, count_by, filter, not, slice_get, slice_index_or, slice_set, sum_by}
+use Rattle.std.specs.Prelude.{◌==◌, ℕ, List, [], ◌++◌, Option, count_by, drop, filter, not, slice_get, slice_index_or, slice_set, sum_by}
 
 -- what contracts see: the lists by number, each from its first thread on, and how many threads may stand in them
 pub record Lists : Type 0 where
@@ -22,9 +22,16 @@ push lists k ts = slice_set lists k (list_at lists k ++ ts)
 abbrev pub append : List (List ℕ) → ℕ → ℕ → List (List ℕ)
 append lists from to = slice_set (push lists to (list_at lists from)) from []
 
--- a thread leaves a list
+-- a list without a thread
 abbrev pub without : ℕ → List ℕ → List ℕ
 without t xs = filter (λ x. not (x == t)) xs
+
+-- list k without a thread, and without its first
+abbrev pub leave : List (List ℕ) → ℕ → ℕ → List (List ℕ)
+leave lists k t = slice_set lists k (without t (list_at lists k))
+
+abbrev pub drop_first : List (List ℕ) → ℕ → List (List ℕ)
+drop_first lists k = slice_set lists k (drop 1 (list_at lists k))
 
 -- how often a thread occurs in a list
 abbrev pub count : ℕ → List ℕ → ℕ

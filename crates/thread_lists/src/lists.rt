@@ -1,5 +1,5 @@
-ghost use Rattle.std.specs.Prelude.{◌≡◌, ◌≢◌, ◌+◌, ◌^◌, ◌<◌, ◌≤◌, ◌==◌, ℕ, [], ◌∷◌, ◌++◌, drop, length, max, not, replicate, slice_get, slice_set, IfOk, OnOk, OnErr};
-ghost use Rattle.thread_lists.specs.Lists.{append, count, first, list_at, push, total, without};
+ghost use Rattle.std.specs.Prelude.{◌≡◌, ◌≢◌, ◌+◌, ◌^◌, ◌<◌, ◌≤◌, ◌==◌, ℕ, [], ◌∷◌, ◌++◌, length, max, not, replicate, slice_get, IfOk, OnOk, OnErr};
+ghost use Rattle.thread_lists.specs.Lists.{append, count, drop_first, first, leave, list_at, push, total};
 
 use crate::ring::{Link, Place, add_heads, count_of, is_linked, link_all, link_last, thread_at, threads_of, unlink};
 use items::NoMemory;
@@ -22,7 +22,8 @@ impl Model for ThreadLists {
     ghost use Rattle.std.specs.Prelude.{vec_len};
     ghost use Rattle.thread_lists.specs.Ring.{IsLinked, spelled};
 
-    ghost view = { λ a. record { lists = spelled a.heads.items a.threads.items; threads = vec_len a.threads } };
+    ghost view = { λ a. record
+        { lists = spelled a.heads.items a.threads.items; threads = vec_len a.threads } };
 
     ghost invariant = { λ a. IsLinked a.heads.items a.threads.items };
 }
@@ -40,7 +41,8 @@ impl ThreadLists {
 
     /// More lists, all empty, numbered on from those there are. More than 2^32 lists are want of memory too.
     pub fn add_lists(&mut self, count: u32) -> Result<(), NoMemory>
-        ensures ok { OnOk result (self.new ≡ record self.old { lists = self.old.lists ++ replicate count [] }) }
+        ensures ok { OnOk result
+            (self.new ≡ record self.old { lists = self.old.lists ++ replicate count [] }) }
         ensures err { OnErr result (self.new ≡ self.old) }
     {
         add_heads(&mut self.heads, count)?;
@@ -64,7 +66,8 @@ impl ThreadLists {
     /// Room for this many threads, or for as many as there are if these are more. After an error there may be room for more
     /// than before.
     pub fn room(&mut self, threads: u32) -> Result<(), NoMemory>
-        ensures ok { OnOk result (self.new ≡ record self.old { threads = max self.old.threads threads }) }
+        ensures ok { OnOk result
+            (self.new ≡ record self.old { threads = max self.old.threads threads }) }
         ensures lists { self.new.lists ≡ self.old.lists }
         ensures grows { self.old.threads ≤ self.new.threads }
     {
@@ -144,8 +147,7 @@ impl ThreadLists {
     pub fn remove(&mut self, list: u32, thread: u32)
         requires list { list < length self.old.lists }
         requires held { 0 < count thread (list_at self.old.lists list) }
-        ensures { self.new ≡ record self.old { lists =
-            slice_set self.old.lists list (without thread (list_at self.old.lists list)) } }
+        ensures { self.new ≡ record self.old { lists = leave self.old.lists list thread } }
     {
         unlink(&mut self.heads, &mut self.threads, list, thread);
     }
@@ -154,8 +156,7 @@ impl ThreadLists {
     pub fn take_first(&mut self, list: u32) -> Option<u32>
         requires { list < length self.old.lists }
         ensures thread { result ≡ first self.old.lists list }
-        ensures lists { self.new ≡ record self.old { lists =
-            slice_set self.old.lists list (drop 1 (list_at self.old.lists list)) } }
+        ensures lists { self.new ≡ record self.old { lists = drop_first self.old.lists list } }
     {
         self.once();
         let thread = self.first(list)?;
@@ -168,8 +169,8 @@ impl ThreadLists {
         requires from { from < length self.old.lists }
         requires to { to < length self.old.lists }
         requires held { 0 < count thread (list_at self.old.lists from) }
-        ensures { self.new ≡ record self.old { lists =
-            push (slice_set self.old.lists from (without thread (list_at self.old.lists from))) to (thread ∷ []) } }
+        ensures { self.new ≡ record self.old
+            { lists = push (leave self.old.lists from thread) to (thread ∷ []) } }
     {
         self.once();
         self.remove(from, thread);

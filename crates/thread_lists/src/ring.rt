@@ -1,6 +1,6 @@
 ghost use Rattle.std.specs.Prelude.{◌≡◌, ◌≢◌, ◌<◌, ◌==◌, ℕ, List, [], ◌∷◌, ◌++◌, length, not, replicate, slice_get, slice_set, IfOk, OnErr, OnOk};
 ghost use Rattle.thread_lists.specs.declared.ring.Link.{Link};
-ghost use Rattle.thread_lists.specs.Lists.{append, count, list_at, push, total, without};
+ghost use Rattle.thread_lists.specs.Lists.{append, count, leave, list_at, push, total};
 ghost use Rattle.thread_lists.specs.Ring.{IsLinked, IsPlace, Joined, SetsNext, SetsPrevious, Spells, link_of, spelled};
 
 use items::NoMemory;
@@ -80,7 +80,8 @@ pub fn join(heads: &mut [Link], threads: &mut [Link], a: Place, b: Place)
 
 /// More heads of lists, each a ring of one place. After an error nothing changed.
 pub fn add_heads(heads: &mut Vec<Link>, count: u32) -> Result<(), NoMemory>
-    ensures ok { OnOk result ((threads : List Link) (lists : List (List ℕ)) → Spells heads.old.items threads lists
+    ensures ok { OnOk result ((threads : List Link) (lists : List (List ℕ))
+        → Spells heads.old.items threads lists
         → Spells heads.new.items threads (lists ++ replicate count [])) }
     ensures err { OnErr result (heads.new.items ≡ heads.old.items) }
 {
@@ -101,7 +102,8 @@ pub fn link_last(heads: &mut [Link], threads: &mut [Link], list: u32, thread: u3
     requires list { list < length heads.old }
     requires thread { thread < length threads.old }
     requires free { total (count thread) (spelled heads.old threads.old) ≡ 0 }
-    ensures { Spells heads.new threads.new (push (spelled heads.old threads.old) list (thread ∷ [])) }
+    ensures { Spells heads.new threads.new
+        (push (spelled heads.old threads.old) list (thread ∷ [])) }
 {
     let last = link_at(heads, threads, Place::Head(list)).previous;
     join(heads, threads, last, Place::Thread(thread));
@@ -113,7 +115,7 @@ pub fn unlink(heads: &mut [Link], threads: &mut [Link], list: u32, thread: u32)
     requires linked { IsLinked heads.old threads.old }
     requires list { list < length heads.old }
     requires held { 0 < count thread (list_at (spelled heads.old threads.old) list) }
-    ensures { Spells heads.new threads.new (slice_set (spelled heads.old threads.old) list (without thread (list_at (spelled heads.old threads.old) list))) }
+    ensures { Spells heads.new threads.new (leave (spelled heads.old threads.old) list thread) }
 {
     let link = link_at(heads, threads, Place::Thread(thread));
     join(heads, threads, link.previous, link.next);

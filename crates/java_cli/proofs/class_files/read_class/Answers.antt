@@ -1,4 +1,4 @@
-use Rattle.java_cli.proofs.Reading.{read_is, not_read_is, class_faults}
+use Rattle.java_cli.proofs.LoadLaws.{read_is, not_read_is, class_faults}
 use Rattle.java_cli.proofs.class_files.read_class.Goals as goal
 
 pub returns-clause-found : goal.returns-clause-found

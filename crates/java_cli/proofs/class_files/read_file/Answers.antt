@@ -1,5 +1,5 @@
 use Rattle.std.proofs.Common.{arith}
-use Rattle.java_cli.proofs.Reading.{missing_is, large_is, whole_is}
+use Rattle.java_cli.proofs.LoadLaws.{missing_is, large_is, whole_is}
 use Rattle.java_cli.proofs.class_files.read_file.Goals as goal
 
 pub returns-in-Ok-None-clause-cause : goal.returns-in-Ok-None-clause-cause

@@ -1,8 +1,8 @@
 use Rattle.std.proofs.Common.{◌∙◌, refl}
 use Rattle.jvm_edges.specs.Causes.{Rose}
 use Rattle.java_cli.specs.Words.{texts}
-use Rattle.java_cli.specs.Reading.{IsStopped}
-use Rattle.java_cli.proofs.Reading.{one_more_read, one_not_read, err_is, faults_is}
+use Rattle.java_cli.specs.LoadCauses.{IsStopped}
+use Rattle.java_cli.proofs.LoadLaws.{one_more_read, one_not_read, err_is, faults_is}
 use Rattle.java_cli.proofs.class_files.read_files.Goals as goal
 
 pub returns-in_err-read_class-clause-stopped : goal.returns-in_err-read_class-clause-stopped

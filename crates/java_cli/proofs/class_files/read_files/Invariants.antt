@@ -1,7 +1,7 @@
 use Rattle.std.proofs.Common.{◌≡◌, take}
 use Rattle.std.specs.List.{AllZip}
 use Rattle.java_cli.specs.Words.{texts}
-use Rattle.java_cli.specs.Reading.{IsRead}
+use Rattle.java_cli.specs.LoadCauses.{IsRead}
 use Rattle.java_cli.proofs.class_files.read_files.Given as goal
 
 abbrev pub invariant-loop-index : goal.invariant-loop-index

@@ -4,14 +4,14 @@ use Rattle.std.specs.List.{AllByRecursion}
 use Rattle.std.proofs.lemmas.List.{length-map}
 use Rattle.class_model.specs.declared.class_file.ClassFile.{ClassFile}
 use Rattle.jvm_edges.specs.Causes.{Rose}
-use Rattle.java_cli.specs.Commands.{spelled}
+use Rattle.java_cli.specs.Commands.{command_texts}
 use Rattle.java_cli.specs.Errors.{load_answer, link_answer}
 use Rattle.java_cli.specs.Causes.{IsExact, StoreFaults}
 use Rattle.plain_program.specs.Programs.{IsSpelled}
 use Rattle.java_cli.specs.Words.{texts}
 use Rattle.plain_program.specs.Methods.{method_of}
-use Rattle.java_cli.proofs.Reading.{answer_is, refusal_is}
-use Rattle.java_cli.proofs.Answering.{too_many_exact, stopped_exact, load_refusal, unlinked_exact, link_refusal, link_faults, ended_exact, ran_command, all_spelled}
+use Rattle.java_cli.proofs.LoadLaws.{answer_is, refusal_is}
+use Rattle.java_cli.proofs.AnswerLaws.{too_many_exact, stopped_exact, load_refusal, unlinked_exact, link_refusal, link_faults, ended_exact, ran_command, all_spelled}
 use Rattle.java_cli.proofs.command_run.run_command.Goals as goal
 
 size : (names : List (String Global)) → length (texts names) ≡ length names
@@ -24,14 +24,14 @@ few_texts : (names : List (String Global)) → length names ≤ 256 → length (
 few_texts names le = omega (arith, le, size names)
 
 pub returns-then-command-clause-exact : goal.returns-then-command-clause-exact
-returns-then-command-clause-exact g c = too_many_exact _ _ (spelled c.args.command.now) (many_texts c.args.command.now.files.now c.if-command.true)
+returns-then-command-clause-exact g c = too_many_exact _ _ (command_texts c.args.command.now) (many_texts c.args.command.now.files.now c.if-command.true)
 
 pub returns-in_err-classes-clause-exact : goal.returns-in_err-classes-clause-exact
 returns-in_err-classes-clause-exact g c =
     let known = g.S.Store.files c.args.store.now in
     let faulty = Rose (g.S.Store.faults c.args.store.now) (g.S.Store.faults c.read_files.new.store) in
-    answer_is c.from_residual.result (load_answer c.in_err-classes.field-0.0) (IsExact known faulty (spelled c.args.command.now)) c.from_residual.ensures.1
-    (stopped_exact known faulty (spelled c.args.command.now) c.in_err-classes.field-0.0 (few_texts c.args.command.now.files.now c.if-command.false) c.in_err-classes.ensures.stopped)
+    answer_is c.from_residual.result (load_answer c.in_err-classes.field-0.0) (IsExact known faulty (command_texts c.args.command.now)) c.from_residual.ensures.1
+    (stopped_exact known faulty (command_texts c.args.command.now) c.in_err-classes.field-0.0 (few_texts c.args.command.now.files.now c.if-command.false) c.in_err-classes.ensures.stopped)
 
 pub returns-in_err-classes-clause-refusal : goal.returns-in_err-classes-clause-refusal
 returns-in_err-classes-clause-refusal g c = refusal_is c.from_residual.result (load_answer c.in_err-classes.field-0.0) c.from_residual.ensures.1 (load_refusal c.in_err-classes.field-0.0)
@@ -50,8 +50,8 @@ pub returns-in_err-method-clause-exact : goal.returns-in_err-method-clause-exact
 returns-in_err-method-clause-exact g c =
     let known = g.S.Store.files c.args.store.now in
     let faulty = Rose (g.S.Store.faults c.args.store.now) (g.S.Store.faults c.read_files.new.store) in
-    answer_is c.from_residual-in_err-method.result (link_answer c.in_err-method.field-0.0) (IsExact known faulty (spelled c.args.command.now)) c.from_residual-in_err-method.ensures.1
-    (unlinked_exact known faulty (spelled c.args.command.now) c.in_ok-classes.classes.items c.in_err-method.field-0.0 (few_texts c.args.command.now.files.now c.if-command.false) c.in_ok-classes.ensures.found
+    answer_is c.from_residual-in_err-method.result (link_answer c.in_err-method.field-0.0) (IsExact known faulty (command_texts c.args.command.now)) c.from_residual-in_err-method.ensures.1
+    (unlinked_exact known faulty (command_texts c.args.command.now) c.in_ok-classes.classes.items c.in_err-method.field-0.0 (few_texts c.args.command.now.files.now c.if-command.false) c.in_ok-classes.ensures.found
     (rw c.deref.ensures.value at c.in_err-method.ensures.refused))
 
 pub returns-in_err-method-clause-refusal : goal.returns-in_err-method-clause-refusal
@@ -67,10 +67,10 @@ returns-in_err-method-clause-faults g c =
 
 pub returns-clause-ran : goal.returns-clause-ran
 returns-clause-ran g c =
-    ran_command _ (spelled c.args.command.now) c.in_ok-classes.classes.items (method_of c.in_ok-method.method) _ _ c.in_ok-classes.ensures.found
+    ran_command _ (command_texts c.args.command.now) c.in_ok-classes.classes.items (method_of c.in_ok-method.method) _ _ c.in_ok-classes.ensures.found
     (rw c.deref.ensures.value at c.in_ok-method.ensures.main) (rw c.deref.ensures.value at c.in_ok-method.ensures.linked) c.in_ok-run.ensures
 
 pub returns-clause-exact : goal.returns-clause-exact
 returns-clause-exact g c =
-    ended_exact _ _ (spelled c.args.command.now) c.in_ok-classes.classes.items (method_of c.in_ok-method.method) (few_texts c.args.command.now.files.now c.if-command.false) c.in_ok-classes.ensures.found
+    ended_exact _ _ (command_texts c.args.command.now) c.in_ok-classes.classes.items (method_of c.in_ok-method.method) (few_texts c.args.command.now.files.now c.if-command.false) c.in_ok-classes.ensures.found
     (rw c.deref.ensures.value at c.in_ok-method.ensures.main) (rw c.deref.ensures.value at c.in_ok-method.ensures.linked)

@@ -1,4 +1,4 @@
-use Rattle.java_cli.proofs.Due.{one_is_due}
+use Rattle.java_cli.proofs.DueLaws.{one_is_due}
 use Rattle.java_cli.proofs.laws.one_answer.Goals as goal
 
 pub returns : goal.returns

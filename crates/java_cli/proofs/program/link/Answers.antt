@@ -1,8 +1,8 @@
 use Rattle.std.proofs.Common.{◌≡◌, ℕ, List, true, ap, subst, ◌∙◌}
 use Rattle.std.specs.Prelude.{not}
 use Rattle.java_cli.specs.MainClass.{class_named, has_main}
-use Rattle.java_cli.proofs.Answering.{unlinked_is}
-use Rattle.java_cli.proofs.Naming.{some_copied}
+use Rattle.java_cli.proofs.AnswerLaws.{unlinked_is}
+use Rattle.java_cli.proofs.NameLaws.{some_copied}
 use Rattle.java_cli.proofs.program.link.Goals as goal
 
 pub returns-clause-refused : goal.returns-clause-refused

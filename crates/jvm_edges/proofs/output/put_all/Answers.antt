@@ -1,6 +1,6 @@
 use Rattle.std.proofs.Common.{◌≡◌, ◌-◌, length, take, drop, arith}
 use Rattle.std.proofs.lemmas.Grind.{common_steps}
-use Rattle.jvm_edges.proofs.Putting.{put_more}
+use Rattle.jvm_edges.proofs.PutLaws.{put_more}
 use Rattle.jvm_edges.proofs.output.put_all.Goals as goal
 
 pub loop-taken-preserved : goal.loop-taken-preserved

@@ -1,5 +1,5 @@
 use Rattle.std.proofs.Common.{◌-◌, length}
-use Rattle.jvm_edges.proofs.Putting.{Put}
+use Rattle.jvm_edges.proofs.PutLaws.{Put}
 use Rattle.jvm_edges.proofs.output.put_all.Given as goal
 
 abbrev pub invariant-loop-taken : goal.invariant-loop-taken

@@ -1,5 +1,5 @@
 use Rattle.std.proofs.Common.{◌∙◌, refl}
-use Rattle.round_trip.proofs.Coming.{one_more_outcome, both_kept}
+use Rattle.round_trip.proofs.OutcomeLaws.{one_more_outcome, both_kept}
 use Rattle.round_trip.proofs.file_lines.copy_files.Goals as goal
 
 pub loop-name-preserved : goal.loop-name-preserved

@@ -1,4 +1,4 @@
-use Rattle.round_trip.proofs.Coming.{found_comes, missing_comes, bytes_faults}
+use Rattle.round_trip.proofs.OutcomeLaws.{found_comes, missing_comes, bytes_faults}
 use Rattle.round_trip.proofs.trial.outcome_of_file.Goals as goal
 
 pub returns-in-Ok-Some-clause-known : goal.returns-in-Ok-Some-clause-known

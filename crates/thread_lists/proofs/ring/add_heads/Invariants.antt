@@ -8,5 +8,5 @@ abbrev pub invariant-loop-list : goal.invariant-loop-list
 invariant-loop-list l = record {
   len : vec_len l.heads ≡ l.list;
   room : l.list-end ≤ vec_capacity l.heads;
-  spells : (threads : List Link) (lists : List (List ℕ)) → Spells l.fn.heads.items threads lists → Spells l.heads.items threads (lists ++ replicate (l.list - l.first) [])
+  spells : (threads : List Link) (lists : List (List ℕ)) → Spells l.fn.heads.items threads lists → Spells l.heads.items threads (lists ++ replicate (l.list - l.first) []);
 }

@@ -1,9 +1,8 @@
-use Rattle.std.proofs.Common.{ap, arith, subst, sym, ◌∙◌}
+use Rattle.std.proofs.Common.{ap, arith, ◌∙◌}
 use Rattle.thread_lists.specs.declared.ring.Link.{Link}
-use Rattle.thread_lists.specs.declared.ring.Place.{Place}
 use Rattle.thread_lists.specs.Lists.{list_at}
 use Rattle.thread_lists.specs.Ring.{spelled}
-use Rattle.thread_lists.proofs.SpellLaws.{Step, step, step_end}
+use Rattle.thread_lists.proofs.SpellLaws.{step, step_end}
 use Rattle.thread_lists.proofs.ring.count_of.Goals as goal
 
 pub link_at-place-requires-in-Thread : goal.link_at-place-requires-in-Thread
@@ -26,7 +25,7 @@ loop-place-preserved c =
     let at = step h s (spelled h s) c.requires.linked c.args.list c.loop-place.count c.loop-place.place c.in-Thread.field-0 c.requires.list c.loop-place.invariant.place c.in-Thread.is in
     record {
       place = ap (λ (l : Link). l.next) c.link_at-place-in-Thread.ensures ∙ at.next;
-      count = omega (arith, at.below)
+      count = omega (arith, at.below);
     }
 
 pub returns : goal.returns

@@ -6,7 +6,7 @@ use Rattle.thread_lists.proofs.ring.count_of.Given as goal
 abbrev pub invariant-loop-place : goal.invariant-loop-place
 invariant-loop-place l = record {
   place : l.place ≡ start_of l.list (drop l.count (list_at (spelled l.heads l.threads) l.list));
-  count : l.count ≤ length (list_at (spelled l.heads l.threads) l.list)
+  count : l.count ≤ length (list_at (spelled l.heads l.threads) l.list);
 }
 
 abbrev pub decreases-loop-place : goal.decreases-loop-place

@@ -1,9 +1,6 @@
-use Rattle.std.proofs.Common.{ap, arith, sym, ◌∙◌, ◌≡◌}
-use Rattle.std.proofs.lemmas.Bool.{eq-eqb}
-use Rattle.std.proofs.lemmas.Bool.Decides.{eqb_tells}
+use Rattle.std.proofs.Common.{ap, sym, ◌∙◌}
 use Rattle.thread_lists.specs.declared.ring.Link.{Link}
-use Rattle.thread_lists.specs.declared.ring.Place.TheVariants.{Thread}
-use Rattle.thread_lists.specs.Ring.{next_of, spelled}
+use Rattle.thread_lists.specs.Ring.{spelled}
 use Rattle.thread_lists.proofs.SpellLaws.{is_linked_by_next}
 use Rattle.thread_lists.proofs.ring.is_linked.Goals as goal
 

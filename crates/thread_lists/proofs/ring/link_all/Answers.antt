@@ -1,8 +1,7 @@
-use Rattle.std.proofs.Common.{ap, arith, inr, subst, sym, ◌∙◌, ◌≡◌}
+use Rattle.std.proofs.Common.{ap, arith, subst, sym, ◌∙◌}
 use Rattle.thread_lists.specs.declared.ring.Link.{Link}
-use Rattle.thread_lists.specs.declared.ring.Place.TheVariants.{Head, Thread}
-use Rattle.thread_lists.specs.Lists.{append}
-use Rattle.thread_lists.specs.Ring.{IsPlace, Joined, Spells, link_of, next_of, spelled}
+use Rattle.thread_lists.specs.declared.ring.Place.TheVariants.{Head}
+use Rattle.thread_lists.specs.Ring.{IsPlace, Joined, Spells, link_of, spelled}
 use Rattle.thread_lists.proofs.SpellLaws.{IsPlace-InRing, IsPlace-same, Spells-append, append-none, first_in_ring, last_in_ring, no_first, place_behind}
 use Rattle.thread_lists.proofs.ring.link_all.Goals as goal
 
@@ -18,22 +17,22 @@ join-requires-clause-first c =
     let h = c.args.heads.now in
     let s = c.args.threads.now in
     subst (λ (l : Link). IsPlace h s l.previous) (sym c.link_at-last.ensures)
-      (IsPlace-InRing h s (spelled h s) c.requires.linked c.args.to c.requires.to _ (last_in_ring h s (spelled h s) c.requires.linked c.args.to c.requires.to))
+    (IsPlace-InRing h s (spelled h s) c.requires.linked c.args.to c.requires.to _ (last_in_ring h s (spelled h s) c.requires.linked c.args.to c.requires.to))
 
 pub join-requires-clause-second : goal.join-requires-clause-second
 join-requires-clause-second c =
     let h = c.args.heads.now in
     let s = c.args.threads.now in
     subst (λ (l : Link). IsPlace h s l.next) (sym c.link_at-moved.ensures)
-      (place_behind h s (spelled h s) c.requires.linked c.args.from c.in_default.field-0 c.requires.from (sym (ap (λ (l : Link). l.next) c.link_at-moved.ensures) ∙ c.in_default.is))
+    (place_behind h s (spelled h s) c.requires.linked c.args.from c.in_default.field-0 c.requires.from (sym (ap (λ (l : Link). l.next) c.link_at-moved.ensures) ∙ c.in_default.is))
 
 pub join-requires-2-clause-first : goal.join-requires-2-clause-first
 join-requires-2-clause-first c =
     let h = c.args.heads.now in
     let s = c.args.threads.now in
     IsPlace-same h s c.join.new.heads c.join.new.threads c.link_at-moved.result.previous (omega arith) (omega arith)
-      (subst (λ (l : Link). IsPlace h s l.previous) (sym c.link_at-moved.ensures)
-        (IsPlace-InRing h s (spelled h s) c.requires.linked c.args.from c.requires.from _ (last_in_ring h s (spelled h s) c.requires.linked c.args.from c.requires.from)))
+    (subst (λ (l : Link). IsPlace h s l.previous) (sym c.link_at-moved.ensures)
+    (IsPlace-InRing h s (spelled h s) c.requires.linked c.args.from c.requires.from _ (last_in_ring h s (spelled h s) c.requires.linked c.args.from c.requires.from)))
 
 pub returns : goal.returns
 returns c =

@@ -1,6 +1,6 @@
-use Rattle.std.proofs.Common.{ap, arith, subst, sym}
+use Rattle.std.proofs.Common.{arith, subst, sym}
 use Rattle.thread_lists.specs.declared.ring.Link.{Link}
-use Rattle.thread_lists.specs.declared.ring.Place.TheVariants.{Head, Thread}
+use Rattle.thread_lists.specs.declared.ring.Place.TheVariants.{Thread}
 use Rattle.thread_lists.specs.Ring.{IsPlace, Joined, spelled}
 use Rattle.thread_lists.proofs.SpellLaws.{IsPlace-InRing, Spells-push, last_in_ring}
 use Rattle.thread_lists.proofs.ring.link_last.Goals as goal
@@ -10,7 +10,7 @@ join-requires-clause-first c =
     let h = c.args.heads.now in
     let s = c.args.threads.now in
     subst (λ (l : Link). IsPlace h s l.previous) (sym c.link_at-last.ensures)
-      (IsPlace-InRing h s (spelled h s) c.requires.linked c.args.list c.requires.list _ (last_in_ring h s (spelled h s) c.requires.linked c.args.list c.requires.list))
+    (IsPlace-InRing h s (spelled h s) c.requires.linked c.args.list c.requires.list _ (last_in_ring h s (spelled h s) c.requires.linked c.args.list c.requires.list))
 
 pub returns : goal.returns
 returns c =

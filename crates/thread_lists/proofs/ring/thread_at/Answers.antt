@@ -1,10 +1,9 @@
-use Rattle.std.proofs.Common.{ap, arith, subst, sym, ◌∙◌, ◌≡◌, slice_get}
+use Rattle.std.proofs.Common.{ap, arith, sym, ◌∙◌, ◌≡◌, slice_get}
 use Rattle.thread_lists.specs.declared.ring.Link.{Link}
-use Rattle.thread_lists.specs.declared.ring.Place.{Place}
 use Rattle.thread_lists.specs.Lists.{list_at}
 use Rattle.thread_lists.specs.Ring.{spelled}
 use Rattle.std.proofs.lemmas.Option.{slice_get_past}
-use Rattle.thread_lists.proofs.SpellLaws.{Step, step, step_end}
+use Rattle.thread_lists.proofs.SpellLaws.{step, step_end}
 use Rattle.thread_lists.proofs.ring.thread_at.Goals as goal
 
 pub link_at-place-requires-in-Thread : goal.link_at-place-requires-in-Thread

@@ -1,6 +1,5 @@
-use Rattle.std.proofs.Common.{ap, arith, subst, sym, length, ◌≡◌, ◌<◌}
+use Rattle.std.proofs.Common.{arith, subst, sym}
 use Rattle.thread_lists.specs.declared.ring.Link.{Link}
-use Rattle.thread_lists.specs.declared.ring.Place.TheVariants.{Head, Thread}
 use Rattle.thread_lists.specs.Ring.{IsPlace, Joined, spelled}
 use Rattle.thread_lists.proofs.SpellLaws.{IsPlace-InRing, Spells-remove, below, lists_below, next_at, previous_at}
 use Rattle.thread_lists.proofs.ring.unlink.Goals as goal
@@ -16,14 +15,14 @@ join-requires-clause-first c =
     let h = c.args.heads.now in
     let s = c.args.threads.now in
     subst (λ (l : Link). IsPlace h s l.previous) (sym c.link_at-link.ensures)
-      (IsPlace-InRing h s (spelled h s) c.requires.linked c.args.list c.requires.list _ (previous_at h s (spelled h s) c.requires.linked c.args.list c.args.thread c.requires.list c.requires.held))
+    (IsPlace-InRing h s (spelled h s) c.requires.linked c.args.list c.requires.list _ (previous_at h s (spelled h s) c.requires.linked c.args.list c.args.thread c.requires.list c.requires.held))
 
 pub join-requires-clause-second : goal.join-requires-clause-second
 join-requires-clause-second c =
     let h = c.args.heads.now in
     let s = c.args.threads.now in
     subst (λ (l : Link). IsPlace h s l.next) (sym c.link_at-link.ensures)
-      (IsPlace-InRing h s (spelled h s) c.requires.linked c.args.list c.requires.list _ (next_at h s (spelled h s) c.requires.linked c.args.list c.args.thread c.requires.list c.requires.held))
+    (IsPlace-InRing h s (spelled h s) c.requires.linked c.args.list c.requires.list _ (next_at h s (spelled h s) c.requires.linked c.args.list c.args.thread c.requires.list c.requires.held))
 
 pub returns : goal.returns
 returns c =

@@ -1,7 +1,6 @@
-use Rattle.std.proofs.Common.{ap, is_some, length, sym, subst, ◌∙◌, ◌≡◌, ◌<◌, Some, None}
+use Rattle.std.proofs.Common.{ap, is_some, length, sym, subst, ◌∙◌, ◌<◌}
 use Rattle.std.proofs.lemmas.Bool.{true≢false}
 use Rattle.thread_lists.specs.Lists.{Lists}
-use Rattle.run_deques.specs.Take.{next}
 use Rattle.run_deques.proofs.TakeLaws.{AreEmpty-next, next-empty, next-inside}
 use Rattle.run_deques.proofs.deques.Deques.take.Goals as goal
 
@@ -12,7 +11,7 @@ returns-in_err-deque-clause-none c =
 pub take_first-requires : goal.take_first-requires
 take_first-requires c =
     subst (λ (v : Lists). c.in_ok-deque.deque < length v.lists) (sym c.self.view_is)
-      (next-inside c.args.self.now.lists c.args.c c.in_ok-deque.deque c.in_ok-deque.thread c.requires (sym c.in_ok-deque.ensures))
+    (next-inside c.args.self.now.lists c.args.c c.in_ok-deque.deque c.in_ok-deque.thread c.requires (sym c.in_ok-deque.ensures))
 
 pub returns-clause-none : goal.returns-clause-none
 returns-clause-none c =

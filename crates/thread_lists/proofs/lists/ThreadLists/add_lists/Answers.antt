@@ -1,5 +1,5 @@
 use Rattle.std.proofs.Common.{ap}
-use Rattle.thread_lists.specs.Ring.{Spells, spelled}
+use Rattle.thread_lists.specs.Ring.{spelled}
 use Rattle.thread_lists.proofs.SpellLaws.{own, seen, spelled_is}
 use Rattle.thread_lists.proofs.lists.ThreadLists.add_lists.Goals as goal
 

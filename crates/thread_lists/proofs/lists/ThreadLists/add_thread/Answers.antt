@@ -1,5 +1,5 @@
-use Rattle.std.proofs.Common.{ap, ◌∙◌, arith, rules, length, ◌≡◌, ◌++◌, [], ◌∷◌}
-use Rattle.thread_lists.specs.Ring.{Spells, spelled}
+use Rattle.std.proofs.Common.{ap, ◌∙◌, arith, rules, length, ◌≡◌}
+use Rattle.thread_lists.specs.Ring.{spelled}
 use Rattle.thread_lists.proofs.SpellLaws.{added_thread, own, seen, spelled_is}
 use Rattle.thread_lists.proofs.lists.ThreadLists.add_thread.Goals as goal
 

@@ -7,7 +7,7 @@ pub push-requires-clause-thread : goal.push-requires-clause-thread
 push-requires-clause-thread c =
     let old = c.args.self.now in
     subst (λ (v : Lists). c.args.thread < v.threads) (sym c.remove.ensures)
-      (is_below c.args.thread old.threads old.lists c.args.from c.requires.from (c.once.ensures.within c.args.thread) c.requires.held)
+    (is_below c.args.thread old.threads old.lists c.args.from c.requires.from (c.once.ensures.within c.args.thread) c.requires.held)
 
 pub push-requires-clause-free : goal.push-requires-clause-free
 push-requires-clause-free c =

@@ -1,6 +1,5 @@
-use Rattle.std.proofs.Common.{ap, arith, sym, ◌≡◌, ◌≤◌, slice_set, slice_get, Some, None}
-use Rattle.std.proofs.lemmas.List.{set-get_or}
-use Rattle.thread_lists.specs.Lists.{Lists, count, list_at, total}
+use Rattle.std.proofs.Common.{ap, arith, sym, ◌≤◌, slice_set}
+use Rattle.thread_lists.specs.Lists.{count, list_at}
 use Rattle.thread_lists.proofs.CountLaws.{first-held, total-le, without-first}
 use Rattle.thread_lists.proofs.lists.ThreadLists.take_first.Goals as goal
 

@@ -1,0 +1,6 @@
+pub mod TextMap
+pub mod Positions
+pub mod NameLaws
+pub mod Visits
+pub mod TableLaws
+pub mod HierarchyLaws

@@ -1,0 +1,23 @@
+use Rattle.std.proofs.Common.{◌≡◌, length, take, ap, sym, ◌∙◌}
+use Rattle.std.proofs.lemmas.Grind.{common_steps}
+use Rattle.std.specs.Option.{option_or}
+use Rattle.std.specs.Bool.{if◌then◌else◌}
+use Rattle.std.proofs.Common.{Some, None, arith, ℕ, Option, List}
+use Rattle.class_grammar.specs.Text.{same_text}
+use Rattle.linkage.specs.Program.{own_name}
+use Rattle.class_model.specs.declared.class_file.ClassFile.{ClassFile}
+use Rattle.class_resolution.specs.Names.{at_text, first_named}
+use Rattle.class_resolution.proofs.NameLaws.{one_more}
+use Rattle.class_resolution.proofs.classes.by_name.Goals as goal
+
+pub loop-index-preserved : goal.loop-index-preserved
+loop-index-preserved c = λ name.
+    c.in_ok-add_name.ensures name
+    ∙ ap (λ own. option_or (at_text c.loop-index.map name) (if same_text own name then Some c.loop-index.index else None)) c.own_name.ensures
+    ∙ ap (λ o. option_or o (if same_text (own_name c.index-files-index.result) name then Some c.loop-index.index else None)) (c.loop-index.invariant name)
+    ∙ sym (one_more c.args.files.now c.loop-index.index c.index-files-index.result name c.loop-index-test.true c.index-files-index.is)
+
+pub returns : goal.returns
+returns c = λ name.
+    let all : take c.loop-index.index c.args.files.now ≡ c.args.files.now = grind (arith, common_steps) in
+    c.loop-index.invariant name ∙ ap (λ fs. first_named fs name) all

@@ -1,0 +1,13 @@
+use Rattle.std.proofs.Common.{◌≡◌, ap, sym, ◌∙◌, length, ℕ, List, Option}
+use Rattle.linkage.specs.Program.{Program}
+use Rattle.linkage.specs.Hierarchy.{parent_of, supers, superclasses}
+use Rattle.class_resolution.specs.Tables.{row_at, parent_at}
+use Rattle.class_resolution.proofs.TableLaws.{row-tabulate, parent-tabulate}
+use Rattle.class_resolution.proofs.HierarchyLaws.{no_parent, no_supers, no_superclasses}
+use Rattle.class_resolution.proofs.hierarchy.Hierarchy.superclasses.Goals as goal
+
+pub returns : goal.returns
+returns c =
+    c.row_at.ensures ∙ ap (λ rows. row_at rows c.args.class) (c.deref.ensures.value ∙ c.self.invariant.superclasses)
+    ∙ row-tabulate (superclasses c.self.inside.classes) (length c.self.inside.classes.classes) (no_superclasses c.self.inside.classes) c.args.class
+    ∙ ap (λ (p : Program). superclasses p c.args.class) c.self.view_is

@@ -1,0 +1,14 @@
+-- What is kept of the superclasses and superinterfaces of a program.
+use Rattle.std.specs.Prelude.{◌≡◌, ℕ, List, length}
+use Rattle.linkage.specs.Program.{Program}
+use Rattle.linkage.specs.Hierarchy.{parent_of, supers, superclasses}
+use Rattle.class_resolution.specs.Tables.{tabulate}
+use Rattle.class_resolution.specs.declared.hierarchy.Hierarchy.TheInside.{Inside}
+
+abbrev pub program_of : Inside → Program
+program_of a = a.classes
+
+pub record IsOrdered (a : Inside) : Type 0 where
+  pub parents : a.parents.items ≡ tabulate (parent_of a.classes) (length a.classes.classes)
+  pub supers : a.supers.items ≡ tabulate (supers a.classes) (length a.classes.classes)
+  pub superclasses : a.superclasses.items ≡ tabulate (superclasses a.classes) (length a.classes.classes)

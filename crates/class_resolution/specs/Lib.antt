@@ -1,0 +1,5 @@
+pub mod Names
+pub mod Classes
+pub mod Tables
+pub mod Hierarchy
+pub mod Keys

@@ -1,0 +1,111 @@
+//! The method that an invocation runs on an object (JVMS 5.4.6).
+
+ghost use Rattle.std.specs.Prelude.{◌≡◌, IfOk};
+ghost use Rattle.linkage.specs.Resolution.{first_in};
+ghost use Rattle.linkage.specs.Selection as spec;
+ghost use Rattle.class_resolution.specs.Keys.{key_of};
+
+use crate::hierarchy::Hierarchy;
+use crate::members::{MemberKey, is_private};
+use crate::resolution::{has_abstract, if_open, inherited, most_specific_bodies};
+use class_grammar::text_at;
+use class_model::{Const, Member};
+use items::NoMemory;
+use linkage::{Choice, Place};
+use std::alloc::Global;
+
+/// The name and the descriptor of a member.
+pub fn key_in<'a>(pool: &'a [Const], member: &Member) -> MemberKey<'a>
+    ensures { key_of result ≡ spec.key_in pool.now member.now }
+{
+    MemberKey {
+        name: text_at(pool, member.name).unwrap_or(&[]),
+        descriptor: text_at(pool, member.descriptor).unwrap_or(&[]),
+    }
+}
+
+// The method of this key that a class declares, where it is neither private nor static (JVMS 5.4.5).
+fn override_in(world: &Hierarchy, key: MemberKey, class: u32) -> Option<Place>
+    ensures { result ≡ spec.override world.now (key_of key.entry) class }
+{
+    if_open(world, world.declared_method(key, class)?)
+}
+
+fn first_override(world: &Hierarchy, key: MemberKey, classes: &[u32]) -> Option<Place>
+    ensures { result ≡ first_in (spec.override world.now (key_of key.entry)) classes.now }
+{
+    for class in classes {
+        if let Some(found) = override_in(world, key, *class) {
+            return Some(found);
+        }
+    }
+    None
+}
+
+fn by_body(world: &Hierarchy, at: Place) -> Choice
+    ensures { result ≡ spec.by_body world.now at }
+{
+    if has_abstract(world, at) {
+        Choice::Abstract
+    } else {
+        Choice::Method(at)
+    }
+}
+
+fn sole_body(bodies: &[Place]) -> Choice
+    ensures { result ≡ spec.sole_body bodies.now }
+{
+    match bodies {
+        [] => Choice::Abstract,
+        [only] => Choice::Method(*only),
+        _ => Choice::Several,
+    }
+}
+
+// What is selected of a method that isn't private, by its key.
+fn select_by_key(
+    alloc: Global,
+    world: &Hierarchy,
+    class: u32,
+    key: MemberKey,
+) -> Result<Choice, NoMemory>
+    ensures { IfOk result (λ choice. choice ≡ spec.select_by_key world.now class (key_of key.entry)) }
+{
+    if let Some(at) = first_override(world, key, world.superclasses(class)) {
+        return Ok(by_body(world, at));
+    }
+    let all = inherited(alloc, world, class, key)?;
+    let bodies = most_specific_bodies(alloc, world, &all)?;
+    Ok(sole_body(&bodies))
+}
+
+/// What invokevirtual or invokeinterface of a method selects on an object of a class (JVMS 5.4.6).
+pub fn select(alloc: Global, world: &Hierarchy, class: u32, at: Place) -> Result<Choice, NoMemory>
+    ensures { IfOk result (λ choice. choice ≡ spec.select world.now class at) }
+{
+    let Some(file) = world.classes().file(at.class) else {
+        return Ok(Choice::Abstract);
+    };
+    match file.methods.get(at.index) {
+        Some(method) => select_in(alloc, world, class, at, &file.pool, method),
+        None => Ok(Choice::Abstract),
+    }
+}
+
+// What is selected of a method of a file with this pool.
+fn select_in(
+    alloc: Global,
+    world: &Hierarchy,
+    class: u32,
+    at: Place,
+    pool: &[Const],
+    method: &Member,
+) -> Result<Choice, NoMemory>
+    ensures { IfOk result (λ choice.
+        choice ≡ spec.select_in world.now class at pool.now method.now) }
+{
+    if is_private(method) {
+        return Ok(by_body(world, at));
+    }
+    select_by_key(alloc, world, class, key_in(pool, method))
+}

@@ -1,0 +1,8 @@
+//! The linked world: the classes of a program that links, and what their names mean (JVMS 5.3, 5.4).
+#![tactic(auto)]
+
+mod error;
+mod world;
+
+pub use error::LinkError;
+pub use world::{World, link};

@@ -1,0 +1,105 @@
+ghost use Rattle.std.specs.Prelude.{◌≡◌, ◌++◌, ℕ, List, Some, IfOk, OnOk, slice_get, vec_len};
+ghost use Rattle.std.specs.Option.{option_copied};
+ghost use Rattle.items.specs.Memory.{OkUnless};
+ghost use Rattle.linkage.specs.declared.why.LinkWhy.{LinkWhy};
+ghost use Rattle.linkage.specs.Program as spec;
+ghost use Rattle.linkage.specs.Faults.{Links, link_fault};
+ghost use Rattle.linkage.specs.Hierarchy as hierarchy;
+ghost use Rattle.linkage.specs.Members as members;
+ghost use Rattle.linkage.specs.Selection as selection;
+ghost use Rattle.class_resolution.specs.Keys.{key_of};
+
+use crate::error::LinkError;
+use class_model::ClassFile;
+use class_resolution::{Classes, Hierarchy, MemberKey, select};
+use items::NoMemory;
+use link_checks::link_fault;
+use linkage::{Choice, LinkFault, Place};
+use std::alloc::Global;
+use std::marker::Model;
+
+/// The classes of a program that links, each by its number, which is its place in the list.
+#[derive(Drop)]
+pub struct World {
+    hierarchy: Hierarchy,
+}
+
+impl Model for World {
+    ghost use Rattle.linkage.specs.Program.{Program};
+
+    ghost Value = { Program };
+
+    ghost use Rattle.class_world.specs.World.{program_of, IsLinked};
+
+    ghost view = { program_of };
+
+    ghost invariant = { IsLinked };
+}
+
+/// Links the built-in classes and those of the files. Where they don't link, the error names the first class with a fault and its
+/// first fault (JVMS 5.3, 5.4; the order: own).
+pub fn link(
+    alloc: Global,
+    built_in: Vec<ClassFile>,
+    files: Vec<ClassFile>,
+) -> Result<World, LinkError>
+    // The program that is answered has these classes, and it links.
+    ensures found { IfOk result (λ world. world ≡ spec.program built_in.items files.items) }
+    ensures linked { IfOk result Links }
+    // A program that links is answered, unless memory ran out.
+    ensures only { Links (spec.program built_in.items files.items)
+        → OkUnless result LinkError.NoMemory (λ world. world ≡ spec.program built_in.items files.items) }
+    // A refusal names the first fault.
+    ensures bad { (class : List ℕ) (why : LinkWhy) → result ≡ Err (LinkError.Fault class why)
+        → link_fault (spec.program built_in.items files.items) ≡ Some (record { class = class; why = why }) }
+{
+    let hierarchy = Hierarchy::new(alloc, Classes::new(alloc, built_in, files)?)?;
+    match link_fault(alloc, &hierarchy)? {
+        None => Ok(World { hierarchy }),
+        Some(LinkFault { class, why }) => Err(LinkError::Fault { class, why }),
+    }
+}
+
+impl World {
+    /// The class of this name. `None`: the program has no such class.
+    pub fn class_named(&self, name: &[u16]) -> Option<u32>
+        ensures { result ≡ spec.class_named self.now name.now }
+    {
+        self.hierarchy.classes().class_named(name)
+    }
+
+    /// The file of a class. `None`: there is no such class.
+    pub fn file(&self, class: u32) -> Option<&ClassFile>
+        ensures { option_copied result ≡ slice_get self.now.classes class }
+    {
+        self.hierarchy.classes().file(class)
+    }
+
+    /// The superclass of a class; Object has none.
+    pub fn parent(&self, class: u32) -> Option<u32>
+        ensures { result ≡ hierarchy.parent_of self.now class }
+    {
+        self.hierarchy.parent(class)
+    }
+
+    /// Whether a class is the other, or has it among its superclasses and superinterfaces.
+    pub fn is_sub(&self, class: u32, other: u32) -> bool
+        ensures { result ≡ hierarchy.is_below self.now class other }
+    {
+        self.hierarchy.is_below(class, other)
+    }
+
+    /// The method of this key that the class itself declares. `None`: it declares none.
+    pub fn method_named(&self, class: u32, key: MemberKey) -> Option<Place>
+        ensures { result ≡ members.declared_method self.now (key_of key.entry) class }
+    {
+        self.hierarchy.declared_method(key, class)
+    }
+
+    /// What invokevirtual or invokeinterface of a method selects on an object of a class (JVMS 5.4.6).
+    pub fn select(&self, alloc: Global, class: u32, method: Place) -> Result<Choice, NoMemory>
+        ensures { IfOk result (λ choice. choice ≡ selection.select self.now class method) }
+    {
+        select(alloc, &self.hierarchy, class, method)
+    }
+}

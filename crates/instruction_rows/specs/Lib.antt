@@ -1,0 +1,13 @@
+pub mod Results
+pub mod Kinds
+pub mod Contents
+pub mod StackItems
+pub mod Rows
+pub mod Comparisons
+pub mod Switches
+pub mod Table
+pub mod SlotEffect
+pub mod Pcs
+pub mod TypeEffect
+pub mod Soundness
+pub mod Marks

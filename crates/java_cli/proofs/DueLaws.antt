@@ -1,0 +1,123 @@
+-- Exactly one answer is due.
+use Rattle.std.proofs.Common.{◌≡◌, ℕ, ◌+◌, ◌<◌, ◌≤◌, ◌⊎◌, inl, inr, Bool, true, false, List, [], ◌∷◌, length, Option, Some, None, refl, sym, ap, subst, ◌∙◌, arith}
+use Rattle.std.specs.List.{AllByRecursion}
+use Rattle.std.proofs.lemmas.Bool.{cases_lt}
+use Rattle.class_model.specs.declared.class_file.ClassFile.{ClassFile}
+use Rattle.class_grammar.specs.declared.class_why.ClassWhy.{ClassWhy}
+use Rattle.class_file.specs.File.{first_bad}
+use Rattle.class_file.proofs.OutcomeLaws.{one_value, none_bad, some_spelled}
+use Rattle.ref_model.specs.Program.{Method}
+use Rattle.ref_model.specs.Alone.{alone}
+use Rattle.plain_program.specs.Programs.{IsSpelled, IsLinked}
+use Rattle.plain_program.proofs.Deciding.{linked_or_not}
+use Rattle.java_cli.specs.declared.errors.LoadError.{LoadError}
+use Rattle.java_cli.specs.declared.errors.LoadError.TheVariants as load
+use Rattle.java_cli.specs.declared.report.LinkWhy.TheVariants.{Unsupported}
+use Rattle.java_cli.specs.declared.report.Which.TheVariants.{Files}
+use Rattle.java_cli.specs.declared.report.Why.{Why}
+use Rattle.java_cli.specs.declared.report.Why.TheVariants.{Ended, Limit, NoMain, LinkFault}
+use Rattle.java_cli.specs.Limits.{most_files, most_bytes}
+use Rattle.java_cli.specs.Errors.{load_answer}
+use Rattle.java_cli.specs.Words.{Command}
+use Rattle.java_cli.specs.MainClass.{class_named, has_main}
+use Rattle.java_cli.specs.Causes.{Contents, IsClass, AreClasses, IsWrong, FirstWrong, IsLinkAnswer, IsDue, too_many, wrong, by_linking, AreBytes, OneIsDue}
+use Rattle.java_cli.specs.LinkCauses.{first_name}
+use Rattle.java_cli.proofs.NameLaws.{first_is}
+use Rattle.java_cli.proofs.AnswerLaws.{one_wrong, wrong_or_classes, one_link_answer, program_is}
+
+-- ---- at most one
+
+one_class : (contents : Contents) (f g : ClassFile) → IsClass contents f → IsClass contents g → f ≡ g
+one_class None f g x y = absurd x
+one_class (Some bytes) f g x y = one_value bytes f g x.1 y.1
+
+one_list : (contents : List Contents) (a b : List ClassFile) → AreClasses contents a → AreClasses contents b → a ≡ b
+one_list [] [] [] x y = refl
+one_list [] [] (g ∷ b) x y = absurd y
+one_list [] (f ∷ a) b x y = absurd x
+one_list (h ∷ contents) [] b x y = absurd x
+one_list (h ∷ contents) (f ∷ a) [] x y = absurd y
+one_list (h ∷ contents) (f ∷ a) (g ∷ b) x y =
+    let first : f ≡ g = one_class h f g x.0 y.0 in
+    let others : a ≡ b = one_list contents a b x.1 y.1 in
+    cc
+
+one_linked : (name : List ℕ) (contents : List Contents) (cs ds : List ClassFile) (a b : Why) → AreClasses contents cs → AreClasses contents ds → IsLinkAnswer name cs a → IsLinkAnswer name ds b → a ≡ b
+one_linked name contents cs ds a b are are_too x y =
+    one_link_answer name ds a b (subst (λ (es : List ClassFile). IsLinkAnswer name es a) (one_list contents cs ds are are_too) x) y
+
+one_due : (c : Command) (contents : List Contents) (a b : Why) → IsDue c contents a → IsDue c contents b → a ≡ b
+one_due c contents a b (too_many m e) (too_many n f) = e ∙ sym f
+one_due c contents a b (too_many m e) (wrong few error x f) = absurd (omega (arith, m, few))
+one_due c contents a b (too_many m e) (by_linking few classes are x) = absurd (omega (arith, m, few))
+one_due c contents a b (wrong few error x e) (too_many n f) = absurd (omega (arith, n, few))
+one_due c contents a b (wrong few error x e) (wrong few_too other y f) = e ∙ ap load_answer (one_wrong 0 contents error other x y) ∙ sym f
+one_due c contents a b (wrong few error x e) (by_linking few_too classes are y) = absurd (wrong_or_classes 0 contents error classes x are)
+one_due c contents a b (by_linking few classes are x) (too_many n f) = absurd (omega (arith, n, few))
+one_due c contents a b (by_linking few classes are x) (wrong few_too error y f) = absurd (wrong_or_classes 0 contents error classes y are)
+one_due c contents a b (by_linking few classes are x) (by_linking few_too others are_too y) = one_linked (class_named c.main) contents classes others a b are are_too x y
+
+-- ---- at least one
+
+by_check : (n : ℕ) (bytes : List ℕ) → AreBytes (Some bytes) → length bytes ≤ most_bytes → (o : Option (ℕ × ClassWhy)) → first_bad bytes ≡ o
+    → ((error : LoadError) × IsWrong n (Some bytes) error) ⊎ ((f : ClassFile) × IsClass (Some bytes) f)
+by_check n bytes fits small None e = let found = some_spelled bytes fits e in inr (found.0, (small, found.1))
+by_check n bytes fits small (Some x) e = inl (load.BadClass n x.0 x.1, inr (record { at = x.0; reason = x.1; small = small; none = λ f spelled. none (sym (none_bad bytes f spelled) ∙ e); first = e; is_error = refl }))
+  where
+    none : (let no : Option (ℕ × ClassWhy) = None in no ≡ Some x) → ⊥
+    none e = absurd cc
+
+wrong_or_read : (n : ℕ) (contents : Contents) → AreBytes contents → ((error : LoadError) × IsWrong n contents error) ⊎ ((f : ClassFile) × IsClass contents f)
+wrong_or_read n None fits = inl (load.Missing n, refl)
+wrong_or_read n (Some bytes) fits = by_size (cases_lt most_bytes (length bytes))
+  where
+    by_size : (most_bytes < length bytes) ⊎ (length bytes ≤ most_bytes) → ((error : LoadError) × IsWrong n (Some bytes) error) ⊎ ((f : ClassFile) × IsClass (Some bytes) f)
+    by_size (inl large) = inl (load.TooLarge, inl (large, refl))
+    by_size (inr small) = by_check n bytes fits small (first_bad bytes) refl
+
+joined : (n : ℕ) (h : Contents) (contents : List Contents) → ((error : LoadError) × IsWrong n h error) ⊎ ((f : ClassFile) × IsClass h f) → ((error : LoadError) × FirstWrong (n + 1) contents error) ⊎ ((classes : List ClassFile) × AreClasses contents classes)
+    → ((error : LoadError) × FirstWrong n (h ∷ contents) error) ⊎ ((classes : List ClassFile) × AreClasses (h ∷ contents) classes)
+joined n h contents (inl x) others = inl (x.0, inl x.1)
+joined n h contents (inr x) (inl y) = inl (y.0, inr (x.0, x.1, y.1))
+joined n h contents (inr x) (inr y) = inr (x.0 ∷ y.0, (x.1, y.1))
+
+first_wrong_or_read : (n : ℕ) (contents : List Contents) → AllByRecursion AreBytes contents → ((error : LoadError) × FirstWrong n contents error) ⊎ ((classes : List ClassFile) × AreClasses contents classes)
+first_wrong_or_read n [] fits = inr ([], tt)
+first_wrong_or_read n (h ∷ contents) fits = joined n h contents (wrong_or_read n h fits.0) (first_wrong_or_read (n + 1) contents fits.1)
+
+one_spelled : (contents : Contents) (f : ClassFile) → IsClass contents f → IsSpelled f
+one_spelled None f is = absurd is
+one_spelled (Some bytes) f is = (bytes, is.1)
+
+all_spelled : (contents : List Contents) (classes : List ClassFile) → AreClasses contents classes → AllByRecursion IsSpelled classes
+all_spelled [] [] are = tt
+all_spelled [] (f ∷ classes) are = absurd are
+all_spelled (h ∷ contents) [] are = absurd are
+all_spelled (h ∷ contents) (f ∷ classes) are = (one_spelled h f are.0, all_spelled contents classes are.1)
+
+by_linked : (name : List ℕ) (classes : List ClassFile) → AllByRecursion IsSpelled classes → has_main name classes ≡ true → ((m : Method) × IsLinked classes m) ⊎ ((m : Method) → IsLinked classes m → ⊥) → (a : Why) × IsLinkAnswer name classes a
+by_linked name classes spelled main (inl x) = (Ended, (alone x.0, program_is name classes x.0 main x.1))
+by_linked name classes spelled main (inr refuted) =
+    (LinkFault (first_name classes) Unsupported, record { main = main; none = λ p is. refuted is.method is.linked; first = first_is name classes main spelled; unsupported = refl })
+
+by_main : (name : List ℕ) (classes : List ClassFile) → AllByRecursion IsSpelled classes → (b : Bool) → has_main name classes ≡ b → (a : Why) × IsLinkAnswer name classes a
+by_main name classes spelled false e = (NoMain, e)
+by_main name classes spelled true e = by_linked name classes spelled e (linked_or_not classes spelled)
+
+by_files : (c : Command) (contents : List Contents) → length c.files ≤ most_files → ((error : LoadError) × FirstWrong 0 contents error) ⊎ ((classes : List ClassFile) × AreClasses contents classes) → (a : Why) × IsDue c contents a
+by_files c contents few (inl x) = (load_answer x.0, wrong few x.0 x.1 refl)
+by_files c contents few (inr x) =
+    let a = by_main (class_named c.main) x.0 (all_spelled contents x.0 x.1) (has_main (class_named c.main) x.0) refl in
+    (a.0, by_linking few x.0 x.1 a.1)
+
+some_due : (c : Command) (contents : List Contents) → AllByRecursion AreBytes contents → (a : Why) × IsDue c contents a
+some_due c contents fits = by_count (cases_lt most_files (length c.files))
+  where
+    by_count : (most_files < length c.files) ⊎ (length c.files ≤ most_files) → (a : Why) × IsDue c contents a
+    by_count (inl many) = (Limit Files most_files, too_many many refl)
+    by_count (inr few) = by_files c contents few (first_wrong_or_read 0 contents fits)
+
+pub one_is_due : (c : Command) (contents : List Contents) → AllByRecursion AreBytes contents → OneIsDue c contents
+one_is_due c contents fits =
+    let some = some_due c contents fits in
+    record { answer = some.0; due = some.1; only = λ other due. one_due c contents other some.0 due some.1 }

@@ -1,0 +1,13 @@
+pub mod Declarations
+pub mod Words
+pub mod Objects
+pub mod Texts
+pub mod System
+pub mod Threads
+pub mod ThreadBuilders
+pub mod Throwables
+pub mod Table
+pub mod Pool
+pub mod Build
+pub mod Library
+pub mod Natives

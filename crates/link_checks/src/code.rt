@@ -1,0 +1,151 @@
+//! What is wrong with the code of a method: its instructions from the first on, and then its exception table (JVMS 4.7.3).
+
+ghost use Rattle.std.specs.Prelude.{◌≡◌, ◌<◌, ◌^◌, length, IfOk};
+ghost use Rattle.std.specs.List.{flat_map};
+ghost use Rattle.opcodes.specs.Code.{IsFirstBad};
+ghost use Rattle.opcodes.specs.declared.error.CodeWhy.{CodeWhy};
+ghost use Rattle.linkage.specs.Instructions.{first_why, instr_faults};
+ghost use Rattle.linkage.specs.Resolution.{first_in};
+ghost use Rattle.linkage.specs.Faults as spec;
+ghost use Rattle.link_checks.specs.Firsts.{attribute_why, code_why, instr_why, row_why};
+
+use crate::instructions::{Namer, class_fault, instr_fault};
+use crate::rules::unless;
+use class_model::{Attribute, Body, CodeBody, Member, Row};
+use class_resolution::name_at;
+use items::NoMemory;
+use linkage::{LinkWhy, Purpose};
+use opcodes::{CodeError, Instr, decode};
+use std::alloc::Global;
+
+/// The instructions of a code up to the first that is bad, and whether there is such a one.
+#[derive(Drop)]
+pub struct Front {
+    pub instrs: Vec<Instr>,
+    pub is_bad: bool,
+}
+
+/// Decodes code as far as it goes. Code of 2^32 bytes or more counts as memory run out.
+pub fn front_of(alloc: Global, code: &[u8]) -> Result<Front, NoMemory>
+    ensures { IfOk result (λ front.
+        spec.decoded code.now ≡ record { instrs = front.instrs.items; is_bad = front.is_bad }) }
+{
+    if code.len() > u32::MAX as usize {
+        return Err(NoMemory);
+    }
+    match decode(alloc, code) {
+        Ok(instrs) => Ok(Front {
+            instrs,
+            is_bad: false,
+        }),
+        Err(CodeError::Bad { pc, .. }) => front_before(alloc, code, pc),
+        Err(CodeError::NoMemory) => Err(NoMemory),
+    }
+}
+
+// The instructions before the first that is bad.
+fn front_before(alloc: Global, code: &[u8], pc: u32) -> Result<Front, NoMemory>
+    requires small { length code.now < 2 ^ 32 }
+    requires bad { (why : CodeWhy) × IsFirstBad code.now pc why }
+    ensures { IfOk result (λ front.
+        spec.decoded code.now ≡ record { instrs = front.instrs.items; is_bad = front.is_bad }) }
+{
+    match decode(alloc, &code[..pc as usize]) {
+        Ok(instrs) => Ok(Front {
+            instrs,
+            is_bad: true,
+        }),
+        Err(_) => Err(NoMemory),
+    }
+}
+
+fn instrs_fault(alloc: Global, namer: Namer, instrs: &[Instr]) -> Result<Option<LinkWhy>, NoMemory>
+    ensures { IfOk result (λ fault. fault ≡ first_in (instr_why
+        namer.entry.world.now namer.entry.class namer.entry.pool.now) instrs.now) }
+{
+    for instr in instrs {
+        if let Some(why) = instr_fault(alloc, namer, &instr.op)? {
+            return Ok(Some(why));
+        }
+    }
+    Ok(None)
+}
+
+// What is wrong with the class that a row catches; index 0 stands for every throwable.
+fn row_fault(namer: Namer, row: &Row) -> Option<LinkWhy>
+    ensures { result ≡ first_why (spec.row_faults
+        namer.entry.world.now namer.entry.class namer.entry.pool.now row.now) }
+{
+    if row.catch_type == 0 {
+        return None;
+    }
+    let name = name_at(namer.pool, row.catch_type);
+    class_fault(namer.world, namer.class, Purpose::Type, name)
+}
+
+fn rows_fault(namer: Namer, rows: &[Row]) -> Option<LinkWhy>
+    ensures { result ≡ first_in (row_why
+        namer.entry.world.now namer.entry.class namer.entry.pool.now) rows.now }
+{
+    for row in rows {
+        if let Some(why) = row_fault(namer, row) {
+            return Some(why);
+        }
+    }
+    None
+}
+
+/// What is wrong with a code.
+fn code_fault(alloc: Global, namer: Namer, body: &CodeBody) -> Result<Option<LinkWhy>, NoMemory>
+    ensures { IfOk result (λ fault. fault ≡ first_why (spec.code_faults
+        namer.entry.world.now namer.entry.class namer.entry.pool.now body.now)) }
+{
+    let front = front_of(alloc, &body.code)?;
+    let instrs = instrs_fault(alloc, namer, &front.instrs)?;
+    let end = unless(!front.is_bad, LinkWhy::BadCode);
+    let rows = rows_fault(namer, &body.rows);
+    Ok(instrs.or(end).or(rows))
+}
+
+fn attribute_fault(
+    alloc: Global,
+    namer: Namer,
+    attribute: &Attribute,
+) -> Result<Option<LinkWhy>, NoMemory>
+    ensures { IfOk result (λ fault. fault ≡ first_why (spec.attribute_faults
+        namer.entry.world.now namer.entry.class namer.entry.pool.now attribute.now)) }
+{
+    match &attribute.body {
+        Body::Code(body) => code_fault(alloc, namer, body),
+        _ => Ok(None),
+    }
+}
+
+fn attributes_fault(
+    alloc: Global,
+    namer: Namer,
+    attributes: &[Attribute],
+) -> Result<Option<LinkWhy>, NoMemory>
+    ensures { IfOk result (λ fault. fault ≡ first_in (attribute_why
+        namer.entry.world.now namer.entry.class namer.entry.pool.now) attributes.now) }
+{
+    for attribute in attributes {
+        if let Some(why) = attribute_fault(alloc, namer, attribute)? {
+            return Ok(Some(why));
+        }
+    }
+    Ok(None)
+}
+
+/// What is wrong with the code of a method, if it has code.
+pub fn method_code_fault(
+    alloc: Global,
+    namer: Namer,
+    method: &Member,
+) -> Result<Option<LinkWhy>, NoMemory>
+    ensures { IfOk result (λ fault. fault ≡ code_why
+        namer.entry.world.now namer.entry.class namer.entry.pool.now method.now) }
+{
+    let fault = attributes_fault(alloc, namer, &method.attributes)?;
+    Ok(fault)
+}

@@ -1,0 +1,11 @@
+//! What is wrong with a program first (JVMS 5.3, 5.4): the rules of `linkage`, tried in their order.
+#![tactic(auto)]
+
+mod class_rules;
+mod code;
+mod instructions;
+mod program;
+mod rules;
+
+pub use code::{Front, front_of};
+pub use program::link_fault;

@@ -1,0 +1,137 @@
+//! What is wrong with a class, and with a program (JVMS 5.3, 5.4).
+
+ghost use Rattle.std.specs.Prelude.{◌≡◌, IfOk};
+ghost use Rattle.std.specs.List.{enumerate_from};
+ghost use Rattle.linkage.specs.Resolution.{first_in};
+ghost use Rattle.linkage.specs.Faults as spec;
+ghost use Rattle.link_checks.specs.Firsts.{class_why, code_why, field_why, interface_why, method_why};
+
+use crate::class_rules::{field_fault, interface_fault, method_fault, name_fault, parent_fault};
+use crate::code::method_code_fault;
+use crate::instructions::Namer;
+use class_model::ClassFile;
+use class_resolution::{Hierarchy, name_at, own_name};
+use items::{Items, NoMemory};
+use linkage::{LinkFault, LinkWhy};
+use std::alloc::Global;
+
+fn interfaces_fault(world: &Hierarchy, class: u32, file: &ClassFile) -> Option<LinkWhy>
+    ensures { result ≡ first_in (interface_why world.now class file.now) file.now.interfaces }
+{
+    for index in file.interfaces.iter() {
+        if let Some(why) = interface_fault_at(world, class, file, *index) {
+            return Some(why);
+        }
+    }
+    None
+}
+
+fn interface_fault_at(
+    world: &Hierarchy,
+    class: u32,
+    file: &ClassFile,
+    index: u16,
+) -> Option<LinkWhy>
+    ensures { result ≡ interface_why world.now class file.now index }
+{
+    interface_fault(world, class, name_at(&file.pool, index))
+}
+
+fn fields_fault(world: &Hierarchy, class: u32, file: &ClassFile) -> Option<LinkWhy>
+    ensures { result ≡ first_in (field_why world.now class file.now)
+        (enumerate_from 0 file.now.fields) }
+{
+    for (index, field) in file.fields.iter().enumerate() {
+        if let Some(why) = field_fault(world, class, file, index, field) {
+            return Some(why);
+        }
+    }
+    None
+}
+
+fn methods_fault(world: &Hierarchy, class: u32, file: &ClassFile) -> Option<LinkWhy>
+    ensures { result ≡ first_in (method_why world.now class file.now)
+        (enumerate_from 0 file.now.methods) }
+{
+    for (index, method) in file.methods.iter().enumerate() {
+        if let Some(why) = method_fault(world, class, file, index, method) {
+            return Some(why);
+        }
+    }
+    None
+}
+
+fn codes_fault(
+    alloc: Global,
+    world: &Hierarchy,
+    class: u32,
+    file: &ClassFile,
+) -> Result<Option<LinkWhy>, NoMemory>
+    ensures { IfOk result (λ fault. fault ≡
+        first_in (code_why world.now class file.now.pool) file.now.methods) }
+{
+    for method in file.methods.iter() {
+        let namer = Namer {
+            world,
+            class,
+            pool: &file.pool,
+        };
+        if let Some(why) = method_code_fault(alloc, namer, method)? {
+            return Ok(Some(why));
+        }
+    }
+    Ok(None)
+}
+
+// What is wrong with a class.
+fn class_fault(
+    alloc: Global,
+    world: &Hierarchy,
+    class: u32,
+    file: &ClassFile,
+) -> Result<Option<LinkWhy>, NoMemory>
+    ensures { IfOk result (λ fault. fault ≡ class_why world.now class file.now) }
+{
+    let name = name_fault(world, class, file);
+    let parent = parent_fault(world, class, file);
+    let interfaces = interfaces_fault(world, class, file);
+    let fields = fields_fault(world, class, file);
+    let methods = methods_fault(world, class, file);
+    let codes = codes_fault(alloc, world, class, file)?;
+    Ok(
+        name.or(parent)
+            .or(interfaces)
+            .or(fields)
+            .or(methods)
+            .or(codes),
+    )
+}
+
+fn fault_of_class(
+    alloc: Global,
+    world: &Hierarchy,
+    class: u32,
+    file: &ClassFile,
+) -> Result<Option<LinkFault>, NoMemory>
+    ensures { IfOk result (λ fault. fault ≡ spec.fault_of_class world.now (class, file.now)) }
+{
+    match class_fault(alloc, world, class, file)? {
+        Some(why) => Ok(Some(LinkFault {
+            class: Items::from(Vec::from_slice(alloc, own_name(file))?),
+            why,
+        })),
+        None => Ok(None),
+    }
+}
+
+/// What is wrong first with a program, and the class where it is. `None`: the program links.
+pub fn link_fault(alloc: Global, world: &Hierarchy) -> Result<Option<LinkFault>, NoMemory>
+    ensures { IfOk result (λ fault. fault ≡ spec.link_fault world.now) }
+{
+    for (index, file) in world.classes().files().iter().enumerate() {
+        if let Some(fault) = fault_of_class(alloc, world, index as u32, file)? {
+            return Ok(Some(fault));
+        }
+    }
+    Ok(None)
+}

@@ -1,0 +1,68 @@
+-- A well typed program as a relation for each instruction, without an order of rules (JVMS 4.10.1).
+use Rattle.std.specs.Prelude.{◌≡◌, ℕ, ◌<◌, true, false, List, [], ◌∷◌, ◌++◌, Option, Some, None, Ok, length, slice_get, ◌&&◌}
+use Rattle.std.specs.List.{list_all}
+use Rattle.instruction_rows.specs.Rows.{targets_of_row, row_goes_on}
+use Rattle.world_model.specs.World.{World}
+use Rattle.verify_types.specs.TypeStates.{TypeState}
+use Rattle.opcodes.specs.Code.{IsCode}
+use Rattle.world_model.specs.declared.members.MethodCode.{MethodCode}
+use Rattle.verify_types.specs.Environment.{Environment, environment}
+use Rattle.verify_types.specs.Effects.{row_of, state_after}
+use Rattle.verify_types.specs.Handlers.{are_satisfied, is_returned, is_finished}
+use Rattle.verify_types.specs.Walk.{Placed, walk}
+use Rattle.verify_types.specs.Faults.{is_target, entry_fits, result_fits, is_shallow, has_locals, stray_frames}
+
+-- ---- lists
+
+abbrev pub Each : {A : Type 0} → (A → Type 0) → List A → Type 0
+Each P [] = Unit {0}
+Each P (x ∷ xs) = P x × Each P xs
+
+abbrev pub AllNone : {A : Type 0} → List (Option A) → Type 0
+AllNone xs = Each (λ x. x ≡ None) xs
+
+-- x is the first that there is
+pub record IsFirst {A : Type 0} (xs : List (Option A)) (x : A) : Type 0 where
+  pub front : List (Option A)
+  pub rest : List (Option A)
+  pub parts : xs ≡ front ++ Some x ∷ rest
+  pub none : AllNone front
+
+-- ---- a method
+
+-- An instruction keeps to every rule, and no frame of the map lies between it and the next.
+pub record KeepsRules (env : Environment) (p : Placed) : Type 0 where
+  pub state : TypeState
+  pub has : p.state ≡ Some state
+  pub after : TypeState
+  pub is : state_after env p.instruction state ≡ Ok after
+  pub targets : list_all (is_target env) (targets_of_row (row_of p.instruction)) ≡ true
+  pub entry : entry_fits env p ≡ true
+  pub frames : result_fits env p (Ok after) ≡ true
+  pub before_shallow : is_shallow env state ≡ true
+  pub after_shallow : is_shallow env after ≡ true
+  pub locals : has_locals env state ≡ true
+  pub handlers : are_satisfied env p.instruction.instr.pc state ≡ true
+  pub returned : is_returned env (row_of p.instruction) state ≡ true
+  pub finished : is_finished (row_of p.instruction) state ≡ true
+  pub ended : (row_goes_on (row_of p.instruction) && p.is_last) ≡ false
+  pub stray : stray_frames env p ≡ []
+
+pub record IsAccepted (env : Environment) : Type 0 where
+  pub mapped : env.is_mapped ≡ true
+  pub each : Each (KeepsRules env) (walk env)
+
+-- each method with code is accepted
+abbrev pub AreAccepted : World → Type 0
+AreAccepted w = (n : ℕ) (env : Environment) → environment w n ≡ Some env → IsAccepted env
+
+-- ---- what a linked program has
+
+-- the instructions are those of some bytes, of which there is one at least (JVMS 4.7.3)
+pub record IsDecoded (code : MethodCode) : Type 0 where
+  pub bytes : List ℕ
+  pub is_code : IsCode bytes code.code
+  pub some : 0 < length bytes
+
+abbrev pub AreDecoded : World → Type 0
+AreDecoded w = (n : ℕ) (code : MethodCode) → slice_get w.codes n ≡ Some (Some code) → IsDecoded code

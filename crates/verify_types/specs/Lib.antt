@@ -1,0 +1,13 @@
+pub mod ClassTypes
+pub mod Assignability
+pub mod TypeStates
+pub mod Environment
+pub mod Operands
+pub mod Objects
+pub mod Calls
+pub mod Effects
+pub mod Handlers
+pub mod Walk
+pub mod Faults
+pub mod Acceptance
+pub mod Typing

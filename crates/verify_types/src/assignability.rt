@@ -1,0 +1,99 @@
+ghost use Rattle.std.specs.Prelude.{◌≡◌};
+ghost use Rattle.verify_types.specs.Assignability as spec;
+
+use stack_maps::{Base, VType};
+use world_model::Lookups;
+
+// Whether this is the number of one of the classes above each array class (JLS 4.10.3).
+fn is_above_arrays<L: Lookups>(w: &L, class: u32) -> bool
+    ensures { result ≡ spec.is_above_arrays (L.world w.now) class }
+{
+    is_number(w.object(), class) || is_number(w.cloneable(), class) || is_number(w.serializable(), class)
+}
+
+// Whether the number that was found, if any, is this one.
+fn is_number(found: Option<u32>, class: u32) -> bool
+    ensures { result ≡ spec.is_number found class }
+{
+    match found {
+        Some(n) => n == class,
+        None => false,
+    }
+}
+
+// Whether a class or an interface is assignable to another.
+fn class_assignable<L: Lookups>(w: &L, a: u32, b: u32) -> bool
+    ensures { result ≡ spec.class_assignable (L.world w.now) a b }
+{
+    a == b
+        || w.is_interface(b)
+        || w.is_below(a, b)
+        || (w.class_count() <= a as usize && is_number(w.object(), b))
+}
+
+// Whether the last elements of arrays, or classes, are assignable.
+fn base_assignable<L: Lookups>(w: &L, a: Base, b: Base) -> bool
+    ensures { result ≡ spec.base_assignable (L.world w.now) a b }
+{
+    match b {
+        Base::Class(to) => match a {
+            Base::Class(from) => class_assignable(w, from, to),
+            _ => false,
+        },
+        Base::Bool => matches!(a, Base::Bool),
+        Base::Byte => matches!(a, Base::Byte),
+        Base::Char => matches!(a, Base::Char),
+        Base::Short => matches!(a, Base::Short),
+        Base::Int => matches!(a, Base::Int),
+        Base::Long => matches!(a, Base::Long),
+        Base::Float => matches!(a, Base::Float),
+        Base::Double => matches!(a, Base::Double),
+    }
+}
+
+// Whether a class is above each array class.
+fn is_array_super<L: Lookups>(w: &L, base: Base) -> bool
+    ensures { result ≡ spec.is_array_super (L.world w.now) base }
+{
+    match base {
+        Base::Class(class) => is_above_arrays(w, class),
+        _ => false,
+    }
+}
+
+// Whether an array or a class is assignable to another, each by its dimensions and what lies below them.
+fn named_assignable<L: Lookups>(w: &L, m: u8, a: Base, n: u8, b: Base) -> bool
+    ensures { result ≡ spec.named_assignable (L.world w.now) m a n b }
+{
+    if m == n {
+        base_assignable(w, a, b)
+    } else {
+        n < m && is_array_super(w, b)
+    }
+}
+
+/// Whether a value of type `a` may stand for one of type `b` (JVMS 4.10.1.2). Constants of a pool are resolved first: an
+/// `Object` is assignable to Top alone.
+pub fn assignable<L: Lookups>(w: &L, a: VType, b: VType) -> bool
+    ensures { result ≡ spec.assignable (L.world w.now) a b }
+{
+    match b {
+        VType::Top => true,
+        VType::Int => matches!(a, VType::Int),
+        VType::Float => matches!(a, VType::Float),
+        VType::Double => matches!(a, VType::Double),
+        VType::Long => matches!(a, VType::Long),
+        VType::Null => matches!(a, VType::Null),
+        VType::UninitThis => matches!(a, VType::UninitThis),
+        VType::Object(_) => false,
+        VType::Uninit(to) => match a {
+            VType::Uninit(from) => from == to,
+            _ => false,
+        },
+        VType::Named(n, to) => match a {
+            VType::Null => true,
+            VType::Named(m, from) => named_assignable(w, m, from, n, to),
+            _ => false,
+        },
+    }
+}

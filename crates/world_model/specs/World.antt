@@ -1,0 +1,74 @@
+-- A linked world: the classes of a program, and tables by number. Classes have the numbers of their places in the program; behind
+-- them come the other names of classes that a pool or a descriptor has, and behind these the array types. Fields and methods are
+-- numbered in the order of the classes, and in a class in the order of its file. (own)
+use Rattle.std.specs.Prelude.{ℕ, ◌+◌, ◌-◌, Bool, true, false, List, [], ◌∷◌, Option, Some, None, length, position, slice_get, nat_lt, codes, ◌==◌, ◌&&◌, if◌then◌else◌}
+use Rattle.std.specs.Bool.{beq}
+use Rattle.std.specs.Option.{option_map, option_map_or, option_and_then}
+use Rattle.stack_maps.specs.declared.types.Base.{Base}
+use Rattle.stack_maps.specs.declared.types.Base.TheVariants as bases
+use Rattle.stack_maps.specs.declared.types.VType.{VType}
+use Rattle.stack_maps.specs.declared.types.VType.TheVariants.{Named}
+use Rattle.class_grammar.specs.Text.{same_text}
+use Rattle.linkage.specs.Program.{Program, is_array_name}
+use Rattle.linkage.specs.Hierarchy.{is_below}
+use Rattle.linkage.specs.Constants.{dimensions_of, last_element, name_in}
+use Rattle.world_model.specs.declared.members.FieldInfo.{FieldInfo}
+use Rattle.world_model.specs.declared.members.MethodInfo.{MethodInfo}
+use Rattle.world_model.specs.declared.members.MethodCode.{MethodCode}
+use Rattle.world_model.specs.declared.sites.ArrayType.{ArrayType}
+use Rattle.world_model.specs.declared.sites.Naming.{Naming}
+
+pub record World : Type 0 where
+  pub program : Program
+  -- the names of classes by number, those of the program first
+  pub names : List (List ℕ)
+  -- the array types behind them
+  pub arrays : List ArrayType
+  pub fields : List FieldInfo
+  pub methods : List MethodInfo
+  -- by method, for one without code None
+  pub codes : List (Option MethodCode)
+  -- by method, and then by instruction
+  pub namings : List (List Naming)
+  -- by method, and then by row of the exception table: the number of the class that is caught, None for every throwable
+  pub catches : List (List (Option ℕ))
+
+-- ---- classes and arrays by number
+
+-- how many classes the program has
+abbrev pub class_count : World → ℕ
+class_count w = length w.program.classes
+
+-- the number of the class of this name
+abbrev pub name_number : World → List ℕ → Option ℕ
+name_number w name = position (λ other. same_text other name) w.names
+
+-- the array type with this number
+abbrev pub array_type : World → ℕ → Option ArrayType
+array_type w n = if nat_lt n (length w.names) then None else slice_get w.arrays (n - length w.names)
+
+-- the type of the objects of the class with this number
+abbrev pub class_type : World → ℕ → VType
+class_type w n = option_map_or (λ (a : ArrayType). Named a.dimensions a.base) (array_type w n) (Named 0 (bases.Class n))
+
+-- ---- types by name
+
+-- the type that the descriptor of the last elements of an array has
+abbrev pub base_of : World → List ℕ → Option Base
+base_of w [] = None
+base_of w (u ∷ us) =
+    if u == 66 then Some bases.Byte  -- B
+    else if u == 67 then Some bases.Char  -- C
+    else if u == 68 then Some bases.Double  -- D
+    else if u == 70 then Some bases.Float  -- F
+    else if u == 73 then Some bases.Int  -- I
+    else if u == 74 then Some bases.Long  -- J
+    else if u == 83 then Some bases.Short  -- S
+    else if u == 90 then Some bases.Bool  -- Z
+    else option_map bases.Class (name_number w (name_in (u ∷ us)))
+
+-- the type that the name of a class or of an array class means
+abbrev pub named_type : World → List ℕ → Option VType
+named_type w name =
+    if is_array_name name then option_map (Named (dimensions_of name)) (base_of w (last_element name))
+    else option_map (λ n. Named 0 (bases.Class n)) (name_number w name)

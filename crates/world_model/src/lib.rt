@@ -1,0 +1,11 @@
+//! The linked world as plain values: the classes of a program with their numbers, and what the names in their code mean (JVMS 5.4;
+//! the numbers: own). `specs/` says which world a program has.
+#![tactic(auto)]
+
+mod lookups;
+mod members;
+mod sites;
+
+pub use lookups::Lookups;
+pub use members::{FieldInfo, MethodCode, MethodInfo};
+pub use sites::{ArrayType, Naming, Site};

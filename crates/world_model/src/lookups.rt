@@ -1,0 +1,56 @@
+ghost use Rattle.std.specs.Prelude.{◌≡◌, codes, slice_get};
+ghost use Rattle.std.specs.Option.{option_copied};
+ghost use Rattle.class_grammar.specs.Names.{object_class};
+ghost use Rattle.linkage.specs.Program as program;
+ghost use Rattle.linkage.specs.Hierarchy as hierarchy;
+ghost use Rattle.world_model.specs.World as spec;
+ghost use Rattle.world_model.specs.World.{World};
+ghost use Rattle.world_model.specs.Pools as pools;
+
+use stack_maps::VType;
+
+/// What typing asks of a linked world. Each call takes constant time, but `name_number`, which looks a name up.
+pub trait Lookups {
+    /// The world as a plain value.
+    ghost world: { Self → World };
+
+    /// How many classes the program has. A class with a number from here on is named, and isn't there.
+    fn class_count(&self) -> usize
+        ensures { result ≡ spec.class_count (world self.now) };
+
+    /// Whether the class is an interface (JVMS 4.1).
+    fn is_interface(&self, class: u32) -> bool
+        ensures { result ≡ program.is_interface (world self.now).program class };
+
+    /// Whether `a` is `b`, or `b` is among its superclasses and superinterfaces (JVMS 5.3.5).
+    fn is_below(&self, a: u32, b: u32) -> bool
+        ensures { result ≡ hierarchy.is_below (world self.now).program a b };
+
+    /// The direct superclass. `None` for Object, and for a class that isn't in the program.
+    fn parent(&self, class: u32) -> Option<u32>
+        ensures { result ≡ hierarchy.parent_of (world self.now).program class };
+
+    /// The number of the class of this name. `None`: no pool or descriptor has the name.
+    fn name_number(&self, name: &[u16]) -> Option<u32>
+        ensures { result ≡ spec.name_number (world self.now) name.now };
+
+    /// The number of java/lang/Object.
+    fn object(&self) -> Option<u32>
+        ensures { result ≡ spec.name_number (world self.now) object_class };
+
+    /// The number of java/lang/Cloneable.
+    fn cloneable(&self) -> Option<u32>
+        ensures { result ≡ spec.name_number (world self.now) (codes "java/lang/Cloneable") };
+
+    /// The number of java/io/Serializable.
+    fn serializable(&self) -> Option<u32>
+        ensures { result ≡ spec.name_number (world self.now) (codes "java/io/Serializable") };
+
+    /// The type of the objects of a class or an array class.
+    fn class_type(&self, class: u32) -> VType
+        ensures { result ≡ spec.class_type (world self.now) class };
+
+    /// The type that a constant of a class's pool means. `None`: it is no class.
+    fn pool_type(&self, class: u32, index: u16) -> Option<VType>
+        ensures { result ≡ pools.pool_type (world self.now) class index };
+}
