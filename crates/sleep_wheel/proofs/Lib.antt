@@ -3,3 +3,4 @@ pub mod SlotLaws
 pub mod AlarmLaws
 pub mod DueLaws
 pub mod RebuildLaws
+pub mod UniqueLaws

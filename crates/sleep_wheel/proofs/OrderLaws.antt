@@ -19,7 +19,7 @@ not_less_first Less b h = h
 not_less_first Equal b h = refl
 not_less_first Greater b h = refl
 
-not_below : (m n : ℕ) → is_lt (nat_cmp m n) ≡ false → n ≤ m
+pub not_below : (m n : ℕ) → is_lt (nat_cmp m n) ≡ false → n ≤ m
 not_below m n h =
     elim (cases_lt m n) [
       | inl lt ↦

@@ -2,8 +2,10 @@
 #![tactic(auto)]
 
 mod alarms;
+mod laws;
 mod sleeper;
 mod wheel;
 
+pub use laws::one_due_list;
 pub use sleeper::{Key, Sleeper};
 pub use wheel::Wheel;

@@ -42,7 +42,7 @@ impl Wheel {
         })
     }
 
-    /// Makes room for that many more sleepers. Where memory runs out the sleepers stay, as they do otherwise.
+    /// Makes room for that many more sleepers, and leaves those that there are as they are.
     pub fn room(&mut self, n: u32) -> Result<(), NoMemory>
         ensures room { OnOk result (n ≤ self.new.spare) }
         ensures sleepers { self.new.slots ≡ self.old.slots }

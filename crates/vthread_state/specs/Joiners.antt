@@ -1,7 +1,7 @@
 -- The lists of those who join each thread.
-use Rattle.std.specs.Prelude.{◌≡◌, ℕ, ◌<◌, ◌≤◌, List, [], ◌∷◌, length, Option, Some, None, slice_set, ◌==◌, if◌then◌else◌}
+use Rattle.std.specs.Prelude.{◌≡◌, ℕ, ◌<◌, ◌≤◌, List, [], ◌∷◌, length, Option, Some, None, ◌==◌, if◌then◌else◌}
 use Rattle.std.specs.Option.{ForSome}
-use Rattle.thread_lists.specs.Lists.{Lists, list_at, push, without, count}
+use Rattle.thread_lists.specs.Lists.{Lists, count, leave, list_at, push}
 use Rattle.vthread_state.specs.declared.thread.Thread.{Thread}
 use Rattle.vthread_state.specs.Threads.{joins_in}
 
@@ -19,7 +19,7 @@ pub record IsJoined (threads : List Thread) (lists : Lists) : Type 0 where
 -- a thread leaves the list of the thread that it joins
 abbrev pub lists_without : List (List ℕ) → ℕ → Option ℕ → List (List ℕ)
 lists_without lists u None = lists
-lists_without lists u (Some target) = slice_set lists target (without u (list_at lists target))
+lists_without lists u (Some target) = leave lists target u
 
 -- a thread comes to the list of the thread that it joins
 abbrev pub lists_with : List (List ℕ) → ℕ → Option ℕ → List (List ℕ)

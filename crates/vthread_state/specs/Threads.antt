@@ -29,7 +29,7 @@ status_at table t = option_map (λ (thread : Thread). thread.status) (thread_at 
 abbrev pub phase_at : Threads → ℕ → Option Phase
 phase_at table t = status_at table t >>= phase_of
 
--- a thread is threads_with, and all others stay
+-- a thread is changed, and all others stay
 abbrev pub threads_with : (Thread → Thread) → List Thread → ℕ → Option Thread → List Thread
 threads_with f threads t None = threads
 threads_with f threads t (Some thread) = slice_set threads t (f thread)
