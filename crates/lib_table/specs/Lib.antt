@@ -11,3 +11,4 @@ pub mod Pool
 pub mod Build
 pub mod Library
 pub mod Natives
+pub mod Spelled

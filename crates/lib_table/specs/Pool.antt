@@ -1,6 +1,6 @@
 -- The constant pool of a class file that is made of a declaration (JVMS 4.4): a constant stands in it once, at the place where it is
 -- mentioned first, behind the constants that it names. (own)
-use Rattle.std.specs.Prelude.{ℕ, Bool, true, false, List, [], ◌∷◌, ◌++◌, Option, Some, None, length, position, ◌==◌, ◌&&◌}
+use Rattle.std.specs.Prelude.{ℕ, Bool, false, List, [], ◌∷◌, ◌++◌, Option, Some, None, length, position, ◌==◌, ◌&&◌}
 use Rattle.class_model.specs.declared.constant.Const.{Const}
 use Rattle.class_model.specs.declared.constant.Const.TheVariants.{Utf8, Class, Text, Fieldref, Methodref, InterfaceMethodref, NameAndType}
 use Rattle.class_grammar.specs.Text.{same_text}

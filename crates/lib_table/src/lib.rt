@@ -5,6 +5,7 @@ mod build;
 mod code;
 mod declarations;
 mod instruction;
+mod laws;
 mod library;
 mod native;
 mod natives;
@@ -17,6 +18,7 @@ mod threads;
 mod throwables;
 mod words;
 
+pub use laws::library_is_spelled;
 pub use library::classes;
 pub use native::Native;
 pub use natives::native_of;

@@ -1,11 +1,12 @@
 //! The built-in classes as class files.
 
-ghost use Rattle.std.specs.Prelude.{◌≡◌, [], ◌∷◌, ◌++◌, IfOk, OnOk, map};
+ghost use Rattle.std.specs.Prelude.{◌≡◌, [], ◌∷◌, ◌++◌, All, IfOk, OnOk, map};
 ghost use Rattle.std.specs.List.{flat_map};
 ghost use Rattle.lib_table.specs.Declarations.{class_of, group_of};
 ghost use Rattle.lib_table.specs.Build as spec;
 ghost use Rattle.lib_table.specs.Table.{groups};
 ghost use Rattle.lib_table.specs.Library.{library};
+ghost use Rattle.lib_table.specs.Spelled.{IsSpelled};
 
 use crate::build::class_file;
 use crate::declarations::ClassDeclaration;
@@ -47,9 +48,10 @@ fn push_all(
     Ok(())
 }
 
-/// The built-in classes in their order, `java.lang.Object` first.
+/// The built-in classes in their order, `java.lang.Object` first. Each has bytes.
 pub fn classes(alloc: Global) -> Result<Vec<ClassFile>, NoMemory>
-    ensures { IfOk result (λ files. files.items ≡ library) }
+    ensures exact { IfOk result (λ files. files.items ≡ library) }
+    ensures spelled { IfOk result (λ files. All IsSpelled files.items) }
 {
     let mut files = Vec::new(alloc);
     for group in &declaration_groups() {

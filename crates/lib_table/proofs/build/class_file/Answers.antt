@@ -1,4 +1,4 @@
-use Rattle.std.proofs.Common.{List, [], ℕ, ap, ◌∙◌}
+use Rattle.std.proofs.Common.{List, ℕ, ap, ◌∙◌}
 use Rattle.class_model.specs.declared.attribute.Attribute.{Attribute}
 use Rattle.class_model.specs.declared.class_file.ClassFile.{ClassFile}
 use Rattle.class_model.specs.declared.constant.Const.{Const}

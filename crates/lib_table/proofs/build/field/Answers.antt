@@ -1,6 +1,5 @@
 use Rattle.std.proofs.Common.{List, [], ap, ◌∙◌}
 use Rattle.class_model.specs.declared.attribute.Attribute.{Attribute}
-use Rattle.class_model.specs.declared.member.Member.{Member}
 use Rattle.lib_table.specs.Pool as pools
 use Rattle.lib_table.specs.Pool.{◌then◌}
 use Rattle.lib_table.specs.Build as spec

@@ -1,4 +1,4 @@
-use Rattle.std.proofs.Common.{List, [], ℕ, map, ap, ◌∙◌}
+use Rattle.std.proofs.Common.{List, [], map, ap, ◌∙◌}
 use Rattle.std.specs.List.{fold}
 use Rattle.class_model.specs.declared.attribute.Row.{Row}
 use Rattle.lib_table.specs.Declarations.{meaning}
