@@ -173,7 +173,8 @@ impl Monitors {
         let Some(kept) = find(&self.records, o) else {
             unreachable!()
         };
-        if kept.owner.is_some() {
+        let taken = kept.owner.is_some();
+        if taken {
             return false;
         }
         self.lists.remove(kept.entry(), t);

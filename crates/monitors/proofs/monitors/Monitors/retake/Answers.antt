@@ -9,9 +9,9 @@ pub unreachable-requires : goal.unreachable-requires
 unreachable-requires c =
     call.in_line_used c.self.inside c.args.o c.args.t (sym c.find.ensures ∙ c.in_default.is) (subst (λ (v : Monitors). IsInLine c.args.t (monitor_of v c.args.o)) (sym c.self.view_is) c.requires)
 
-pub returns-then-is_some-clause-taken : goal.returns-then-is_some-clause-taken
-returns-then-is_some-clause-taken c =
-    rw (← c.self.view_is) (sym (ap (λ (m : Monitor). is_none m.owner) (in_use_is c.self.inside c.args.o c.in-Some.kept (sym c.find.ensures ∙ c.in-Some.is)) ∙ call.is_none_of c.in-Some.kept.owner ∙ ap not (sym c.is_some.ensures ∙ c.if-is_some.true)))
+pub returns-then-taken-clause-taken : goal.returns-then-taken-clause-taken
+returns-then-taken-clause-taken c =
+    rw (← c.self.view_is) (sym (ap (λ (m : Monitor). is_none m.owner) (in_use_is c.self.inside c.args.o c.in-Some.kept (sym c.find.ensures ∙ c.in-Some.is)) ∙ call.is_none_of c.in-Some.kept.owner ∙ ap not (sym c.is_some-taken.ensures ∙ c.if-taken.true)))
 
 pub remove-requires-clause-held : goal.remove-requires-clause-held
 remove-requires-clause-held c =
@@ -24,7 +24,7 @@ invariant_of-self c =
 
 pub returns-clause-taken : goal.returns-clause-taken
 returns-clause-taken c =
-    rw (← c.self.view_is) (sym (ap (λ (m : Monitor). is_none m.owner) (in_use_is c.self.inside c.args.o c.in-Some.kept (sym c.find.ensures ∙ c.in-Some.is)) ∙ call.is_none_of c.in-Some.kept.owner ∙ ap not (sym c.is_some.ensures ∙ c.if-is_some.false)))
+    rw (← c.self.view_is) (sym (ap (λ (m : Monitor). is_none m.owner) (in_use_is c.self.inside c.args.o c.in-Some.kept (sym c.find.ensures ∙ c.in-Some.is)) ∙ call.is_none_of c.in-Some.kept.owner ∙ ap not (sym c.is_some-taken.ensures ∙ c.if-taken.false)))
 
 pub returns-clause-yes : goal.returns-clause-yes
 returns-clause-yes c =
