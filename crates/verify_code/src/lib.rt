@@ -1,6 +1,8 @@
 //! Verifies the code of a linked program (JVMS 4.10.1).
 #![tactic(auto)]
 
+mod local_rows;
+mod objects;
 mod operands;
 mod stack_items;
 mod stop;

@@ -1,7 +1,8 @@
-ghost use Rattle.std.specs.Prelude.{◌≡◌, ℤ, [], ◌∷◌, Err, MatchOption, OnOk, OnErr, ok_or};
+ghost use Rattle.std.specs.Prelude.{◌≡◌, [], ◌∷◌, Ok, Err, MatchOption, OnOk, OnErr, ok_or};
 ghost use Rattle.instruction_rows.specs.Contents.{with_item};
 ghost use Rattle.instruction_rows.specs.Kinds.{is_kind, kind_of_type};
 ghost use Rattle.instruction_rows.specs.Rows as rows;
+ghost use Rattle.instruction_rows.specs.Results.{◌then◌};
 ghost use Rattle.instruction_rows.specs.TypeEffect as spec;
 ghost use Rattle.verify_code.specs.Answers.{Gives};
 
@@ -186,7 +187,7 @@ impl Types {
 
     /// Adds to an int in a local variable.
     pub fn increment(&mut self, n: u16) -> Result<(), Stop>
-        ensures { (amount : ℤ) → Gives result (λ _. self.new) (spec.typed (rows.increment n amount) self.old) }
+        ensures { Gives result (λ _. self.new) (spec.local_type Kind.Int n self.old.locals then λ t. Ok self.old) }
     {
         self.local(Kind::Int, n)?;
         Ok(())
