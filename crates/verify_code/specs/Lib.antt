@@ -1,3 +1,3 @@
 pub mod Answers
 pub mod Views
-pub mod LocalRows
+pub mod Rows

@@ -5,7 +5,7 @@ ghost use Rattle.instruction_rows.specs.Results.{◌then◌};
 ghost use Rattle.instruction_rows.specs.Table.{row, simple_row};
 ghost use Rattle.instruction_rows.specs.TypeEffect as spec;
 ghost use Rattle.verify_code.specs.Answers.{Gives};
-ghost use Rattle.verify_code.specs.LocalRows.{local_types};
+ghost use Rattle.verify_code.specs.Rows.{local_types};
 
 use crate::stop::Stop;
 use crate::types::Types;

@@ -1,7 +1,11 @@
 //! Instructions on objects and arrays (JVMS 4.10.1.9).
 
-ghost use Rattle.std.specs.Prelude.{◌≡◌, replicate};
-ghost use Rattle.instruction_rows.specs.TypeEffect.{types_popped};
+ghost use Rattle.std.specs.Prelude.{◌≡◌, ℕ, ◌∷◌, Ok, replicate};
+ghost use Rattle.instruction_rows.specs.Results.{◌then◌};
+ghost use Rattle.instruction_rows.specs.Table.{row, simple_row, new_array_row};
+ghost use Rattle.instruction_rows.specs.TypeEffect.{type_popped, types_popped};
+ghost use Rattle.world_model.specs.World.{World, class_type};
+ghost use Rattle.verify_code.specs.Rows.{event_stack};
 ghost use Rattle.verify_types.specs.Objects as spec;
 ghost use Rattle.verify_code.specs.Answers.{Gives};
 
@@ -9,7 +13,7 @@ use crate::operands::is_array;
 use crate::stop::Stop;
 use crate::types::Types;
 use instruction_rows::RowWhy;
-use opcodes::{Element, Kind, Primitive};
+use opcodes::{Element, Kind, Op, Primitive, Simple};
 use stack_maps::VType;
 use verify_types::{assignable, base_of_primitive, object_type, throwable_type, type_of_kind, type_of_value};
 use world_model::{FieldInfo, Lookups, Naming, Site};
@@ -211,5 +215,89 @@ impl Types {
         let class = class_of(naming.site)?;
         self.pop_wanted(w, object_type(w))?;
         Ok(class)
+    }
+
+    // An instruction without operands in the code.
+    fn simple_event<L: Lookups>(&mut self, w: &L, simple: Simple) -> Result<(), Stop>
+        ensures stack { (own pc : ℕ) (naming : Naming) → Gives result (λ _. self.new.stack)
+            (event_stack (L.world w.now) own pc naming (simple_row simple) self.old.stack) }
+        ensures locals { self.new.locals ≡ self.old.locals }
+    {
+        match simple {
+            Simple::ArrayLoad(element) => self.load_element(element),
+            Simple::ArrayStore(element) => self.store_element(w, element),
+            Simple::ArrayLength => self.array_length(),
+            Simple::Throw => self.pop_wanted(w, throwable_type(w)),
+            Simple::MonitorEnter | Simple::MonitorExit => self.take_reference(),
+            _ => Ok(()),
+        }
+    }
+
+    // Takes a reference.
+    fn take_reference(&mut self) -> Result<(), Stop>
+        ensures stack { Gives result (λ _. self.new.stack) (type_popped Kind.Reference self.old.stack then λ x. Ok x.1) }
+        ensures locals { self.new.locals ≡ self.old.locals }
+    {
+        self.pop_kind(Kind::Reference)?;
+        Ok(())
+    }
+
+    // newarray.
+    fn new_array(&mut self, primitive: Primitive) -> Result<(), Stop>
+        ensures stack { (w : World) (own pc : ℕ) (naming : Naming) → Gives result (λ _. self.new.stack)
+            (event_stack w own pc naming (new_array_row primitive) self.old.stack) }
+        ensures locals { self.new.locals ≡ self.old.locals }
+    {
+        match primitive {
+            Primitive::Float | Primitive::Double => Ok(()),
+            _ => {
+                self.pop_kind(Kind::Int)?;
+                self.push_slot(VType::Named(1, base_of_primitive(primitive)))
+            }
+        }
+    }
+
+    // checkcast.
+    fn check_cast<L: Lookups>(&mut self, w: &L, naming: Naming) -> Result<(), Stop>
+        ensures stack { Gives result (λ _. self.new.stack)
+            (spec.object_taken (L.world w.now) naming self.old.stack then λ x.
+                Ok (class_type (L.world w.now) x.0 ∷ x.1)) }
+        ensures locals { self.new.locals ≡ self.old.locals }
+    {
+        let class = self.pop_object(w, naming)?;
+        self.push_slot(w.class_type(class))
+    }
+
+    // instanceof.
+    fn instance_of<L: Lookups>(&mut self, w: &L, naming: Naming) -> Result<(), Stop>
+        ensures stack { Gives result (λ _. self.new.stack)
+            (spec.object_taken (L.world w.now) naming self.old.stack then λ x. Ok (VType.Int ∷ x.1)) }
+        ensures locals { self.new.locals ≡ self.old.locals }
+    {
+        self.pop_object(w, naming)?;
+        self.push_slot(VType::Int)
+    }
+
+    /// What an event does to the operand stack, in the code of the class `own`; `new` only pushes here. Every other instruction
+    /// leaves the stack as it is.
+    pub fn event<L: Lookups>(&mut self, w: &L, own: u32, pc: u16, naming: Naming, op: &Op) -> Result<(), Stop>
+        ensures stack { Gives result (λ _. self.new.stack)
+            (event_stack (L.world w.now) own pc naming (row op.now) self.old.stack) }
+        ensures locals { self.new.locals ≡ self.old.locals }
+    {
+        match op {
+            Op::Simple(simple) => self.simple_event(w, *simple),
+            Op::GetStatic(_) => self.get_static(w, naming),
+            Op::PutStatic(_) => self.put_static(w, naming),
+            Op::GetField(_) => self.get_field(w, naming),
+            Op::PutField(_) => self.put_field(w, own, naming),
+            Op::New(_) => self.push_slot(VType::Uninit(pc)),
+            Op::NewArray(primitive) => self.new_array(*primitive),
+            Op::ANewArray(_) => self.new_arrays(w, naming, 1),
+            Op::MultiANewArray(_, lengths) => self.new_arrays(w, naming, *lengths),
+            Op::CheckCast(_) => self.check_cast(w, naming),
+            Op::InstanceOf(_) => self.instance_of(w, naming),
+            _ => Ok(()),
+        }
     }
 }
