@@ -135,4 +135,4 @@ called env i dynamic m class s = Err whys.Kind
 
 abbrev pub invoke_state : Environment → Instruction → Invocation → TypeState → Result TypeState RowWhy
 invoke_state env i invocation s =
-    method_of env.world i.naming.site then λ m. named_class i then λ class. called env i invocation m class s
+    method_of env.world i.naming.site then λ m. named_class i.naming then λ class. called env i invocation m class s

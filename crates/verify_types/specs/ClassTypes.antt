@@ -26,8 +26,11 @@ resolve w class t = Some t
 
 -- The class of this name. A linked world has a number for each name that a pool or a descriptor has; a name that it doesn't have
 -- is given a number of no class.
+abbrev pub base_numbered : World → Option ℕ → Base
+base_numbered w found = bases.Class (unwrap_or found (length w.names))
+
 abbrev pub base_named : World → List ℕ → Base
-base_named w name = bases.Class (unwrap_or (name_number w name) (length w.names))
+base_named w name = base_numbered w (name_number w name)
 
 abbrev pub type_named : World → List ℕ → VType
 type_named w name = types.Named 0 (base_named w name)

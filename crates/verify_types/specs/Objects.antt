@@ -13,13 +13,13 @@ use Rattle.instruction_rows.specs.Kinds.{kind_of_element}
 use Rattle.instruction_rows.specs.Rows.{Event, get_static, put_static, get_field, put_field, new, new_array, new_array_of, new_arrays, array_length, array_load, array_store, check_cast, instance_of, throw, monitor_enter, monitor_exit}
 use Rattle.instruction_rows.specs.TypeEffect.{type_popped, types_popped, type_pushed}
 use Rattle.world_model.specs.declared.members.FieldInfo.{FieldInfo}
+use Rattle.world_model.specs.declared.sites.Naming.{Naming}
 use Rattle.world_model.specs.declared.sites.Site.{Site}
 use Rattle.world_model.specs.declared.sites.Site.TheVariants as sites
 use Rattle.world_model.specs.World.{World, class_type}
 use Rattle.verify_types.specs.ClassTypes.{object_type, throwable_type, type_of_kind, type_of_value, base_of_primitive}
 use Rattle.verify_types.specs.Assignability.{assignable}
 use Rattle.verify_types.specs.TypeStates.{TypeState, with_stack, with_types, is_this, is_new, replaced}
-use Rattle.verify_types.specs.Environment.{Instruction, Environment}
 use Rattle.verify_types.specs.Operands.{only_if, wanted, is_array, array_popped}
 
 -- ---- what the constant of an instruction means
@@ -37,42 +37,42 @@ abbrev pub constant_type : World → Site → Result VType RowWhy
 constant_type w (sites.Value value) = Ok (type_of_value w value)
 constant_type w site = Err whys.Kind
 
--- the class that the constant of an instruction names
-abbrev pub named_class : Instruction → Result ℕ RowWhy
-named_class i = ok_or i.naming.class whys.Kind
+-- the class that it names
+abbrev pub named_class : Naming → Result ℕ RowWhy
+named_class naming = ok_or naming.class whys.Kind
 
 -- ---- fields
 
 -- An object whose constructor runs may have fields of its own class set before it calls another constructor.
-abbrev pub may_set_early : Environment → ℕ → FieldInfo → VType → Bool
-may_set_early env class field t = is_this t && class == env.method.class && field.class == env.method.class
+abbrev pub may_set_early : ℕ → ℕ → FieldInfo → VType → Bool
+may_set_early own class field t = is_this t && class == own && field.class == own
 
 -- what lies below an object whose field may be set
-abbrev pub set_in : Environment → ℕ → FieldInfo → List VType → Result (List VType) RowWhy
-set_in env class field stack =
+abbrev pub set_in : World → ℕ → ℕ → FieldInfo → List VType → Result (List VType) RowWhy
+set_in w own class field stack =
     type_popped kinds.Reference stack then λ x.
-    only_if (assignable env.world x.0 (class_type env.world class) || may_set_early env class field x.0) whys.Kind x.1
+    only_if (assignable w x.0 (class_type w class) || may_set_early own class field x.0) whys.Kind x.1
 
-abbrev pub static_gotten : Environment → Instruction → List VType → Result (List VType) RowWhy
-static_gotten env i stack =
-    field_of env.world i.naming.site then λ field. Ok (type_pushed (type_of_kind env.world field.kind) stack)
+abbrev pub static_gotten : World → Naming → List VType → Result (List VType) RowWhy
+static_gotten w naming stack =
+    field_of w naming.site then λ field. Ok (type_pushed (type_of_kind w field.kind) stack)
 
-abbrev pub static_put : Environment → Instruction → List VType → Result (List VType) RowWhy
-static_put env i stack = field_of env.world i.naming.site then λ field. wanted env.world (type_of_kind env.world field.kind) stack
+abbrev pub static_put : World → Naming → List VType → Result (List VType) RowWhy
+static_put w naming stack = field_of w naming.site then λ field. wanted w (type_of_kind w field.kind) stack
 
-abbrev pub field_gotten : Environment → Instruction → List VType → Result (List VType) RowWhy
-field_gotten env i stack =
-    field_of env.world i.naming.site then λ field.
-    named_class i then λ class.
-    wanted env.world (class_type env.world class) stack then λ rest.
-    Ok (type_pushed (type_of_kind env.world field.kind) rest)
+abbrev pub field_gotten : World → Naming → List VType → Result (List VType) RowWhy
+field_gotten w naming stack =
+    field_of w naming.site then λ field.
+    named_class naming then λ class.
+    wanted w (class_type w class) stack then λ rest.
+    Ok (type_pushed (type_of_kind w field.kind) rest)
 
-abbrev pub field_put : Environment → Instruction → List VType → Result (List VType) RowWhy
-field_put env i stack =
-    field_of env.world i.naming.site then λ field.
-    named_class i then λ class.
-    wanted env.world (type_of_kind env.world field.kind) stack then λ rest.
-    set_in env class field rest
+abbrev pub field_put : World → ℕ → Naming → List VType → Result (List VType) RowWhy
+field_put w own naming stack =
+    field_of w naming.site then λ field.
+    named_class naming then λ class.
+    wanted w (type_of_kind w field.kind) stack then λ rest.
+    set_in w own class field rest
 
 -- ---- arrays
 
@@ -106,41 +106,41 @@ length_gotten stack =
     type_popped kinds.Reference stack then λ x. only_if (is_array x.0) whys.Kind (types.Int ∷ x.1)
 
 -- an array of the class that the constant means, for this many lengths
-abbrev pub array_made : Environment → Instruction → ℕ → List VType → Result (List VType) RowWhy
-array_made env i lengths stack =
-    class_of i.naming.site then λ class.
+abbrev pub array_made : World → Naming → ℕ → List VType → Result (List VType) RowWhy
+array_made w naming lengths stack =
+    class_of naming.site then λ class.
     types_popped (replicate lengths kinds.Int) stack then λ rest.
-    Ok (class_type env.world class ∷ rest)
+    Ok (class_type w class ∷ rest)
 
 -- ---- casts
 
 -- what lies below an object, and the class that the constant means
-abbrev pub object_taken : Environment → Instruction → List VType → Result (ℕ × List VType) RowWhy
-object_taken env i stack =
-    class_of i.naming.site then λ class. wanted env.world (object_type env.world) stack then λ rest. Ok (class, rest)
+abbrev pub object_taken : World → Naming → List VType → Result (ℕ × List VType) RowWhy
+object_taken w naming stack =
+    class_of naming.site then λ class. wanted w (object_type w) stack then λ rest. Ok (class, rest)
 
 -- ---- rows
 
--- What an event does to the operand stack; `new` isn't among them here, since it looks at the local variables too.
-abbrev pub stack_after : Environment → Instruction → Event → List VType → Result (List VType) RowWhy
-stack_after env i (get_static index) stack = static_gotten env i stack
-stack_after env i (put_static index) stack = static_put env i stack
-stack_after env i (get_field index) stack = field_gotten env i stack
-stack_after env i (put_field index) stack = field_put env i stack
-stack_after env i (new index) stack = Ok (types.Uninit i.instr.pc ∷ stack)
-stack_after env i (new_array primitive) stack =
+-- What an event does to the operand stack, in the code of the class `own`; `new` isn't among them here, since it looks at the local variables too.
+abbrev pub stack_after : World → ℕ → ℕ → Naming → Event → List VType → Result (List VType) RowWhy
+stack_after w own pc naming (get_static index) stack = static_gotten w naming stack
+stack_after w own pc naming (put_static index) stack = static_put w naming stack
+stack_after w own pc naming (get_field index) stack = field_gotten w naming stack
+stack_after w own pc naming (put_field index) stack = field_put w own naming stack
+stack_after w own pc naming (new index) stack = Ok (types.Uninit pc ∷ stack)
+stack_after w own pc naming (new_array primitive) stack =
     type_popped kinds.Int stack then λ x. Ok (types.Named 1 (base_of_primitive primitive) ∷ x.1)
-stack_after env i (new_array_of index) stack = array_made env i 1 stack
-stack_after env i (new_arrays index lengths) stack = array_made env i lengths stack
-stack_after env i array_length stack = length_gotten stack
-stack_after env i (array_load element) stack = array_loaded element stack
-stack_after env i (array_store element) stack = array_stored env.world element stack
-stack_after env i (check_cast index) stack =
-    object_taken env i stack then λ x. Ok (class_type env.world x.0 ∷ x.1)
-stack_after env i (instance_of index) stack = object_taken env i stack then λ x. Ok (types.Int ∷ x.1)
-stack_after env i throw stack = wanted env.world (throwable_type env.world) stack
-stack_after env i monitor_enter stack = type_popped kinds.Reference stack then λ x. Ok x.1
-stack_after env i monitor_exit stack = type_popped kinds.Reference stack then λ x. Ok x.1
+stack_after w own pc naming (new_array_of index) stack = array_made w naming 1 stack
+stack_after w own pc naming (new_arrays index lengths) stack = array_made w naming lengths stack
+stack_after w own pc naming array_length stack = length_gotten stack
+stack_after w own pc naming (array_load element) stack = array_loaded element stack
+stack_after w own pc naming (array_store element) stack = array_stored w element stack
+stack_after w own pc naming (check_cast index) stack =
+    object_taken w naming stack then λ x. Ok (class_type w x.0 ∷ x.1)
+stack_after w own pc naming (instance_of index) stack = object_taken w naming stack then λ x. Ok (types.Int ∷ x.1)
+stack_after w own pc naming throw stack = wanted w (throwable_type w) stack
+stack_after w own pc naming monitor_enter stack = type_popped kinds.Reference stack then λ x. Ok x.1
+stack_after w own pc naming monitor_exit stack = type_popped kinds.Reference stack then λ x. Ok x.1
 
 -- An object that was made here before and isn't initialized yet may not be on the operand stack, and is forgotten in local
 -- variables.
@@ -149,6 +149,6 @@ made_anew pc s =
     only_if (not (list_any (is_new pc) s.types.stack)) whys.Init
     (with_types s (record { locals = replaced (is_new pc) types.Top s.types.locals; stack = types.Uninit pc ∷ s.types.stack }))
 
-abbrev pub event_state : Environment → Instruction → Event → TypeState → Result TypeState RowWhy
-event_state env i (new index) s = made_anew i.instr.pc s
-event_state env i event s = stack_after env i event s.types.stack then λ stack. Ok (with_stack s stack)
+abbrev pub event_state : World → ℕ → ℕ → Naming → Event → TypeState → Result TypeState RowWhy
+event_state w own pc naming (new index) s = made_anew pc s
+event_state w own pc naming event s = stack_after w own pc naming event s.types.stack then λ stack. Ok (with_stack s stack)

@@ -1,7 +1,10 @@
 ghost use Rattle.std.specs.Prelude.{◌≡◌};
 ghost use Rattle.verify_types.specs.ClassTypes as spec;
 
-use stack_maps::VType;
+use descriptors::Kind;
+use instruction_rows::Value;
+use opcodes::Primitive;
+use stack_maps::{Base, VType};
 use world_model::Lookups;
 
 /// What a type of a stack map means in the code of a class: a constant of its pool becomes the class that it names, and every
@@ -12,5 +15,103 @@ pub fn resolve<L: Lookups>(w: &L, class: u32, t: VType) -> Option<VType>
     match t {
         VType::Object(index) => w.pool_type(class, index),
         other => Some(other),
+    }
+}
+
+// The class of this name, as the last element of an array or by itself.
+fn base_named<L: Lookups>(w: &L, name: &[u16]) -> Base
+    ensures { result ≡ spec.base_named (L.world w.now) name.now }
+{
+    number_or_none(w, w.name_number(name))
+}
+
+// The class of a number, or a number of no class.
+fn number_or_none<L: Lookups>(w: &L, found: Option<u32>) -> Base
+    ensures { result ≡ spec.base_numbered (L.world w.now) found }
+{
+    match found {
+        Some(class) => Base::Class(class),
+        None => Base::Class(w.name_count()),
+    }
+}
+
+/// The type of objects of java/lang/Object.
+pub fn object_type<L: Lookups>(w: &L) -> VType
+    ensures { result ≡ spec.object_type (L.world w.now) }
+{
+    VType::Named(0, number_or_none(w, w.object()))
+}
+
+/// The type of objects of java/lang/String.
+pub fn string_type<L: Lookups>(w: &L) -> VType
+    ensures { result ≡ spec.string_type (L.world w.now) }
+{
+    VType::Named(0, number_or_none(w, w.string()))
+}
+
+/// The type of objects of java/lang/Throwable.
+pub fn throwable_type<L: Lookups>(w: &L) -> VType
+    ensures { result ≡ spec.throwable_type (L.world w.now) }
+{
+    VType::Named(0, number_or_none(w, w.throwable()))
+}
+
+// The last elements of an array of this kind.
+fn base_of_kind<L: Lookups>(w: &L, kind: &Kind) -> Base
+    ensures { result ≡ spec.base_of_kind (L.world w.now) kind.now }
+{
+    match kind {
+        Kind::Byte => Base::Byte,
+        Kind::Char => Base::Char,
+        Kind::Double => Base::Double,
+        Kind::Float => Base::Float,
+        Kind::Int => Base::Int,
+        Kind::Long => Base::Long,
+        Kind::Short => Base::Short,
+        Kind::Bool => Base::Bool,
+        Kind::Class(name) => base_named(w, name),
+        Kind::Array(_, element) => base_of_kind(w, element),
+    }
+}
+
+/// The verification type of a field, a parameter or a result (JVMS 4.3.2): boolean, byte, char and short are ints.
+pub fn type_of_kind<L: Lookups>(w: &L, kind: &Kind) -> VType
+    ensures { result ≡ spec.type_of_kind (L.world w.now) kind.now }
+{
+    match kind {
+        Kind::Byte | Kind::Char | Kind::Int | Kind::Short | Kind::Bool => VType::Int,
+        Kind::Double => VType::Double,
+        Kind::Float => VType::Float,
+        Kind::Long => VType::Long,
+        Kind::Class(name) => VType::Named(0, base_named(w, name)),
+        Kind::Array(dimensions, element) => VType::Named(*dimensions, base_of_kind(w, element)),
+    }
+}
+
+/// The elements of an array that `newarray` creates (JVMS 6.5).
+pub fn base_of_primitive(primitive: Primitive) -> Base
+    ensures { result ≡ spec.base_of_primitive primitive }
+{
+    match primitive {
+        Primitive::Boolean => Base::Bool,
+        Primitive::Char => Base::Char,
+        Primitive::Float => Base::Float,
+        Primitive::Double => Base::Double,
+        Primitive::Byte => Base::Byte,
+        Primitive::Short => Base::Short,
+        Primitive::Int => Base::Int,
+        Primitive::Long => Base::Long,
+    }
+}
+
+/// The type of a constant that is pushed (JVMS 6.5, ldc).
+pub fn type_of_value<L: Lookups>(w: &L, value: Value) -> VType
+    ensures { result ≡ spec.type_of_value (L.world w.now) value }
+{
+    match value {
+        Value::Int(_) => VType::Int,
+        Value::Long(_) => VType::Long,
+        Value::Null => VType::Null,
+        Value::Ref(_) => string_type(w),
     }
 }

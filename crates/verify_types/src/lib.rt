@@ -9,7 +9,9 @@ mod laws;
 mod why;
 
 pub use assignability::assignable;
-pub use class_types::resolve;
+pub use class_types::{
+    base_of_primitive, object_type, resolve, string_type, throwable_type, type_of_kind, type_of_value,
+};
 pub use fault::VerifyFault;
 pub use laws::{first_faults, kinds_are_kept, typed_methods};
 pub use why::VerifyWhy;

@@ -1,4 +1,4 @@
-ghost use Rattle.std.specs.Prelude.{◌≡◌, codes, slice_get};
+ghost use Rattle.std.specs.Prelude.{◌≡◌, codes, length, slice_get};
 ghost use Rattle.std.specs.Option.{option_copied};
 ghost use Rattle.class_grammar.specs.Names.{object_class};
 ghost use Rattle.linkage.specs.Program as program;
@@ -7,6 +7,7 @@ ghost use Rattle.world_model.specs.World as spec;
 ghost use Rattle.world_model.specs.World.{World};
 ghost use Rattle.world_model.specs.Pools as pools;
 
+use crate::{FieldInfo, MethodInfo};
 use stack_maps::VType;
 
 /// What typing asks of a linked world. Each call takes constant time, but `name_number`, which looks a name up.
@@ -34,6 +35,10 @@ pub trait Lookups {
     fn name_number(&self, name: &[u16]) -> Option<u32>
         ensures { result ≡ spec.name_number (world self.now) name.now };
 
+    /// How many names have a number. The array types have those behind them.
+    fn name_count(&self) -> u32
+        ensures { result ≡ length (world self.now).names };
+
     /// The number of java/lang/Object.
     fn object(&self) -> Option<u32>
         ensures { result ≡ spec.name_number (world self.now) object_class };
@@ -45,6 +50,22 @@ pub trait Lookups {
     /// The number of java/io/Serializable.
     fn serializable(&self) -> Option<u32>
         ensures { result ≡ spec.name_number (world self.now) (codes "java/io/Serializable") };
+
+    /// The number of java/lang/String.
+    fn string(&self) -> Option<u32>
+        ensures { result ≡ spec.name_number (world self.now) (codes "java/lang/String") };
+
+    /// The number of java/lang/Throwable.
+    fn throwable(&self) -> Option<u32>
+        ensures { result ≡ spec.name_number (world self.now) (codes "java/lang/Throwable") };
+
+    /// A field. `None`: there is no field of this number.
+    fn field(&self, n: u32) -> Option<&FieldInfo>
+        ensures { option_copied result ≡ slice_get (world self.now).fields n };
+
+    /// A method. `None`: there is no method of this number.
+    fn method(&self, n: u32) -> Option<&MethodInfo>
+        ensures { option_copied result ≡ slice_get (world self.now).methods n };
 
     /// The type of the objects of a class or an array class.
     fn class_type(&self, class: u32) -> VType

@@ -1,0 +1,15 @@
+//! Verifies the code of a linked program (JVMS 4.10.1).
+#![tactic(auto)]
+
+mod calls;
+mod local_rows;
+mod objects;
+mod operands;
+mod stack_items;
+mod state;
+mod stop;
+mod types;
+
+pub use state::State;
+pub use stop::Stop;
+pub use types::Types;

@@ -1,0 +1,221 @@
+ghost use Rattle.std.specs.Prelude.{◌≡◌, [], ◌∷◌, Ok, Err, MatchOption, OnOk, OnErr, ok_or};
+ghost use Rattle.instruction_rows.specs.Contents.{with_item};
+ghost use Rattle.instruction_rows.specs.Kinds.{is_kind, kind_of_type};
+ghost use Rattle.instruction_rows.specs.Rows as rows;
+ghost use Rattle.instruction_rows.specs.Results.{◌then◌};
+ghost use Rattle.instruction_rows.specs.TypeEffect as spec;
+ghost use Rattle.verify_code.specs.Answers.{Gives};
+
+use crate::stop::Stop;
+use instruction_rows::{RowWhy, is_narrow, is_wide, kind_of_type};
+use opcodes::Kind;
+use stack_maps::VType;
+use std::alloc::Global;
+use std::marker::Model;
+
+/// The types of a frame, slot by slot (JVMS 4.10.1.4).
+#[derive(Drop)]
+pub struct Types {
+    locals: Vec<VType>,
+    stack: Vec<VType>,
+}
+
+impl Model for Types {
+    ghost use Rattle.stack_maps.specs.declared.types.VType.{VType};
+    ghost use Rattle.instruction_rows.specs.Contents.{Contents};
+
+    ghost Value = { Contents VType };
+
+    ghost use Rattle.verify_code.specs.Views.{types_in};
+
+    ghost view = { types_in };
+}
+
+impl Types {
+    // Takes a long.
+    fn pop_long(&mut self) -> Result<VType, Stop>
+        ensures popped { Gives result (λ t. (t, self.new.stack)) (spec.type_popped Kind.Long self.old.stack) }
+        ensures locals { self.new.locals ≡ self.old.locals }
+    {
+        match self.stack.pop() {
+            None => Err(Stop::Broken(RowWhy::Depth)),
+            Some(VType::Top) => match self.stack.pop() {
+                Some(VType::Long) => Ok(VType::Long),
+                _ => Err(Stop::Broken(RowWhy::Kind)),
+            },
+            Some(_) => Err(Stop::Broken(RowWhy::Kind)),
+        }
+    }
+
+    // Takes an int.
+    fn pop_int(&mut self) -> Result<VType, Stop>
+        ensures popped { Gives result (λ t. (t, self.new.stack)) (spec.type_popped Kind.Int self.old.stack) }
+        ensures locals { self.new.locals ≡ self.old.locals }
+    {
+        match self.stack.pop() {
+            None => Err(Stop::Broken(RowWhy::Depth)),
+            Some(VType::Int) => Ok(VType::Int),
+            Some(_) => Err(Stop::Broken(RowWhy::Kind)),
+        }
+    }
+
+    // Takes a reference.
+    fn pop_reference(&mut self) -> Result<VType, Stop>
+        ensures popped { Gives result (λ t. (t, self.new.stack)) (spec.type_popped Kind.Reference self.old.stack) }
+        ensures locals { self.new.locals ≡ self.old.locals }
+    {
+        match self.stack.pop() {
+            None => Err(Stop::Broken(RowWhy::Depth)),
+            Some(t) => match kind_of_type(t) {
+                Some(Kind::Reference) => Ok(t),
+                _ => Err(Stop::Broken(RowWhy::Kind)),
+            },
+        }
+    }
+
+    /// Takes the type of a value of this kind.
+    pub fn pop_kind(&mut self, kind: Kind) -> Result<VType, Stop>
+        ensures popped { Gives result (λ t. (t, self.new.stack)) (spec.type_popped kind self.old.stack) }
+        ensures locals { self.new.locals ≡ self.old.locals }
+    {
+        match kind {
+            Kind::Int => self.pop_int(),
+            Kind::Long => self.pop_long(),
+            Kind::Reference => self.pop_reference(),
+        }
+    }
+
+    /// Pushes the type of a value.
+    pub fn push(&mut self, t: VType) -> Result<(), Stop>
+        ensures pushed { OnOk result (self.new.stack ≡ spec.type_pushed t self.old.stack) }
+        ensures locals { self.new.locals ≡ self.old.locals }
+        ensures full { OnErr result (result ≡ Err Stop.NoMemory) }
+    {
+        self.stack.push(t)?;
+        if is_wide(t) {
+            self.stack.push(VType::Top)?;
+        }
+        Ok(())
+    }
+
+    /// Takes the type of one slot. `None`: there is none.
+    pub fn pop_slot(&mut self) -> Option<VType>
+        ensures taken { MatchOption result (self.old.stack ≡ []) (λ t. self.old.stack ≡ t ∷ self.new.stack) }
+        ensures locals { self.new.locals ≡ self.old.locals }
+    {
+        self.stack.pop()
+    }
+
+    /// Pushes the type of one slot.
+    pub fn push_slot(&mut self, t: VType) -> Result<(), Stop>
+        ensures pushed { OnOk result (self.new.stack ≡ t ∷ self.old.stack) }
+        ensures locals { self.new.locals ≡ self.old.locals }
+        ensures full { OnErr result (result ≡ Err Stop.NoMemory) }
+    {
+        self.stack.push(t)?;
+        Ok(())
+    }
+
+    // Writes the type of a local variable.
+    fn set(&mut self, n: usize, t: VType) -> Result<(), Stop>
+        ensures set { Gives result (λ _. self.new.locals) (ok_or (with_item n t self.old.locals) RowWhy.Locals) }
+        ensures stack { self.new.stack ≡ self.old.stack }
+    {
+        if n >= self.locals.len() {
+            return Err(Stop::Broken(RowWhy::Locals));
+        }
+        self.locals[n] = t;
+        Ok(())
+    }
+
+    // A long before this local variable loses its second slot.
+    fn split_before(&mut self, n: usize)
+        ensures locals { self.new.locals ≡ spec.without_half n self.old.locals }
+        ensures stack { self.new.stack ≡ self.old.stack }
+    {
+        if n == 0 || n > self.locals.len() {
+            return;
+        }
+        if is_wide(self.locals[n - 1]) {
+            self.locals[n - 1] = VType::Top;
+        }
+    }
+
+    // Writes the type of a value to a local variable, and to the next one where it takes two.
+    fn put(&mut self, t: VType, n: u16) -> Result<(), Stop>
+        ensures put { Gives result (λ _. self.new.locals) (spec.with_type t n self.old.locals) }
+        ensures stack { self.new.stack ≡ self.old.stack }
+    {
+        let n = usize::from(n);
+        self.split_before(n);
+        self.set(n, t)?;
+        if is_wide(t) {
+            self.set(n + 1, VType::Top)?;
+        }
+        Ok(())
+    }
+
+    // The type of a local variable, where it is of this kind.
+    fn local(&self, kind: Kind, n: u16) -> Result<VType, Stop>
+        ensures { Gives result (λ t. t) (spec.local_type kind n self.now.locals) }
+    {
+        let Some(t) = self.locals.get(usize::from(n)) else {
+            return Err(Stop::Broken(RowWhy::Locals));
+        };
+        if is_of_kind(*t, kind) {
+            Ok(*t)
+        } else {
+            Err(Stop::Broken(RowWhy::Kind))
+        }
+    }
+
+    /// Pushes what a local variable holds.
+    pub fn load(&mut self, kind: Kind, n: u16) -> Result<(), Stop>
+        ensures { Gives result (λ _. self.new) (spec.typed (rows.load kind n) self.old) }
+    {
+        let t = self.local(kind, n)?;
+        self.push(t)
+    }
+
+    /// Takes a value, and writes it to a local variable.
+    pub fn store(&mut self, kind: Kind, n: u16) -> Result<(), Stop>
+        ensures { Gives result (λ _. self.new) (spec.typed (rows.store kind n) self.old) }
+    {
+        let t = self.pop_kind(kind)?;
+        self.put(t, n)
+    }
+
+    /// Adds to an int in a local variable.
+    pub fn increment(&mut self, n: u16) -> Result<(), Stop>
+        ensures { Gives result (λ _. self.new) (spec.local_type Kind.Int n self.old.locals then λ t. Ok self.old) }
+    {
+        self.local(Kind::Int, n)?;
+        Ok(())
+    }
+
+    /// Takes values of these kinds, the topmost first.
+    pub fn pop_kinds(&mut self, kinds: &[Kind]) -> Result<(), Stop>
+        ensures popped { Gives result (λ _. self.new.stack) (spec.types_popped kinds.now self.old.stack) }
+        ensures locals { self.new.locals ≡ self.old.locals }
+    {
+        match kinds.split_first() {
+            None => Ok(()),
+            Some((kind, others)) => {
+                self.pop_kind(*kind)?;
+                self.pop_kinds(others)
+            }
+        }
+    }
+}
+
+// Whether a type is of this kind.
+fn is_of_kind(t: VType, kind: Kind) -> bool
+    ensures { result ≡ is_kind kind (kind_of_type t) }
+{
+    match kind_of_type(t) {
+        None => false,
+        Some(Kind::Int) => matches!(kind, Kind::Int),
+        Some(Kind::Long) => matches!(kind, Kind::Long),
+        Some(Kind::Reference) => matches!(kind, Kind::Reference),
+    }
+}
