@@ -1,10 +1,12 @@
 -- The types that a frame has as it is verified, and the state that they are part of.
-use Rattle.std.specs.Prelude.{reverse}
+use Rattle.std.specs.Prelude.{Bool, reverse}
 use Rattle.stack_maps.specs.declared.types.VType.{VType}
 use Rattle.instruction_rows.specs.Contents.{Contents}
-use Rattle.verify_types.specs.TypeStates.{TypeState}
+use Rattle.verify_types.specs.TypeStates.{TypeState, is_this, is_new}
 use Rattle.verify_code.specs.declared.types.Types.TheInside.{Inside}
 use Rattle.verify_code.specs.declared.state.State.{State}
+use Rattle.verify_code.specs.declared.state.Uninitialized.{Uninitialized}
+use Rattle.verify_code.specs.declared.state.Uninitialized.TheVariants as objects
 
 -- the last item of the vector is the top of the stack
 abbrev pub types_in : Inside → Contents VType
@@ -12,3 +14,8 @@ types_in a = record { locals = a.locals.items; stack = reverse a.stack.items }
 
 abbrev pub state_in : State → TypeState
 state_in s = record { types = s.types; this_uninit = s.this_uninit }
+
+-- whether a type is that of the object
+abbrev pub is_object : Uninitialized → VType → Bool
+is_object objects.This t = is_this t
+is_object (objects.New pc) t = is_new pc t

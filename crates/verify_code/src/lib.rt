@@ -10,6 +10,6 @@ mod state;
 mod stop;
 mod types;
 
-pub use state::State;
+pub use state::{State, Uninitialized};
 pub use stop::Stop;
 pub use types::Types;

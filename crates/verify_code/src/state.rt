@@ -1,4 +1,17 @@
+//! The state before or after an instruction (JVMS 4.10.1.4).
+
+ghost use Rattle.std.specs.Prelude.{◌≡◌, OnOk, OnErr, Err};
+ghost use Rattle.std.specs.List.{list_any};
+ghost use Rattle.verify_types.specs.TypeStates.{is_this, is_new, replaced};
+ghost use Rattle.verify_types.specs.Objects as objects;
+ghost use Rattle.verify_code.specs.Answers.{Gives};
+ghost use Rattle.verify_code.specs.Views.{is_object, state_in};
+
+use crate::stop::Stop;
 use crate::types::Types;
+use instruction_rows::RowWhy;
+use stack_maps::VType;
+use std::alloc::Global;
 
 /// What is known before or after an instruction: the types of the frame, and whether the constructor that runs has still to call
 /// another one (JVMS 4.10.1.4, the flag flagThisUninit).
@@ -6,4 +19,40 @@ use crate::types::Types;
 pub struct State {
     pub types: Types,
     pub this_uninit: bool,
+}
+
+/// An object that isn't initialized.
+#[derive(Clone, Copy, Debug, PartialEq, Eq)]
+pub enum Uninitialized {
+    /// The object whose constructor runs.
+    This,
+    /// That of the `new` at this pc.
+    New(u16),
+}
+
+/// Whether the type is that of the object.
+pub fn is_object(object: Uninitialized, t: VType) -> bool
+    ensures { result ≡ is_object object t }
+{
+    match object {
+        Uninitialized::This => matches!(t, VType::UninitThis),
+        Uninitialized::New(pc) => match t {
+            VType::Uninit(new) => new == pc,
+            _ => false,
+        },
+    }
+}
+
+impl State {
+    /// `new` at this pc.
+    pub fn make_new(&mut self, alloc: Global, pc: u16) -> Result<(), Stop>
+        ensures { Gives result (λ _. state_in self.new) (objects.made_anew pc (state_in self.old)) }
+    {
+        let object = Uninitialized::New(pc);
+        if self.types.has_operand(object) {
+            return Err(Stop::Broken(RowWhy::Init));
+        }
+        self.types.replace_locals(alloc, object, VType::Top)?;
+        self.types.push_slot(VType::Uninit(pc))
+    }
 }

@@ -1,16 +1,20 @@
-ghost use Rattle.std.specs.Prelude.{◌≡◌, [], ◌∷◌, Ok, Err, MatchOption, OnOk, OnErr, ok_or};
+ghost use Rattle.std.specs.Prelude.{◌≡◌, [], ◌∷◌, Ok, Err, IfOk, MatchOption, OnOk, OnErr, ok_or};
 ghost use Rattle.instruction_rows.specs.Contents.{with_item};
 ghost use Rattle.instruction_rows.specs.Kinds.{is_kind, kind_of_type};
 ghost use Rattle.instruction_rows.specs.Rows as rows;
 ghost use Rattle.instruction_rows.specs.Results.{◌then◌};
 ghost use Rattle.instruction_rows.specs.TypeEffect as spec;
+ghost use Rattle.std.specs.List.{list_any};
+ghost use Rattle.verify_types.specs.TypeStates.{replaced};
 ghost use Rattle.verify_code.specs.Answers.{Gives};
+ghost use Rattle.verify_code.specs.Views.{is_object};
 
+use crate::state::{Uninitialized, is_object};
 use crate::stop::Stop;
 use instruction_rows::{RowWhy, is_narrow, is_wide, kind_of_type};
 use opcodes::Kind;
 use stack_maps::VType;
-use std::alloc::Global;
+use std::alloc::{AllocError, Global};
 use std::marker::Model;
 
 /// The types of a frame, slot by slot (JVMS 4.10.1.4).
@@ -206,6 +210,49 @@ impl Types {
             }
         }
     }
+
+    /// Whether the object is on the operand stack.
+    #[tactic(auto, using(crate::proofs::Lists::any_reverse))]
+    pub fn has_operand(&self, object: Uninitialized) -> bool
+        ensures { result ≡ list_any (is_object object) self.now.stack }
+    {
+        any_is(&self.stack, object)
+    }
+
+    /// Gives local variables that hold the object another type.
+    pub fn replace_locals(&mut self, alloc: Global, object: Uninitialized, t: VType) -> Result<(), Stop>
+        ensures locals { OnOk result (self.new.locals ≡ replaced (is_object object) t self.old.locals) }
+        ensures stack { self.new.stack ≡ self.old.stack }
+        ensures full { OnErr result (result ≡ Err Stop.NoMemory) }
+    {
+        self.locals = replaced(alloc, &self.locals, object, t)?;
+        Ok(())
+    }
+
+    /// Gives operands that are the object another type.
+    #[tactic(auto, using(crate::proofs::Lists::replaced_reverse))]
+    pub fn replace_operands(&mut self, alloc: Global, object: Uninitialized, t: VType) -> Result<(), Stop>
+        ensures stack { OnOk result (self.new.stack ≡ replaced (is_object object) t self.old.stack) }
+        ensures locals { self.new.locals ≡ self.old.locals }
+        ensures full { OnErr result (result ≡ Err Stop.NoMemory) }
+    {
+        self.stack = replaced(alloc, &self.stack, object, t)?;
+        Ok(())
+    }
+}
+
+// Whether one of the types is the object's.
+fn any_is(types: &[VType], object: Uninitialized) -> bool
+    ensures { result ≡ list_any (is_object object) types.now }
+{
+    types.iter().any(|t| is_object(object, *t))
+}
+
+// The types, with this one in place of each that is the object's.
+fn replaced(alloc: Global, types: &[VType], object: Uninitialized, t: VType) -> Result<Vec<VType>, AllocError>
+    ensures { IfOk result (λ v. v.items ≡ replaced (is_object object) t types.now) }
+{
+    types.iter().map(|x| if is_object(object, *x) { t } else { *x }).collect(alloc)
 }
 
 // Whether a type is of this kind.
