@@ -37,7 +37,10 @@ fn states_of_a_thread(rt: HostRuntime) -> Result<(), Fail> {
         (Status::Live(waiting(Some(9))), JavaState::TimedWaiting),
         (Status::Live(reenter()), JavaState::Blocked),
         (Status::Live(Phase::Parked(None)), JavaState::Waiting),
-        (Status::Live(Phase::Parked(Some(9))), JavaState::TimedWaiting),
+        (
+            Status::Live(Phase::Parked(Some(9))),
+            JavaState::TimedWaiting,
+        ),
         (Status::Live(Phase::Asleep(9)), JavaState::TimedWaiting),
         (Status::Live(joining(None)), JavaState::Waiting),
         (Status::Live(joining(Some(9))), JavaState::TimedWaiting),

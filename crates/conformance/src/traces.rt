@@ -108,11 +108,20 @@ fn lines_of_entries_are_read_or_refused(rt: HostRuntime) -> Result<(), Fail> {
         (b"jvt-trace carriers 1\n M 0 0\nend 1\n", bad(2)),
         (b"jvt-trace carriers 1\n\xff 0 0\nend 1\n", bad(2)),
         (b"jvt-trace carriers 1\nM 0 0\r\nend 1\n", bad(2)),
-        (b"jvt-trace carriers 1\nC 0 18446744073709551615\nend 1\n", Ok(1)),
-        (b"jvt-trace carriers 1\nC 0 18446744073709551616\nend 1\n", bad(2)),
+        (
+            b"jvt-trace carriers 1\nC 0 18446744073709551615\nend 1\n",
+            Ok(1),
+        ),
+        (
+            b"jvt-trace carriers 1\nC 0 18446744073709551616\nend 1\n",
+            bad(2),
+        ),
         (b"jvt-trace carriers 1\n\nend 0\n", bad(2)),
         (b"jvt-trace carriers 1\nM 0 0\nM 0  0\nend 2\n", bad(3)),
-        (b"jvt-trace carriers 1\nM 0 0\nU 0 0\nM 00 0\nend 3\n", bad(4)),
+        (
+            b"jvt-trace carriers 1\nM 0 0\nU 0 0\nM 00 0\nend 3\n",
+            bad(4),
+        ),
         (b"jvt-trace carriers 1\nM 0 0\nU 0 0\nC 0 1\nend 3\n", Ok(3)),
     ];
     for (text, outcome) in table.iter() {

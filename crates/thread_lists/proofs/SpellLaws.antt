@@ -1,5 +1,5 @@
 -- How the lists that the links spell change with the links.
-use Rattle.std.proofs.Common.{◌≡◌, ◌+◌, ◌<◌, ◌≤◌, ◌==◌, ℕ, zero, suc, List, [], ◌∷◌, ◌++◌, length, map, sym, ◌∙◌, ap, subst, refl, arith, add-one, append-nil, append_assoc, not, replicate, drop, take, slice_get, Some, None, ◌^◌, ◌⊎◌, inl, inr, set, get_or}
+use Rattle.std.proofs.Common.{◌≡◌, ◌+◌, ◌<◌, ◌≤◌, ◌==◌, ℕ, zero, suc, List, [], ◌∷◌, ◌++◌, length, sym, ◌∙◌, ap, subst, refl, arith, add-one, append-nil, append_assoc, not, replicate, drop, take, slice_get, Some, None, ◌^◌, ◌⊎◌, inl, inr, set, get_or}
 use Rattle.std.proofs.lemmas.Bool.{cases_eq, cases_lt, eq-eqb}
 use Rattle.std.proofs.lemmas.Bool.Decides.{eqb_tells}
 use Rattle.std.proofs.lemmas.List.{get_or-set_other, get_or-set_same, get_or-map, get_or_append_left, ext_get_or, length-append, length-map, replicate_more, set-get_or}

@@ -1,7 +1,9 @@
 ghost use Rattle.std.specs.Prelude.{◌≡◌, ◌≢◌, ◌+◌, ◌^◌, ◌<◌, ◌≤◌, ◌==◌, ℕ, [], ◌∷◌, ◌++◌, length, max, not, replicate, slice_get, IfOk, OnOk, OnErr};
 ghost use Rattle.thread_lists.specs.Lists.{append, count, drop_first, first, leave, list_at, push, total};
 
-use crate::ring::{Link, Place, add_heads, count_of, is_linked, link_all, link_last, thread_at, threads_of, unlink};
+use crate::ring::{
+    Link, Place, add_heads, count_of, is_linked, link_all, link_last, thread_at, threads_of, unlink,
+};
 use items::NoMemory;
 use std::alloc::Global;
 use std::marker::Model;

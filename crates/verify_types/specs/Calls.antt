@@ -74,9 +74,9 @@ may_initialize_this env pc class =
 -- the state after the object is initialized, wherever it lies
 abbrev pub initialized : (VType → Bool) → VType → Bool → TypeState → List VType → TypeState
 initialized test t this_uninit s below = record {
-    types = record { locals = replaced test t s.types.locals; stack = replaced test t below };
-    this_uninit = this_uninit
-  }
+  types = record { locals = replaced test t s.types.locals; stack = replaced test t below };
+  this_uninit = this_uninit;
+}
 
 -- the object below the arguments is initialized; the class named declares the constructor
 abbrev pub object_initialized : Environment → ℕ → ℕ → VType → TypeState → List VType → Result TypeState RowWhy

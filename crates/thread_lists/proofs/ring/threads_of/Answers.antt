@@ -1,4 +1,4 @@
-use Rattle.std.proofs.Common.{ap, arith, subst, sym, ◌∙◌, ◌≡◌, ◌≤◌, ◌<◌, ◌+◌, ℕ, drop, take, length, vec_len, rules}
+use Rattle.std.proofs.Common.{ap, arith, subst, sym, ◌∙◌, ◌≡◌, ◌+◌, ℕ, drop, take, vec_len}
 use Rattle.thread_lists.specs.declared.ring.Link.{Link}
 use Rattle.thread_lists.specs.Lists.{list_at}
 use Rattle.thread_lists.specs.Ring.{IsPlace, next_of, spelled, start_of}
