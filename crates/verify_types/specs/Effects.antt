@@ -27,7 +27,7 @@ row_state env i (local r) s = typed r s.types then λ types. Ok (with_types s ty
 row_state env i (constant index) s = constant_pushed env i s
 row_state env i (wide_constant index) s = constant_pushed env i s
 row_state env i (returns kind) s = returned_from kind s.types.stack then λ stack. Ok (with_stack s stack)
-row_state env i (invoke invocation index) s = invoke_state env i invocation s
+row_state env i (invoke invocation index) s = invoke_state env i.instr.pc i.naming invocation s
 row_state env i (event e) s = event_state env.world env.method.class i.instr.pc i.naming e s
 row_state env i refused s = Err whys.Kind
 
