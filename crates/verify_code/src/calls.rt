@@ -206,4 +206,45 @@ impl State {
         self.initialize_receiver(alloc, w, m, pc, class, receiver)?;
         self.types.push_result(w, called)
     }
+
+    /// invokevirtual and invokeinterface.
+    pub fn invoke_virtual<L: Lookups>(&mut self, w: &L, m: &Method<'_>, pc: u16, naming: Naming) -> Result<(), Stop>
+        ensures { Gives result (λ _. state_in self.new)
+            (spec.invoke_state (environment_in (L.world w.now) m.now) pc naming rows.virtual (state_in self.old)) }
+    {
+        let called = method_of(w, naming.site)?;
+        let class = named_class(naming)?;
+        self.call_instance(w, called, class)
+    }
+
+    /// invokestatic.
+    pub fn invoke_static<L: Lookups>(&mut self, w: &L, m: &Method<'_>, pc: u16, naming: Naming) -> Result<(), Stop>
+        ensures { Gives result (λ _. state_in self.new)
+            (spec.invoke_state (environment_in (L.world w.now) m.now) pc naming rows.static (state_in self.old)) }
+    {
+        let called = method_of(w, naming.site)?;
+        named_class(naming)?;
+        self.call_static(w, called)
+    }
+
+    /// invokespecial.
+    pub fn invoke_special<L: Lookups>(
+        &mut self,
+        alloc: Global,
+        w: &L,
+        m: &Method<'_>,
+        pc: u16,
+        naming: Naming,
+    ) -> Result<(), Stop>
+        ensures { Gives result (λ _. state_in self.new)
+            (spec.invoke_state (environment_in (L.world w.now) m.now) pc naming rows.special (state_in self.old)) }
+    {
+        let called = method_of(w, naming.site)?;
+        let class = named_class(naming)?;
+        if is_constructor(called) {
+            self.call_constructor(alloc, w, m, pc, called, class)
+        } else {
+            self.call_special(w, m, called, class)
+        }
+    }
 }

@@ -2,6 +2,7 @@
 #![tactic(auto)]
 
 mod calls;
+mod effect;
 mod local_rows;
 mod method;
 mod objects;
