@@ -106,7 +106,8 @@ fn is_new_of(m: &Method<'_>, pc: u16, class: u32) -> bool
 fn may_initialize_this<L: Lookups>(w: &L, m: &Method<'_>, pc: u16, class: u32) -> bool
     ensures { result ≡ spec.may_initialize_this (environment_in (L.world w.now) m.now) pc class }
 {
-    (class == m.info.class || w.parent(m.info.class) == Some(class)) && !is_covered(&m.code.rows, pc)
+    (class == m.info.class || w.parent(m.info.class) == Some(class))
+        && !is_covered(&m.code.rows, pc)
 }
 
 impl State {
@@ -163,7 +164,12 @@ impl State {
     }
 
     // A method of an object of this class.
-    fn call_instance<L: Lookups>(&mut self, w: &L, called: &MethodInfo, class: u32) -> Result<(), Stop>
+    fn call_instance<L: Lookups>(
+        &mut self,
+        w: &L,
+        called: &MethodInfo,
+        class: u32,
+    ) -> Result<(), Stop>
         ensures { Gives result (λ _. state_in self.new)
             (spec.instance_called (L.world w.now) called.now class (state_in self.old)) }
     {
@@ -173,7 +179,13 @@ impl State {
     }
 
     // A method that isn't selected by the receiver's class (JVMS 6.5, invokespecial).
-    fn call_special<L: Lookups>(&mut self, w: &L, m: &Method<'_>, called: &MethodInfo, class: u32) -> Result<(), Stop>
+    fn call_special<L: Lookups>(
+        &mut self,
+        w: &L,
+        m: &Method<'_>,
+        called: &MethodInfo,
+        class: u32,
+    ) -> Result<(), Stop>
         ensures { Gives result (λ _. state_in self.new)
             (spec.special_called (environment_in (L.world w.now) m.now) called.now class (state_in self.old)) }
     {
@@ -208,7 +220,13 @@ impl State {
     }
 
     /// invokevirtual and invokeinterface.
-    pub fn invoke_virtual<L: Lookups>(&mut self, w: &L, m: &Method<'_>, pc: u16, naming: Naming) -> Result<(), Stop>
+    pub fn invoke_virtual<L: Lookups>(
+        &mut self,
+        w: &L,
+        m: &Method<'_>,
+        pc: u16,
+        naming: Naming,
+    ) -> Result<(), Stop>
         ensures { Gives result (λ _. state_in self.new)
             (spec.invoke_state (environment_in (L.world w.now) m.now) pc naming rows.virtual (state_in self.old)) }
     {
@@ -218,7 +236,13 @@ impl State {
     }
 
     /// invokestatic.
-    pub fn invoke_static<L: Lookups>(&mut self, w: &L, m: &Method<'_>, pc: u16, naming: Naming) -> Result<(), Stop>
+    pub fn invoke_static<L: Lookups>(
+        &mut self,
+        w: &L,
+        m: &Method<'_>,
+        pc: u16,
+        naming: Naming,
+    ) -> Result<(), Stop>
         ensures { Gives result (λ _. state_in self.new)
             (spec.invoke_state (environment_in (L.world w.now) m.now) pc naming rows.static (state_in self.old)) }
     {

@@ -47,7 +47,7 @@ impl State {
     fn take_returned(&mut self, kind: Kind) -> Result<(), Stop>
         ensures { Gives result (λ _. state_in self.new)
             (spec.returned_from (Some kind) self.old.types.stack then λ stack.
-                Ok (with_stack (state_in self.old) stack)) }
+            Ok (with_stack (state_in self.old) stack)) }
     {
         self.types.pop_kind(kind)?;
         Ok(())
@@ -70,25 +70,46 @@ impl State {
     }
 
     // An event that isn't `new`.
-    fn event<L: Lookups>(&mut self, w: &L, own: u32, pc: u16, naming: Naming, op: &Op) -> Result<(), Stop>
+    fn event<L: Lookups>(
+        &mut self,
+        w: &L,
+        own: u32,
+        pc: u16,
+        naming: Naming,
+        op: &Op,
+    ) -> Result<(), Stop>
         ensures { Gives result (λ _. state_in self.new)
             (event_stack (L.world w.now) own pc naming (row op.now) self.old.types.stack then λ stack.
-                Ok (with_stack (state_in self.old) stack)) }
+            Ok (with_stack (state_in self.old) stack)) }
     {
         self.types.event(w, own, pc, naming, op)
     }
 
     // An event without operands in the code.
-    fn simple_event<L: Lookups>(&mut self, w: &L, own: u32, pc: u16, naming: Naming, simple: Simple) -> Result<(), Stop>
+    fn simple_event<L: Lookups>(
+        &mut self,
+        w: &L,
+        own: u32,
+        pc: u16,
+        naming: Naming,
+        simple: Simple,
+    ) -> Result<(), Stop>
         ensures { Gives result (λ _. state_in self.new)
             (event_stack (L.world w.now) own pc naming (simple_row simple) self.old.types.stack then λ stack.
-                Ok (with_stack (state_in self.old) stack)) }
+            Ok (with_stack (state_in self.old) stack)) }
     {
         self.types.simple_event(w, simple)
     }
 
     // An instruction without operands in the code.
-    fn simple<L: Lookups>(&mut self, w: &L, m: &Method<'_>, pc: u16, naming: Naming, simple: Simple) -> Result<(), Stop>
+    fn simple<L: Lookups>(
+        &mut self,
+        w: &L,
+        m: &Method<'_>,
+        pc: u16,
+        naming: Naming,
+        simple: Simple,
+    ) -> Result<(), Stop>
         ensures { Gives result (λ _. state_in self.new)
             (spec.row_state (environment_in (L.world w.now) m.now) pc naming (simple_row simple) (state_in self.old)) }
     {
@@ -128,7 +149,7 @@ impl State {
     fn store_element<L: Lookups>(&mut self, w: &L, element: Element) -> Result<(), Stop>
         ensures { Gives result (λ _. state_in self.new)
             (objects.array_stored (L.world w.now) element self.old.types.stack then λ stack.
-                Ok (with_stack (state_in self.old) stack)) }
+            Ok (with_stack (state_in self.old) stack)) }
     {
         self.types.store_element(w, element)
     }
@@ -137,7 +158,7 @@ impl State {
     fn array_of(&mut self, base: Base) -> Result<(), Stop>
         ensures { Gives result (λ _. state_in self.new)
             ((type_popped Kind.Int self.old.types.stack then λ x. Ok (VType.Named 1 base ∷ x.1)) then λ stack.
-                Ok (with_stack (state_in self.old) stack)) }
+            Ok (with_stack (state_in self.old) stack)) }
     {
         self.types.pop_kind(Kind::Int)?;
         self.types.push_slot(VType::Named(1, base))

@@ -25,7 +25,7 @@ impl Types {
     fn calculate(&mut self, kinds: &[Kind], gives: VType) -> Result<(), Stop>
         ensures { Gives result (λ _. self.new)
             (spec.types_popped kinds.now self.old.stack then λ stack.
-                spec.types_on self.old.locals (spec.type_pushed gives stack)) }
+            spec.types_on self.old.locals (spec.type_pushed gives stack)) }
     {
         self.pop_kinds(kinds)?;
         self.push(gives)

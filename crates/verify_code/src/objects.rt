@@ -15,7 +15,9 @@ use crate::types::Types;
 use instruction_rows::RowWhy;
 use opcodes::{Element, Kind, Op, Primitive, Simple};
 use stack_maps::VType;
-use verify_types::{assignable, base_of_primitive, object_type, throwable_type, type_of_kind, type_of_value};
+use verify_types::{
+    assignable, base_of_primitive, object_type, throwable_type, type_of_kind, type_of_value,
+};
 use world_model::{FieldInfo, Lookups, Naming, Site};
 
 // The field that a constant means.
@@ -103,7 +105,13 @@ impl Types {
     }
 
     // Takes an object whose field is set.
-    fn pop_owner<L: Lookups>(&mut self, w: &L, own: u32, class: u32, field: &FieldInfo) -> Result<(), Stop>
+    fn pop_owner<L: Lookups>(
+        &mut self,
+        w: &L,
+        own: u32,
+        class: u32,
+        field: &FieldInfo,
+    ) -> Result<(), Stop>
         ensures stack { Gives result (λ _. self.new.stack)
             (spec.set_in (L.world w.now) own class field.now self.old.stack) }
         ensures locals { self.new.locals ≡ self.old.locals }
@@ -261,7 +269,7 @@ impl Types {
     fn check_cast<L: Lookups>(&mut self, w: &L, naming: Naming) -> Result<(), Stop>
         ensures stack { Gives result (λ _. self.new.stack)
             (spec.object_taken (L.world w.now) naming self.old.stack then λ x.
-                Ok (class_type (L.world w.now) x.0 ∷ x.1)) }
+            Ok (class_type (L.world w.now) x.0 ∷ x.1)) }
         ensures locals { self.new.locals ≡ self.old.locals }
     {
         let class = self.pop_object(w, naming)?;
@@ -280,7 +288,14 @@ impl Types {
 
     /// What an event does to the operand stack, in the code of the class `own`; `new` only pushes here. Every other instruction
     /// leaves the stack as it is.
-    pub fn event<L: Lookups>(&mut self, w: &L, own: u32, pc: u16, naming: Naming, op: &Op) -> Result<(), Stop>
+    pub fn event<L: Lookups>(
+        &mut self,
+        w: &L,
+        own: u32,
+        pc: u16,
+        naming: Naming,
+        op: &Op,
+    ) -> Result<(), Stop>
         ensures stack { Gives result (λ _. self.new.stack)
             (event_stack (L.world w.now) own pc naming (row op.now) self.old.stack) }
         ensures locals { self.new.locals ≡ self.old.locals }

@@ -220,7 +220,12 @@ impl Types {
     }
 
     /// Gives local variables that hold the object another type.
-    pub fn replace_locals(&mut self, alloc: Global, object: Uninitialized, t: VType) -> Result<(), Stop>
+    pub fn replace_locals(
+        &mut self,
+        alloc: Global,
+        object: Uninitialized,
+        t: VType,
+    ) -> Result<(), Stop>
         ensures locals { OnOk result (self.new.locals ≡ replaced (is_object object) t self.old.locals) }
         ensures stack { self.new.stack ≡ self.old.stack }
         ensures full { OnErr result (result ≡ Err Stop.NoMemory) }
@@ -231,7 +236,12 @@ impl Types {
 
     /// Gives operands that are the object another type.
     #[tactic(auto, using(crate::proofs::Lists::replaced_reverse))]
-    pub fn replace_operands(&mut self, alloc: Global, object: Uninitialized, t: VType) -> Result<(), Stop>
+    pub fn replace_operands(
+        &mut self,
+        alloc: Global,
+        object: Uninitialized,
+        t: VType,
+    ) -> Result<(), Stop>
         ensures stack { OnOk result (self.new.stack ≡ replaced (is_object object) t self.old.stack) }
         ensures locals { self.new.locals ≡ self.old.locals }
         ensures full { OnErr result (result ≡ Err Stop.NoMemory) }
@@ -249,10 +259,18 @@ fn any_is(types: &[VType], object: Uninitialized) -> bool
 }
 
 // The types, with this one in place of each that is the object's.
-fn replaced(alloc: Global, types: &[VType], object: Uninitialized, t: VType) -> Result<Vec<VType>, AllocError>
+fn replaced(
+    alloc: Global,
+    types: &[VType],
+    object: Uninitialized,
+    t: VType,
+) -> Result<Vec<VType>, AllocError>
     ensures { IfOk result (λ v. v.items ≡ replaced (is_object object) t types.now) }
 {
-    types.iter().map(|x| if is_object(object, *x) { t } else { *x }).collect(alloc)
+    types
+        .iter()
+        .map(|x| if is_object(object, *x) { t } else { *x })
+        .collect(alloc)
 }
 
 // Whether a type is of this kind.

@@ -35,18 +35,35 @@ state_faultless env p h =
     let locals = kept row_whys.Locals after h.after h.is in
     let init = kept row_whys.Init after h.after h.is in
     let fits = subst Fits (sym h.is) h.frames in
-    let shallow = subst Shallow (sym h.is) h.after_shallow in
-    (no_fault (list_all (is_target env) (targets_of_row r)) whys.Target h.targets,
-    (no_fault (entry_fits env p && result_fits env p after) whys.Frame (true_and (entry_fits env p) (result_fits env p after) h.entry fits),
-    (no_fault (keeps_rule row_whys.Kind after) whys.Kind kind,
-    (no_fault (keeps_rule row_whys.Depth after && is_shallow env h.state && result_is_shallow env after) whys.Depth
-      (true_and (keeps_rule row_whys.Depth after && is_shallow env h.state) (result_is_shallow env after) (true_and (keeps_rule row_whys.Depth after) (is_shallow env h.state) depth h.before_shallow) shallow),
-    (no_fault (keeps_rule row_whys.Locals after && has_locals env h.state) whys.Locals (true_and (keeps_rule row_whys.Locals after) (has_locals env h.state) locals h.locals),
-    (no_fault (are_satisfied env p.instruction.instr.pc h.state) whys.Handler h.handlers,
-    (no_fault (is_returned env r h.state) whys.Return h.returned,
-    (no_fault (keeps_rule row_whys.Init after && is_finished r h.state) whys.Init (true_and (keeps_rule row_whys.Init after) (is_finished r h.state) init h.finished),
-    (no_fault (not (row_goes_on r && p.is_last)) whys.End (ap (λ b. not b) h.ended),
-    tt)))))))))
+    let shallow = subst Shallow (sym h.is) h.after_shallow in (
+      no_fault (list_all (is_target env) (targets_of_row r)) whys.Target h.targets,
+      (
+        no_fault (entry_fits env p && result_fits env p after) whys.Frame (true_and (entry_fits env p) (result_fits env p after) h.entry fits),
+        (
+          no_fault (keeps_rule row_whys.Kind after) whys.Kind kind,
+          (
+            no_fault (keeps_rule row_whys.Depth after && is_shallow env h.state && result_is_shallow env after) whys.Depth
+                (true_and (keeps_rule row_whys.Depth after && is_shallow env h.state) (result_is_shallow env after) (true_and (keeps_rule row_whys.Depth after) (is_shallow env h.state) depth h.before_shallow) shallow),
+            (
+              no_fault (keeps_rule row_whys.Locals after && has_locals env h.state) whys.Locals (true_and (keeps_rule row_whys.Locals after) (has_locals env h.state) locals h.locals),
+              (
+                no_fault (are_satisfied env p.instruction.instr.pc h.state) whys.Handler h.handlers,
+                (
+                  no_fault (is_returned env r h.state) whys.Return h.returned,
+                  (
+                    no_fault (keeps_rule row_whys.Init after && is_finished r h.state) whys.Init (true_and (keeps_rule row_whys.Init after) (is_finished r h.state) init h.finished),
+                    (
+                      no_fault (not (row_goes_on r && p.is_last)) whys.End (ap (λ b. not b) h.ended),
+                      tt,
+                    ),
+                  ),
+                ),
+              ),
+            ),
+          ),
+        ),
+      ),
+    )
 
 placed_faultless : (env : Environment) (p : Placed) → KeepsRules env p → AllNone (placed_faults env p)
 placed_faultless env p h =
@@ -60,9 +77,10 @@ placed_faultless env p h =
 -- ---- a method and a program
 
 pub accepted_faultless : (env : Environment) → IsAccepted env → AllNone (method_faults env)
-accepted_faultless env h =
-    (no_fault env.is_mapped (pc_fault 0 whys.Map) h.mapped,
-    flat_each (λ x. x ≡ None) (placed_faults env) (walk env) (each_kept (KeepsRules env) (λ p. AllNone (placed_faults env p)) (placed_faultless env) (walk env) h.each))
+accepted_faultless env h = (
+  no_fault env.is_mapped (pc_fault 0 whys.Map) h.mapped,
+  flat_each (λ x. x ≡ None) (placed_faults env) (walk env) (each_kept (KeepsRules env) (λ p. AllNone (placed_faults env p)) (placed_faultless env) (walk env) h.each),
+)
 
 method_faultless : (w : World) → AreAccepted w → (x : ℕ × MethodInfo) → AllNone (numbered_faults w x)
 method_faultless w all x =

@@ -43,7 +43,7 @@ linked_code w m code ns cs (i ∷ is) e bytes b some =
       first = record { instr = i; naming = get_or ns 0 (record { site = Plain; class = None }) };
       rest = with_namings is (drop 1 ns);
       parts = ap (λ js. with_namings js ns) (sym e);
-      ordered = subst Ordered e (in_order 0 bytes (i ∷ is) ns b)
+      ordered = subst Ordered e (in_order 0 bytes (i ∷ is) ns b);
     }
 
 known_code : {A : Type 0} (o : Option (Option A)) (x : A) → option_and_then (λ y. y) o ≡ Some x → o ≡ Some (Some x)

@@ -76,7 +76,7 @@ keeps_rules env p s has none stray =
       returned = returned;
       finished = init.1;
       ended = ended;
-      stray = stray
+      stray = stray;
     }
 
 -- ---- an instruction that breaks no rule has a state

@@ -39,5 +39,5 @@ fits_kept w a b e c h =
     let both = and_true (all_assignable w a.types.locals b.types.locals) (all_assignable w a.types.stack b.types.stack) lists.0 in
     record {
       locals = are_of_kept a.types.locals b.types.locals c.locals (all_kept w a.types.locals b.types.locals both.0) h.locals;
-      stack = are_of_kept a.types.stack b.types.stack c.stack (all_kept w a.types.stack b.types.stack both.1) h.stack
+      stack = are_of_kept a.types.stack b.types.stack c.stack (all_kept w a.types.stack b.types.stack both.1) h.stack;
     }

@@ -50,9 +50,9 @@ next_suffix env entry before pc i is s =
       ordered = s.ordered.2;
       good = s.good.1;
       same = λ n high.
-        let low : pc ≤ n = omega arith in
-        let less : i.instr.pc < n = omega arith in
-        s.same n low ∙ skipped i.instr.pc n (head_of env entry before i is) (find (stands_at n) (placed env None (behind env i (standing env i.instr.pc before)) is)) less
+          let low : pc ≤ n = omega arith in
+          let less : i.instr.pc < n = omega arith in
+          s.same n low ∙ skipped i.instr.pc n (head_of env entry before i is) (find (stands_at n) (placed env None (behind env i (standing env i.instr.pc before)) is)) less;
     }
 
 -- the first instruction is found at its pc
@@ -80,7 +80,7 @@ lands_first env entry before pc n i is f s same at =
     record {
       place = head_of env entry before i is;
       there = found_first env entry before pc n i is s same;
-      state = ap (λ m. State (map_at env m)) same ∙ ap State at
+      state = ap (λ m. State (map_at env m)) same ∙ ap State at;
     }
 
 inside : (a b : Bool) → a ≡ true → b ≡ true → (a && b) ≡ false → ⊥
@@ -103,17 +103,17 @@ pub lands : (env : Environment) (entry before : Option TypeState) (pc n : ℕ) (
 lands env entry before pc n i [] f s low at =
     let here : i.instr.pc ≡ pc = s.ordered.0 in
     elim (cases_lt i.instr.pc n) [
-      inl later ↦ absurd (no_stray env entry before pc n i [] f s at later refl)
+      | inl later ↦ absurd (no_stray env entry before pc n i [] f s at later refl)
       | inr near ↦ let same : i.instr.pc ≡ n = omega arith in lands_first env entry before pc n i [] f s same at
     ]
 lands env entry before pc n i (j ∷ js) f s low at =
     let here : i.instr.pc ≡ pc = s.ordered.0 in
     elim (cases_lt i.instr.pc n) [
-      inl later ↦
-        elim (cases_lt n i.instr.next) [
-          inl near ↦ absurd (no_stray env entry before pc n i (j ∷ js) f s at later (lt-ltb n i.instr.next near))
-          | inr far ↦ lands env None (behind env i (standing env i.instr.pc before)) i.instr.next n j js f (next_suffix env entry before pc i (j ∷ js) s) far at
-        ]
+      | inl later ↦
+          elim (cases_lt n i.instr.next) [
+            | inl near ↦ absurd (no_stray env entry before pc n i (j ∷ js) f s at later (lt-ltb n i.instr.next near))
+            | inr far ↦ lands env None (behind env i (standing env i.instr.pc before)) i.instr.next n j js f (next_suffix env entry before pc i (j ∷ js) s) far at
+          ]
       | inr near ↦ let same : i.instr.pc ≡ n = omega arith in lands_first env entry before pc n i (j ∷ js) f s same at
     ]
 
@@ -133,7 +133,7 @@ arrives env good land s n f at fine =
       there = to.there;
       state = rules.state;
       has = rules.has;
-      keeps = fits_kept env.world s rules.state (subst Fits (sym to.state ∙ rules.has) fine)
+      keeps = fits_kept env.world s rules.state (subst Fits (sym to.state ∙ rules.has) fine);
     }
 
 -- a state that goes on to an instruction without a frame of the map is that before it
@@ -147,7 +147,7 @@ falls env entry before pc i is s suffix e none =
       there = found_first env entry before pc pc i is suffix here;
       state = s;
       has = ap (λ m. State (map_at env m)) here ∙ ap State none ∙ e;
-      keeps = λ c h. h
+      keeps = λ c h. h;
     }
 
 -- ---- an instruction that keeps to the rules is fine
@@ -175,7 +175,7 @@ goes_on_to env entry before pc i (j ∷ js) arrive s on =
     let fits_there = chosen (row_goes_on (row_of i)) (option_map_or (fits_frame env rules.after) (map_at env i.instr.next) true) (is_some (map_at env i.instr.next)) frames.1 on in
     let After : Option TypeState → Option TypeState = λ o. behind env i o in
     let result : behind env i (standing env i.instr.pc before) ≡ Some rules.after =
-      ap After rules.has ∙ ap (λ b. cond b (result_ok (state_after env i rules.state)) None) on ∙ ap (λ r. result_ok r) rules.is in
+    ap After rules.has ∙ ap (λ b. cond b (result_ok (state_after env i rules.state)) None) on ∙ ap (λ r. result_ok r) rules.is in
     option_case G (map_at env i.instr.next)
     (λ f at. arrive rules.after i.instr.next f at (subst Fits at fits_there))
     (λ none. falls env None (behind env i (standing env i.instr.pc before)) i.instr.next j js rules.after (next_suffix env entry before pc i (j ∷ js) s) result none)
@@ -208,14 +208,14 @@ fine env entry before pc i is arrive s =
       is = rules.is;
       on = goes_on_to env entry before pc i is arrive s;
       to = λ target among. leads_to env rules.after target arrive
-        (among_all (is_target env) (targets_of_row (row_of i)) target rules.targets among)
-        (among_all (fits_target env rules.after) (targets_of_row (row_of i)) target frames.0 among);
+          (among_all (is_target env) (targets_of_row (row_of i)) target rules.targets among)
+          (among_all (fits_target env rules.after) (targets_of_row (row_of i)) target frames.0 among);
       before_shallow = leb-true (length rules.state.types.stack) env.max_stack rules.before_shallow;
       after_shallow = leb-true (length rules.after.types.stack) env.max_stack rules.after_shallow;
       locals = leb-true (length rules.state.types.locals) env.max_locals rules.locals;
       handled = λ k h e covered. handled env i.instr.pc rules.state k h arrive rules.handlers e covered;
       returned = rules.returned;
-      finished = rules.finished
+      finished = rules.finished;
     }
 
 -- ---- a method
@@ -226,9 +226,10 @@ IsPlacedWell env p = (s : TypeState) × (p.state ≡ Some s) × IsFine env p.ins
 all_fine : (env : Environment) (entry before : Option TypeState) (pc : ℕ) (is : List Instruction) → Arrives env
     → Suffix env entry before pc is → Each (IsPlacedWell env) (placed env entry before is)
 all_fine env entry before pc [] arrive s = tt
-all_fine env entry before pc (i ∷ is) arrive s =
-    ((s.good.0.state, s.good.0.has, fine env entry before pc i is arrive s),
-    all_fine env None (behind env i (standing env i.instr.pc before)) i.instr.next is arrive (next_suffix env entry before pc i is s))
+all_fine env entry before pc (i ∷ is) arrive s = (
+  (s.good.0.state, s.good.0.has, fine env entry before pc i is arrive s),
+  all_fine env None (behind env i (standing env i.instr.pc before)) i.instr.next is arrive (next_suffix env entry before pc i is s),
+)
 
 -- the walk from the first instruction on
 whole : (env : Environment) (code : IsLinkedCode env) → Each (KeepsRules env) (walk env) → Suffix env (Some env.first) (Some env.first) 0 (code.first ∷ code.rest)
@@ -239,7 +240,7 @@ whole env code good =
     record {
       ordered = subst Ordered code.parts code.ordered;
       good = subst Good code.parts good;
-      same = λ n low. ap (λ is. find (stands_at n) (Walk is)) code.parts
+      same = λ n low. ap (λ is. find (stands_at n) (Walk is)) code.parts;
     }
 
 starts : (env : Environment) (i : Instruction) (is : List Instruction) → Arrives env
@@ -256,14 +257,14 @@ pub accepted_typed : (env : Environment) → IsLinkedCode env → IsAccepted env
 accepted_typed env code accepted =
     let s = whole env code accepted.each in
     let land : (n : ℕ) (f : MapFrame) → map_at env n ≡ Some f → Lands env n f = λ n f at.
-      let low : 0 ≤ n = omega arith in
-      lands env (Some env.first) (Some env.first) 0 n code.first code.rest f s low at in
+    let low : 0 ≤ n = omega arith in
+    lands env (Some env.first) (Some env.first) 0 n code.first code.rest f s low at in
     let arrive = arrives env accepted.each land in
     let Good : List Instruction → Type 0 = λ is. Each (IsPlacedWell env) (placed env (Some env.first) (Some env.first) is) in
     let each = subst Good (sym code.parts) (all_fine env (Some env.first) (Some env.first) 0 (code.first ∷ code.rest) arrive s) in
     record {
       start = starts env code.first code.rest arrive s;
-      each = λ pc place there. each_found (IsPlacedWell env) (stands_at pc) (walk env) place each there
+      each = λ pc place there. each_found (IsPlacedWell env) (stands_at pc) (walk env) place each there;
     }
 
 -- a method without a fault is accepted
@@ -274,7 +275,7 @@ faultless_accepted env code none =
     record {
       mapped = passed env.is_mapped (pc_fault 0 whys.Map) none.0;
       each = walked env (Some env.first) (Some env.first) 0 env.instructions code.ordered (subst Reached (sym code.parts) reached)
-        (each_flat (λ x. x ≡ None) (placed_faults env) (walk env) none.1)
+          (each_flat (λ x. x ≡ None) (placed_faults env) (walk env) none.1);
     }
 
 pub world_accepted : (w : World) → AreDecoded w → IsWellTyped w → AreAccepted w

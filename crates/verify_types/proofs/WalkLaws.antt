@@ -46,7 +46,7 @@ next_reached env entry before i (j ∷ js) rules ordered =
     let from : behind env i (Some rules.state) ≡ None = subst Behind rules.has none in
     let frames = and_true (list_all (fits_target env rules.after) (targets_of_row (row_of i))) (fits_next env (row_of i) i.instr.next rules.after) rules.frames in
     let there = reached_by (row_goes_on (row_of i)) (result_ok (state_after env i rules.state)) (option_map_or (fits_frame env rules.after) (map_at env i.instr.next) true) (is_some (map_at env i.instr.next))
-        rules.after (ap (λ r. result_ok r) rules.is) from frames.1 in
+    rules.after (ap (λ r. result_ok r) rules.is) from frames.1 in
     let There : ℕ → Type 0 = λ pc. is_none (map_at env pc) ≡ false in
     subst There (sym ordered.0) (some_not_none (map_at env i.instr.next) there)
 

@@ -24,15 +24,15 @@ use Rattle.verify_types.specs.Faults.{pc_fault, method_fault}
 -- a world of names alone, in which no class of a file stands
 abbrev names : World
 names = record {
-    program = record { classes = []; built_in = 0 };
-    names = codes "java/lang/Object" ∷ codes "java/lang/Cloneable" ∷ codes "java/io/Serializable" ∷ codes "A" ∷ [];
-    arrays = [];
-    fields = [];
-    methods = [];
-    codes = [];
-    namings = [];
-    catches = []
-  }
+  program = record { classes = []; built_in = 0 };
+  names = codes "java/lang/Object" ∷ codes "java/lang/Cloneable" ∷ codes "java/io/Serializable" ∷ codes "A" ∷ [];
+  arrays = [];
+  fields = [];
+  methods = [];
+  codes = [];
+  namings = [];
+  catches = [];
+}
 
 -- ---- types
 

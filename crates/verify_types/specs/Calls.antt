@@ -75,9 +75,9 @@ may_initialize_this env pc class =
 -- the state after the object is initialized, wherever it lies
 abbrev pub initialized : (VType → Bool) → VType → Bool → TypeState → TypeState
 initialized test t this_uninit s = record {
-    types = record { locals = replaced test t s.types.locals; stack = replaced test t s.types.stack };
-    this_uninit = this_uninit
-  }
+  types = record { locals = replaced test t s.types.locals; stack = replaced test t s.types.stack };
+  this_uninit = this_uninit;
+}
 
 -- the object that lay below the arguments is initialized; the class named declares the constructor
 abbrev pub object_initialized : Environment → ℕ → ℕ → VType → TypeState → Result TypeState RowWhy

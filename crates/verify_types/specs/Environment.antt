@@ -78,9 +78,9 @@ has_uninit_this m locals = is_constructor m && list_any is_this locals
 -- the state that the types of a frame mean
 abbrev pub state_of : MethodInfo → ℕ → FrameTypes → TypeState
 state_of m max_locals f = record {
-    types = record { locals = padded max_locals (slot_types f.locals); stack = reverse (slot_types f.stack) };
-    this_uninit = has_uninit_this m f.locals
-  }
+  types = record { locals = padded max_locals (slot_types f.locals); stack = reverse (slot_types f.stack) };
+  this_uninit = has_uninit_this m f.locals;
+}
 
 -- all types resolved, undefined where one of them isn't
 abbrev pub all_resolved : World → ℕ → List VType → Option (List VType)
@@ -126,7 +126,7 @@ environment_of w m code namings catches =
       handlers = with_catches code.rows catches;
       first = state_of m code.max_locals (first_frame w m);
       is_mapped = is_ok expanded;
-      map = map_frames w m code.max_locals expanded
+      map = map_frames w m code.max_locals expanded;
     }
 
 -- the method of a number, where it has code

@@ -8,7 +8,9 @@ use world_model::Lookups;
 fn is_above_arrays<L: Lookups>(w: &L, class: u32) -> bool
     ensures { result ≡ spec.is_above_arrays (L.world w.now) class }
 {
-    is_number(w.object(), class) || is_number(w.cloneable(), class) || is_number(w.serializable(), class)
+    is_number(w.object(), class)
+        || is_number(w.cloneable(), class)
+        || is_number(w.serializable(), class)
 }
 
 // Whether the number that was found, if any, is this one.

@@ -10,7 +10,8 @@ mod why;
 
 pub use assignability::assignable;
 pub use class_types::{
-    base_of_primitive, object_type, resolve, string_type, throwable_type, type_of_kind, type_of_value,
+    base_of_primitive, object_type, resolve, string_type, throwable_type, type_of_kind,
+    type_of_value,
 };
 pub use fault::VerifyFault;
 pub use laws::{first_faults, kinds_are_kept, typed_methods};
