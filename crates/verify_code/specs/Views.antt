@@ -2,6 +2,9 @@
 use Rattle.std.specs.Prelude.{Bool, reverse}
 use Rattle.stack_maps.specs.declared.types.VType.{VType}
 use Rattle.instruction_rows.specs.Contents.{Contents}
+use Rattle.world_model.specs.World.{World}
+use Rattle.verify_types.specs.Environment.{Environment, environment_of}
+use Rattle.verify_code.specs.declared.method.Method.{Method}
 use Rattle.verify_types.specs.TypeStates.{TypeState, is_this, is_new}
 use Rattle.verify_code.specs.declared.types.Types.TheInside.{Inside}
 use Rattle.verify_code.specs.declared.state.State.{State}
@@ -19,3 +22,7 @@ state_in s = record { types = s.types; this_uninit = s.this_uninit }
 abbrev pub is_object : Uninitialized → VType → Bool
 is_object objects.This t = is_this t
 is_object (objects.New pc) t = is_new pc t
+
+-- the environment that a method has in a world
+abbrev pub environment_in : World → Method → Environment
+environment_in w m = environment_of w m.info.now m.code.now m.namings.now m.catches.now

@@ -2,7 +2,9 @@
 #![tactic(auto)]
 
 mod calls;
+mod effect;
 mod local_rows;
+mod method;
 mod objects;
 mod operands;
 mod stack_items;
@@ -10,6 +12,7 @@ mod state;
 mod stop;
 mod types;
 
+pub use method::Method;
 pub use state::{State, Uninitialized};
 pub use stop::Stop;
 pub use types::Types;

@@ -32,7 +32,7 @@ impl Types {
     }
 
     // An instruction without operands in the code.
-    fn simple_local(&mut self, simple: Simple) -> Result<(), Stop>
+    pub fn simple_local(&mut self, simple: Simple) -> Result<(), Stop>
         ensures { Gives result (λ _. self.new) (local_types (simple_row simple) self.old) }
     {
         match simple {

@@ -226,7 +226,7 @@ impl Types {
     }
 
     // An instruction without operands in the code.
-    fn simple_event<L: Lookups>(&mut self, w: &L, simple: Simple) -> Result<(), Stop>
+    pub fn simple_event<L: Lookups>(&mut self, w: &L, simple: Simple) -> Result<(), Stop>
         ensures stack { (own pc : ℕ) (naming : Naming) → Gives result (λ _. self.new.stack)
             (event_stack (L.world w.now) own pc naming (simple_row simple) self.old.stack) }
         ensures locals { self.new.locals ≡ self.old.locals }
@@ -251,7 +251,7 @@ impl Types {
     }
 
     // newarray.
-    fn new_array(&mut self, primitive: Primitive) -> Result<(), Stop>
+    pub fn new_array(&mut self, primitive: Primitive) -> Result<(), Stop>
         ensures stack { (w : World) (own pc : ℕ) (naming : Naming) → Gives result (λ _. self.new.stack)
             (event_stack w own pc naming (new_array_row primitive) self.old.stack) }
         ensures locals { self.new.locals ≡ self.old.locals }

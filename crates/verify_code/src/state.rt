@@ -1,9 +1,8 @@
 //! The state before or after an instruction (JVMS 4.10.1.4).
 
 ghost use Rattle.std.specs.Prelude.{◌≡◌, OnOk, OnErr, Err};
-ghost use Rattle.std.specs.List.{list_any};
-ghost use Rattle.verify_types.specs.TypeStates.{is_this, is_new, replaced};
 ghost use Rattle.verify_types.specs.Objects as objects;
+ghost use Rattle.verify_types.specs.Calls.{initialized};
 ghost use Rattle.verify_code.specs.Answers.{Gives};
 ghost use Rattle.verify_code.specs.Views.{is_object, state_in};
 
@@ -54,5 +53,15 @@ impl State {
         }
         self.types.replace_locals(alloc, object, VType::Top)?;
         self.types.push_slot(VType::Uninit(pc))
+    }
+
+    /// Gives the object this type wherever it lies.
+    pub fn initialize(&mut self, alloc: Global, object: Uninitialized, t: VType) -> Result<(), Stop>
+        ensures after { OnOk result (state_in self.new ≡
+            initialized (is_object object) t self.old.this_uninit (state_in self.old)) }
+        ensures full { OnErr result (result ≡ Err Stop.NoMemory) }
+    {
+        self.types.replace_locals(alloc, object, t)?;
+        self.types.replace_operands(alloc, object, t)
     }
 }

@@ -17,6 +17,7 @@ use Rattle.instruction_rows.specs.Rows.{Invocation, virtual, special, static, in
 use Rattle.instruction_rows.specs.TypeEffect.{type_popped, type_pushed}
 use Rattle.linkage.specs.Hierarchy.{parent_of}
 use Rattle.world_model.specs.declared.members.MethodInfo.{MethodInfo}
+use Rattle.world_model.specs.declared.sites.Naming.{Naming}
 use Rattle.world_model.specs.declared.sites.Site.{Site}
 use Rattle.world_model.specs.declared.sites.Site.TheVariants as sites
 use Rattle.world_model.specs.World.{World, class_type}
@@ -72,47 +73,47 @@ may_initialize_this env pc class =
     (class == env.method.class || is_number (parent_of env.world.program env.method.class) class) && not (is_covered env pc)
 
 -- the state after the object is initialized, wherever it lies
-abbrev pub initialized : (VType → Bool) → VType → Bool → TypeState → List VType → TypeState
-initialized test t this_uninit s below = record {
-  types = record { locals = replaced test t s.types.locals; stack = replaced test t below };
+abbrev pub initialized : (VType → Bool) → VType → Bool → TypeState → TypeState
+initialized test t this_uninit s = record {
+  types = record { locals = replaced test t s.types.locals; stack = replaced test t s.types.stack };
   this_uninit = this_uninit;
 }
 
--- the object below the arguments is initialized; the class named declares the constructor
-abbrev pub object_initialized : Environment → ℕ → ℕ → VType → TypeState → List VType → Result TypeState RowWhy
-object_initialized env pc class (types.Uninit new) s below =
+-- the object that lay below the arguments is initialized; the class named declares the constructor
+abbrev pub object_initialized : Environment → ℕ → ℕ → VType → TypeState → Result TypeState RowWhy
+object_initialized env pc class (types.Uninit new) s =
     only_if (may_initialize_new env new class) whys.Init
-    (initialized (is_new new) (class_type env.world class) s.this_uninit s below)
-object_initialized env pc class types.UninitThis s below =
+    (initialized (is_new new) (class_type env.world class) s.this_uninit s)
+object_initialized env pc class types.UninitThis s =
     only_if (may_initialize_this env pc class) whys.Init
-    (initialized is_this (class_type env.world env.method.class) false s below)
-object_initialized env pc class t s below = Err whys.Init
+    (initialized is_this (class_type env.world env.method.class) false s)
+object_initialized env pc class t s = Err whys.Init
 
-abbrev pub constructor_called : Environment → Instruction → MethodInfo → ℕ → TypeState → Result TypeState RowWhy
-constructor_called env i m class s =
+abbrev pub constructor_called : Environment → ℕ → MethodInfo → ℕ → TypeState → Result TypeState RowWhy
+constructor_called env pc m class s =
     arguments_taken env.world m s.types.stack then λ rest.
     type_popped kinds.Reference rest then λ x.
     only_if (m.class == class) whys.Init x then λ y.
-    object_initialized env i.instr.pc class y.0 s y.1 then λ after.
+    object_initialized env pc class y.0 (with_stack s y.1) then λ after.
     Ok (with_stack after (result_pushed env.world m after.types.stack))
 
 -- ---- other calls
 
 -- A constructor or a class initializer is called in no other way.
-abbrev pub result_given : Environment → MethodInfo → TypeState → List VType → Result TypeState RowWhy
-result_given env m s rest =
-    only_if (not (is_initializer m.name)) whys.Init (with_stack s (result_pushed env.world m rest))
+abbrev pub result_given : World → MethodInfo → TypeState → List VType → Result TypeState RowWhy
+result_given w m s rest =
+    only_if (not (is_initializer m.name)) whys.Init (with_stack s (result_pushed w m rest))
 
 -- a method of the class, without a receiver
-abbrev pub static_called : Environment → MethodInfo → TypeState → Result TypeState RowWhy
-static_called env m s = arguments_taken env.world m s.types.stack then λ rest. result_given env m s rest
+abbrev pub static_called : World → MethodInfo → TypeState → Result TypeState RowWhy
+static_called w m s = arguments_taken w m s.types.stack then λ rest. result_given w m s rest
 
 -- a method of an object of this class
-abbrev pub instance_called : Environment → MethodInfo → ℕ → TypeState → Result TypeState RowWhy
-instance_called env m class s =
-    arguments_taken env.world m s.types.stack then λ rest.
-    wanted env.world (class_type env.world class) rest then λ below.
-    result_given env m s below
+abbrev pub instance_called : World → MethodInfo → ℕ → TypeState → Result TypeState RowWhy
+instance_called w m class s =
+    arguments_taken w m s.types.stack then λ rest.
+    wanted w (class_type w class) rest then λ below.
+    result_given w m s below
 
 -- whether the class whose code this is, is one that the constant names
 abbrev pub is_own_method : Environment → ℕ → Bool
@@ -121,18 +122,18 @@ is_own_method env class = assignable env.world (class_type env.world env.method.
 -- a method that isn't selected by the receiver's class: the receiver is of the class whose code this is
 abbrev pub special_called : Environment → MethodInfo → ℕ → TypeState → Result TypeState RowWhy
 special_called env m class s =
-    instance_called env m env.method.class s then λ after. only_if (is_own_method env class) whys.Init after
+    instance_called env.world m env.method.class s then λ after. only_if (is_own_method env class) whys.Init after
 
 -- ---- rows
 
-abbrev pub called : Environment → Instruction → Invocation → MethodInfo → ℕ → TypeState → Result TypeState RowWhy
-called env i virtual m class s = instance_called env m class s
-called env i (interface count) m class s = instance_called env m class s
-called env i special m class s =
-    if is_constructor m then constructor_called env i m class s else special_called env m class s
-called env i static m class s = static_called env m s
-called env i dynamic m class s = Err whys.Kind
+abbrev pub called : Environment → ℕ → Invocation → MethodInfo → ℕ → TypeState → Result TypeState RowWhy
+called env pc virtual m class s = instance_called env.world m class s
+called env pc (interface count) m class s = instance_called env.world m class s
+called env pc special m class s =
+    if is_constructor m then constructor_called env pc m class s else special_called env m class s
+called env pc static m class s = static_called env.world m s
+called env pc dynamic m class s = Err whys.Kind
 
-abbrev pub invoke_state : Environment → Instruction → Invocation → TypeState → Result TypeState RowWhy
-invoke_state env i invocation s =
-    method_of env.world i.naming.site then λ m. named_class i.naming then λ class. called env i invocation m class s
+abbrev pub invoke_state : Environment → ℕ → Naming → Invocation → TypeState → Result TypeState RowWhy
+invoke_state env pc naming invocation s =
+    method_of env.world naming.site then λ m. named_class naming then λ class. called env pc invocation m class s
