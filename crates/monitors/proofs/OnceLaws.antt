@@ -1,5 +1,5 @@
 -- A thread is in at most one list of one monitor.
-use Rattle.std.proofs.Common.{◌≡◌, ◌+◌, ◌<◌, ◌≤◌, ℕ, false, Option, Some, None, length, nat_eq, sym, ap, subst, refl, arith}
+use Rattle.std.proofs.Common.{◌∙◌, ◌≡◌, ◌+◌, ◌<◌, ◌≤◌, ℕ, false, Option, Some, None, length, nat_eq, sym, ap, subst, refl, arith}
 use Rattle.std.specs.Cmp.{nat_eq_equiv}
 use Rattle.std.specs.HashMap.{IsUnique, get}
 use Rattle.std.specs.List.{All}
@@ -10,10 +10,11 @@ use Rattle.std.proofs.lemmas.List.{get_or-map, length-map}
 use Rattle.std.proofs.lemmas.Map.Views.{All-values_from_lookup}
 use Rattle.thread_lists.specs.Lists.{count, list_at, total}
 use Rattle.thread_lists.proofs.CountLaws.{total-two}
+use Rattle.monitors.specs.declared.records.Owner.{Owner}
 use Rattle.monitors.specs.declared.records.Record.{Record}
 use Rattle.monitors.specs.declared.monitors.Monitors.TheInside.{Inside}
-use Rattle.monitors.specs.Monitors.{is_free, count_in, monitor_of}
-use Rattle.monitors.specs.Records.{IsKept, entry_of, known, seen, waits_of}
+use Rattle.monitors.specs.Monitors.{Monitor, is_free, count_in, monitor_of}
+use Rattle.monitors.specs.Records.{IsKept, entry_of, known, seen, waits_of, count_of, thread_of}
 use Rattle.monitors.proofs.MonitorLaws.{in_use_is, unused_is}
 
 module _ (a : Inside) (kept : IsKept a) (once : (t : ℕ) → total (count t) a.lists.lists ≤ 1) where
@@ -62,3 +63,17 @@ module _ (a : Inside) (kept : IsKept a) (once : (t : ℕ) → total (count t) a.
           by : (x : Option Record) → lookup (nat_eq o) a.records.entries ≡ x → IfSome x (λ r. is_free (known a.lists.lists r) ≡ false)
           by None e = tt
           by (Some r) e = kept.fits.in_use o r e
+
+-- a monitor without an owner
+pub unowned_in : (a : Inside) (o : ℕ) → (monitor_of (seen a) o).owner ≡ None → (monitor_of (seen a) o).count ≡ 0
+unowned_in a o e = by (get nat_eq a.records o) refl
+  where
+    none : (owner : Option Owner) → thread_of owner ≡ None → count_of owner ≡ 0
+    none None i = refl
+    none (Some owner) i = cc
+
+    by : (x : Option Record) → get nat_eq a.records o ≡ x → (monitor_of (seen a) o).count ≡ 0
+    by None i = ap (λ (m : Monitor). m.count) (unused_is a o i)
+    by (Some r) i =
+        let same = in_use_is a o r i in
+        ap (λ (m : Monitor). m.count) same ∙ none r.owner (sym (ap (λ (m : Monitor). m.owner) same) ∙ e)

@@ -75,11 +75,14 @@ impl Monitors {
         self.lists.add_thread()
     }
 
-    /// Every call keeps this: a thread is in at most one list of one monitor, once, and no monitor that is free is kept.
+    /// Every call keeps this: a thread is in at most one list of one monitor, once; a monitor without an owner has the count 0;
+    /// and no monitor that is free is kept.
     pub fn once(&self)
         ensures once { (t o : ℕ) → count_in t (monitor_of self.now o) ≤ 1 }
         ensures apart { (t o p : ℕ) → o ≢ p
             → count_in t (monitor_of self.now o) + count_in t (monitor_of self.now p) ≤ 1 }
+        ensures unowned { (o : ℕ) → (monitor_of self.now o).owner ≡ None
+            → (monitor_of self.now o).count ≡ 0 }
         ensures used { All (λ entry. IsInUse entry.1) self.now.used }
     {
         self.lists.once();
