@@ -10,7 +10,8 @@ mod member;
 mod tags;
 
 pub use access_flags::{
-    ACC_ABSTRACT, ACC_FINAL, ACC_INTERFACE, ACC_MODULE, ACC_NATIVE, ACC_PRIVATE, ACC_PUBLIC, ACC_STATIC,
+    ACC_ABSTRACT, ACC_FINAL, ACC_INTERFACE, ACC_MODULE, ACC_NATIVE, ACC_PRIVATE, ACC_PUBLIC,
+    ACC_STATIC,
 };
 pub use attribute::{Attribute, Body, CodeAttribute, CodeBody, CodeExtra, Row};
 pub use class_file::ClassFile;

@@ -1,8 +1,8 @@
 ghost use Rattle.std.specs.Prelude.{◌≡◌};
 
 use class_file::ClassWhy;
-use items::Items;
 use history::Entry;
+use items::Items;
 use std::alloc::AllocError;
 
 /// Which sink.

@@ -1,7 +1,7 @@
 use crate::{Report, SinkName, Which, Why, jvt, no_memory};
 use class_file::ClassWhy;
-use jvm_edges::{Gate, ListClock, MapStore, MemSink, OpenGate};
 use history::{Entry, What};
+use jvm_edges::{Gate, ListClock, MapStore, MemSink, OpenGate};
 use std::alloc::{AllocError, Global};
 use std::process::Abort;
 use std::sync::atomic::{AtomicU64, Ordering};
