@@ -261,7 +261,7 @@ impl Monitors {
         Ok(count)
     }
 
-    /// A thread that waits to be notified count_in up for the monitor.
+    /// A thread that waits to be notified lines up for the monitor.
     pub fn leave_wait(&mut self, o: u32, t: u32)
         requires { IsWaiting t (monitor_of self.old o) }
         ensures { Becomes self.old self.new o (after_leave_wait t (monitor_of self.old o)) }
