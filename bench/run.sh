@@ -12,6 +12,7 @@ cp -r "$top/crates" "$top/crates.txt" "$top/HANDLES" "$work"
 add() {
     mkdir -p "$work/crates/bench_$1/src"
     cp "$top/bench/$1/main.txt" "$work/crates/bench_$1/src/main.rt"
+    [ ! -d "$top/bench/$1/proofs" ] || cp -r "$top/bench/$1/proofs" "$work/crates/bench_$1"
     echo "bench_$1: $2" >>"$work/crates.txt"
     (cd "$work/crates/bench_$1" && rt run >"$work/log" 2>&1) || { cat "$work/log"; exit 1; }
 }
@@ -42,3 +43,5 @@ add traces 'history'
 run traces
 add threads 'items sleep_wheel vthread_state wakes'
 run threads
+add queues 'items monitors run_deques thread_lists'
+run queues
