@@ -12,7 +12,8 @@ use Rattle.class_model.specs.declared.attribute.CodeAttribute.{CodeAttribute}
 use Rattle.class_model.specs.declared.attribute.CodeExtra.TheVariants as extras
 use Rattle.class_model.specs.declared.member.Member.{Member}
 use Rattle.class_model.specs.declared.class_file.ClassFile.{ClassFile}
-use Rattle.lib_table.specs.Declarations.{Class, Field, Method, Body, Code, Instruction, Operand, abstract_body, native_body, code_body, nothing, text_index, class_index, field_index, method_index, interface_index, offset_to}
+use Rattle.lib_table.specs.Instructions.{Instruction, Operand, nothing, text_index, class_index, field_index, method_index, interface_index, offset_to}
+use Rattle.lib_table.specs.Declarations.{Class, Field, Method, Body, Code, abstract_body, native_body, code_body}
 use Rattle.lib_table.specs.Pool as pools
 use Rattle.lib_table.specs.Pool.{◌then◌}
 

@@ -1,3 +1,4 @@
+pub mod Instructions
 pub mod Declarations
 pub mod Words
 pub mod Objects

@@ -2,11 +2,12 @@
 use Rattle.std.specs.Prelude.{◌+◌, List, [], ◌∷◌, Some, None}
 use Rattle.lib_table.specs.declared.native.Native.TheVariants as natives
 use Rattle.lib_table.specs.Declarations.{Class}
-use Rattle.lib_table.specs.Words.{public, private, static, final, native, abstract, interface, class, field, method, native_method, aload_0, dup, areturn, ireturn, athrow, new_object, getfield, invokevirtual, invokespecial, ifnonnull}
+use Rattle.lib_table.specs.Instructions.{aload_0, dup, areturn, ireturn, athrow, ifnonnull}
+use Rattle.lib_table.specs.Words.{public, private, static, final, native, abstract, interface, class, field, method, native_method, new_object, getfield, invokevirtual, invokespecial}
 
 abbrev pub object : Class
 object =
-    class public "java/lang/Object" None ([])
+    class public "java/lang/Object" None []
     []
     (native_method (public + native) "<init>" "()V" natives.ObjectInit
     ∷ native_method (public + native) "equals" "(Ljava/lang/Object;)Z" natives.ObjectEquals
@@ -26,7 +27,7 @@ object =
 
 abbrev pub objects : Class
 objects =
-    class (public + final) "java/util/Objects" (Some "java/lang/Object") ([])
+    class (public + final) "java/util/Objects" (Some "java/lang/Object") []
     []
     (method (public + static) "requireNonNull" "(Ljava/lang/Object;)Ljava/lang/Object;" 2 1 (Some 12)
     (aload_0
@@ -41,13 +42,13 @@ objects =
 
 abbrev pub cloneable : Class
 cloneable =
-    class (public + interface + abstract) "java/lang/Cloneable" (Some "java/lang/Object") ([])
+    class (public + interface + abstract) "java/lang/Cloneable" (Some "java/lang/Object") []
     []
     []
 
 abbrev pub serializable : Class
 serializable =
-    class (public + interface + abstract) "java/io/Serializable" (Some "java/lang/Object") ([])
+    class (public + interface + abstract) "java/io/Serializable" (Some "java/lang/Object") []
     []
     []
 

@@ -2,11 +2,12 @@
 use Rattle.std.specs.Prelude.{◌+◌, List, [], ◌∷◌, Some, None}
 use Rattle.lib_table.specs.declared.native.Native.TheVariants as natives
 use Rattle.lib_table.specs.Declarations.{Class}
-use Rattle.lib_table.specs.Words.{public, static, final, native, class, field, method, native_method, aload_0, aload_1, return_void, invokevirtual, invokestatic}
+use Rattle.lib_table.specs.Instructions.{aload_0, aload_1, return_void}
+use Rattle.lib_table.specs.Words.{public, static, final, native, class, field, method, native_method, invokevirtual, invokestatic}
 
 abbrev pub system : Class
 system =
-    class (public + final) "java/lang/System" (Some "java/lang/Object") ([])
+    class (public + final) "java/lang/System" (Some "java/lang/Object") []
     (field (public + static + final) "out" "Ljava/io/PrintStream;"
     ∷ field (public + static + final) "err" "Ljava/io/PrintStream;"
     ∷ [])
@@ -18,7 +19,7 @@ system =
 -- A program makes no stream, so there is no constructor.
 abbrev pub print_stream : Class
 print_stream =
-    class public "java/io/PrintStream" (Some "java/lang/Object") ([])
+    class public "java/io/PrintStream" (Some "java/lang/Object") []
     []
     (native_method (public + native) "println" "()V" natives.PrintStreamPrintln
     ∷ native_method (public + native) "println" "(I)V" natives.PrintStreamPrintlnInt

@@ -2,7 +2,8 @@
 use Rattle.std.specs.Prelude.{◌+◌, List, [], ◌∷◌, Some, None}
 use Rattle.lib_table.specs.declared.native.Native.TheVariants as natives
 use Rattle.lib_table.specs.Declarations.{Class}
-use Rattle.lib_table.specs.Words.{public, private, static, final, native, class, field, method, native_method, aload_0, aload_1, areturn, ldc_w, invokevirtual, invokestatic, ifnonnull}
+use Rattle.lib_table.specs.Instructions.{aload_0, aload_1, areturn, ifnonnull}
+use Rattle.lib_table.specs.Words.{public, private, static, final, native, class, field, method, native_method, ldc_w, invokevirtual, invokestatic}
 
 abbrev pub string : Class
 string =

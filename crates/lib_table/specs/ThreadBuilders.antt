@@ -1,11 +1,12 @@
 -- The builders of threads.
 use Rattle.std.specs.Prelude.{◌+◌, List, [], ◌∷◌, Some, None}
 use Rattle.lib_table.specs.Declarations.{Class}
-use Rattle.lib_table.specs.Words.{public, private, final, abstract, interface, package_private, class, field, method, abstract_method, aload_0, aload_1, aload_2, astore_2, iload_1, iconst_1, dup, pop, areturn, return_void, new_object, getfield, putfield, invokevirtual, invokespecial, invokestatic, invokeinterface, ifeq}
+use Rattle.lib_table.specs.Instructions.{aload_0, aload_1, aload_2, astore_2, iload_1, iconst_1, dup, pop, areturn, return_void, ifeq}
+use Rattle.lib_table.specs.Words.{public, private, final, abstract, interface, package_private, class, field, method, abstract_method, new_object, getfield, putfield, invokevirtual, invokespecial, invokestatic, invokeinterface}
 
 abbrev pub builder : Class
 builder =
-    class (public + interface + abstract) "java/lang/Thread$Builder" (Some "java/lang/Object") ([])
+    class (public + interface + abstract) "java/lang/Thread$Builder" (Some "java/lang/Object") []
     []
     (abstract_method (public + abstract) "name" "(Ljava/lang/String;)Ljava/lang/Thread$Builder;"
     ∷ abstract_method (public + abstract) "start" "(Ljava/lang/Runnable;)Ljava/lang/Thread;"

@@ -2,11 +2,12 @@
 use Rattle.std.specs.Prelude.{◌+◌, List, [], ◌∷◌, Some, None}
 use Rattle.lib_table.specs.declared.native.Native.TheVariants as natives
 use Rattle.lib_table.specs.Declarations.{Class}
-use Rattle.lib_table.specs.Words.{public, private, static, final, native, abstract, interface, class, field, method, native_method, abstract_method, aload_0, aload_1, aload_2, aconst_null, dup, pop, areturn, return_void, new_object, getfield, putfield, invokevirtual, invokespecial, invokestatic, invokeinterface, ifnull}
+use Rattle.lib_table.specs.Instructions.{aload_0, aload_1, aload_2, aconst_null, dup, pop, areturn, return_void, ifnull}
+use Rattle.lib_table.specs.Words.{public, private, static, final, native, abstract, interface, class, field, method, native_method, abstract_method, new_object, getfield, putfield, invokevirtual, invokespecial, invokestatic, invokeinterface}
 
 abbrev pub runnable : Class
 runnable =
-    class (public + interface + abstract) "java/lang/Runnable" (Some "java/lang/Object") ([])
+    class (public + interface + abstract) "java/lang/Runnable" (Some "java/lang/Object") []
     []
     (abstract_method (public + abstract) "run" "()V"
     ∷ [])
@@ -126,7 +127,7 @@ thread =
 
 abbrev pub state : Class
 state =
-    class (public + final) "java/lang/Thread$State" (Some "java/lang/Enum") ([])
+    class (public + final) "java/lang/Thread$State" (Some "java/lang/Enum") []
     (field (public + static + final) "NEW" "Ljava/lang/Thread$State;"
     ∷ field (public + static + final) "RUNNABLE" "Ljava/lang/Thread$State;"
     ∷ field (public + static + final) "BLOCKED" "Ljava/lang/Thread$State;"
@@ -138,7 +139,7 @@ state =
 
 abbrev pub lock_support : Class
 lock_support =
-    class public "java/util/concurrent/locks/LockSupport" (Some "java/lang/Object") ([])
+    class public "java/util/concurrent/locks/LockSupport" (Some "java/lang/Object") []
     []
     (native_method (public + static + native) "park" "()V" natives.LockSupportPark
     ∷ native_method (public + static + native) "park" "(Ljava/lang/Object;)V" natives.LockSupportParkBlocker
@@ -150,7 +151,7 @@ lock_support =
 -- Its method runs under a native frame. (own)
 abbrev pub native_holder : Class
 native_holder =
-    class (public + final) "jvt/Native" (Some "java/lang/Object") ([])
+    class (public + final) "jvt/Native" (Some "java/lang/Object") []
     []
     (method (public + static) "hold" "(Ljava/lang/Runnable;)V" 1 1 None
     (aload_0

@@ -1,7 +1,8 @@
 -- What is thrown.
 use Rattle.std.specs.Prelude.{◌+◌, List, [], ◌∷◌, Some, None}
 use Rattle.lib_table.specs.Declarations.{Class}
-use Rattle.lib_table.specs.Words.{public, private, abstract, class, field, method, aload_0, aload_1, areturn, return_void, getfield, putfield, invokespecial, throwable}
+use Rattle.lib_table.specs.Instructions.{aload_0, aload_1, areturn, return_void}
+use Rattle.lib_table.specs.Words.{public, private, abstract, class, field, method, getfield, putfield, invokespecial, throwable}
 
 abbrev pub throwable_itself : Class
 throwable_itself =

@@ -1,10 +1,12 @@
--- The words of Java and the mnemonics in which the built-in classes are declared.
+-- The words of Java in which the built-in classes are declared.
 use Rattle.std.specs.Prelude.{ℕ, List, [], ◌∷◌, Option, Some, None, map, codes}
 use Prim.Native.String.{String}
 use Rattle.std.specs.Option.{option_map}
 use Rattle.class_model.specs.declared.access_flags.TheConstants.{ACC_PUBLIC, ACC_PRIVATE, ACC_STATIC, ACC_FINAL, ACC_NATIVE, ACC_INTERFACE, ACC_ABSTRACT}
 use Rattle.lib_table.specs.declared.native.Native.{Native}
-use Rattle.lib_table.specs.Declarations.{Class, Field, Method, Body, Instruction, abstract_body, native_body, code_body, op, nothing, text_index, class_index, field_index, method_index, interface_index, offset_to}
+use Rattle.lib_table.specs.Instructions as instructions
+use Rattle.lib_table.specs.Instructions.{Instruction, aload_0, aload_1, return_void}
+use Rattle.lib_table.specs.Declarations.{Class, Field, Method, Body, abstract_body, native_body, code_body}
 
 -- ---- flags (JVMS 4.1, 4.5, 4.6); the flags of a declaration are their sum
 
@@ -56,83 +58,32 @@ abbrev pub method : ℕ → String → String → ℕ → ℕ → Option ℕ →
 method flags name descriptor max_stack max_locals frame instructions =
     method_with (code_body (record { max_stack = max_stack; max_locals = max_locals; instructions = instructions; frame = frame })) flags name descriptor
 
--- ---- instructions (JVMS 6.5)
-
-abbrev pub aconst_null : Instruction
-aconst_null = op 1 nothing
-
-abbrev pub iconst_1 : Instruction
-iconst_1 = op 4 nothing
+-- ---- instructions that name something (JVMS 6.5)
 
 abbrev pub ldc_w : String → Instruction
-ldc_w text = op 19 (text_index (codes text))
-
-abbrev pub iload_1 : Instruction
-iload_1 = op 27 nothing
-
-abbrev pub aload_0 : Instruction
-aload_0 = op 42 nothing
-
-abbrev pub aload_1 : Instruction
-aload_1 = op 43 nothing
-
-abbrev pub aload_2 : Instruction
-aload_2 = op 44 nothing
-
-abbrev pub astore_2 : Instruction
-astore_2 = op 77 nothing
-
-abbrev pub pop : Instruction
-pop = op 87 nothing
-
-abbrev pub dup : Instruction
-dup = op 89 nothing
-
--- a branch by the pc that it goes to, which is behind it
-abbrev pub ifeq : ℕ → Instruction
-ifeq target = op 153 (offset_to target)
-
-abbrev pub ifnull : ℕ → Instruction
-ifnull target = op 198 (offset_to target)
-
-abbrev pub ifnonnull : ℕ → Instruction
-ifnonnull target = op 199 (offset_to target)
-
-abbrev pub ireturn : Instruction
-ireturn = op 172 nothing
-
-abbrev pub areturn : Instruction
-areturn = op 176 nothing
-
--- return, without a value
-abbrev pub return_void : Instruction
-return_void = op 177 nothing
+ldc_w text = instructions.ldc_w (codes text)
 
 abbrev pub getfield : String → String → String → Instruction
-getfield class name descriptor = op 180 (field_index (codes class) (codes name) (codes descriptor))
+getfield class name descriptor = instructions.getfield (codes class) (codes name) (codes descriptor)
 
 abbrev pub putfield : String → String → String → Instruction
-putfield class name descriptor = op 181 (field_index (codes class) (codes name) (codes descriptor))
+putfield class name descriptor = instructions.putfield (codes class) (codes name) (codes descriptor)
 
 abbrev pub invokevirtual : String → String → String → Instruction
-invokevirtual class name descriptor = op 182 (method_index (codes class) (codes name) (codes descriptor))
+invokevirtual class name descriptor = instructions.invokevirtual (codes class) (codes name) (codes descriptor)
 
 abbrev pub invokespecial : String → String → String → Instruction
-invokespecial class name descriptor = op 183 (method_index (codes class) (codes name) (codes descriptor))
+invokespecial class name descriptor = instructions.invokespecial (codes class) (codes name) (codes descriptor)
 
 abbrev pub invokestatic : String → String → String → Instruction
-invokestatic class name descriptor = op 184 (method_index (codes class) (codes name) (codes descriptor))
+invokestatic class name descriptor = instructions.invokestatic (codes class) (codes name) (codes descriptor)
 
 -- the last number is that of the argument slots with the receiver
 abbrev pub invokeinterface : String → String → String → ℕ → Instruction
-invokeinterface class name descriptor count = op 185 (interface_index (codes class) (codes name) (codes descriptor) count)
+invokeinterface class name descriptor count = instructions.invokeinterface (codes class) (codes name) (codes descriptor) count
 
--- new
 abbrev pub new_object : String → Instruction
-new_object name = op 187 (class_index (codes name))
-
-abbrev pub athrow : Instruction
-athrow = op 191 nothing
+new_object name = instructions.new_object (codes name)
 
 -- ---- throwables
 

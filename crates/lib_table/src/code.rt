@@ -2,7 +2,8 @@
 
 ghost use Rattle.std.specs.Prelude.{◌≡◌, ◌++◌, [], ◌∷◌, IfOk, OnOk, map};
 ghost use Rattle.std.specs.List.{fold};
-ghost use Rattle.lib_table.specs.Declarations.{meaning, code_of, operand_of};
+ghost use Rattle.lib_table.specs.Instructions.{meaning, operand_of};
+ghost use Rattle.lib_table.specs.Declarations.{code_of};
 ghost use Rattle.lib_table.specs.Build as spec;
 
 use crate::declarations::MethodCode;

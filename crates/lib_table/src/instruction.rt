@@ -1,5 +1,5 @@
 ghost use Rattle.std.specs.Prelude.{◌≡◌};
-ghost use Rattle.lib_table.specs.Declarations.{meaning, operand_of};
+ghost use Rattle.lib_table.specs.Instructions.{meaning, operand_of};
 
 /// An instruction by its mnemonic (JVMS 6.5). Fields and methods are given by class, name and descriptor, and branches by the pc that
 /// they go to, which is behind them.

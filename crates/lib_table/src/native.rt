@@ -1,5 +1,5 @@
 /// What the machine itself does in place of code: one variant for each native method of the built-in classes, named by its class, its name
-/// and, where there are several of that name, what it takes.
+/// and, where there are several of that name, what it takes. A name that begins with a digit is private, and Java source can't spell it. (own)
 #[derive(Clone, Copy, Debug, PartialEq, Eq)]
 pub enum Native {
     /// `java/lang/Object.<init>()V`
@@ -8,7 +8,8 @@ pub enum Native {
     ObjectEquals,
     /// `java/lang/Object.hashCode()I`
     ObjectHashCode,
-    /// `java/lang/Object.0toString(I)Ljava/lang/String;`
+    /// `java/lang/Object.0toString(I)Ljava/lang/String;`: the name of the receiver's class with dots, `@`, and the number as an unsigned one in
+    /// lower-case hexadecimal without leading zeros.
     ObjectToString,
     /// `java/lang/Object.wait()V`
     ObjectWait,
@@ -84,9 +85,11 @@ pub enum Native {
     PrintStreamPrintBoolean,
     /// `java/io/PrintStream.print(Ljava/lang/String;)V`
     PrintStreamPrintString,
-    /// `java/lang/Thread.0createPlatform(Ljava/lang/String;)V`
+    /// `java/lang/Thread.0createPlatform(Ljava/lang/String;)V`: the receiver becomes a new platform thread, a daemon where the caller is one,
+    /// with this name, or for null with the next `Thread-N`.
     ThreadCreatePlatform,
-    /// `java/lang/Thread.0createVirtual(Ljava/lang/String;)V`
+    /// `java/lang/Thread.0createVirtual(Ljava/lang/String;)V`: the receiver becomes a new virtual thread with this name, or for null with the
+    /// empty one.
     ThreadCreateVirtual,
     /// `java/lang/Thread.start()V`
     ThreadStart,

@@ -1,6 +1,6 @@
 use Rattle.std.proofs.Common.{◌≡◌, [], take}
 use Rattle.std.specs.List.{fold}
-use Rattle.lib_table.specs.Declarations.{meaning}
+use Rattle.lib_table.specs.Instructions.{meaning}
 use Rattle.lib_table.specs.Build as spec
 use Rattle.lib_table.proofs.code.bytes_of.Given as goal
 

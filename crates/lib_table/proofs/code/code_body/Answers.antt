@@ -1,7 +1,7 @@
 use Rattle.std.proofs.Common.{List, [], map, ap, ◌∙◌}
 use Rattle.std.specs.List.{fold}
 use Rattle.class_model.specs.declared.attribute.Row.{Row}
-use Rattle.lib_table.specs.Declarations.{meaning}
+use Rattle.lib_table.specs.Instructions.{meaning}
 use Rattle.lib_table.specs.Pool.{◌then◌}
 use Rattle.lib_table.specs.Build as spec
 use Rattle.lib_table.proofs.Steps.{after_step}
