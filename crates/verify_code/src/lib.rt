@@ -3,6 +3,7 @@
 
 mod calls;
 mod effect;
+mod fits;
 mod local_rows;
 mod method;
 mod objects;
