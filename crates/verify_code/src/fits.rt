@@ -13,15 +13,19 @@ use world_model::Lookups;
 pub fn all_assignable<L: Lookups>(w: &L, types: &[VType], others: &[VType]) -> bool
     ensures { result ≡ all_assignable (L.world w.now) types.now others.now }
 {
-    if types.len() != others.len() {
-        return false;
-    }
-    for (index, t) in types.iter().enumerate() {
-        if !assignable(w, *t, others[index]) {
+    let mut left = types;
+    let mut right = others;
+    while let Some((t, behind)) = left.split_first() {
+        let Some((u, beyond)) = right.split_first() else {
+            return false;
+        };
+        if !assignable(w, *t, *u) {
             return false;
         }
+        left = behind;
+        right = beyond;
     }
-    true
+    right.is_empty()
 }
 
 impl State {
