@@ -8,6 +8,7 @@ mod local_rows;
 mod method;
 mod objects;
 mod operands;
+mod rules;
 mod stack_items;
 mod state;
 mod stop;

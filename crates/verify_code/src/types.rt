@@ -1,4 +1,4 @@
-ghost use Rattle.std.specs.Prelude.{◌≡◌, ◌&&◌, [], ◌∷◌, Ok, Err, IfOk, MatchOption, OnOk, OnErr, ok_or};
+ghost use Rattle.std.specs.Prelude.{◌≡◌, ◌&&◌, length, [], ◌∷◌, Ok, Err, IfOk, MatchOption, OnOk, OnErr, ok_or};
 ghost use Rattle.instruction_rows.specs.Contents.{with_item};
 ghost use Rattle.instruction_rows.specs.Kinds.{is_kind, kind_of_type};
 ghost use Rattle.instruction_rows.specs.Rows as rows;
@@ -221,7 +221,22 @@ impl Types {
         ensures { result ≡ (all_assignable (L.world w.now) self.now.locals other.now.locals
             && all_assignable (L.world w.now) self.now.stack other.now.stack) }
     {
-        all_assignable(w, &self.locals, &other.locals) && all_assignable(w, &self.stack, &other.stack)
+        all_assignable(w, &self.locals, &other.locals)
+            && all_assignable(w, &self.stack, &other.stack)
+    }
+
+    /// How many slots are on the operand stack.
+    pub fn depth(&self) -> usize
+        ensures { result ≡ length self.now.stack }
+    {
+        self.stack.len()
+    }
+
+    /// How many local variables there are.
+    pub fn local_count(&self) -> usize
+        ensures { result ≡ length self.now.locals }
+    {
+        self.locals.len()
     }
 
     /// The type of the value of this kind on top. `None`: there is none.
