@@ -3,10 +3,12 @@
 
 mod calls;
 mod effect;
+mod fits;
 mod local_rows;
 mod method;
 mod objects;
 mod operands;
+mod rules;
 mod stack_items;
 mod state;
 mod stop;

@@ -1,14 +1,17 @@
-ghost use Rattle.std.specs.Prelude.{◌≡◌, [], ◌∷◌, Ok, Err, IfOk, MatchOption, OnOk, OnErr, ok_or};
+ghost use Rattle.std.specs.Prelude.{◌≡◌, ◌&&◌, length, [], ◌∷◌, Ok, Err, IfOk, MatchOption, OnOk, OnErr, ok_or};
 ghost use Rattle.instruction_rows.specs.Contents.{with_item};
 ghost use Rattle.instruction_rows.specs.Kinds.{is_kind, kind_of_type};
 ghost use Rattle.instruction_rows.specs.Rows as rows;
 ghost use Rattle.instruction_rows.specs.Results.{◌then◌};
 ghost use Rattle.instruction_rows.specs.TypeEffect as spec;
 ghost use Rattle.std.specs.List.{list_any};
-ghost use Rattle.verify_types.specs.TypeStates.{replaced};
+ghost use Rattle.std.specs.Option.{option_map};
+ghost use Rattle.std.specs.Result.{result_ok};
+ghost use Rattle.verify_types.specs.TypeStates.{all_assignable, replaced};
 ghost use Rattle.verify_code.specs.Answers.{Gives};
 ghost use Rattle.verify_code.specs.Views.{is_object};
 
+use crate::fits::all_assignable;
 use crate::state::{Uninitialized, is_object};
 use crate::stop::Stop;
 use instruction_rows::{RowWhy, is_narrow, is_wide, kind_of_type};
@@ -16,6 +19,7 @@ use opcodes::Kind;
 use stack_maps::VType;
 use std::alloc::{AllocError, Global};
 use std::marker::Model;
+use world_model::Lookups;
 
 /// The types of a frame, slot by slot (JVMS 4.10.1.4).
 #[derive(Drop)]
@@ -207,6 +211,57 @@ impl Types {
             Some((kind, others)) => {
                 self.pop_kind(*kind)?;
                 self.pop_kinds(others)
+            }
+        }
+    }
+
+    /// Whether the types are assignable to others, slot by slot.
+    #[tactic(auto, using(crate::proofs::Lists::pointwise_reverse))]
+    pub fn fits<L: Lookups>(&self, w: &L, other: &Types) -> bool
+        ensures { result ≡ (all_assignable (L.world w.now) self.now.locals other.now.locals
+            && all_assignable (L.world w.now) self.now.stack other.now.stack) }
+    {
+        all_assignable(w, &self.locals, &other.locals)
+            && all_assignable(w, &self.stack, &other.stack)
+    }
+
+    /// How many slots are on the operand stack.
+    pub fn depth(&self) -> usize
+        ensures { result ≡ length self.now.stack }
+    {
+        self.stack.len()
+    }
+
+    /// How many local variables there are.
+    pub fn local_count(&self) -> usize
+        ensures { result ≡ length self.now.locals }
+    {
+        self.locals.len()
+    }
+
+    /// The type of the value of this kind on top. `None`: there is none.
+    pub fn peek(&self, kind: Kind) -> Option<VType>
+        ensures { result ≡ option_map (λ x. x.0) (result_ok (spec.type_popped kind self.now.stack)) }
+    {
+        let (top, below) = self.stack.split_last()?;
+        match kind {
+            Kind::Int => match top {
+                VType::Int => Some(VType::Int),
+                _ => None,
+            },
+            Kind::Long => match top {
+                VType::Top => match below.last() {
+                    Some(VType::Long) => Some(VType::Long),
+                    _ => None,
+                },
+                _ => None,
+            },
+            Kind::Reference => {
+                if is_of_kind(*top, Kind::Reference) {
+                    Some(*top)
+                } else {
+                    None
+                }
             }
         }
     }

@@ -14,6 +14,9 @@ use Rattle.stack_maps.specs.declared.types.VType.TheVariants as types
 use Rattle.stack_maps.specs.Readers.{type_at, wide_frame_at, frame_at, frames_at, table_of}
 use Rattle.world_model.specs.declared.members.MethodInfo.{MethodInfo}
 use Rattle.world_model.specs.declared.members.MethodCode.{MethodCode}
+use Rattle.descriptors.specs.declared.kind.Kind.TheVariants as descriptors
+use Rattle.world_model.specs.declared.sites.Naming.{Naming}
+use Rattle.world_model.specs.declared.sites.Site.TheVariants as sites
 use Rattle.world_model.specs.World.{World}
 use Rattle.verify_types.specs.declared.why.VerifyWhy.{VerifyWhy}
 use Rattle.verify_types.specs.declared.why.VerifyWhy.TheVariants as whys
@@ -21,14 +24,20 @@ use Rattle.verify_types.specs.Assignability.{assignable}
 use Rattle.verify_types.specs.Environment.{Environment, environment_of}
 use Rattle.verify_types.specs.Faults.{pc_fault, method_fault}
 
--- a world of names alone, in which no class of a file stands
+abbrev static_method : MethodInfo
+static_method = record { class = 3; flags = ACC_STATIC; name = codes "f"; signature = record { args = []; result = None } }
+
+abbrev constructor : MethodInfo
+constructor = record { class = 3; flags = 0; name = codes "<init>"; signature = record { args = []; result = None } }
+
+-- a world of names, in which no class of a file stands, with a constructor, a method and a field of A
 abbrev names : World
 names = record {
   program = record { classes = []; built_in = 0 };
-  names = codes "java/lang/Object" ∷ codes "java/lang/Cloneable" ∷ codes "java/io/Serializable" ∷ codes "A" ∷ [];
+  names = codes "java/lang/Object" ∷ codes "java/lang/Cloneable" ∷ codes "java/io/Serializable" ∷ codes "A" ∷ codes "java/lang/Throwable" ∷ [];
   arrays = [];
-  fields = [];
-  methods = [];
+  fields = record { class = 3; flags = 0; name = codes "f"; kind = descriptors.Int } ∷ [];
+  methods = constructor ∷ static_method ∷ [];
   codes = [];
   namings = [];
   catches = [];
@@ -81,12 +90,6 @@ uninitialized_to_object : Differs (types.Uninit 4) object
 uninitialized_to_object = refl
 
 -- ---- methods
-
-abbrev static_method : MethodInfo
-static_method = record { class = 3; flags = ACC_STATIC; name = codes "f"; signature = record { args = []; result = None } }
-
-abbrev constructor : MethodInfo
-constructor = record { class = 3; flags = 0; name = codes "<init>"; signature = record { args = []; result = None } }
 
 abbrev at : ℕ → ℕ → Op → Instr
 at pc next op = record { pc = pc; next = next; op = op }
@@ -172,3 +175,91 @@ unfinished = refl
 no_handler : IsRefused (method static_method (at 0 1 return ∷ at 1 2 return ∷ []) (record { start = 0; end = 1; handler = 1; catch_type = 0 } ∷ []) (0 ∷ 0 ∷ [])) 0 whys.Frame
 unfolding type_at wide_frame_at frame_at frames_at table_of
 no_handler = refl
+
+-- ---- objects that are created
+
+-- what the constants of A, of its constructor and of its field mean
+abbrev plain : Naming
+plain = record { site = sites.Plain; class = None }
+
+abbrev class_a : Naming
+class_a = record { site = sites.Class 3; class = Some 3 }
+
+abbrev constructor_a : Naming
+constructor_a = record { site = sites.Method 0; class = Some 3 }
+
+abbrev constructor_of_object : Naming
+constructor_of_object = record { site = sites.Method 0; class = Some 0 }
+
+abbrev field_a : Naming
+field_a = record { site = sites.Field 0; class = Some 3 }
+
+abbrev created : MethodInfo → List Instr → List Row → List Naming → Environment
+created m is rows namings = environment_of names m (code_of is rows (0 ∷ 0 ∷ [])) namings []
+
+abbrev aload_0 : Op
+aload_0 = ops.Load kinds.Reference 0
+
+-- new A, dup, invokespecial, and then another instruction
+abbrev new_dup_init : Op → List Instr
+new_dup_init op = at 0 3 (ops.New 1) ∷ at 3 4 (ops.Simple simples.Dup) ∷ at 4 7 (ops.InvokeSpecial 2) ∷ at 7 8 op ∷ at 8 9 return ∷ []
+
+made_and_initialized : IsWell (created static_method (new_dup_init (ops.Store kinds.Reference 0)) [] (class_a ∷ plain ∷ constructor_a ∷ []))
+unfolding type_at wide_frame_at frame_at frames_at table_of
+made_and_initialized = refl
+
+-- `<init>` of the same object twice
+initialized_twice : IsRefused (created static_method (new_dup_init (ops.InvokeSpecial 2)) [] (class_a ∷ plain ∷ constructor_a ∷ constructor_a ∷ [])) 7 whys.Init
+unfolding type_at wide_frame_at frame_at frames_at table_of
+initialized_twice = refl
+
+-- the constructor of another class than that of the object
+of_another_class : IsRefused (created static_method (new_dup_init (ops.Store kinds.Reference 0)) [] (class_a ∷ plain ∷ constructor_of_object ∷ [])) 4 whys.Init
+unfolding type_at wide_frame_at frame_at frames_at table_of
+of_another_class = refl
+
+-- an object that isn't initialized is no array
+length_of_new : IsRefused (created static_method (at 0 3 (ops.New 1) ∷ at 3 4 (ops.Simple simples.ArrayLength) ∷ at 4 5 return ∷ []) [] (class_a ∷ [])) 3 whys.Kind
+unfolding type_at wide_frame_at frame_at frames_at table_of
+length_of_new = refl
+
+-- aload_0, invokespecial A.<init>, return
+abbrev calls_this : List Instr
+calls_this = at 0 1 aload_0 ∷ at 1 4 (ops.InvokeSpecial 2) ∷ at 4 5 return ∷ []
+
+this_initialized : IsWell (created constructor calls_this [] (plain ∷ constructor_a ∷ []))
+unfolding type_at wide_frame_at frame_at frames_at table_of
+this_initialized = refl
+
+-- the same in the range of a row of the exception table
+abbrev all_covered : Row
+all_covered = record { start = 0; end = 4; handler = 4; catch_type = 0 }
+
+this_in_range : IsRefused (environment_of names constructor (code_of calls_this (all_covered ∷ []) (0 ∷ 1 ∷ 68 ∷ 0 ∷ [])) (plain ∷ constructor_a ∷ []) []) 1 whys.Init
+unfolding type_at wide_frame_at frame_at frames_at table_of
+this_in_range = refl
+
+-- a field of the class may be set before another constructor is called, and not be got
+field_set_early : IsWell (created constructor (at 0 1 aload_0 ∷ at 1 2 (ops.PushInt (pos 0)) ∷ at 2 5 (ops.PutField 3) ∷ at 5 6 aload_0 ∷ at 6 9 (ops.InvokeSpecial 2) ∷ at 9 10 return ∷ []) [] (plain ∷ plain ∷ field_a ∷ plain ∷ constructor_a ∷ []))
+unfolding type_at wide_frame_at frame_at frames_at table_of
+field_set_early = refl
+
+field_gotten_early : IsRefused (created constructor (at 0 1 aload_0 ∷ at 1 4 (ops.GetField 3) ∷ at 4 5 return ∷ []) [] (plain ∷ field_a ∷ [])) 1 whys.Kind
+unfolding type_at wide_frame_at frame_at frames_at table_of
+field_gotten_early = refl
+
+-- ---- exception handlers
+
+-- nop, return, return, with a row over the first that goes to the last
+abbrev handled : List ℕ → Environment
+handled map = method static_method (at 0 1 (ops.Simple simples.Nop) ∷ at 1 2 return ∷ at 2 3 return ∷ []) (record { start = 0; end = 1; handler = 2; catch_type = 0 } ∷ []) map
+
+-- a frame at 2 with one item on the stack, Top
+with_handler : IsWell (handled (0 ∷ 1 ∷ 66 ∷ 0 ∷ []))
+unfolding type_at wide_frame_at frame_at frames_at table_of
+with_handler = refl
+
+-- a frame with an empty stack can't take the exception
+stackless_handler : IsRefused (handled (0 ∷ 1 ∷ 2 ∷ [])) 0 whys.Handler
+unfolding type_at wide_frame_at frame_at frames_at table_of
+stackless_handler = refl
