@@ -12,7 +12,11 @@ cp -r "$top/crates" "$top/crates.txt" "$top/HANDLES" "$work"
 add() {
     mkdir -p "$work/crates/bench_$1/src"
     cp "$top/bench/$1/main.txt" "$work/crates/bench_$1/src/main.rt"
-    [ ! -d "$top/bench/$1/proofs" ] || cp -r "$top/bench/$1/proofs" "$work/crates/bench_$1"
+    # Proofs are texts here, since the gate takes files of the kit in crates alone.
+    for text in $(cd "$top/bench/$1" && find . -path './proofs/*.txt'); do
+        mkdir -p "$work/crates/bench_$1/$(dirname "$text")"
+        cp "$top/bench/$1/$text" "$work/crates/bench_$1/${text%.txt}.antt"
+    done
     echo "bench_$1: $2" >>"$work/crates.txt"
     (cd "$work/crates/bench_$1" && rt run >"$work/log" 2>&1) || { cat "$work/log"; exit 1; }
 }
