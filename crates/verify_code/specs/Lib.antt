@@ -1,4 +1,5 @@
-pub mod Answers
-pub mod Views
-pub mod Rows
-pub mod Tables
+pub mod Frames
+pub mod Environments
+pub mod Findings
+pub mod Handlers
+pub mod Walks

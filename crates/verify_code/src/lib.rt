@@ -1,20 +1,13 @@
 //! Verifies the code of a linked program (JVMS 4.10.1).
 #![tactic(auto)]
 
-mod calls;
-mod effect;
-mod fits;
-mod local_rows;
-mod method;
-mod objects;
-mod operands;
-mod rules;
-mod stack_items;
-mod state;
-mod stop;
-mod types;
+mod environment;
+mod findings;
+mod frame_state;
+mod frames;
+mod handlers;
+mod targets;
+mod walk;
 
-pub use method::Method;
-pub use state::{State, Uninitialized};
-pub use stop::Stop;
-pub use types::Types;
+pub use environment::Environment;
+pub use frames::{Frame, Frames};

@@ -1,11 +1,9 @@
 -- A well typed program as a relation for each instruction, without an order of rules (JVMS 4.10.1).
-use Rattle.std.specs.Prelude.{◌≡◌, ℕ, ◌<◌, true, false, List, [], ◌∷◌, ◌++◌, Option, Some, None, Ok, length, slice_get, ◌&&◌}
+use Rattle.std.specs.Prelude.{◌≡◌, ℕ, true, false, List, [], ◌∷◌, ◌++◌, Option, Some, None, Ok, ◌&&◌}
 use Rattle.std.specs.List.{list_all}
 use Rattle.instruction_rows.specs.Rows.{targets_of_row, row_goes_on}
 use Rattle.world_model.specs.World.{World}
 use Rattle.verify_types.specs.TypeStates.{TypeState}
-use Rattle.opcodes.specs.Code.{IsCode}
-use Rattle.world_model.specs.declared.members.MethodCode.{MethodCode}
 use Rattle.verify_types.specs.Environment.{Environment, environment}
 use Rattle.verify_types.specs.Effects.{row_of, state_after}
 use Rattle.verify_types.specs.Handlers.{are_satisfied, is_returned, is_finished}
@@ -55,14 +53,3 @@ pub record IsAccepted (env : Environment) : Type 0 where
 -- each method with code is accepted
 abbrev pub AreAccepted : World → Type 0
 AreAccepted w = (n : ℕ) (env : Environment) → environment w n ≡ Some env → IsAccepted env
-
--- ---- what a linked program has
-
--- the instructions are those of some bytes, of which there is one at least (JVMS 4.7.3)
-pub record IsDecoded (code : MethodCode) : Type 0 where
-  pub bytes : List ℕ
-  pub is_code : IsCode bytes code.code
-  pub some : 0 < length bytes
-
-abbrev pub AreDecoded : World → Type 0
-AreDecoded w = (n : ℕ) (code : MethodCode) → slice_get w.codes n ≡ Some (Some code) → IsDecoded code

@@ -1,7 +1,7 @@
 -- A method with code as the typing sees it (JVMS 4.10.1.6: the environment): its instructions with what their constants mean, its
 -- exception handlers, the state in which it begins, and the frames of its stack map.
 use Rattle.std.specs.Prelude.{ℕ, Bool, List, [], ◌∷◌, ◌++◌, Option, Some, None, Result, Ok, Err, codes, drop, find, get_or, is_ok, map, reverse, slice_get, ◌==◌, ◌&&◌, if◌then◌else◌}
-use Rattle.std.specs.Option.{option_map, option_and_then}
+use Rattle.std.specs.Option.{option_map}
 use Rattle.std.specs.List.{list_any}
 use Rattle.class_model.specs.declared.access_flags.TheConstants.{ACC_STATIC}
 use Rattle.class_model.specs.declared.attribute.Row.{Row}
@@ -20,6 +20,7 @@ use Rattle.world_model.specs.declared.members.MethodCode.{MethodCode}
 use Rattle.world_model.specs.declared.sites.Naming.{Naming}
 use Rattle.world_model.specs.declared.sites.Site.TheVariants.{Plain}
 use Rattle.world_model.specs.World.{World, class_type}
+use Rattle.world_model.specs.Codes.{code_of}
 use Rattle.verify_types.specs.ClassTypes.{resolve, type_of_kind}
 use Rattle.verify_types.specs.Assignability.{is_object}
 use Rattle.verify_types.specs.TypeStates.{TypeState, is_this, padded}
@@ -133,7 +134,7 @@ environment_of w m code namings catches =
 abbrev pub environment : World → ℕ → Option Environment
 environment w n =
     slice_get w.methods n >>= λ m.
-    option_and_then (λ code. code) (slice_get w.codes n) >>= λ code.
+    code_of w n >>= λ code.
     Some (environment_of w m code (get_or w.namings n []) (get_or w.catches n []))
 
 -- ---- what stands at a pc

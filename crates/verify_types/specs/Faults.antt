@@ -12,6 +12,7 @@ use Rattle.world_model.specs.World.{World}
 use Rattle.verify_types.specs.declared.why.VerifyWhy.{VerifyWhy}
 use Rattle.verify_types.specs.declared.why.VerifyWhy.TheVariants as whys
 use Rattle.verify_types.specs.declared.fault.VerifyFault.{VerifyFault}
+use Rattle.verify_types.specs.declared.fault.PcFault.{PcFault}
 use Rattle.verify_types.specs.TypeStates.{TypeState}
 use Rattle.verify_types.specs.Environment.{MapFrame, Environment, environment, map_at, instruction_at}
 use Rattle.verify_types.specs.Effects.{row_of, state_after}
@@ -84,22 +85,23 @@ result_is_shallow env (Err why) = true
 abbrev pub has_locals : Environment → TypeState → Bool
 has_locals env s = nat_le (length s.types.locals) env.max_locals
 
--- the rules, in the order of VerifyWhy
-abbrev pub state_whys : Environment → Placed → TypeState → List (Option VerifyWhy)
-state_whys env p s =
-    let i = p.instruction in
-    let r = row_of i in
-    let after = state_after env i s in
+-- the rules, in the order of VerifyWhy, where the state after the instruction is this
+abbrev pub whys_after : Environment → Placed → TypeState → Result TypeState RowWhy → List (Option VerifyWhy)
+whys_after env p s after =
+    let r = row_of p.instruction in
     unless (list_all (is_target env) (targets_of_row r)) whys.Target
     ∷ unless (entry_fits env p && result_fits env p after) whys.Frame
     ∷ unless (keeps_rule row_whys.Kind after) whys.Kind
     ∷ unless (keeps_rule row_whys.Depth after && is_shallow env s && result_is_shallow env after) whys.Depth
     ∷ unless (keeps_rule row_whys.Locals after && has_locals env s) whys.Locals
-    ∷ unless (are_satisfied env i.instr.pc s) whys.Handler
+    ∷ unless (are_satisfied env p.instruction.instr.pc s) whys.Handler
     ∷ unless (is_returned env r s) whys.Return
     ∷ unless (keeps_rule row_whys.Init after && is_finished r s) whys.Init
     ∷ unless (not (row_goes_on r && p.is_last)) whys.End
     ∷ []
+
+abbrev pub state_whys : Environment → Placed → TypeState → List (Option VerifyWhy)
+state_whys env p s = whys_after env p s (state_after env p.instruction s)
 
 -- An instruction without a state has a frame of the map that names a constant that is no class, or stands behind a fault.
 abbrev pub whys_at : Environment → Placed → List (Option VerifyWhy)
@@ -107,11 +109,6 @@ whys_at env p =
     option_map_or (state_whys env p) p.state (unless (is_none (map_at env p.instruction.instr.pc)) whys.Map ∷ [])
 
 -- ---- a method
-
--- a pc of the code, and what is wrong there
-pub record PcFault : Type 0 where
-  pub pc : ℕ
-  pub why : VerifyWhy
 
 abbrev pub pc_fault : ℕ → VerifyWhy → PcFault
 pc_fault pc why = record { pc = pc; why = why }

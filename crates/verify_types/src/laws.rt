@@ -6,11 +6,12 @@ ghost use Rattle.instruction_rows.specs.declared.value.Slot.{Slot};
 ghost use Rattle.instruction_rows.specs.Contents.{Contents};
 ghost use Rattle.instruction_rows.specs.Soundness.{KeepsKind, HasKinds};
 ghost use Rattle.world_model.specs.World.{World};
+ghost use Rattle.world_model.specs.Codes.{AreDecoded};
 ghost use Rattle.verify_types.specs.declared.fault.VerifyFault.{VerifyFault};
 ghost use Rattle.verify_types.specs.Assignability.{assignable};
 ghost use Rattle.verify_types.specs.TypeStates.{TypeState, fits};
 ghost use Rattle.verify_types.specs.Faults.{world_faults, first_fault, IsWellTyped};
-ghost use Rattle.verify_types.specs.Acceptance.{AllNone, IsFirst, AreAccepted, AreDecoded};
+ghost use Rattle.verify_types.specs.Acceptance.{AllNone, IsFirst, AreAccepted};
 ghost use Rattle.verify_types.specs.Typing.{AreTyped};
 
 /// The fault that is named is the first: it is there, and none stands before it in the order of classes, methods, pcs and

@@ -13,6 +13,6 @@ pub use class_types::{
     base_of_primitive, object_type, resolve, string_type, throwable_type, type_of_kind,
     type_of_value,
 };
-pub use fault::VerifyFault;
+pub use fault::{PcFault, VerifyFault};
 pub use laws::{first_faults, kinds_are_kept, typed_methods};
 pub use why::VerifyWhy;

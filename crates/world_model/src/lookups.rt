@@ -1,13 +1,14 @@
-ghost use Rattle.std.specs.Prelude.{◌≡◌, codes, length, slice_get};
+ghost use Rattle.std.specs.Prelude.{◌≡◌, [], IfSome, codes, get_or, length, slice_get};
 ghost use Rattle.std.specs.Option.{option_copied};
 ghost use Rattle.class_grammar.specs.Names.{object_class};
 ghost use Rattle.linkage.specs.Program as program;
 ghost use Rattle.linkage.specs.Hierarchy as hierarchy;
 ghost use Rattle.world_model.specs.World as spec;
 ghost use Rattle.world_model.specs.World.{World};
+ghost use Rattle.world_model.specs.Codes.{IsDecoded, code_of};
 ghost use Rattle.world_model.specs.Pools as pools;
 
-use crate::{FieldInfo, MethodInfo};
+use crate::{FieldInfo, MethodCode, MethodInfo, Naming};
 use stack_maps::VType;
 
 /// What typing asks of a linked world. Each call takes constant time, but `name_number`, which looks a name up.
@@ -63,9 +64,26 @@ pub trait Lookups {
     fn field(&self, n: u32) -> Option<&FieldInfo>
         ensures { option_copied result ≡ slice_get (world self.now).fields n };
 
+    /// How many methods there are.
+    fn method_count(&self) -> usize
+        ensures { result ≡ length (world self.now).methods };
+
     /// A method. `None`: there is no method of this number.
     fn method(&self, n: u32) -> Option<&MethodInfo>
         ensures { option_copied result ≡ slice_get (world self.now).methods n };
+
+    /// The code of a method (JVMS 4.7.3). `None`: the method has none, or there is no method of this number.
+    fn code(&self, method: u32) -> Option<&MethodCode>
+        ensures code { option_copied result ≡ code_of (world self.now) method }
+        ensures decoded { IfSome result (λ c. IsDecoded c.now) };
+
+    /// What the constants of a method's instructions mean, by instruction.
+    fn namings(&self, method: u32) -> &[Naming]
+        ensures { result.now ≡ get_or (world self.now).namings method [] };
+
+    /// What the rows of a method's exception table catch, `None` for every throwable (JVMS 4.7.3).
+    fn catches(&self, method: u32) -> &[Option<u32>]
+        ensures { result.now ≡ get_or (world self.now).catches method [] };
 
     /// The type of the objects of a class or an array class.
     fn class_type(&self, class: u32) -> VType

@@ -1,4 +1,0 @@
-use Rattle.verify_code.proofs.types.Types.+pop_lengths.Given as goal
-
-abbrev pub decreases-pop_lengths : goal.decreases-pop_lengths
-decreases-pop_lengths l = l.lengths

@@ -1,0 +1,237 @@
+//! The state after an instruction (JVMS 4.10.1.9).
+
+ghost use Rattle.std.specs.Prelude.{◌≡◌, ◌∷◌, ℕ, Ok, Some};
+ghost use Rattle.instruction_rows.specs.TypeEffect.{type_popped};
+ghost use Rattle.instruction_rows.specs.Results.{◌then◌};
+ghost use Rattle.instruction_rows.specs.Table.{row, simple_row, new_array_row};
+ghost use Rattle.world_model.specs.declared.sites.Naming.{Naming};
+ghost use Rattle.verify_types.specs.Environment.{Environment};
+ghost use Rattle.verify_types.specs.TypeStates.{with_stack, with_types};
+ghost use Rattle.verify_types.specs.Objects as objects;
+ghost use Rattle.verify_types.specs.Effects as spec;
+ghost use Rattle.verify_instructions.specs.Answers.{Gives, Leaves};
+ghost use Rattle.verify_instructions.specs.Rows.{local_types, event_stack};
+ghost use Rattle.verify_instructions.specs.Views.{state_in, environment_in};
+
+use crate::method::Method;
+use crate::state::State;
+use crate::stop::Stop;
+use instruction_rows::RowWhy;
+use opcodes::{Element, Kind, Op, Primitive, Simple};
+use stack_maps::{Base, VType};
+use std::alloc::Global;
+use verify_types::type_of_value;
+use world_model::{Lookups, Naming, Site};
+
+// The type of the value that a constant means.
+fn constant_type<L: Lookups>(w: &L, site: Site) -> Result<VType, Stop>
+    ensures { Gives result (λ t. t) (objects.constant_type (L.world w.now) site) }
+{
+    match site {
+        Site::Value(value) => Ok(type_of_value(w, value)),
+        _ => Err(Stop::Broken(RowWhy::Kind)),
+    }
+}
+
+impl State {
+    // ldc, ldc_w and ldc2_w.
+    fn push_constant<L: Lookups>(&mut self, w: &L, naming: Naming) -> Result<(), Stop>
+        ensures { Leaves result (state_in self.new)
+            (spec.constant_pushed (L.world w.now) naming (state_in self.old)) }
+    {
+        let t = constant_type(w, naming.site)?;
+        self.types.push(t)
+    }
+
+    // A return with a value of this kind.
+    fn take_returned(&mut self, kind: Kind) -> Result<(), Stop>
+        ensures { Leaves result (state_in self.new)
+            (spec.returned_from (Some kind) self.old.types.stack then λ stack.
+            Ok (with_stack (state_in self.old) stack)) }
+    {
+        self.types.pop_kind(kind)?;
+        Ok(())
+    }
+
+    // A local instruction.
+    fn local(&mut self, op: &Op) -> Result<(), Stop>
+        ensures { Leaves result (state_in self.new)
+            (local_types (row op.now) self.old.types then λ types.
+            Ok (with_types (state_in self.old) types)) }
+    {
+        self.types.local_row(op)
+    }
+
+    // A local instruction without operands in the code.
+    fn simple_local(&mut self, simple: Simple) -> Result<(), Stop>
+        ensures { Leaves result (state_in self.new)
+            (local_types (simple_row simple) self.old.types then λ types.
+            Ok (with_types (state_in self.old) types)) }
+    {
+        self.types.simple_local(simple)
+    }
+
+    // An event that isn't `new`.
+    fn event<L: Lookups>(
+        &mut self,
+        w: &L,
+        own: u32,
+        pc: u16,
+        naming: Naming,
+        op: &Op,
+    ) -> Result<(), Stop>
+        ensures { Leaves result (state_in self.new)
+            (event_stack (L.world w.now) own pc naming (row op.now) self.old.types.stack
+            then λ stack. Ok (with_stack (state_in self.old) stack)) }
+    {
+        self.types.event(w, own, pc, naming, op)
+    }
+
+    // An event without operands in the code.
+    fn simple_event<L: Lookups>(
+        &mut self,
+        w: &L,
+        own: u32,
+        pc: u16,
+        naming: Naming,
+        simple: Simple,
+    ) -> Result<(), Stop>
+        ensures { Leaves result (state_in self.new)
+            (event_stack (L.world w.now) own pc naming (simple_row simple) self.old.types.stack
+            then λ stack. Ok (with_stack (state_in self.old) stack)) }
+    {
+        self.types.simple_event(w, simple)
+    }
+
+    // An instruction without operands in the code.
+    fn simple<L: Lookups>(
+        &mut self,
+        w: &L,
+        m: &Method<'_>,
+        pc: u16,
+        naming: Naming,
+        simple: Simple,
+    ) -> Result<(), Stop>
+        ensures { Leaves result (state_in self.new)
+            (spec.row_state (environment_in (L.world w.now) m.now) pc naming (simple_row simple)
+            (state_in self.old)) }
+    {
+        match simple {
+            Simple::ReturnValue(kind) => self.take_returned(kind),
+            Simple::Return => Ok(()),
+            Simple::Nop => self.simple_local(simple),
+            Simple::PushNull => self.simple_local(simple),
+            Simple::Pop => self.simple_local(simple),
+            Simple::Pop2 => self.simple_local(simple),
+            Simple::Dup => self.simple_local(simple),
+            Simple::DupX1 => self.simple_local(simple),
+            Simple::DupX2 => self.simple_local(simple),
+            Simple::Dup2 => self.simple_local(simple),
+            Simple::Dup2X1 => self.simple_local(simple),
+            Simple::Dup2X2 => self.simple_local(simple),
+            Simple::Swap => self.simple_local(simple),
+            Simple::IntBinary(_) => self.simple_local(simple),
+            Simple::LongBinary(_) => self.simple_local(simple),
+            Simple::LongShift(_) => self.simple_local(simple),
+            Simple::IntNegate => self.simple_local(simple),
+            Simple::LongNegate => self.simple_local(simple),
+            Simple::IntToLong => self.simple_local(simple),
+            Simple::LongToInt => self.simple_local(simple),
+            Simple::IntNarrow(_) => self.simple_local(simple),
+            Simple::LongCompare => self.simple_local(simple),
+            Simple::ArrayLoad(_) => self.simple_event(w, m.info.class, pc, naming, simple),
+            Simple::ArrayStore(element) => self.store_element(w, element),
+            Simple::ArrayLength => self.simple_event(w, m.info.class, pc, naming, simple),
+            Simple::Throw => self.simple_event(w, m.info.class, pc, naming, simple),
+            Simple::MonitorEnter => self.simple_event(w, m.info.class, pc, naming, simple),
+            Simple::MonitorExit => self.simple_event(w, m.info.class, pc, naming, simple),
+        }
+    }
+
+    // The array instructions that store.
+    fn store_element<L: Lookups>(&mut self, w: &L, element: Element) -> Result<(), Stop>
+        ensures { Leaves result (state_in self.new)
+            (objects.array_stored (L.world w.now) element self.old.types.stack then λ stack.
+            Ok (with_stack (state_in self.old) stack)) }
+    {
+        self.types.store_element(w, element)
+    }
+
+    // newarray, of elements of this base.
+    fn array_of(&mut self, base: Base) -> Result<(), Stop>
+        ensures { Leaves result (state_in self.new)
+            ((type_popped Kind.Int self.old.types.stack then λ x. Ok (VType.Named 1 base ∷ x.1))
+            then λ stack. Ok (with_stack (state_in self.old) stack)) }
+    {
+        self.types.pop_kind(Kind::Int)?;
+        self.types.push_slot(VType::Named(1, base))
+    }
+
+    // newarray.
+    fn make_array(&mut self, primitive: Primitive) -> Result<(), Stop>
+        ensures { (env : Environment) (pc : ℕ) (naming : Naming) → Leaves result (state_in self.new)
+            (spec.row_state env pc naming (new_array_row primitive) (state_in self.old)) }
+    {
+        match primitive {
+            Primitive::Float => Err(Stop::Broken(RowWhy::Kind)),
+            Primitive::Double => Err(Stop::Broken(RowWhy::Kind)),
+            Primitive::Boolean => self.array_of(Base::Bool),
+            Primitive::Char => self.array_of(Base::Char),
+            Primitive::Byte => self.array_of(Base::Byte),
+            Primitive::Short => self.array_of(Base::Short),
+            Primitive::Int => self.array_of(Base::Int),
+            Primitive::Long => self.array_of(Base::Long),
+        }
+    }
+
+    /// Makes of the state before an instruction that after it. Where the instruction breaks a rule, what is left means nothing.
+    pub fn apply<L: Lookups>(
+        &mut self,
+        alloc: Global,
+        w: &L,
+        m: &Method<'_>,
+        pc: u16,
+        naming: Naming,
+        op: &Op,
+    ) -> Result<(), Stop>
+        ensures { Leaves result (state_in self.new)
+            (spec.row_state (environment_in (L.world w.now) m.now) pc naming (row op.now)
+            (state_in self.old)) }
+    {
+        match op {
+            Op::Simple(simple) => self.simple(w, m, pc, naming, *simple),
+            Op::PushConstant(_) => self.push_constant(w, naming),
+            Op::PushWideConstant(_) => self.push_constant(w, naming),
+            Op::InvokeVirtual(_) => self.invoke_virtual(w, m, pc, naming),
+            Op::InvokeInterface(_, _) => self.invoke_virtual(w, m, pc, naming),
+            Op::InvokeStatic(_) => self.invoke_static(w, m, pc, naming),
+            Op::InvokeSpecial(_) => self.invoke_special(alloc, w, m, pc, naming),
+            Op::New(_) => self.make_new(alloc, pc),
+            Op::NewArray(primitive) => self.make_array(*primitive),
+            Op::GetStatic(_) => self.event(w, m.info.class, pc, naming, op),
+            Op::PutStatic(_) => self.event(w, m.info.class, pc, naming, op),
+            Op::GetField(_) => self.event(w, m.info.class, pc, naming, op),
+            Op::PutField(_) => self.event(w, m.info.class, pc, naming, op),
+            Op::ANewArray(_) => self.event(w, m.info.class, pc, naming, op),
+            Op::MultiANewArray(_, _) => self.event(w, m.info.class, pc, naming, op),
+            Op::CheckCast(_) => self.event(w, m.info.class, pc, naming, op),
+            Op::InstanceOf(_) => self.event(w, m.info.class, pc, naming, op),
+            Op::PushInt(_) => self.local(op),
+            Op::PushLong(_) => self.local(op),
+            Op::Load(_, _) => self.local(op),
+            Op::Store(_, _) => self.local(op),
+            Op::Increment(_, _) => self.local(op),
+            Op::IfZero(_, _) => self.local(op),
+            Op::IfInts(_, _) => self.local(op),
+            Op::IfReferences(_, _) => self.local(op),
+            Op::IfNull(_, _) => self.local(op),
+            Op::Goto(_) => self.local(op),
+            Op::TableSwitch(_) => self.local(op),
+            Op::LookupSwitch(_) => self.local(op),
+            Op::InvokeDynamic(_) => Err(Stop::Broken(RowWhy::Kind)),
+            Op::Jsr(_) => Err(Stop::Broken(RowWhy::Kind)),
+            Op::Ret(_) => Err(Stop::Broken(RowWhy::Kind)),
+            Op::Floating(_) => Err(Stop::Broken(RowWhy::Kind)),
+        }
+    }
+}

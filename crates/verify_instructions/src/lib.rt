@@ -1,0 +1,22 @@
+//! Verifies the code of a linked program (JVMS 4.10.1).
+#![tactic(auto)]
+
+mod calls;
+mod effect;
+mod fits;
+mod local_rows;
+mod method;
+mod objects;
+mod operands;
+mod rules;
+mod stack_items;
+mod state;
+mod stop;
+mod types;
+
+pub use calls::is_constructor;
+pub use method::{Method, behind_first, first_naming};
+pub use rules::goes_on;
+pub use state::{State, Uninitialized};
+pub use stop::Stop;
+pub use types::Types;

@@ -1,0 +1,323 @@
+//! Instructions on objects and arrays (JVMS 4.10.1.9).
+
+ghost use Rattle.std.specs.Prelude.{◌≡◌, ℕ, ◌∷◌, Ok, replicate};
+ghost use Rattle.instruction_rows.specs.Results.{◌then◌};
+ghost use Rattle.instruction_rows.specs.Table.{row, simple_row, new_array_row};
+ghost use Rattle.instruction_rows.specs.TypeEffect.{type_popped, types_popped};
+ghost use Rattle.world_model.specs.World.{World, class_type};
+ghost use Rattle.verify_instructions.specs.Rows.{event_stack};
+ghost use Rattle.verify_types.specs.Objects as spec;
+ghost use Rattle.verify_instructions.specs.Answers.{Gives, Leaves, Takes};
+
+use crate::operands::is_array;
+use crate::stop::Stop;
+use crate::types::Types;
+use instruction_rows::RowWhy;
+use opcodes::{Element, Kind, Op, Primitive, Simple};
+use stack_maps::VType;
+use verify_types::{
+    assignable, base_of_primitive, object_type, throwable_type, type_of_kind, type_of_value,
+};
+use world_model::{FieldInfo, Lookups, Naming, Site};
+
+// The field that a constant means.
+fn field_of<L: Lookups>(w: &L, site: Site) -> Result<&FieldInfo, Stop>
+    ensures { Gives result (λ f. f.now) (spec.field_of (L.world w.now) site) }
+{
+    let Site::Field(n) = site else {
+        return Err(Stop::Broken(RowWhy::Kind));
+    };
+    match w.field(n) {
+        Some(field) => Ok(field),
+        None => Err(Stop::Broken(RowWhy::Kind)),
+    }
+}
+
+// The class that a constant means.
+fn class_of(site: Site) -> Result<u32, Stop>
+    ensures { Gives result (λ class. class) (spec.class_of site) }
+{
+    match site {
+        Site::Class(class) => Ok(class),
+        _ => Err(Stop::Broken(RowWhy::Kind)),
+    }
+}
+
+/// The class that a constant names.
+pub fn named_class(naming: Naming) -> Result<u32, Stop>
+    ensures { Gives result (λ class. class) (spec.named_class naming) }
+{
+    match naming.class {
+        Some(class) => Ok(class),
+        None => Err(Stop::Broken(RowWhy::Kind)),
+    }
+}
+
+// Whether a field of an object whose constructor runs may be set.
+fn may_set_early(own: u32, class: u32, field: &FieldInfo, t: VType) -> bool
+    ensures { result ≡ spec.may_set_early own class field.now t }
+{
+    matches!(t, VType::UninitThis) && class == own && field.class == own
+}
+
+// What an array instruction loads.
+fn element_type(element: Element, array: VType) -> VType
+    ensures { result ≡ spec.element_type element array }
+{
+    match element {
+        Element::Reference => match array {
+            VType::Named(n, base) => VType::Named(n.saturating_sub(1), base),
+            _ => VType::Null,
+        },
+        Element::Long => VType::Long,
+        _ => VType::Int,
+    }
+}
+
+impl Types {
+    /// getstatic.
+    pub fn get_static<L: Lookups>(&mut self, w: &L, naming: Naming) -> Result<(), Stop>
+        ensures stack { Leaves result self.new.stack
+            (spec.static_gotten (L.world w.now) naming self.old.stack) }
+        ensures locals { self.new.locals ≡ self.old.locals }
+    {
+        let field = field_of(w, naming.site)?;
+        self.push(type_of_kind(w, &field.kind))
+    }
+
+    /// putstatic.
+    pub fn put_static<L: Lookups>(&mut self, w: &L, naming: Naming) -> Result<(), Stop>
+        ensures stack { Leaves result self.new.stack
+            (spec.static_put (L.world w.now) naming self.old.stack) }
+        ensures locals { self.new.locals ≡ self.old.locals }
+    {
+        let field = field_of(w, naming.site)?;
+        self.pop_wanted(w, type_of_kind(w, &field.kind))
+    }
+
+    /// getfield.
+    pub fn get_field<L: Lookups>(&mut self, w: &L, naming: Naming) -> Result<(), Stop>
+        ensures stack { Leaves result self.new.stack
+            (spec.field_gotten (L.world w.now) naming self.old.stack) }
+        ensures locals { self.new.locals ≡ self.old.locals }
+    {
+        let field = field_of(w, naming.site)?;
+        let class = named_class(naming)?;
+        self.pop_wanted(w, w.class_type(class))?;
+        self.push(type_of_kind(w, &field.kind))
+    }
+
+    // Takes an object whose field is set.
+    fn pop_owner<L: Lookups>(
+        &mut self,
+        w: &L,
+        own: u32,
+        class: u32,
+        field: &FieldInfo,
+    ) -> Result<(), Stop>
+        ensures stack { Leaves result self.new.stack
+            (spec.set_in (L.world w.now) own class field.now self.old.stack) }
+        ensures locals { self.new.locals ≡ self.old.locals }
+    {
+        let owner = self.pop_kind(Kind::Reference)?;
+        if assignable(w, owner, w.class_type(class)) || may_set_early(own, class, field, owner) {
+            Ok(())
+        } else {
+            Err(Stop::Broken(RowWhy::Kind))
+        }
+    }
+
+    /// putfield, in the code of the class `own`.
+    pub fn put_field<L: Lookups>(&mut self, w: &L, own: u32, naming: Naming) -> Result<(), Stop>
+        ensures stack { Leaves result self.new.stack
+            (spec.field_put (L.world w.now) own naming self.old.stack) }
+        ensures locals { self.new.locals ≡ self.old.locals }
+    {
+        let field = field_of(w, naming.site)?;
+        let class = named_class(naming)?;
+        self.pop_wanted(w, type_of_kind(w, &field.kind))?;
+        self.pop_owner(w, own, class, field)
+    }
+
+    /// The array instructions that load.
+    pub fn load_element(&mut self, element: Element) -> Result<(), Stop>
+        ensures stack { Leaves result self.new.stack (spec.array_loaded element self.old.stack) }
+        ensures locals { self.new.locals ≡ self.old.locals }
+    {
+        self.pop_kind(Kind::Int)?;
+        let array = self.pop_array(element)?;
+        self.push(element_type(element, array))
+    }
+
+    // Takes a value that an array instruction stores.
+    fn pop_stored<L: Lookups>(&mut self, w: &L, element: Element) -> Result<(), Stop>
+        ensures stack { Leaves result self.new.stack
+            (spec.stored_popped (L.world w.now) element self.old.stack) }
+        ensures locals { self.new.locals ≡ self.old.locals }
+    {
+        match element {
+            Element::Reference => self.pop_wanted(w, object_type(w)),
+            Element::Long => {
+                self.pop_kind(Kind::Long)?;
+                Ok(())
+            }
+            Element::Int | Element::Byte | Element::Char | Element::Short => {
+                self.pop_kind(Kind::Int)?;
+                Ok(())
+            }
+        }
+    }
+
+    /// The array instructions that store.
+    pub fn store_element<L: Lookups>(&mut self, w: &L, element: Element) -> Result<(), Stop>
+        ensures stack { Leaves result self.new.stack
+            (spec.array_stored (L.world w.now) element self.old.stack) }
+        ensures locals { self.new.locals ≡ self.old.locals }
+    {
+        self.pop_stored(w, element)?;
+        self.pop_kind(Kind::Int)?;
+        self.pop_array(element)?;
+        Ok(())
+    }
+
+    /// arraylength.
+    pub fn array_length(&mut self) -> Result<(), Stop>
+        ensures stack { Leaves result self.new.stack (spec.length_gotten self.old.stack) }
+        ensures locals { self.new.locals ≡ self.old.locals }
+    {
+        let array = self.pop_kind(Kind::Reference)?;
+        if is_array(array) {
+            self.push_slot(VType::Int)
+        } else {
+            Err(Stop::Broken(RowWhy::Kind))
+        }
+    }
+
+    // Takes so many lengths.
+    fn pop_lengths(&mut self, lengths: u8) -> Result<(), Stop>
+        ensures stack { Leaves result self.new.stack
+            (types_popped (replicate lengths Kind.Int) self.old.stack) }
+        ensures locals { self.new.locals ≡ self.old.locals }
+    {
+        if lengths == 0 {
+            return Ok(());
+        }
+        self.pop_kind(Kind::Int)?;
+        self.pop_lengths(lengths - 1)
+    }
+
+    /// anewarray and multianewarray, with so many lengths.
+    pub fn new_arrays<L: Lookups>(&mut self, w: &L, naming: Naming, lengths: u8) -> Result<(), Stop>
+        ensures stack { Leaves result self.new.stack
+            (spec.array_made (L.world w.now) naming lengths self.old.stack) }
+        ensures locals { self.new.locals ≡ self.old.locals }
+    {
+        let class = class_of(naming.site)?;
+        self.pop_lengths(lengths)?;
+        self.push_slot(w.class_type(class))
+    }
+
+    // Takes an object, and gives the class that the constant means.
+    fn pop_object<L: Lookups>(&mut self, w: &L, naming: Naming) -> Result<u32, Stop>
+        ensures stack { Takes result self.new.stack
+            (spec.object_taken (L.world w.now) naming self.old.stack) }
+        ensures locals { self.new.locals ≡ self.old.locals }
+    {
+        let class = class_of(naming.site)?;
+        self.pop_wanted(w, object_type(w))?;
+        Ok(class)
+    }
+
+    // An instruction without operands in the code.
+    pub fn simple_event<L: Lookups>(&mut self, w: &L, simple: Simple) -> Result<(), Stop>
+        ensures stack { (own pc : ℕ) (naming : Naming) → Leaves result self.new.stack
+            (event_stack (L.world w.now) own pc naming (simple_row simple) self.old.stack) }
+        ensures locals { self.new.locals ≡ self.old.locals }
+    {
+        match simple {
+            Simple::ArrayLoad(element) => self.load_element(element),
+            Simple::ArrayStore(element) => self.store_element(w, element),
+            Simple::ArrayLength => self.array_length(),
+            Simple::Throw => self.pop_wanted(w, throwable_type(w)),
+            Simple::MonitorEnter | Simple::MonitorExit => self.take_reference(),
+            _ => Ok(()),
+        }
+    }
+
+    // Takes a reference.
+    fn take_reference(&mut self) -> Result<(), Stop>
+        ensures stack { Leaves result self.new.stack
+            (type_popped Kind.Reference self.old.stack then λ x. Ok x.1) }
+        ensures locals { self.new.locals ≡ self.old.locals }
+    {
+        self.pop_kind(Kind::Reference)?;
+        Ok(())
+    }
+
+    // newarray.
+    pub fn new_array(&mut self, primitive: Primitive) -> Result<(), Stop>
+        ensures stack { (w : World) (own pc : ℕ) (naming : Naming) → Leaves result self.new.stack
+            (event_stack w own pc naming (new_array_row primitive) self.old.stack) }
+        ensures locals { self.new.locals ≡ self.old.locals }
+    {
+        match primitive {
+            Primitive::Float | Primitive::Double => Ok(()),
+            _ => {
+                self.pop_kind(Kind::Int)?;
+                self.push_slot(VType::Named(1, base_of_primitive(primitive)))
+            }
+        }
+    }
+
+    // checkcast.
+    fn check_cast<L: Lookups>(&mut self, w: &L, naming: Naming) -> Result<(), Stop>
+        ensures stack { Leaves result self.new.stack
+            (spec.object_taken (L.world w.now) naming self.old.stack then λ x.
+            Ok (class_type (L.world w.now) x.0 ∷ x.1)) }
+        ensures locals { self.new.locals ≡ self.old.locals }
+    {
+        let class = self.pop_object(w, naming)?;
+        self.push_slot(w.class_type(class))
+    }
+
+    // instanceof.
+    fn instance_of<L: Lookups>(&mut self, w: &L, naming: Naming) -> Result<(), Stop>
+        ensures stack { Leaves result self.new.stack
+            (spec.object_taken (L.world w.now) naming self.old.stack then λ x.
+            Ok (VType.Int ∷ x.1)) }
+        ensures locals { self.new.locals ≡ self.old.locals }
+    {
+        self.pop_object(w, naming)?;
+        self.push_slot(VType::Int)
+    }
+
+    /// What an event does to the operand stack, in the code of the class `own`; `new` only pushes here. Every other instruction
+    /// leaves the stack as it is.
+    pub fn event<L: Lookups>(
+        &mut self,
+        w: &L,
+        own: u32,
+        pc: u16,
+        naming: Naming,
+        op: &Op,
+    ) -> Result<(), Stop>
+        ensures stack { Leaves result self.new.stack
+            (event_stack (L.world w.now) own pc naming (row op.now) self.old.stack) }
+        ensures locals { self.new.locals ≡ self.old.locals }
+    {
+        match op {
+            Op::Simple(simple) => self.simple_event(w, *simple),
+            Op::GetStatic(_) => self.get_static(w, naming),
+            Op::PutStatic(_) => self.put_static(w, naming),
+            Op::GetField(_) => self.get_field(w, naming),
+            Op::PutField(_) => self.put_field(w, own, naming),
+            Op::New(_) => self.push_slot(VType::Uninit(pc)),
+            Op::NewArray(primitive) => self.new_array(*primitive),
+            Op::ANewArray(_) => self.new_arrays(w, naming, 1),
+            Op::MultiANewArray(_, lengths) => self.new_arrays(w, naming, *lengths),
+            Op::CheckCast(_) => self.check_cast(w, naming),
+            Op::InstanceOf(_) => self.instance_of(w, naming),
+            _ => Ok(()),
+        }
+    }
+}

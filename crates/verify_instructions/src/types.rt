@@ -1,0 +1,375 @@
+ghost use Rattle.std.specs.Prelude.{◌≡◌, ◌&&◌, length, [], ◌∷◌, Ok, Err, IfOk, MatchOption, OnOk, OnErr, ok_or, reverse};
+ghost use Rattle.instruction_rows.specs.Contents.{with_item};
+ghost use Rattle.instruction_rows.specs.Kinds.{is_kind, kind_of_type};
+ghost use Rattle.instruction_rows.specs.Rows as rows;
+ghost use Rattle.instruction_rows.specs.Results.{◌then◌};
+ghost use Rattle.instruction_rows.specs.TypeEffect as spec;
+ghost use Rattle.std.specs.List.{list_any};
+ghost use Rattle.std.specs.Option.{option_map};
+ghost use Rattle.std.specs.Result.{result_ok};
+ghost use Rattle.verify_types.specs.TypeStates.{all_assignable, replaced};
+ghost use Rattle.verify_instructions.specs.Answers.{Gives, Leaves, Takes};
+ghost use Rattle.verify_instructions.specs.Views.{is_object};
+
+use crate::fits::all_assignable;
+use crate::state::{Uninitialized, is_object};
+use crate::stop::Stop;
+use instruction_rows::{RowWhy, is_narrow, is_wide, kind_of_type};
+use opcodes::Kind;
+use stack_maps::VType;
+use std::alloc::{AllocError, Global};
+use std::marker::Model;
+use world_model::Lookups;
+
+/// The types of a frame, slot by slot (JVMS 4.10.1.4).
+#[derive(Drop)]
+pub struct Types {
+    locals: Vec<VType>,
+    stack: Vec<VType>,
+}
+
+impl Model for Types {
+    ghost use Rattle.stack_maps.specs.declared.types.VType.{VType};
+    ghost use Rattle.instruction_rows.specs.Contents.{Contents};
+
+    ghost Value = { Contents VType };
+
+    ghost use Rattle.verify_instructions.specs.Views.{types_in};
+
+    ghost view = { types_in };
+}
+
+impl Types {
+    /// The types of these slots. The last of the stack is its top.
+    pub fn new(locals: Vec<VType>, stack: Vec<VType>) -> Self
+        ensures { result ≡ record { locals = locals.items; stack = reverse stack.items } }
+    {
+        Types { locals, stack }
+    }
+
+    /// The same types in memory of their own.
+    pub fn copy(&self, alloc: Global) -> Result<Self, AllocError>
+        ensures { IfOk result (λ types. types ≡ self.now) }
+    {
+        Ok(Types {
+            locals: Vec::from_slice(alloc, &self.locals)?,
+            stack: Vec::from_slice(alloc, &self.stack)?,
+        })
+    }
+
+    // Takes a long.
+    fn pop_long(&mut self) -> Result<VType, Stop>
+        ensures popped { Takes result self.new.stack (spec.type_popped Kind.Long self.old.stack) }
+        ensures locals { self.new.locals ≡ self.old.locals }
+    {
+        match self.stack.pop() {
+            None => Err(Stop::Broken(RowWhy::Depth)),
+            Some(VType::Top) => match self.stack.pop() {
+                Some(VType::Long) => Ok(VType::Long),
+                _ => Err(Stop::Broken(RowWhy::Kind)),
+            },
+            Some(_) => Err(Stop::Broken(RowWhy::Kind)),
+        }
+    }
+
+    // Takes an int.
+    fn pop_int(&mut self) -> Result<VType, Stop>
+        ensures popped { Takes result self.new.stack (spec.type_popped Kind.Int self.old.stack) }
+        ensures locals { self.new.locals ≡ self.old.locals }
+    {
+        match self.stack.pop() {
+            None => Err(Stop::Broken(RowWhy::Depth)),
+            Some(VType::Int) => Ok(VType::Int),
+            Some(_) => Err(Stop::Broken(RowWhy::Kind)),
+        }
+    }
+
+    // Takes a reference.
+    fn pop_reference(&mut self) -> Result<VType, Stop>
+        ensures popped { Takes result self.new.stack
+            (spec.type_popped Kind.Reference self.old.stack) }
+        ensures locals { self.new.locals ≡ self.old.locals }
+    {
+        match self.stack.pop() {
+            None => Err(Stop::Broken(RowWhy::Depth)),
+            Some(t) => match kind_of_type(t) {
+                Some(Kind::Reference) => Ok(t),
+                _ => Err(Stop::Broken(RowWhy::Kind)),
+            },
+        }
+    }
+
+    /// Takes the type of a value of this kind.
+    pub fn pop_kind(&mut self, kind: Kind) -> Result<VType, Stop>
+        ensures popped { Takes result self.new.stack (spec.type_popped kind self.old.stack) }
+        ensures locals { self.new.locals ≡ self.old.locals }
+    {
+        match kind {
+            Kind::Int => self.pop_int(),
+            Kind::Long => self.pop_long(),
+            Kind::Reference => self.pop_reference(),
+        }
+    }
+
+    /// Pushes the type of a value.
+    pub fn push(&mut self, t: VType) -> Result<(), Stop>
+        ensures pushed { OnOk result (self.new.stack ≡ spec.type_pushed t self.old.stack) }
+        ensures locals { self.new.locals ≡ self.old.locals }
+        ensures full { OnErr result (result ≡ Err Stop.NoMemory) }
+    {
+        self.stack.push(t)?;
+        if is_wide(t) {
+            self.stack.push(VType::Top)?;
+        }
+        Ok(())
+    }
+
+    /// Takes the type of one slot. `None`: there is none.
+    pub fn pop_slot(&mut self) -> Option<VType>
+        ensures taken { MatchOption result (self.old.stack ≡ [])
+            (λ t. self.old.stack ≡ t ∷ self.new.stack) }
+        ensures locals { self.new.locals ≡ self.old.locals }
+    {
+        self.stack.pop()
+    }
+
+    /// Pushes the type of one slot.
+    pub fn push_slot(&mut self, t: VType) -> Result<(), Stop>
+        ensures pushed { OnOk result (self.new.stack ≡ t ∷ self.old.stack) }
+        ensures locals { self.new.locals ≡ self.old.locals }
+        ensures full { OnErr result (result ≡ Err Stop.NoMemory) }
+    {
+        self.stack.push(t)?;
+        Ok(())
+    }
+
+    // Writes the type of a local variable.
+    fn set(&mut self, n: usize, t: VType) -> Result<(), Stop>
+        ensures set { Leaves result self.new.locals
+            (ok_or (with_item n t self.old.locals) RowWhy.Locals) }
+        ensures stack { self.new.stack ≡ self.old.stack }
+    {
+        if n >= self.locals.len() {
+            return Err(Stop::Broken(RowWhy::Locals));
+        }
+        self.locals[n] = t;
+        Ok(())
+    }
+
+    // A long before this local variable loses its second slot.
+    fn split_before(&mut self, n: usize)
+        ensures locals { self.new.locals ≡ spec.without_half n self.old.locals }
+        ensures stack { self.new.stack ≡ self.old.stack }
+    {
+        if n == 0 || n > self.locals.len() {
+            return;
+        }
+        if is_wide(self.locals[n - 1]) {
+            self.locals[n - 1] = VType::Top;
+        }
+    }
+
+    // Writes the type of a value to a local variable, and to the next one where it takes two.
+    fn put(&mut self, t: VType, n: u16) -> Result<(), Stop>
+        ensures put { Leaves result self.new.locals (spec.with_type t n self.old.locals) }
+        ensures stack { self.new.stack ≡ self.old.stack }
+    {
+        let n = usize::from(n);
+        self.split_before(n);
+        self.set(n, t)?;
+        if is_wide(t) {
+            self.set(n + 1, VType::Top)?;
+        }
+        Ok(())
+    }
+
+    // The type of a local variable, where it is of this kind.
+    fn local(&self, kind: Kind, n: u16) -> Result<VType, Stop>
+        ensures { Gives result (λ t. t) (spec.local_type kind n self.now.locals) }
+    {
+        let Some(t) = self.locals.get(usize::from(n)) else {
+            return Err(Stop::Broken(RowWhy::Locals));
+        };
+        if is_of_kind(*t, kind) {
+            Ok(*t)
+        } else {
+            Err(Stop::Broken(RowWhy::Kind))
+        }
+    }
+
+    /// Pushes what a local variable holds.
+    pub fn load(&mut self, kind: Kind, n: u16) -> Result<(), Stop>
+        ensures { Leaves result self.new (spec.typed (rows.load kind n) self.old) }
+    {
+        let t = self.local(kind, n)?;
+        self.push(t)
+    }
+
+    /// Takes a value, and writes it to a local variable.
+    pub fn store(&mut self, kind: Kind, n: u16) -> Result<(), Stop>
+        ensures { Leaves result self.new (spec.typed (rows.store kind n) self.old) }
+    {
+        let t = self.pop_kind(kind)?;
+        self.put(t, n)
+    }
+
+    /// Adds to an int in a local variable.
+    pub fn increment(&mut self, n: u16) -> Result<(), Stop>
+        ensures { Leaves result self.new
+            (spec.local_type Kind.Int n self.old.locals then λ t. Ok self.old) }
+    {
+        self.local(Kind::Int, n)?;
+        Ok(())
+    }
+
+    /// Takes values of these kinds, the topmost first.
+    pub fn pop_kinds(&mut self, kinds: &[Kind]) -> Result<(), Stop>
+        ensures popped { Leaves result self.new.stack (spec.types_popped kinds.now self.old.stack) }
+        ensures locals { self.new.locals ≡ self.old.locals }
+    {
+        match kinds.split_first() {
+            None => Ok(()),
+            Some((kind, others)) => {
+                self.pop_kind(*kind)?;
+                self.pop_kinds(others)
+            }
+        }
+    }
+
+    /// Whether the types are assignable to others, slot by slot.
+    #[tactic(auto, using(crate::proofs::Lists::pointwise_reverse))]
+    pub fn fits<L: Lookups>(&self, w: &L, other: &Types) -> bool
+        ensures { result ≡ (all_assignable (L.world w.now) self.now.locals other.now.locals
+            && all_assignable (L.world w.now) self.now.stack other.now.stack) }
+    {
+        all_assignable(w, &self.locals, &other.locals)
+            && all_assignable(w, &self.stack, &other.stack)
+    }
+
+    /// Whether the local variables, with this type alone on the operand stack, are assignable to others.
+    #[tactic(auto, using(crate::proofs::Lists::single_reverse))]
+    pub fn fits_with<L: Lookups>(&self, w: &L, item: VType, other: &Types) -> bool
+        ensures { result ≡ (all_assignable (L.world w.now) self.now.locals other.now.locals
+            && all_assignable (L.world w.now) (item ∷ []) other.now.stack) }
+    {
+        all_assignable(w, &self.locals, &other.locals)
+            && all_assignable(w, &[item], &other.stack)
+    }
+
+    /// How many slots are on the operand stack.
+    pub fn depth(&self) -> usize
+        ensures { result ≡ length self.now.stack }
+    {
+        self.stack.len()
+    }
+
+    /// How many local variables there are.
+    pub fn local_count(&self) -> usize
+        ensures { result ≡ length self.now.locals }
+    {
+        self.locals.len()
+    }
+
+    /// The type of the value of this kind on top. `None`: there is none.
+    pub fn peek(&self, kind: Kind) -> Option<VType>
+        ensures { result ≡ option_map (λ x. x.0)
+            (result_ok (spec.type_popped kind self.now.stack)) }
+    {
+        let (top, below) = self.stack.split_last()?;
+        match kind {
+            Kind::Int => match top {
+                VType::Int => Some(VType::Int),
+                _ => None,
+            },
+            Kind::Long => match top {
+                VType::Top => match below.last() {
+                    Some(VType::Long) => Some(VType::Long),
+                    _ => None,
+                },
+                _ => None,
+            },
+            Kind::Reference => {
+                if is_of_kind(*top, Kind::Reference) {
+                    Some(*top)
+                } else {
+                    None
+                }
+            }
+        }
+    }
+
+    /// Whether the object is on the operand stack.
+    #[tactic(auto, using(crate::proofs::Lists::any_reverse))]
+    pub fn has_operand(&self, object: Uninitialized) -> bool
+        ensures { result ≡ list_any (is_object object) self.now.stack }
+    {
+        any_is(&self.stack, object)
+    }
+
+    /// Gives local variables that hold the object another type.
+    pub fn replace_locals(
+        &mut self,
+        alloc: Global,
+        object: Uninitialized,
+        t: VType,
+    ) -> Result<(), Stop>
+        ensures locals { OnOk result
+            (self.new.locals ≡ replaced (is_object object) t self.old.locals) }
+        ensures stack { self.new.stack ≡ self.old.stack }
+        ensures full { OnErr result (result ≡ Err Stop.NoMemory) }
+    {
+        self.locals = replaced(alloc, &self.locals, object, t)?;
+        Ok(())
+    }
+
+    /// Gives operands that are the object another type.
+    #[tactic(auto, using(crate::proofs::Lists::replaced_reverse))]
+    pub fn replace_operands(
+        &mut self,
+        alloc: Global,
+        object: Uninitialized,
+        t: VType,
+    ) -> Result<(), Stop>
+        ensures stack { OnOk result
+            (self.new.stack ≡ replaced (is_object object) t self.old.stack) }
+        ensures locals { self.new.locals ≡ self.old.locals }
+        ensures full { OnErr result (result ≡ Err Stop.NoMemory) }
+    {
+        self.stack = replaced(alloc, &self.stack, object, t)?;
+        Ok(())
+    }
+}
+
+// Whether one of the types is the object's.
+fn any_is(types: &[VType], object: Uninitialized) -> bool
+    ensures { result ≡ list_any (is_object object) types.now }
+{
+    types.iter().any(|t| is_object(object, *t))
+}
+
+// The types, with this one in place of each that is the object's.
+fn replaced(
+    alloc: Global,
+    types: &[VType],
+    object: Uninitialized,
+    t: VType,
+) -> Result<Vec<VType>, AllocError>
+    ensures { IfOk result (λ v. v.items ≡ replaced (is_object object) t types.now) }
+{
+    types
+        .iter()
+        .map(|x| if is_object(object, *x) { t } else { *x })
+        .collect(alloc)
+}
+
+// Whether a type is of this kind.
+fn is_of_kind(t: VType, kind: Kind) -> bool
+    ensures { result ≡ is_kind kind (kind_of_type t) }
+{
+    match kind_of_type(t) {
+        None => false,
+        Some(Kind::Int) => matches!(kind, Kind::Int),
+        Some(Kind::Long) => matches!(kind, Kind::Long),
+        Some(Kind::Reference) => matches!(kind, Kind::Reference),
+    }
+}
