@@ -1,8 +1,8 @@
 //! Descriptors of fields and methods (JVMS 4.3).
 
 use descriptors::{
-    DescriptorError, Kind, Signature, field_kind, is_field_descriptor, is_method_descriptor,
-    method_kind,
+    DescriptorError, ElementType, Kind, Signature, field_kind, is_field_descriptor,
+    is_method_descriptor, method_kind,
 };
 use std::alloc::{AllocError, Global};
 use std::test::Fail;
@@ -44,18 +44,18 @@ fn method(alloc: Global, units: &[u16]) -> Result<Signature, DescriptorError> {
 
 // Whether it is so many dimensions of what this letter begins.
 fn is_like(kind: &Kind, dims: u8, letter: char) -> bool {
-    match kind {
-        Kind::Array(count, element) => *count == dims && is_like(&**element, 0, letter),
-        Kind::Byte => dims == 0 && letter == 'B',
-        Kind::Char => dims == 0 && letter == 'C',
-        Kind::Double => dims == 0 && letter == 'D',
-        Kind::Float => dims == 0 && letter == 'F',
-        Kind::Int => dims == 0 && letter == 'I',
-        Kind::Long => dims == 0 && letter == 'J',
-        Kind::Short => dims == 0 && letter == 'S',
-        Kind::Bool => dims == 0 && letter == 'Z',
-        Kind::Class(_) => dims == 0 && letter == 'L',
-    }
+    let first = match &kind.element {
+        ElementType::Byte => 'B',
+        ElementType::Char => 'C',
+        ElementType::Double => 'D',
+        ElementType::Float => 'F',
+        ElementType::Int => 'I',
+        ElementType::Long => 'J',
+        ElementType::Short => 'S',
+        ElementType::Bool => 'Z',
+        ElementType::Class(_) => 'L',
+    };
+    kind.dimensions == dims && first == letter
 }
 
 #[test]
@@ -118,10 +118,15 @@ fn descriptors_of_methods_are_read(rt: HostRuntime) -> Result<(), Fail> {
     let name = units_of(rt.alloc(), "java/lang/String", 0, b' ', "")?;
     assert!(rt;
         match signature.args.as_slice() {
-            [Kind::Int, Kind::Long, Kind::Array(1, element)] => match &**element {
-                Kind::Class(class) => class.as_slice() == name.as_slice(),
-                _ => false,
-            },
+            [first, second, third] => {
+                is_like(first, 0, 'I')
+                    && is_like(second, 0, 'J')
+                    && is_like(third, 1, 'L')
+                    && match &third.element {
+                        ElementType::Class(class) => class.as_slice() == name.as_slice(),
+                        _ => false,
+                    }
+            }
             _ => false,
         }
     );

@@ -9,7 +9,7 @@ use Rattle.std.proofs.lemmas.List.Sums.{sum_by-append, sum_by-cons}
 use Rattle.descriptors.specs.declared.kind.Kind.{Kind}
 use Rattle.descriptors.specs.declared.kind.Signature.{Signature}
 use Rattle.descriptors.specs.Descriptors.{spelling, slots, IsKind, IsResult, IsSignature, result_spelling, method_spelling}
-use Rattle.descriptors.specs.Refusal.{IsMethod, InFront, IsResultText}
+use Rattle.descriptors.specs.Refusal.{IsMethod, KindInFront, IsResultText}
 use Rattle.descriptors.proofs.KindLaws.{starts, same_behind, same_slots, regrouped}
 use Rattle.descriptors.proofs.StateLaws.{IsRest}
 
@@ -41,10 +41,10 @@ some_left taken rest left =
 get_first : (rest : List ℕ) (u : ℕ) (r : List ℕ) → rest ≡ u ∷ r → get_or rest 0 0 ≡ u
 get_first rest u r e = ap (λ (x : List ℕ). get_or x 0 0) e
 
-pub next_kind : (taken : ℕ) (rest : List ℕ) → IsRest taken rest → get_or rest 0 0 ≢ 41 → InFront IsKind rest
+pub next_kind : (taken : ℕ) (rest : List ℕ) → IsRest taken rest → get_or rest 0 0 ≢ 41 → KindInFront rest
 next_kind taken rest left ne = by_args left.args left.fit left.parts
   where
-    by_args : (args : List Kind) → AllByRecursion IsKind args → rest ≡ flat_map spelling args ++ 41 ∷ result_spelling left.result → InFront IsKind rest
+    by_args : (args : List Kind) → AllByRecursion IsKind args → rest ≡ flat_map spelling args ++ 41 ∷ result_spelling left.result → KindInFront rest
     by_args [] fit e = absurd (ne (get_first rest 41 (result_spelling left.result) e))
     by_args (k ∷ ks) fit e = record { kind = k; fit = fit.0; rest = flat_map spelling ks ++ 41 ∷ result_spelling left.result; parts = e ∙ regrouped k ks (41 ∷ result_spelling left.result) }
 

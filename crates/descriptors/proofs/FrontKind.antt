@@ -5,10 +5,11 @@ use Rattle.std.specs.List.{position_or_len, AllByRecursion}
 use Rattle.std.proofs.lemmas.Bool.{lt-ltb, eqb-true, ne_eqb, and_parts}
 use Rattle.std.proofs.lemmas.Option.{same_Some}
 use Rattle.std.proofs.lemmas.List.{append-nil, length-append, take_at, drop_at}
+use Rattle.descriptors.specs.declared.kind.ElementType.{ElementType}
 use Rattle.descriptors.specs.declared.kind.Kind.{Kind}
-use Rattle.descriptors.specs.Descriptors.{brackets, spelling, is_base, is_name_unit, are_parts, IsClassName, IsElement, IsKind, IsResult, result_spelling}
-use Rattle.descriptors.specs.Refusal.{IsField, InFront, NameInFront, IsResultText}
-use Rattle.descriptors.proofs.KindLaws.{dims_of, element_text, same_behind, starts}
+use Rattle.descriptors.specs.Descriptors.{brackets, element_spelling, spelling, is_base, is_name_unit, are_parts, IsClassName, IsElement, IsKind, IsResult, result_spelling}
+use Rattle.descriptors.specs.Refusal.{IsField, KindInFront, ElementInFront, NameInFront, IsResultText}
+use Rattle.descriptors.proofs.KindLaws.{element_text, same_behind, starts}
 
 -- the first that passes is behind those that fail
 or_len : (p : ℕ → Bool) (a : List ℕ) (u : ℕ) (x : List ℕ) → AllByRecursion (λ v. p v ≡ false) a → p u ≡ true → position_or_len p (a ++ u ∷ x) ≡ length a
@@ -27,7 +28,7 @@ bracket_units : (n : ℕ) → AllByRecursion (λ v. not (eqb v 91) ≡ false) (b
 bracket_units zero = tt
 bracket_units (suc n) = (refl, bracket_units n)
 
-length-brackets : (n : ℕ) → length (brackets n) ≡ n
+pub length-brackets : (n : ℕ) → length (brackets n) ≡ n
 length-brackets zero = refl
 length-brackets (suc n) = ap suc (length-brackets n)
 
@@ -35,7 +36,7 @@ no_bracket : (u v : ℕ) → is_base u ≡ true → eqb u 91 ≡ false
 no_bracket u v is = ne_eqb u 91 (λ same. let h = subst (λ (x : ℕ). is_base x ≡ true) same is in cc)
 
 -- the first unit of a kind that is no array
-first_unit : (element : Kind) (rest : List ℕ) → IsElement element → (u : ℕ) × (x : List ℕ) × (spelling element ++ rest ≡ u ∷ x) × (not (eqb u 91) ≡ true)
+first_unit : (element : ElementType) (rest : List ℕ) → IsElement element → (u : ℕ) × (x : List ℕ) × (element_spelling element ++ rest ≡ u ∷ x) × (not (eqb u 91) ≡ true)
 first_unit element rest fit = elim (element_text element fit) [
   | inl p ↦ (p.0, rest, ap (λ (x : List ℕ). x ++ rest) p.2, ap not (no_bracket p.0 91 p.1))
   | inr p ↦ (76, (p.0 ++ 59 ∷ []) ++ rest, ap (λ (x : List ℕ). x ++ rest) p.2, refl)
@@ -44,30 +45,31 @@ first_unit element rest fit = elim (element_text element fit) [
 pub record BracketsAt (units : List ℕ) (n : ℕ) : Type 0 where
   pub few : n ≤ 255
   pub brackets : units ≡ brackets n ++ drop n units
-  pub element : InFront IsElement (drop n units)
+  pub element : ElementInFront (drop n units)
   pub found : position (λ u. not (eqb u 91)) units ≡ Some n
 
-pub brackets_at : (units : List ℕ) → InFront IsKind units → (n : ℕ) × BracketsAt units n
+pub brackets_at : (units : List ℕ) → KindInFront units → (n : ℕ) × BracketsAt units n
 brackets_at units front =
-    let o = dims_of front.kind front.fit in
-    let f = first_unit o.element front.rest o.is_element in
-    let whole : units ≡ brackets o.dims ++ (spelling o.element ++ front.rest) = front.parts ∙ ap (λ (x : List ℕ). x ++ front.rest) o.parts ∙ append_assoc (brackets o.dims) (spelling o.element) front.rest in
-    let behind : drop o.dims units ≡ spelling o.element ++ front.rest = ap (drop o.dims) whole ∙ drop_at (brackets o.dims) (spelling o.element ++ front.rest) o.dims (length-brackets o.dims) in
-    let found : position (λ u. not (eqb u 91)) units ≡ Some o.dims =
-    ap (position (λ u. not (eqb u 91))) (whole ∙ ap (λ (x : List ℕ). brackets o.dims ++ x) f.2)
-    ∙ first_at (λ u. not (eqb u 91)) (brackets o.dims) f.0 f.1 (bracket_units o.dims) f.3 ∙ ap (λ (n : ℕ). Some n) (length-brackets o.dims) in (
-      o.dims,
+    let dims = front.kind.dimensions in
+    let element = front.kind.element in
+    let f = first_unit element front.rest front.fit.element in
+    let whole : units ≡ brackets dims ++ (element_spelling element ++ front.rest) = front.parts ∙ append_assoc (brackets dims) (element_spelling element) front.rest in
+    let behind : drop dims units ≡ element_spelling element ++ front.rest = ap (drop dims) whole ∙ drop_at (brackets dims) (element_spelling element ++ front.rest) dims (length-brackets dims) in
+    let found : position (λ u. not (eqb u 91)) units ≡ Some dims =
+    ap (position (λ u. not (eqb u 91))) (whole ∙ ap (λ (x : List ℕ). brackets dims ++ x) f.2)
+    ∙ first_at (λ u. not (eqb u 91)) (brackets dims) f.0 f.1 (bracket_units dims) f.3 ∙ ap (λ (n : ℕ). Some n) (length-brackets dims) in (
+      dims,
       record {
-        few = o.few;
-        brackets = whole ∙ ap (λ (x : List ℕ). brackets o.dims ++ x) (sym behind);
-        element = record { kind = o.element; fit = o.is_element; rest = front.rest; parts = behind };
+        few = front.fit.few;
+        brackets = whole ∙ ap (λ (x : List ℕ). brackets dims ++ x) (sym behind);
+        element = record { element = element; fit = front.fit.element; rest = front.rest; parts = behind };
         found = found;
       },
     )
 
 -- ---- names
 
-abbrev NoSemicolon : List ℕ → Type 0
+abbrev pub NoSemicolon : List ℕ → Type 0
 NoSemicolon name = AllByRecursion (λ v. eqb v 59 ≡ false) name
 
 unit_step : (begun slash : Bool) (u : ℕ) (name : List ℕ) → (slash ≡ true → u ≡ 47) → ((b : Bool) → are_parts b name ≡ true → NoSemicolon name) → cond slash (begun && are_parts false name) (is_name_unit u && are_parts true name) ≡ true
@@ -79,7 +81,7 @@ unit_step begun false u name at others h =
     let p = and_parts (is_name_unit u) (are_parts true name) h in
     (ne_eqb u 59 (λ e. let none = subst (λ (x : ℕ). is_name_unit x ≡ true) e p.0 in cc), others true p.1)
 
-name_units : (name : List ℕ) (begun : Bool) → are_parts begun name ≡ true → NoSemicolon name
+pub name_units : (name : List ℕ) (begun : Bool) → are_parts begun name ≡ true → NoSemicolon name
 name_units [] begun is = tt
 name_units (u ∷ name) begun is = unit_step begun (eqb u 47) u name (eqb-true u 47) (name_units name) is
 
@@ -109,12 +111,12 @@ some_is o n e = subst IsSome (sym e) refl
 
 -- ---- as the code finds them
 
-pub brackets_found : (units : List ℕ) (skipped : ℕ) (o : Option ℕ) → InFront IsKind units → skipped ≡ 91 → o ≡ position (λ u. not (eqb u skipped)) units → (n : ℕ) × (o ≡ Some n) × BracketsAt units n
+pub brackets_found : (units : List ℕ) (skipped : ℕ) (o : Option ℕ) → KindInFront units → skipped ≡ 91 → o ≡ position (λ u. not (eqb u skipped)) units → (n : ℕ) × (o ≡ Some n) × BracketsAt units n
 brackets_found units skipped o front is e =
     let at = brackets_at units front in
     (at.0, e ∙ ap (λ (k : ℕ). position (λ u. not (eqb u k)) units) is ∙ at.1.found, at.1)
 
-pub brackets_here : (units : List ℕ) (skipped : ℕ) (o : Option ℕ) (n : ℕ) → InFront IsKind units → skipped ≡ 91 → o ≡ position (λ u. not (eqb u skipped)) units → o ≡ Some n → BracketsAt units n
+pub brackets_here : (units : List ℕ) (skipped : ℕ) (o : Option ℕ) (n : ℕ) → KindInFront units → skipped ≡ 91 → o ≡ position (λ u. not (eqb u skipped)) units → o ≡ Some n → BracketsAt units n
 brackets_here units skipped o n front is e f = let at = brackets_found units skipped o front is e in subst (λ (k : ℕ). BracketsAt units k) (same_Some at.0 n (sym at.1 ∙ f)) at.2
 
 pub name_found : (units : List ℕ) (wanted : ℕ) (o : Option ℕ) → NameInFront units → wanted ≡ 59 → o ≡ position (λ u. eqb u wanted) units → (n : ℕ) × (o ≡ Some n) × NameAt units n
@@ -127,7 +129,7 @@ name_here units wanted o n front is e f = let at = name_found units wanted o fro
 
 -- ---- the whole units are the descriptor of a kind
 
-pub field_front : (units : List ℕ) → IsField units → InFront IsKind units
+pub field_front : (units : List ℕ) → IsField units → KindInFront units
 field_front units f = record { kind = f.0; fit = f.1; rest = []; parts = f.2 ∙ sym (append-nil (spelling f.0)) }
 
 pub kind_alone : (units : List ℕ) (kind : Kind) (rest : List ℕ) → IsField units → IsKind kind → units ≡ spelling kind ++ rest → units ≡ spelling kind

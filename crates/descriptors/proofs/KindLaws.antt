@@ -1,43 +1,22 @@
 -- A kind's descriptor is so many brackets and an element, and none is the front of another.
-use Rattle.std.proofs.Common.{Global, ◌≡◌, ◌≢◌, ℕ, zero, suc, ◌<◌, ◌≤◌, Bool, true, false, cond, eqb, List, [], ◌∷◌, ◌++◌, refl, sym, ap, subst, ◌∙◌, append_assoc, arith, ◌⊎◌, inl, inr}
+use Rattle.std.proofs.Common.{◌≡◌, ◌≢◌, ℕ, zero, suc, ◌<◌, ◌≤◌, Bool, true, false, cond, eqb, List, [], ◌∷◌, ◌++◌, refl, sym, ap, subst, ◌∙◌, append_assoc, arith, ◌⊎◌, inl, inr}
 use Rattle.std.specs.Prelude.{◌&&◌}
 use Rattle.std.specs.List.{flat_map}
+use Rattle.std.proofs.lemmas.Bool.{ne_eqb}
 use Rattle.std.proofs.lemmas.List.Concat.{flat_map-cons}
+use Rattle.descriptors.specs.declared.kind.ElementType.{ElementType}
+use Rattle.descriptors.specs.declared.kind.ElementType.TheVariants.{Byte, Char, Double, Float, Int, Long, Short, Class}
+use Rattle.descriptors.specs.declared.kind.ElementType.TheVariants as elements
 use Rattle.descriptors.specs.declared.kind.Kind.{Kind}
-use Rattle.descriptors.specs.declared.kind.Kind.TheVariants.{Byte, Char, Double, Float, Int, Long, Short, Class, Array'}
-use Rattle.descriptors.specs.declared.kind.Kind.TheVariants as kinds
-use Rattle.descriptors.specs.Descriptors.{brackets, spelling, slots, unit_slots, is_base, is_name_unit, are_parts, IsClassName, IsElement, IsKind}
-use denote.RawPtr.{null_ptr}
+use Rattle.descriptors.specs.Descriptors.{brackets, element_spelling, spelling, element_slots, slots, unit_slots, is_base, is_name_unit, are_parts, IsClassName, IsElement, IsKind}
 
 -- ---- a kind is a number of brackets and an element
 
-pub record Dims (kind : Kind) : Type 0 where
-  pub dims : ℕ
-  pub few : dims ≤ 255
-  pub element : Kind
-  pub is_element : IsElement element
-  pub parts : spelling kind ≡ brackets dims ++ spelling element
-
-plain : (kind : Kind) → IsElement kind → Dims kind
-plain kind fit = record { dims = 0; few = omega arith; element = kind; is_element = fit; parts = refl }
-
-pub dims_of : (kind : Kind) → IsKind kind → Dims kind
-dims_of Byte fit = plain Byte fit
-dims_of Char fit = plain Char fit
-dims_of Double fit = plain Double fit
-dims_of Float fit = plain Float fit
-dims_of Int fit = plain Int fit
-dims_of Long fit = plain Long fit
-dims_of Short fit = plain Short fit
-dims_of kinds.Bool fit = plain kinds.Bool fit
-dims_of (Class name) fit = plain (Class name) fit
-dims_of (Array' n p element) fit = record { dims = n; few = fit.1; element = element; is_element = fit.2; parts = refl }
-
 -- an element is one unit, or a name
-abbrev pub ElementText : Kind → Type 0
-ElementText kind = ((u : ℕ) × (is_base u ≡ true) × (spelling kind ≡ u ∷ [])) ⊎ ((name : List ℕ) × IsClassName name × (spelling kind ≡ 76 ∷ (name ++ 59 ∷ [])))
+abbrev pub ElementText : ElementType → Type 0
+ElementText element = ((u : ℕ) × (is_base u ≡ true) × (element_spelling element ≡ u ∷ [])) ⊎ ((name : List ℕ) × IsClassName name × (element_spelling element ≡ 76 ∷ (name ++ 59 ∷ [])))
 
-pub element_text : (kind : Kind) → IsElement kind → ElementText kind
+pub element_text : (element : ElementType) → IsElement element → ElementText element
 element_text Byte fit = inl (66, refl, refl)
 element_text Char fit = inl (67, refl, refl)
 element_text Double fit = inl (68, refl, refl)
@@ -45,9 +24,8 @@ element_text Float fit = inl (70, refl, refl)
 element_text Int fit = inl (73, refl, refl)
 element_text Long fit = inl (74, refl, refl)
 element_text Short fit = inl (83, refl, refl)
-element_text kinds.Bool fit = inl (90, refl, refl)
+element_text elements.Bool fit = inl (90, refl, refl)
 element_text (Class name) fit = inr (name, fit, refl)
-element_text (Array' n p element) fit = absurd fit
 
 pub differ : (m n a b : ℕ) (x y : List ℕ) → a ≢ 91 → brackets m ++ a ∷ x ≡ brackets n ++ b ∷ y → ((m ≡ n) × (a ∷ x ≡ b ∷ y)) ⊎ ((n < m) × (b ≡ 91))
 differ zero zero a b x y ne e = inl (refl, e)
@@ -75,25 +53,25 @@ pub record FirstUnit (kind : Kind) (tail : List ℕ) : Type 0 where
 
 pub first_unit : (kind : Kind) (tail : List ℕ) → IsKind kind → FirstUnit kind tail
 first_unit kind tail fit =
-    let o = dims_of kind fit in
-    elim (element_text o.element o.is_element) [
+    let n = kind.dimensions in
+    elim (element_text kind.element fit.element) [
       | inl p ↦ record {
-        dims = o.dims;
-        few = o.few;
+        dims = n;
+        few = fit.few;
         first = p.0;
         behind = tail;
-        parts = ap (λ (x : List ℕ). x ++ tail) (o.parts ∙ ap (λ (x : List ℕ). brackets o.dims ++ x) p.2) ∙ append_assoc (brackets o.dims) (p.0 ∷ []) tail;
+        parts = ap (λ (x : List ℕ). (brackets n ++ x) ++ tail) p.2 ∙ append_assoc (brackets n) (p.0 ∷ []) tail;
         no_bracket = λ same. let h = base_is p.0 91 p.1 same in cc;
         front = inl (p.1, refl);
       }
       | inr p ↦ record {
-        dims = o.dims;
-        few = o.few;
+        dims = n;
+        few = fit.few;
         first = 76;
         behind = p.0 ++ 59 ∷ tail;
-        parts = ap (λ (x : List ℕ). x ++ tail) (o.parts ∙ ap (λ (x : List ℕ). brackets o.dims ++ x) p.2)
-            ∙ append_assoc (brackets o.dims) (76 ∷ (p.0 ++ 59 ∷ [])) tail
-            ∙ ap (λ (x : List ℕ). brackets o.dims ++ 76 ∷ x) (append_assoc p.0 (59 ∷ []) tail);
+        parts = ap (λ (x : List ℕ). (brackets n ++ x) ++ tail) p.2
+            ∙ append_assoc (brackets n) (76 ∷ (p.0 ++ 59 ∷ [])) tail
+            ∙ ap (λ (x : List ℕ). brackets n ++ 76 ∷ x) (append_assoc p.0 (59 ∷ []) tail);
         no_bracket = λ same. omega (arith, same);
         front = inr (refl, p.0, p.1, refl);
       }
@@ -164,46 +142,28 @@ same_behind a b x y is_a is_b e =
       | inr p ↦ absurd (t.no_bracket p.1)
     ]
 
--- ---- some kind with such dimensions
-
--- some array
-array : Global → ℕ → Kind → Kind
-array g n kind = Array' n (record { ptr = null_ptr; alloc = g; value = tt }) kind
-
-pub with_dims : (g : Global) (n : ℕ) (element : Kind) → n ≤ 255 → IsElement element → (kind : Kind) × IsKind kind × (spelling kind ≡ brackets n ++ spelling element)
-unfolding array
-with_dims g zero element few fit = (element, element_is element fit, refl)
-  where
-    element_is : (kind : Kind) → IsElement kind → IsKind kind
-    element_is Byte f = f
-    element_is Char f = f
-    element_is Double f = f
-    element_is Float f = f
-    element_is Int f = f
-    element_is Long f = f
-    element_is Short f = f
-    element_is kinds.Bool f = f
-    element_is (Class name) f = f
-    element_is (Array' n p element) f = absurd f
-with_dims g (suc n) element few fit = (array g (suc n) element, (omega arith, few, fit), refl)
-
 -- ---- how many slots a kind takes
 
 at_base : (u v : ℕ) (r s : List ℕ) (k : ℕ) → u ∷ r ≡ v ∷ s → k ≡ unit_slots u → k ≡ unit_slots v
 at_base u v r s k e h = let same : u ≡ v = cc in h ∙ ap unit_slots same
 
-pub slots_first : (kind : Kind) (tail : List ℕ) (u : ℕ) (r : List ℕ) → IsKind kind → spelling kind ++ tail ≡ u ∷ r → slots kind ≡ unit_slots u
-slots_first Byte tail u r fit e = at_base _ u _ r _ e refl
-slots_first Char tail u r fit e = at_base _ u _ r _ e refl
-slots_first Double tail u r fit e = at_base _ u _ r _ e refl
-slots_first Float tail u r fit e = at_base _ u _ r _ e refl
-slots_first Int tail u r fit e = at_base _ u _ r _ e refl
-slots_first Long tail u r fit e = at_base _ u _ r _ e refl
-slots_first Short tail u r fit e = at_base _ u _ r _ e refl
-slots_first kinds.Bool tail u r fit e = at_base _ u _ r _ e refl
-slots_first (Class name) tail u r fit e = at_base _ u _ r _ e refl
-slots_first (Array' zero p element) tail u r fit e = absurd (omega (arith, fit.0))
-slots_first (Array' (suc n) p element) tail u r fit e = at_base _ u _ r _ e refl
+element_slots_first : (element : ElementType) (tail : List ℕ) (u : ℕ) (r : List ℕ) → element_spelling element ++ tail ≡ u ∷ r → element_slots element ≡ unit_slots u
+element_slots_first Byte tail u r e = at_base _ u _ r _ e refl
+element_slots_first Char tail u r e = at_base _ u _ r _ e refl
+element_slots_first Double tail u r e = at_base _ u _ r _ e refl
+element_slots_first Float tail u r e = at_base _ u _ r _ e refl
+element_slots_first Int tail u r e = at_base _ u _ r _ e refl
+element_slots_first Long tail u r e = at_base _ u _ r _ e refl
+element_slots_first Short tail u r e = at_base _ u _ r _ e refl
+element_slots_first elements.Bool tail u r e = at_base _ u _ r _ e refl
+element_slots_first (Class name) tail u r e = at_base _ u _ r _ e refl
+
+pub slots_first : (kind : Kind) (tail : List ℕ) (u : ℕ) (r : List ℕ) → spelling kind ++ tail ≡ u ∷ r → slots kind ≡ unit_slots u
+slots_first kind tail u r e = by_dimensions kind.dimensions e
+  where
+    by_dimensions : (n : ℕ) → (brackets n ++ element_spelling kind.element) ++ tail ≡ u ∷ r → cond (eqb n 0) (element_slots kind.element) 1 ≡ unit_slots u
+    by_dimensions zero f = element_slots_first kind.element tail u r f
+    by_dimensions (suc n) f = ap (λ (b : Bool). cond b (element_slots kind.element) 1) (ne_eqb (suc n) 0 (λ e. omega (arith, e))) ∙ at_base _ u _ r _ f refl
 
 begins_with : (n a : ℕ) (x : List ℕ) → a ≢ 41 → a ≢ 86 → (u : ℕ) × (r : List ℕ) × (brackets n ++ a ∷ x ≡ u ∷ r) × (u ≢ 41) × (u ≢ 86)
 begins_with zero a x no_end no_void = (a, x, refl, no_end, no_void)
@@ -226,7 +186,7 @@ starts kind tail fit =
 pub same_slots : (a b : Kind) (x y : List ℕ) → IsKind a → IsKind b → spelling a ++ x ≡ spelling b ++ y → slots a ≡ slots b
 same_slots a b x y is_a is_b e =
     let s = starts b y is_b in
-    slots_first a x s.0 s.1 is_a (e ∙ s.2) ∙ sym (slots_first b y s.0 s.1 is_b s.2)
+    slots_first a x s.0 s.1 (e ∙ s.2) ∙ sym (slots_first b y s.0 s.1 s.2)
 
 pub regrouped : (k : Kind) (ks : List Kind) (x : List ℕ) → flat_map spelling (k ∷ ks) ++ x ≡ spelling k ++ (flat_map spelling ks ++ x)
 regrouped k ks x = ap (λ (y : List ℕ). y ++ x) (flat_map-cons spelling k ks) ∙ append_assoc (spelling k) (flat_map spelling ks) x

@@ -1,5 +1,5 @@
 -- What each unit does to the texts that complete a descriptor, and so where the first bad unit is.
-use Rattle.std.proofs.Common.{Global, ◌≡◌, ◌↔◌, ℕ, zero, suc, ◌+◌, ◌<◌, ◌≤◌, Bool, true, false, cond, eqb, ltb, List, [], ◌∷◌, ◌++◌, refl, sym, ap, subst, ◌∙◌, arith, ◌⊎◌, inl, inr}
+use Rattle.std.proofs.Common.{◌≡◌, ◌↔◌, ℕ, zero, suc, ◌+◌, ◌<◌, ◌≤◌, Bool, true, false, cond, eqb, ltb, List, [], ◌∷◌, ◌++◌, refl, sym, ap, subst, ◌∙◌, arith, ◌⊎◌, inl, inr}
 use Rattle.std.specs.Prelude.{◌&&◌, ◌||◌, not, Option, Some, None}
 use Rattle.std.specs.Option.{is_none}
 use Rattle.std.specs.List.{flat_map, sum_by, AllByRecursion}
@@ -8,17 +8,18 @@ use Rattle.std.proofs.lemmas.Bool.Decides.{nat_tests}
 use Rattle.std.proofs.lemmas.Option.{same_Some}
 use Rattle.std.proofs.lemmas.List.{append-nil}
 use Rattle.std.proofs.lemmas.List.Sums.{sum_by-cons}
+use Rattle.descriptors.specs.declared.kind.ElementType.{ElementType}
+use Rattle.descriptors.specs.declared.kind.ElementType.TheVariants.{Byte, Char, Double, Float, Int, Long, Short, Class}
+use Rattle.descriptors.specs.declared.kind.ElementType.TheVariants as elements
 use Rattle.descriptors.specs.declared.kind.Kind.{Kind}
-use Rattle.descriptors.specs.declared.kind.Kind.TheVariants.{Byte, Char, Double, Float, Int, Long, Short, Class, Array'}
-use Rattle.descriptors.specs.declared.kind.Kind.TheVariants as kinds
 use Rattle.descriptors.specs.declared.fronts.Front.{Front}
 use Rattle.descriptors.specs.declared.fronts.Front.TheVariants.{Brackets, Name}
 use Rattle.descriptors.specs.declared.fronts.Turn.{Turn}
 use Rattle.descriptors.specs.declared.fronts.Turn.TheVariants.{Ends, GoesOn, Stops}
-use Rattle.descriptors.specs.Descriptors.{brackets, spelling, is_base, is_name_unit, are_parts, IsClassName, IsElement, IsKind, IsResult, result_spelling, slots, unit_slots}
+use Rattle.descriptors.specs.Descriptors.{brackets, element_spelling, spelling, is_base, is_name_unit, are_parts, IsClassName, IsElement, IsKind, IsResult, result_spelling, slots, unit_slots}
 use Rattle.descriptors.specs.Refusal.{IsField, IsMethod, IsFirstBad}
 use Rattle.descriptors.specs.States.{State, Field, Method, Args, Result, Whole, name_goes_on, turn, is_start, in_field, in_arg, next, bad_end, first_bad, is_field, is_method}
-use Rattle.descriptors.proofs.KindLaws.{dims_of, element_text, with_dims, starts, slots_first, regrouped}
+use Rattle.descriptors.proofs.KindLaws.{element_text, starts, slots_first, regrouped}
 use Rattle.descriptors.proofs.FirstBad.{first_bad_cons, first_bad_same}
 
 -- ---- what completes a kind
@@ -225,18 +226,18 @@ some_end (Name false) few = (97 ∷ 59 ∷ [], (97 ∷ [], refl, refl))
 
 -- ---- a kind and its units
 
--- the kind of one unit
-base_kind : (u : ℕ) → is_base u ≡ true → (k : Kind) × IsElement k × (spelling k ≡ u ∷ [])
-base_kind u e =
+-- the type of one unit
+base_type : (u : ℕ) → is_base u ≡ true → (k : ElementType) × IsElement k × (element_spelling k ≡ u ∷ [])
+base_type u e =
     by_tests (eqb u 66) (eqb u 67) (eqb u 68) (eqb u 70) (eqb u 73) (eqb u 74) (eqb u 83) (eqb u 90)
     (eqb-true u 66) (eqb-true u 67) (eqb-true u 68) (eqb-true u 70) (eqb-true u 73) (eqb-true u 74) (eqb-true u 83) (eqb-true u 90) e
   where
-    is_it : (k : Kind) (v : ℕ) → IsElement k → spelling k ≡ v ∷ [] → u ≡ v → (k : Kind) × IsElement k × (spelling k ≡ u ∷ [])
+    is_it : (k : ElementType) (v : ℕ) → IsElement k → element_spelling k ≡ v ∷ [] → u ≡ v → (k : ElementType) × IsElement k × (element_spelling k ≡ u ∷ [])
     is_it k v fit spelled same = (k, fit, spelled ∙ ap (λ (x : ℕ). x ∷ []) (sym same))
 
     by_tests : (a b c d f g h i : Bool) → (a ≡ true → u ≡ 66) → (b ≡ true → u ≡ 67) → (c ≡ true → u ≡ 68) → (d ≡ true → u ≡ 70)
         → (f ≡ true → u ≡ 73) → (g ≡ true → u ≡ 74) → (h ≡ true → u ≡ 83) → (i ≡ true → u ≡ 90)
-        → (a || (b || (c || (d || (f || (g || (h || (i || false)))))))) ≡ true → (k : Kind) × IsElement k × (spelling k ≡ u ∷ [])
+        → (a || (b || (c || (d || (f || (g || (h || (i || false)))))))) ≡ true → (k : ElementType) × IsElement k × (element_spelling k ≡ u ∷ [])
     by_tests true b c d f g h i p q r s t v w x e = is_it Byte 66 tt refl (p refl)
     by_tests false true c d f g h i p q r s t v w x e = is_it Char 67 tt refl (q refl)
     by_tests false false true d f g h i p q r s t v w x e = is_it Double 68 tt refl (r refl)
@@ -244,30 +245,28 @@ base_kind u e =
     by_tests false false false false true g h i p q r s t v w x e = is_it Int 73 tt refl (t refl)
     by_tests false false false false false true h i p q r s t v w x e = is_it Long 74 tt refl (v refl)
     by_tests false false false false false false true i p q r s t v w x e = is_it Short 83 tt refl (w refl)
-    by_tests false false false false false false false true p q r s t v w x e = is_it kinds.Bool 90 tt refl (x refl)
+    by_tests false false false false false false false true p q r s t v w x e = is_it elements.Bool 90 tt refl (x refl)
     by_tests false false false false false false false false p q r s t v w x e = absurd cc
 
 -- the kind whose units were completed
-pub kind_of_units : (g : Global) (t : List ℕ) → Completes (Brackets 0) t → (k : Kind) × IsKind k × (t ≡ spelling k)
-kind_of_units g t c = elim c.3 [
-  | inl p ↦ let b = base_kind p.0 p.1 in with_element b.0 b.1 (p.2 ∙ sym b.2)
+pub kind_of_units : (t : List ℕ) → Completes (Brackets 0) t → (k : Kind) × IsKind k × (t ≡ spelling k)
+kind_of_units t c = elim c.3 [
+  | inl p ↦ let b = base_type p.0 p.1 in with_element b.0 b.1 (p.2 ∙ sym b.2)
   | inr p ↦ with_element (Class p.0) p.1 p.2
 ]
   where
-    with_element : (element : Kind) → IsElement element → c.1 ≡ spelling element → (k : Kind) × IsKind k × (t ≡ spelling k)
-    with_element element fit e =
-        let k = with_dims g c.0 element (let few = c.2 in omega arith) fit in
-        (k.0, k.1, c.4 ∙ ap (λ (x : List ℕ). brackets c.0 ++ x) e ∙ sym k.2)
+    with_element : (element : ElementType) → IsElement element → c.1 ≡ element_spelling element → (k : Kind) × IsKind k × (t ≡ spelling k)
+    with_element element fit e = (
+      record { dimensions = c.0; element = element },
+      record { few = (let few = c.2 in omega arith); element = fit },
+      c.4 ∙ ap (λ (x : List ℕ). brackets c.0 ++ x) e,
+    )
 
 -- a kind's units complete it from the start
 pub units_of_kind : (k : Kind) → IsKind k → Completes (Brackets 0) (spelling k)
-units_of_kind k fit = let o = dims_of k fit in (o.dims, spelling o.element, (let few = o.few in omega arith), element_text o.element o.is_element, o.parts)
+units_of_kind k fit = (k.dimensions, element_spelling k.element, (let few = fit.few in omega arith), element_text k.element fit.element, refl)
 
 -- ---- the descriptor of a field
-
--- some handle of the heap
-pub some_global : Global
-some_global = record { memory = record { seal = tt } }
 
 -- ---- the rest of a method's descriptor
 
@@ -316,14 +315,14 @@ not_start (Name begun) more u e = elim (name_turn begun u) [
 ]
 
 -- the kind that a unit begins is the first argument
-argument_of : (g : Global) (taken u : ℕ) (us : List ℕ) → IsRestWithin (taken + unit_slots u) (Brackets 0) (u ∷ us) → IsRest taken (u ∷ us)
-argument_of g taken u us w =
-    let k = kind_of_units g w.kind w.completes in
+argument_of : (taken u : ℕ) (us : List ℕ) → IsRestWithin (taken + unit_slots u) (Brackets 0) (u ∷ us) → IsRest taken (u ∷ us)
+argument_of taken u us w =
+    let k = kind_of_units w.kind w.completes in
     let whole : spelling k.0 ++ w.behind ≡ u ∷ us = ap (λ (x : List ℕ). x ++ w.behind) (sym k.2) ∙ sym w.parts in
     record {
       args = k.0 ∷ w.rest.args;
       fit = (k.1, w.rest.fit);
-      few = omega (arith, w.rest.few, sum_by-cons slots k.0 w.rest.args, slots_first k.0 w.behind u us k.1 whole);
+      few = omega (arith, w.rest.few, sum_by-cons slots k.0 w.rest.args, slots_first k.0 w.behind u us whole);
       result = w.rest.result;
       is_result = w.rest.is_result;
       parts = sym whole ∙ ap (λ (x : List ℕ). spelling k.0 ++ x) w.rest.parts ∙ sym (regrouped k.0 w.rest.args (41 ∷ result_spelling w.rest.result));
@@ -342,7 +341,7 @@ argument_front taken u us k ks r fit few is_r e =
       rest = record {
         args = ks;
         fit = fit.1;
-        few = omega (arith, few, sum_by-cons slots k ks, slots_first k (flat_map spelling ks ++ 41 ∷ result_spelling r) u us fit.0 (sym whole));
+        few = omega (arith, few, sum_by-cons slots k ks, slots_first k (flat_map spelling ks ++ 41 ∷ result_spelling r) u us (sym whole));
         result = r;
         is_result = is_r;
         parts = refl;
@@ -496,7 +495,7 @@ args_back taken front u t more true true few room at ended f = given (Some Resul
 args_back taken front u t more true false few room at ended f =
     let sum = taken + unit_slots u in
     let back = arg_back sum front u t more (turn front u) (ltb 255 sum) few refl (ltb-false 255 sum) f in
-    (back.0, λ r. argument_of some_global taken u t (subst (λ (x : Front). IsRestWithin sum x (u ∷ t)) (at refl) (back.1 r)))
+    (back.0, λ r. argument_of taken u t (subst (λ (x : Front). IsRestWithin sum x (u ∷ t)) (at refl) (back.1 r)))
 
 method_back : (u : ℕ) (t : List ℕ) (more : State) (opens : Bool) → (opens ≡ true → u ≡ 40) → cond opens (Some (Args 0 (Brackets 0))) None ≡ Some more → StepsBack more IsMethod u t
 method_back u t more false is f = absurd cc
@@ -513,7 +512,7 @@ result_back : (u : ℕ) (t : List ℕ) (more : State) (void : Bool) → (void �
 result_back u t more true voids f = given (Some Whole) Whole more (Rest Result) u t refl f (tt, λ h. (None, tt, ap (λ (x : List ℕ). u ∷ x) h ∙ ap (λ (x : ℕ). x ∷ []) (voids refl)))
 result_back u t more false voids f =
     let back = field_back (Brackets 0) u t more (turn (Brackets 0) u) (omega arith) refl f in
-    (back.0, λ r. let k = kind_of_units some_global (u ∷ t) (back.1 r) in (Some k.0, k.1, k.2))
+    (back.0, λ r. let k = kind_of_units (u ∷ t) (back.1 r) in (Some k.0, k.1, k.2))
 
 steps_back : (state : State) (u : ℕ) (t : List ℕ) (more : State) → IsState state → next state u ≡ Some more → StepsBack more (Rest state) u t
 steps_back (Field front) u t more is f = field_back front u t more (turn front u) is refl f
@@ -626,7 +625,7 @@ units_of_field : (units : List ℕ) → IsField units → Completes (Brackets 0)
 units_of_field units f = subst (Completes (Brackets 0)) (sym f.2) (units_of_kind f.0 f.1)
 
 pub field_text : (units : List ℕ) → first_bad (Field (Brackets 0)) 0 units ≡ None → IsField units
-field_text units e = kind_of_units some_global units (sound units (Field (Brackets 0)) 0 (omega arith) e)
+field_text units e = kind_of_units units (sound units (Field (Brackets 0)) 0 (omega arith) e)
 
 pub method_text : (units : List ℕ) → first_bad Method 0 units ≡ None → IsMethod units
 method_text units e = sound units Method 0 tt e
@@ -641,7 +640,7 @@ pub field_bad : (units : List ℕ) (bad : ℕ) → first_bad (Field (Brackets 0)
 field_bad units bad e =
     let b = bad_from units (Field (Brackets 0)) 0 bad (omega arith) e in
     let same : b.0 ≡ bad = omega (arith, b.1) in
-    subst (λ (k : ℕ). IsFirstBad IsField units k) same (first_bad_same (Completes (Brackets 0)) IsField units b.0 (kind_of_units some_global) units_of_field b.2)
+    subst (λ (k : ℕ). IsFirstBad IsField units k) same (first_bad_same (Completes (Brackets 0)) IsField units b.0 kind_of_units units_of_field b.2)
 
 pub method_bad : (units : List ℕ) (bad : ℕ) → first_bad Method 0 units ≡ Some bad → IsFirstBad IsMethod units bad
 method_bad units bad e =

@@ -1,9 +1,10 @@
 -- The descriptor of a field and of a method (JVMS 4.3.2, 4.3.3).
 use Rattle.std.specs.Prelude.{ℕ, ◌≡◌, ◌≤◌, Bool, true, false, not, List, [], ◌∷◌, ◌++◌, Option, Some, None, ◌==◌, ◌&&◌, ◌||◌, if◌then◌else◌, codes}
-use Rattle.std.specs.List.{flat_map, list_any, repeat, sum_by, AllByRecursion, AllZip}
+use Rattle.std.specs.List.{flat_map, list_any, repeat, sum_by, AllByRecursion}
+use Rattle.descriptors.specs.declared.kind.ElementType.{ElementType}
+use Rattle.descriptors.specs.declared.kind.ElementType.TheVariants.{Byte, Char, Double, Float, Int, Long, Short, Class}
+use Rattle.descriptors.specs.declared.kind.ElementType.TheVariants as elements
 use Rattle.descriptors.specs.declared.kind.Kind.{Kind}
-use Rattle.descriptors.specs.declared.kind.Kind.TheVariants.{Byte, Char, Double, Float, Int, Long, Short, Class, Array'}
-use Rattle.descriptors.specs.declared.kind.Kind.TheVariants as kinds
 use Rattle.descriptors.specs.declared.kind.Signature.{Signature}
 
 -- ---- the characters of descriptors, as units
@@ -44,18 +45,21 @@ long_letter = 74  -- J
 abbrev pub brackets : ℕ → List ℕ
 brackets n = repeat n (bracket ∷ [])
 
+-- the descriptor of a type that is no array
+abbrev pub element_spelling : ElementType → List ℕ
+element_spelling Byte = codes "B"
+element_spelling Char = codes "C"
+element_spelling Double = codes "D"
+element_spelling Float = codes "F"
+element_spelling Int = codes "I"
+element_spelling Long = codes "J"
+element_spelling Short = codes "S"
+element_spelling elements.Bool = codes "Z"
+element_spelling (Class name) = class_letter ∷ (name ++ semicolon ∷ [])
+
 -- the descriptor of a kind
 abbrev pub spelling : Kind → List ℕ
-spelling Byte = codes "B"
-spelling Char = codes "C"
-spelling Double = codes "D"
-spelling Float = codes "F"
-spelling Int = codes "I"
-spelling Long = codes "J"
-spelling Short = codes "S"
-spelling kinds.Bool = codes "Z"
-spelling (Class name) = class_letter ∷ (name ++ semicolon ∷ [])
-spelling (Array' n p element) = brackets n ++ spelling element
+spelling kind = brackets kind.dimensions ++ element_spelling kind.element
 
 -- a unit of a name but the slash: none of . ; [
 abbrev pub is_name_unit : ℕ → Bool
@@ -71,22 +75,24 @@ are_parts begun (u ∷ us) =
 abbrev pub IsClassName : List ℕ → Type 0
 IsClassName name = are_parts false name ≡ true
 
--- a kind that is no array
-abbrev pub IsElement : Kind → Type 0
+-- a type that has a descriptor and is no array
+abbrev pub IsElement : ElementType → Type 0
 IsElement (Class name) = IsClassName name
-IsElement (Array' n p element) = ⊥
-IsElement kind = Unit {0}
+IsElement element = Unit {0}
 
--- a kind that has a descriptor: an array has from 1 to 255 dimensions
-abbrev pub IsKind : Kind → Type 0
-IsKind (Array' n p element) = (1 ≤ n) × (n ≤ 255) × IsElement element
-IsKind kind = IsElement kind
+-- a kind that has a descriptor: it has at most 255 dimensions
+pub record IsKind (kind : Kind) : Type 0 where
+  pub few : kind.dimensions ≤ 255
+  pub element : IsElement kind.element
+
+abbrev pub element_slots : ElementType → ℕ
+element_slots Long = 2
+element_slots Double = 2
+element_slots element = 1
 
 -- how many of the 255 slots of arguments the kind takes
 abbrev pub slots : Kind → ℕ
-slots Long = 2
-slots Double = 2
-slots kind = 1
+slots kind = if kind.dimensions == 0 then element_slots kind.element else 1
 
 -- the same of a kind by its first unit
 abbrev pub unit_slots : ℕ → ℕ
@@ -112,20 +118,3 @@ pub record IsSignature (s : Signature) : Type 0 where
 -- the units that are a kind by themselves
 abbrev pub is_base : ℕ → Bool
 is_base u = list_any (λ b. u == b) (codes "BCDFIJSZ")
-
--- one kind, wherever its parts lie in memory
-abbrev pub AreSame : Kind → Kind → Type 0
-AreSame (Array' m p a) (Array' n q b) = (m ≡ n) × AreSame a b
-AreSame a b = a ≡ b
-
--- one result, likewise
-abbrev pub AreSameResult : Option Kind → Option Kind → Type 0
-AreSameResult None None = Unit {0}
-AreSameResult (Some a) (Some b) = AreSame a b
-AreSameResult None (Some b) = ⊥
-AreSameResult (Some a) None = ⊥
-
--- one signature, wherever its parts lie in memory
-pub record AreSameSignature (a b : Signature) : Type 0 where
-  pub args : AllZip AreSame a.args b.args
-  pub result : AreSameResult a.result b.result

@@ -1,3 +1,4 @@
 pub mod Descriptors
 pub mod Refusal
 pub mod States
+pub mod Meaning

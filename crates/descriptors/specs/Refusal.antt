@@ -1,8 +1,9 @@
 -- What a refusal says of the units, and what is known of units that were not refused.
 use Rattle.std.specs.Prelude.{◌≡◌, ℕ, ◌+◌, ◌<◌, ◌≤◌, List, ◌∷◌, ◌++◌, Option, length, take}
+use Rattle.descriptors.specs.declared.kind.ElementType.{ElementType}
 use Rattle.descriptors.specs.declared.kind.Kind.{Kind}
 use Rattle.descriptors.specs.declared.kind.Signature.{Signature}
-use Rattle.descriptors.specs.Descriptors.{semicolon, spelling, IsClassName, IsKind, result_spelling, IsResult, method_spelling, IsSignature}
+use Rattle.descriptors.specs.Descriptors.{semicolon, element_spelling, spelling, IsClassName, IsElement, IsKind, result_spelling, IsResult, method_spelling, IsSignature}
 
 -- the units are the descriptor of some kind, or of some signature
 abbrev pub IsField : List ℕ → Type 0
@@ -25,12 +26,19 @@ pub record IsFirstBad (P : List ℕ → Type 0) (units : List ℕ) (at : ℕ) : 
 
 -- ---- units that were not refused
 
--- they begin with the descriptor of such a kind
-pub record InFront (Is : Kind → Type 0) (units : List ℕ) : Type 0 where
+-- they begin with the descriptor of a kind
+pub record KindInFront (units : List ℕ) : Type 0 where
   pub kind : Kind
-  pub fit : Is kind
+  pub fit : IsKind kind
   pub rest : List ℕ
   pub parts : units ≡ spelling kind ++ rest
+
+-- they begin with that of a type that is no array
+pub record ElementInFront (units : List ℕ) : Type 0 where
+  pub element : ElementType
+  pub fit : IsElement element
+  pub rest : List ℕ
+  pub parts : units ≡ element_spelling element ++ rest
 
 -- they begin with a class name and the semicolon behind it
 pub record NameInFront (units : List ℕ) : Type 0 where

@@ -1,14 +1,15 @@
-ghost use Rattle.std.specs.Prelude.{◌≡◌, ℕ, ◌<◌, ◌≤◌, ◌+◌, ◌^◌, [], ◌∷◌, ◌++◌, Err, length, take, drop, true, not, position, ◌==◌, IfOk};
+ghost use Rattle.std.specs.Prelude.{◌≡◌, ℕ, ◌<◌, ◌≤◌, ◌+◌, ◌^◌, [], ◌∷◌, ◌++◌, Err, length, take, drop, true, false, not, position, ◌==◌, IfOk};
 ghost use Rattle.items.specs.Memory.{OkUnless};
 ghost use Rattle.descriptors.specs.declared.error.DescriptorError.TheVariants as errors;
 ghost use Rattle.descriptors.specs.declared.kind.Kind.{Kind as AnyKind};
-ghost use Rattle.descriptors.specs.Descriptors.{spelling, brackets, semicolon, AreSame, IsClassName, IsElement, IsKind, is_base};
-ghost use Rattle.descriptors.specs.Refusal.{IsField, IsFirstBad, InFront, NameInFront};
+ghost use Rattle.descriptors.specs.Descriptors.{element_spelling, spelling, brackets, semicolon, IsClassName, IsElement, IsKind, is_base};
+ghost use Rattle.descriptors.specs.Refusal.{IsField, IsFirstBad, ElementInFront, KindInFront, NameInFront};
 ghost use Rattle.descriptors.specs.States as spec;
+ghost use Rattle.descriptors.specs.Meaning as meaning;
 
 use crate::error::DescriptorError;
 use crate::fronts::{BYTE, CHAR, DOUBLE, FLOAT, INT, LONG, SHORT, field_bad};
-use crate::kind::Kind;
+use crate::kind::{ElementType, Kind};
 use items::Items;
 use std::alloc::{AllocError, Global};
 
@@ -25,11 +26,13 @@ pub fn field_kind(alloc: Global, units: &[u16]) -> Result<Kind, DescriptorError>
     requires { length units.now < 2 ^ 32 }
     // The units are the descriptor of the kind that it returns.
     ensures found { IfOk result (λ kind. IsKind kind × (units.now ≡ spelling kind)) }
+    ensures value { IfOk result (λ kind. kind ≡ meaning.kind_of units.now) }
     // The descriptor of a kind is read as this kind.
     ensures only { (kind : AnyKind) → IsKind kind → units.now ≡ spelling kind
-        → OkUnless result errors.NoMemory (λ found. AreSame found kind) }
+        → OkUnless result errors.NoMemory (λ found. found ≡ kind) }
     // A refusal names the first bad unit.
     ensures bad { (at : ℕ) → result ≡ Err (errors.Bad at) → IsFirstBad IsField units.now at }
+    ensures none { (at : ℕ) → result ≡ Err (errors.Bad at) → spec.is_field units.now ≡ false }
 {
     if let Some(at) = field_bad(units, 0) {
         return Err(DescriptorError::Bad { at: at as u32 });
@@ -40,33 +43,35 @@ pub fn field_kind(alloc: Global, units: &[u16]) -> Result<Kind, DescriptorError>
 
 /// The kind whose descriptor is in front, and the units behind it.
 pub fn kind_at(alloc: Global, units: &[u16]) -> Result<(Kind, &[u16]), AllocError>
-    requires { InFront IsKind units.now }
+    requires { KindInFront units.now }
     ensures { IfOk result (λ x. IsKind x.0 × (units.now ≡ spelling x.0 ++ x.1.now)) }
 {
-    let dims = brackets_in(units);
-    let (element, rest) = element_at(alloc, &units[dims..])?;
-    if dims == 0 {
-        return Ok((element, rest));
-    }
-    let array = Kind::Array(dims as u8, Box::new(alloc, element)?);
-    Ok((array, rest))
+    let brackets = brackets_in(units);
+    let (element, rest) = element_at(alloc, &units[brackets..])?;
+    let dimensions = brackets as u8;
+    let kind = Kind {
+        dimensions,
+        element,
+    };
+    Ok((kind, rest))
 }
 
 // How many `[` are in front.
 fn brackets_in(units: &[u16]) -> usize
-    requires { InFront IsKind units.now }
+    requires { KindInFront units.now }
     ensures few { result ≤ 255 }
     ensures within { result ≤ length units.now }
     ensures brackets { units.now ≡ brackets result ++ drop result units.now }
-    ensures element { InFront IsElement (drop result units.now) }
+    ensures element { ElementInFront (drop result units.now) }
 {
     first_other(units, u16::from(b'[')).unwrap()
 }
 
-// The kind in front, which is no array, and the units behind it.
-fn element_at(alloc: Global, units: &[u16]) -> Result<(Kind, &[u16]), AllocError>
-    requires { InFront IsElement units.now }
-    ensures { IfOk result (λ x. IsElement x.0 × (units.now ≡ spelling x.0 ++ x.1.now)) }
+// The type in front, which is no array, and the units behind it.
+fn element_at(alloc: Global, units: &[u16]) -> Result<(ElementType, &[u16]), AllocError>
+    requires { ElementInFront units.now }
+    ensures { IfOk result (λ x.
+        IsElement x.0 × (units.now ≡ element_spelling x.0 ++ x.1.now)) }
 {
     let first = units[0];
     let rest = &units[1..];
@@ -75,7 +80,7 @@ fn element_at(alloc: Global, units: &[u16]) -> Result<(Kind, &[u16]), AllocError
     }
     let end = name_len(rest);
     let name = Items::from(Vec::from_slice(alloc, &rest[..end])?);
-    Ok((Kind::Class(name), &rest[end + 1..]))
+    Ok((ElementType::Class(name), &rest[end + 1..]))
 }
 
 // How many units the class name in front has.
@@ -102,19 +107,19 @@ fn first_other(units: &[u16], skipped: u16) -> Option<usize>
     units.iter().position(|unit| *unit != skipped)
 }
 
-// The kind of one unit.
-fn base(unit: u16) -> Kind
+// The type of one unit.
+fn base(unit: u16) -> ElementType
     requires { is_base unit ≡ true }
-    ensures { IsElement result × (spelling result ≡ unit ∷ []) }
+    ensures { IsElement result × (element_spelling result ≡ unit ∷ []) }
 {
     match unit {
-        BYTE => Kind::Byte,
-        CHAR => Kind::Char,
-        DOUBLE => Kind::Double,
-        FLOAT => Kind::Float,
-        INT => Kind::Int,
-        LONG => Kind::Long,
-        SHORT => Kind::Short,
-        _ => Kind::Bool,
+        BYTE => ElementType::Byte,
+        CHAR => ElementType::Char,
+        DOUBLE => ElementType::Double,
+        FLOAT => ElementType::Float,
+        INT => ElementType::Int,
+        LONG => ElementType::Long,
+        SHORT => ElementType::Short,
+        _ => ElementType::Bool,
     }
 }

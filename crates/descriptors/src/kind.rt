@@ -1,8 +1,8 @@
 use items::Items;
 
-/// A type of a field, a parameter or a result (JVMS 4.3.2).
+/// A type that is no array: what an array has as its last elements (JVMS 2.4, 4.3.2).
 #[derive(Debug, Drop)]
-pub enum Kind {
+pub enum ElementType {
     Byte,
     Char,
     Double,
@@ -13,9 +13,14 @@ pub enum Kind {
     Bool,
     /// A class or an interface, by its name (JVMS 4.2.1).
     Class(Items<u16>),
-    /// An array: the number of its dimensions, from 1 on, and the kind of its last elements,
-    /// which is no array.
-    Array(u8, Box<Kind>),
+}
+
+/// A type of a field, a parameter or a result (JVMS 4.3.2): an array of so many dimensions of the
+/// element type, or the element type itself where there are none.
+#[derive(Debug, Drop)]
+pub struct Kind {
+    pub dimensions: u8,
+    pub element: ElementType,
 }
 
 /// The parameters and the result of a method, which may be none (JVMS 4.3.3).

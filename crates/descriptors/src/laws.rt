@@ -3,19 +3,19 @@
 ghost use Rattle.std.specs.Prelude.{◌≡◌, ◌↔◌, List, true, ℕ};
 ghost use Rattle.descriptors.specs.declared.kind.Kind.{Kind as AnyKind};
 ghost use Rattle.descriptors.specs.declared.kind.Signature.{Signature as AnySignature};
-ghost use Rattle.descriptors.specs.Descriptors.{AreSame, AreSameSignature, IsKind, IsSignature, method_spelling, spelling};
+ghost use Rattle.descriptors.specs.Descriptors.{IsKind, IsSignature, method_spelling, spelling};
 ghost use Rattle.descriptors.specs.States.{is_field, is_method};
 ghost use Rattle.descriptors.specs.Refusal.{IsField, IsFirstBad, IsMethod};
 
 /// A text is the descriptor of at most one kind.
 pub fn one_kind()
-    ensures { (a b : AnyKind) → IsKind a → IsKind b → spelling a ≡ spelling b → AreSame a b }
+    ensures { (a b : AnyKind) → IsKind a → IsKind b → spelling a ≡ spelling b → a ≡ b }
 {}
 
 /// A text is the descriptor of at most one signature.
 pub fn one_signature()
     ensures { (a b : AnySignature) → IsSignature a → IsSignature b
-        → method_spelling a ≡ method_spelling b → AreSameSignature a b }
+        → method_spelling a ≡ method_spelling b → a ≡ b }
 {}
 
 /// A text has at most one first bad unit, and none if it is a descriptor.

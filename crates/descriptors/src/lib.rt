@@ -10,6 +10,6 @@ mod methods;
 
 pub use error::DescriptorError;
 pub use fields::{field_kind, is_field_descriptor};
-pub use kind::{Kind, Signature};
+pub use kind::{ElementType, Kind, Signature};
 pub use laws::{one_first_bad, one_kind, one_signature, tests_decide};
 pub use methods::{is_method_descriptor, method_kind};

@@ -1,10 +1,11 @@
-ghost use Rattle.std.specs.Prelude.{◌≡◌, ℕ, ◌<◌, ◌^◌, Err, length, IfOk};
+ghost use Rattle.std.specs.Prelude.{◌≡◌, ℕ, ◌<◌, ◌^◌, Err, false, length, IfOk};
 ghost use Rattle.items.specs.Memory.{OkUnless};
 ghost use Rattle.descriptors.specs.declared.error.DescriptorError.TheVariants as errors;
 ghost use Rattle.descriptors.specs.declared.kind.Signature.{Signature as AnySignature};
-ghost use Rattle.descriptors.specs.Descriptors.{method_spelling, result_spelling, AreSameSignature, IsResult, IsSignature};
+ghost use Rattle.descriptors.specs.Descriptors.{method_spelling, result_spelling, IsResult, IsSignature};
 ghost use Rattle.descriptors.specs.Refusal.{IsMethod, IsFirstBad, IsResultText};
 ghost use Rattle.descriptors.specs.States as spec;
+ghost use Rattle.descriptors.specs.Meaning as meaning;
 
 use crate::error::DescriptorError;
 use crate::fields::kind_at;
@@ -27,11 +28,13 @@ pub fn method_kind(alloc: Global, units: &[u16]) -> Result<Signature, Descriptor
     requires { length units.now < 2 ^ 32 }
     // The units are the descriptor of the signature that it returns.
     ensures found { IfOk result (λ s. IsSignature s × (units.now ≡ method_spelling s)) }
+    ensures value { IfOk result (λ s. s ≡ meaning.signature_of units.now) }
     // The descriptor of a signature is read as this signature.
     ensures only { (s : AnySignature) → IsSignature s → units.now ≡ method_spelling s
-        → OkUnless result errors.NoMemory (λ found. AreSameSignature found s) }
+        → OkUnless result errors.NoMemory (λ found. found ≡ s) }
     // A refusal names the first bad unit.
     ensures bad { (at : ℕ) → result ≡ Err (errors.Bad at) → IsFirstBad IsMethod units.now at }
+    ensures none { (at : ℕ) → result ≡ Err (errors.Bad at) → spec.is_method units.now ≡ false }
 {
     if let Some(at) = method_bad(units) {
         return Err(DescriptorError::Bad { at: at as u32 });

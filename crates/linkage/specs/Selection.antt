@@ -1,16 +1,17 @@
 -- The method that an invocation runs on an object of a class (JVMS 5.4.5, 5.4.6, 6.5).
-use Rattle.std.specs.Prelude.{ℕ, Bool, false, List, [], ◌∷◌, Option, Some, None, unwrap_or, slice_get, if◌then◌else◌}
-use Rattle.std.specs.Option.{option_map_or, option_and_then}
+use Rattle.std.specs.Prelude.{ℕ, not, List, [], ◌∷◌, Option, Some, None, codes, drop, unwrap_or, slice_get, ◌&&◌, if◌then◌else◌}
+use Rattle.std.specs.Option.{option_or, option_map_or, option_and_then}
 use Rattle.class_model.specs.declared.constant.Const.{Const}
 use Rattle.class_model.specs.declared.member.Member.{Member}
 use Rattle.class_grammar.specs.Pool.{text_at}
+use Rattle.class_grammar.specs.Text.{same_text}
 use Rattle.linkage.specs.declared.place.Place.{Place}
 use Rattle.linkage.specs.declared.choice.Choice.{Choice}
 use Rattle.linkage.specs.declared.choice.Choice.TheVariants.{Method, Abstract, Several}
-use Rattle.linkage.specs.Program.{Program, class_at}
-use Rattle.linkage.specs.Hierarchy.{superclasses}
-use Rattle.linkage.specs.Members.{Key, declared_method, has_method, is_private, is_open, is_abstract_method}
-use Rattle.linkage.specs.Resolution.{first_in, if_open, most_specific_bodies}
+use Rattle.linkage.specs.Program.{Program, class_at, is_interface}
+use Rattle.linkage.specs.Hierarchy.{is_among, parent_of, superclasses}
+use Rattle.linkage.specs.Members.{Key, declared_method, has_method, is_private, is_static, is_abstract_method}
+use Rattle.linkage.specs.Resolution.{first_in, if_open, most_specific_bodies, object_method}
 
 -- the name and the descriptor of a member
 abbrev pub key_in : List Const → Member → Key
@@ -44,3 +45,38 @@ select_in p c at pool m = if is_private m then by_body p at else select_by_key p
 abbrev pub select : Program → ℕ → Place → Choice
 select p c at =
     class_at (λ f. option_map_or (select_in p c at f.pool) (slice_get f.methods at.index) Abstract) Abstract p at.class
+
+-- ---- invokespecial (JVMS 6.5)
+
+-- The class in which the search begins: that above the class c whose code it is, where the constant names a class above c and no
+-- constructor; else the class named. ACC_SUPER counts as set (JVMS 4.1).
+abbrev pub special_start : Program → ℕ → ℕ → Key → Option ℕ
+special_start p c named key =
+    if not (same_text key.name (codes "<init>")) && is_among (drop 1 (superclasses p c)) named then parent_of p c
+    else Some named
+
+-- the classes in which it goes on, from the first up; an interface is followed by none
+abbrev pub special_line : Program → ℕ → List ℕ
+special_line p start = if is_interface p start then start ∷ [] else superclasses p start
+
+-- the method of instances of this key that the class declares
+abbrev pub instance_method : Program → Key → ℕ → Option Place
+instance_method p key c =
+    option_and_then (λ at. if has_method is_static p at then None else Some at) (declared_method p key c)
+
+abbrev pub only_body : List Place → Option Place
+only_body (at ∷ []) = Some at
+only_body bodies = None
+
+-- what is found from a class on: in the line of classes, else, from an interface, in Object, else the one maximally specific method
+-- of the superinterfaces that isn't abstract
+abbrev pub special_from : Program → Key → ℕ → Option Place
+special_from p key start =
+    option_or (first_in (instance_method p key) (special_line p start))
+    (option_or (if is_interface p start then object_method p key else None) (only_body (most_specific_bodies p start key)))
+
+-- The method that invokespecial in the code of class c runs, where its constant names this class and means this method; where none is
+-- found, the method that the constant means (own).
+abbrev pub select_special : Program → ℕ → ℕ → Key → Place → Place
+select_special p c named key resolved =
+    unwrap_or (option_and_then (special_from p key) (special_start p c named key)) resolved

@@ -12,7 +12,7 @@ use Rattle.world_model.specs.declared.members.MethodCode.{MethodCode}
 use Rattle.world_model.specs.declared.sites.Naming.{Naming}
 use Rattle.world_model.specs.declared.sites.Site.TheVariants.{Plain}
 use Rattle.world_model.specs.World.{World}
-use Rattle.world_model.specs.Codes.{code_of, AreDecoded}
+use Rattle.world_model.specs.Decoded.{code_at, AreDecoded}
 use Rattle.verify_types.specs.Environment.{Instruction, Environment, with_namings, environment_of, environment}
 
 -- the instructions stand one behind the other, the first at this pc
@@ -49,7 +49,7 @@ linked_code w m code ns cs (i ∷ is) e bytes b some =
 pub are_linked : (w : World) → AreDecoded w → (n : ℕ) (env : Environment) → environment w n ≡ Some env → IsLinkedCode env
 are_linked w decoded n env is =
     let m = some_is (slice_get w.methods n) _ env is in
-    let code = some_is (code_of w n) _ env m.2 in
+    let code = some_is (code_at w n) _ env m.2 in
     let bytes = decoded n code.0 code.1 in
     let made : environment_of w m.0 code.0 (get_or w.namings n []) (get_or w.catches n []) ≡ env = cc in
     subst IsLinkedCode made (linked_code w m.0 code.0 (get_or w.namings n []) (get_or w.catches n []) code.0.code refl bytes.bytes bytes.is_code bytes.some)

@@ -19,7 +19,7 @@ use Rattle.verify_types.specs.Handlers.{fits_frame, caught_type, caught, is_sati
 use Rattle.verify_types.specs.Walk.{Placed, standing, behind, is_end, placed, walk, placed_at}
 use Rattle.verify_types.specs.Faults.{is_target, fits_target, fits_next, is_inside, pc_fault, placed_faults, method_faults, IsWellTyped}
 use Rattle.verify_types.specs.Acceptance.{Each, AllNone, KeepsRules, IsAccepted, AreAccepted}
-use Rattle.world_model.specs.Codes.{AreDecoded}
+use Rattle.world_model.specs.Decoded.{AreDecoded}
 use Rattle.verify_types.proofs.CodeLaws.{InOrder, IsLinkedCode, are_linked}
 use Rattle.verify_types.specs.Typing.{Leads, LeadsTo, IsFine, IsTypedMethod, AreTyped}
 use Rattle.verify_types.proofs.KindLaws.{fits_kept}

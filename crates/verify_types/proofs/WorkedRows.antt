@@ -14,7 +14,7 @@ use Rattle.stack_maps.specs.declared.types.VType.TheVariants as types
 use Rattle.stack_maps.specs.Readers.{type_at, wide_frame_at, frame_at, frames_at, table_of}
 use Rattle.world_model.specs.declared.members.MethodInfo.{MethodInfo}
 use Rattle.world_model.specs.declared.members.MethodCode.{MethodCode}
-use Rattle.descriptors.specs.declared.kind.Kind.TheVariants as descriptors
+use Rattle.descriptors.specs.declared.kind.ElementType.TheVariants as elements
 use Rattle.world_model.specs.declared.sites.Naming.{Naming}
 use Rattle.world_model.specs.declared.sites.Site.TheVariants as sites
 use Rattle.world_model.specs.World.{World}
@@ -36,7 +36,7 @@ names = record {
   program = record { classes = []; built_in = 0 };
   names = codes "java/lang/Object" ∷ codes "java/lang/Cloneable" ∷ codes "java/io/Serializable" ∷ codes "A" ∷ codes "java/lang/Throwable" ∷ [];
   arrays = [];
-  fields = record { class = 3; flags = 0; name = codes "f"; kind = descriptors.Int } ∷ [];
+  fields = record { class = 3; flags = 0; name = codes "f"; kind = record { dimensions = 0; element = elements.Int } } ∷ [];
   methods = constructor ∷ static_method ∷ [];
   codes = [];
   namings = [];

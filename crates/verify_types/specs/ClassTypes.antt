@@ -1,8 +1,9 @@
 -- The verification types that names, descriptors and constants mean (JVMS 4.10.1.2), by numbers of the world.
-use Rattle.std.specs.Prelude.{ℕ, List, Option, Some, codes, length, unwrap_or}
+use Rattle.std.specs.Prelude.{ℕ, List, Option, Some, codes, length, unwrap_or, ◌==◌, if◌then◌else◌}
 use Rattle.class_grammar.specs.Names.{object_class}
+use Rattle.descriptors.specs.declared.kind.ElementType.{ElementType}
+use Rattle.descriptors.specs.declared.kind.ElementType.TheVariants as elements
 use Rattle.descriptors.specs.declared.kind.Kind.{Kind}
-use Rattle.descriptors.specs.declared.kind.Kind.TheVariants as kinds
 use Rattle.opcodes.specs.declared.op.Primitive.{Primitive}
 use Rattle.opcodes.specs.declared.op.Primitive.TheVariants as primitives
 use Rattle.stack_maps.specs.declared.types.Base.{Base}
@@ -46,29 +47,32 @@ throwable_type w = type_named w (codes "java/lang/Throwable")
 
 -- ---- types of descriptors (JVMS 4.3.2): boolean, byte, char and short are ints, but not as elements of an array
 
-abbrev pub base_of_kind : World → Kind → Base
-base_of_kind w kinds.Byte = bases.Byte
-base_of_kind w kinds.Char = bases.Char
-base_of_kind w kinds.Double = bases.Double
-base_of_kind w kinds.Float = bases.Float
-base_of_kind w kinds.Int = bases.Int
-base_of_kind w kinds.Long = bases.Long
-base_of_kind w kinds.Short = bases.Short
-base_of_kind w kinds.Bool = bases.Bool
-base_of_kind w (kinds.Class name) = base_named w name
-base_of_kind w (kinds.Array' n p element) = base_of_kind w element
+abbrev pub base_of_element : World → ElementType → Base
+base_of_element w elements.Byte = bases.Byte
+base_of_element w elements.Char = bases.Char
+base_of_element w elements.Double = bases.Double
+base_of_element w elements.Float = bases.Float
+base_of_element w elements.Int = bases.Int
+base_of_element w elements.Long = bases.Long
+base_of_element w elements.Short = bases.Short
+base_of_element w elements.Bool = bases.Bool
+base_of_element w (elements.Class name) = base_named w name
+
+abbrev pub type_of_element : World → ElementType → VType
+type_of_element w elements.Byte = types.Int
+type_of_element w elements.Char = types.Int
+type_of_element w elements.Double = types.Double
+type_of_element w elements.Float = types.Float
+type_of_element w elements.Int = types.Int
+type_of_element w elements.Long = types.Long
+type_of_element w elements.Short = types.Int
+type_of_element w elements.Bool = types.Int
+type_of_element w (elements.Class name) = type_named w name
 
 abbrev pub type_of_kind : World → Kind → VType
-type_of_kind w kinds.Byte = types.Int
-type_of_kind w kinds.Char = types.Int
-type_of_kind w kinds.Double = types.Double
-type_of_kind w kinds.Float = types.Float
-type_of_kind w kinds.Int = types.Int
-type_of_kind w kinds.Long = types.Long
-type_of_kind w kinds.Short = types.Int
-type_of_kind w kinds.Bool = types.Int
-type_of_kind w (kinds.Class name) = type_named w name
-type_of_kind w (kinds.Array' n p element) = types.Named n (base_of_kind w element)
+type_of_kind w kind =
+    if kind.dimensions == 0 then type_of_element w kind.element
+    else types.Named kind.dimensions (base_of_element w kind.element)
 
 -- ---- types of instructions
 

@@ -20,7 +20,7 @@ use Rattle.world_model.specs.declared.members.MethodCode.{MethodCode}
 use Rattle.world_model.specs.declared.sites.Naming.{Naming}
 use Rattle.world_model.specs.declared.sites.Site.TheVariants.{Plain}
 use Rattle.world_model.specs.World.{World, class_type}
-use Rattle.world_model.specs.Codes.{code_of}
+use Rattle.world_model.specs.Decoded.{code_at}
 use Rattle.verify_types.specs.ClassTypes.{resolve, type_of_kind}
 use Rattle.verify_types.specs.Assignability.{is_object}
 use Rattle.verify_types.specs.TypeStates.{TypeState, is_this, padded}
@@ -134,7 +134,7 @@ environment_of w m code namings catches =
 abbrev pub environment : World → ℕ → Option Environment
 environment w n =
     slice_get w.methods n >>= λ m.
-    code_of w n >>= λ code.
+    code_at w n >>= λ code.
     Some (environment_of w m code (get_or w.namings n []) (get_or w.catches n []))
 
 -- ---- what stands at a pc

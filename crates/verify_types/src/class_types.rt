@@ -1,7 +1,7 @@
 ghost use Rattle.std.specs.Prelude.{◌≡◌};
 ghost use Rattle.verify_types.specs.ClassTypes as spec;
 
-use descriptors::Kind;
+use descriptors::{ElementType, Kind};
 use instruction_rows::Value;
 use opcodes::Primitive;
 use stack_maps::{Base, VType};
@@ -56,21 +56,37 @@ pub fn throwable_type<L: Lookups>(w: &L) -> VType
     VType::Named(0, number_or_none(w, w.throwable()))
 }
 
-// The last elements of an array of this kind.
-fn base_of_kind<L: Lookups>(w: &L, kind: &Kind) -> Base
-    ensures { result ≡ spec.base_of_kind (L.world w.now) kind.now }
+// The last elements of an array.
+fn base_of_element<L: Lookups>(w: &L, element: &ElementType) -> Base
+    ensures { result ≡ spec.base_of_element (L.world w.now) element.now }
 {
-    match kind {
-        Kind::Byte => Base::Byte,
-        Kind::Char => Base::Char,
-        Kind::Double => Base::Double,
-        Kind::Float => Base::Float,
-        Kind::Int => Base::Int,
-        Kind::Long => Base::Long,
-        Kind::Short => Base::Short,
-        Kind::Bool => Base::Bool,
-        Kind::Class(name) => base_named(w, name),
-        Kind::Array(_, element) => base_of_kind(w, element),
+    match element {
+        ElementType::Byte => Base::Byte,
+        ElementType::Char => Base::Char,
+        ElementType::Double => Base::Double,
+        ElementType::Float => Base::Float,
+        ElementType::Int => Base::Int,
+        ElementType::Long => Base::Long,
+        ElementType::Short => Base::Short,
+        ElementType::Bool => Base::Bool,
+        ElementType::Class(name) => base_named(w, name),
+    }
+}
+
+// The verification type of what is no array.
+fn type_of_element<L: Lookups>(w: &L, element: &ElementType) -> VType
+    ensures { result ≡ spec.type_of_element (L.world w.now) element.now }
+{
+    match element {
+        ElementType::Byte
+        | ElementType::Char
+        | ElementType::Int
+        | ElementType::Short
+        | ElementType::Bool => VType::Int,
+        ElementType::Double => VType::Double,
+        ElementType::Float => VType::Float,
+        ElementType::Long => VType::Long,
+        ElementType::Class(name) => VType::Named(0, base_named(w, name)),
     }
 }
 
@@ -78,13 +94,10 @@ fn base_of_kind<L: Lookups>(w: &L, kind: &Kind) -> Base
 pub fn type_of_kind<L: Lookups>(w: &L, kind: &Kind) -> VType
     ensures { result ≡ spec.type_of_kind (L.world w.now) kind.now }
 {
-    match kind {
-        Kind::Byte | Kind::Char | Kind::Int | Kind::Short | Kind::Bool => VType::Int,
-        Kind::Double => VType::Double,
-        Kind::Float => VType::Float,
-        Kind::Long => VType::Long,
-        Kind::Class(name) => VType::Named(0, base_named(w, name)),
-        Kind::Array(dimensions, element) => VType::Named(*dimensions, base_of_kind(w, element)),
+    if kind.dimensions == 0 {
+        type_of_element(w, &kind.element)
+    } else {
+        VType::Named(kind.dimensions, base_of_element(w, &kind.element))
     }
 }
 

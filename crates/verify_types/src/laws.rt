@@ -6,7 +6,7 @@ ghost use Rattle.instruction_rows.specs.declared.value.Slot.{Slot};
 ghost use Rattle.instruction_rows.specs.Contents.{Contents};
 ghost use Rattle.instruction_rows.specs.Soundness.{KeepsKind, HasKinds};
 ghost use Rattle.world_model.specs.World.{World};
-ghost use Rattle.world_model.specs.Codes.{AreDecoded};
+ghost use Rattle.world_model.specs.Decoded.{AreDecoded};
 ghost use Rattle.verify_types.specs.declared.fault.VerifyFault.{VerifyFault};
 ghost use Rattle.verify_types.specs.Assignability.{assignable};
 ghost use Rattle.verify_types.specs.TypeStates.{TypeState, fits};

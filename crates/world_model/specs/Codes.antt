@@ -1,20 +1,58 @@
--- The code of a method, decoded (JVMS 4.7.3).
-use Rattle.std.specs.Prelude.{◌≡◌, ℕ, ◌<◌, ◌^◌, List, Option, Some, length, slice_get}
-use Rattle.std.specs.Option.{option_and_then}
-use Rattle.opcodes.specs.Code.{IsCode}
+-- The code of methods: its instructions, its exception table and its stack map (JVMS 4.7.3, 4.7.4).
+use Rattle.std.specs.Prelude.{ℕ, List, [], ◌∷◌, Option, Some, None, unwrap_or}
+use Rattle.std.specs.Option.{option_map, option_map_or}
+use Rattle.class_model.specs.declared.attribute.Attribute.{Attribute}
+use Rattle.class_model.specs.declared.attribute.Body.{Body}
+use Rattle.class_model.specs.declared.attribute.Body.TheVariants as bodies
+use Rattle.class_model.specs.declared.attribute.CodeBody.{CodeBody}
+use Rattle.class_model.specs.declared.attribute.CodeAttribute.{CodeAttribute}
+use Rattle.class_model.specs.declared.attribute.CodeExtra.{CodeExtra}
+use Rattle.class_model.specs.declared.attribute.CodeExtra.TheVariants as extras
+use Rattle.class_model.specs.declared.member.Member.{Member}
+use Rattle.opcodes.specs.declared.op.Instr.{Instr}
+use Rattle.linkage.specs.Resolution.{first_in}
+use Rattle.linkage.specs.Faults.{decoded}
 use Rattle.world_model.specs.declared.members.MethodCode.{MethodCode}
-use Rattle.world_model.specs.World.{World}
 
--- the instructions are those of some bytes, of which there is one at least, and which are fewer than 65,536
-pub record IsDecoded (code : MethodCode) : Type 0 where
-  pub bytes : List ℕ
-  pub is_code : IsCode bytes code.code
-  pub some : 0 < length bytes
-  pub few : length bytes < 2 ^ 16
+abbrev pub code_in : Attribute → Option CodeBody
+code_in a = by a.body
+  where
+    by : Body → Option CodeBody
+    by (bodies.Code body) = Some body
+    by (bodies.Constant value) = None
+    by (bodies.Other bytes) = None
 
--- the code of a method of this number, where it has one
-abbrev pub code_of : World → ℕ → Option MethodCode
-code_of w n = option_and_then (λ code. code) (slice_get w.codes n)
+-- the code of a method, which has one at most (JVMS 4.7.3)
+abbrev pub body_of : Member → Option CodeBody
+body_of m = first_in code_in m.attributes
 
-abbrev pub AreDecoded : World → Type 0
-AreDecoded w = (n : ℕ) (code : MethodCode) → code_of w n ≡ Some code → IsDecoded code
+abbrev pub map_in : CodeAttribute → Option (List ℕ)
+map_in a = by a.body
+  where
+    by : CodeExtra → Option (List ℕ)
+    by (extras.StackMap bytes) = Some bytes
+    by (extras.Other bytes) = None
+
+-- the body of a map without frames
+abbrev pub empty_map : List ℕ
+empty_map = 0 ∷ 0 ∷ []
+
+-- the body of the stack map; a code without one has no frames (JVMS 4.7.4)
+abbrev pub map_of : CodeBody → List ℕ
+map_of body = unwrap_or (first_in map_in body.attributes) empty_map
+
+abbrev pub code_of_body : CodeBody → MethodCode
+code_of_body body = record {
+  max_stack = body.max_stack;
+  max_locals = body.max_locals;
+  code = (decoded body.code).instrs;
+  rows = body.rows;
+  map = map_of body;
+}
+
+-- of a method that is abstract or native None (JVMS 4.6)
+abbrev pub code_of : Member → Option MethodCode
+code_of m = option_map code_of_body (body_of m)
+
+abbrev pub instructions_of : Member → List Instr
+instructions_of m = option_map_or (λ (code : MethodCode). code.code) (code_of m) []

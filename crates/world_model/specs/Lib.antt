@@ -1,3 +1,9 @@
 pub mod World
 pub mod Pools
 pub mod Codes
+pub mod Infos
+pub mod Numbering
+pub mod Strings
+pub mod Sites
+pub mod Worlds
+pub mod Decoded

@@ -1,16 +1,14 @@
 -- A linked world: the classes of a program, and tables by number. Classes have the numbers of their places in the program; behind
 -- them come the other names of classes that a pool or a descriptor has, and behind these the array types. Fields and methods are
 -- numbered in the order of the classes, and in a class in the order of its file. (own)
-use Rattle.std.specs.Prelude.{ℕ, ◌+◌, ◌-◌, Bool, true, false, List, [], ◌∷◌, Option, Some, None, length, position, slice_get, nat_lt, codes, ◌==◌, ◌&&◌, if◌then◌else◌}
-use Rattle.std.specs.Bool.{beq}
-use Rattle.std.specs.Option.{option_map, option_map_or, option_and_then}
+use Rattle.std.specs.Prelude.{ℕ, ◌-◌, List, [], ◌∷◌, Option, Some, None, length, position, slice_get, nat_lt, ◌==◌, if◌then◌else◌}
+use Rattle.std.specs.Option.{option_map, option_map_or}
 use Rattle.stack_maps.specs.declared.types.Base.{Base}
 use Rattle.stack_maps.specs.declared.types.Base.TheVariants as bases
 use Rattle.stack_maps.specs.declared.types.VType.{VType}
 use Rattle.stack_maps.specs.declared.types.VType.TheVariants.{Named}
 use Rattle.class_grammar.specs.Text.{same_text}
 use Rattle.linkage.specs.Program.{Program, is_array_name}
-use Rattle.linkage.specs.Hierarchy.{is_below}
 use Rattle.linkage.specs.Constants.{dimensions_of, last_element, name_in}
 use Rattle.world_model.specs.declared.members.FieldInfo.{FieldInfo}
 use Rattle.world_model.specs.declared.members.MethodInfo.{MethodInfo}

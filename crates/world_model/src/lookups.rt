@@ -5,7 +5,7 @@ ghost use Rattle.linkage.specs.Program as program;
 ghost use Rattle.linkage.specs.Hierarchy as hierarchy;
 ghost use Rattle.world_model.specs.World as spec;
 ghost use Rattle.world_model.specs.World.{World};
-ghost use Rattle.world_model.specs.Codes.{IsDecoded, code_of};
+ghost use Rattle.world_model.specs.Decoded.{IsDecoded, code_at};
 ghost use Rattle.world_model.specs.Pools as pools;
 
 use crate::{FieldInfo, MethodCode, MethodInfo, Naming};
@@ -74,7 +74,7 @@ pub trait Lookups {
 
     /// The code of a method (JVMS 4.7.3). `None`: the method has none, or there is no method of this number.
     fn code(&self, method: u32) -> Option<&MethodCode>
-        ensures code { option_copied result ≡ code_of (world self.now) method }
+        ensures code { option_copied result ≡ code_at (world self.now) method }
         ensures decoded { IfSome result (λ c. IsDecoded c.now) };
 
     /// What the constants of a method's instructions mean, by instruction.

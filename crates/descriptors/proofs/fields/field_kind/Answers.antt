@@ -1,8 +1,9 @@
-use Rattle.std.proofs.Common.{◌≡◌, ℕ, sym, subst, ◌∙◌}
+use Rattle.std.proofs.Common.{◌≡◌, ℕ, sym, ap, subst, ◌∙◌}
+use Rattle.std.specs.Option.{is_none}
 use Rattle.descriptors.specs.Refusal.{IsField, IsFirstBad}
 use Rattle.descriptors.proofs.FirstBad.{no_member}
 use Rattle.descriptors.proofs.FrontKind.{field_front, kind_alone}
-use Rattle.descriptors.proofs.OneKind.{one_kind}
+use Rattle.descriptors.proofs.MeaningLaws.{kind_meant, one_kind}
 use Rattle.descriptors.proofs.StateLaws.{field_bad, field_text}
 use Rattle.descriptors.proofs.fields.field_kind.Goals as goal
 
@@ -23,4 +24,13 @@ returns-clause-found c = let found = c.in_ok-kind.ensures in (found.0, kind_alon
 pub returns-clause-only : goal.returns-clause-only
 returns-clause-only c = λ kind fit e.
     let found = c.in_ok-kind.ensures in
-    one_kind c.in_ok-kind.kind kind found.0 fit (sym (kind_alone c.args.units.now _ _ (kind, fit, e) found.0 found.1) ∙ e)
+    one_kind c.in_ok-kind.kind kind (sym (kind_alone c.args.units.now _ _ (kind, fit, e) found.0 found.1) ∙ e)
+
+pub returns-clause-value : goal.returns-clause-value
+returns-clause-value c =
+    let found = c.in_ok-kind.ensures in
+    kind_meant c.args.units.now c.in_ok-kind.kind (ap is_none (sym c.in_default.ensures.first))
+    (kind_alone c.args.units.now _ _ (field_text c.args.units.now (sym c.in_default.ensures.first)) found.0 found.1)
+
+pub returns-in-Some-clause-none : goal.returns-in-Some-clause-none
+returns-in-Some-clause-none c = λ at e. ap is_none (sym c.in-Some.ensures.first)

@@ -1,4 +1,4 @@
-use Rattle.descriptors.proofs.OneSignature.{one_signature}
+use Rattle.descriptors.proofs.MeaningLaws.{one_signature}
 use Rattle.descriptors.proofs.laws.one_signature.Goals as goal
 
 pub returns : goal.returns

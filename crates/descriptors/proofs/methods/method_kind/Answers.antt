@@ -1,7 +1,8 @@
-use Rattle.std.proofs.Common.{◌≡◌, ℕ, sym, subst, ◌∙◌}
+use Rattle.std.proofs.Common.{◌≡◌, ℕ, sym, ap, subst, ◌∙◌}
+use Rattle.std.specs.Option.{is_none}
 use Rattle.descriptors.specs.Refusal.{IsMethod, IsFirstBad}
 use Rattle.descriptors.proofs.FirstBad.{no_member}
-use Rattle.descriptors.proofs.OneSignature.{one_signature}
+use Rattle.descriptors.proofs.MeaningLaws.{one_signature, signature_meant}
 use Rattle.descriptors.proofs.StateLaws.{method_bad, method_text}
 use Rattle.descriptors.proofs.methods.method_kind.Goals as goal
 
@@ -18,3 +19,11 @@ signature_of-requires c = method_text c.args.units.now (sym c.in_default.ensures
 
 pub returns-clause-only : goal.returns-clause-only
 returns-clause-only c = λ s fit e. let found = c.in_ok-signature_of.ensures in one_signature c.in_ok-signature_of.field-0 s found.0 fit (sym found.1 ∙ e)
+
+pub returns-clause-value : goal.returns-clause-value
+returns-clause-value c =
+    let found = c.in_ok-signature_of.ensures in
+    signature_meant c.args.units.now c.in_ok-signature_of.field-0 (ap is_none (sym c.in_default.ensures.first)) found.0 found.1
+
+pub returns-in-Some-clause-none : goal.returns-in-Some-clause-none
+returns-in-Some-clause-none c = λ at e. ap is_none (sym c.in-Some.ensures.first)

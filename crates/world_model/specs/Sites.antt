@@ -1,0 +1,156 @@
+-- What the constant of an instruction means, by numbers (JVMS 5.4.3, 6.5), and which classes the rows of an exception table catch.
+use Rattle.std.specs.Prelude.{ℕ, Bool, true, false, List, [], Option, Some, None, map, slice_get, ◌==◌, if◌then◌else◌}
+use Rattle.std.specs.Option.{option_map, option_map_or, option_and_then}
+use Rattle.std.specs.List.{flat_map, enumerate_from}
+use Rattle.class_model.specs.declared.constant.Const.{Const}
+use Rattle.class_model.specs.declared.constant.Const.TheVariants.{Integer, Long, Text, Fieldref, Methodref, InterfaceMethodref}
+use Rattle.class_model.specs.declared.attribute.CodeBody.{CodeBody}
+use Rattle.class_model.specs.declared.attribute.Row.{Row}
+use Rattle.class_model.specs.declared.member.Member.{Member}
+use Rattle.class_model.specs.declared.class_file.ClassFile.{ClassFile}
+use Rattle.class_grammar.specs.Pool.{text_at}
+use Rattle.opcodes.specs.declared.op.Op.{Op}
+use Rattle.opcodes.specs.declared.op.Op.TheVariants as ops
+use Rattle.opcodes.specs.declared.op.Instr.{Instr}
+use Rattle.instruction_rows.specs.declared.value.Value.TheVariants as values
+use Rattle.linkage.specs.declared.place.Place.{Place}
+use Rattle.linkage.specs.Program.{Program}
+use Rattle.linkage.specs.Members.{Key, field_number, method_number}
+use Rattle.linkage.specs.Constants.{home_of, key_at, name_at}
+use Rattle.linkage.specs.Instructions.{resolved_field, resolved_method}
+use Rattle.linkage.specs.Selection.{select_special}
+use Rattle.world_model.specs.declared.sites.Site.{Site}
+use Rattle.world_model.specs.declared.sites.Site.TheVariants as sites
+use Rattle.world_model.specs.declared.sites.Naming.{Naming}
+use Rattle.world_model.specs.Codes.{body_of, instructions_of}
+use Rattle.world_model.specs.Numbering.{Numbering, array_number, array_of_kind, array_of_primitive, class_number, kind_named}
+use Rattle.world_model.specs.Strings.{string_number}
+
+-- what sites are told by: the program, its numbers and its Strings
+pub record Linking : Type 0 where
+  pub program : Program
+  pub numbering : Numbering
+  pub strings : List (List ℕ)
+
+abbrev pub plain : Naming
+plain = record { site = sites.Plain; class = None }
+
+-- a site that names nothing else
+abbrev pub alone : Option Site → Naming
+alone site = option_map_or (λ s. record { site = s; class = None }) site plain
+
+-- a site of a member of the class of this name
+abbrev pub member_of : Linking → List ℕ → Option Site → Naming
+member_of l name site =
+    option_map_or (λ s. record { site = s; class = class_number l.numbering name }) site plain
+
+-- what the function says of the constant at an index
+abbrev pub naming_at : List Const → ℕ → (Const → Naming) → Naming
+naming_at pool index of = option_map_or of (slice_get pool index) plain
+
+-- ---- constants that are pushed (JVMS 6.5, ldc, ldc_w, ldc2_w)
+
+abbrev pub push_naming : Linking → List Const → Const → Naming
+push_naming l pool (Integer n) = alone (Some (sites.Value (values.Int n)))
+push_naming l pool (Long n) = alone (Some (sites.Value (values.Long n)))
+push_naming l pool (Text index) =
+    alone (option_map (λ n. sites.Value (values.Ref n)) (option_and_then (string_number l.strings) (text_at pool index)))
+push_naming l pool c = plain
+
+-- ---- fields (JVMS 5.4.3.2)
+
+abbrev pub field_site : Linking → List ℕ → Key → Option Site
+field_site l name key = option_map (λ at. sites.Field (field_number l.program at)) (resolved_field l.program name key)
+
+abbrev pub field_naming : Linking → List Const → Const → Naming
+field_naming l pool (Fieldref class member) =
+    member_of l (name_at pool class) (field_site l (name_at pool class) (key_at pool member))
+field_naming l pool c = plain
+
+-- ---- methods (JVMS 5.4.3.3, 5.4.3.4)
+
+-- the method that the constant means; of invokespecial that which it selects in the code of class c (JVMS 6.5)
+abbrev pub method_place : Linking → ℕ → Bool → Bool → List ℕ → Key → Option Place
+method_place l c special of_interface name key =
+    option_map (λ at. if special
+    then option_map_or (λ home. select_special l.program c home key at) (home_of l.program name) at
+    else at) (resolved_method l.program of_interface name key)
+
+abbrev pub method_site : Linking → ℕ → Bool → Bool → List ℕ → Key → Option Site
+method_site l c special of_interface name key =
+    option_map (λ at. sites.Method (method_number l.program at)) (method_place l c special of_interface name key)
+
+abbrev pub method_naming : Linking → ℕ → List Const → Bool → Const → Naming
+method_naming l c pool special (Methodref class member) =
+    member_of l (name_at pool class) (method_site l c special false (name_at pool class) (key_at pool member))
+method_naming l c pool special (InterfaceMethodref class member) =
+    member_of l (name_at pool class) (method_site l c special true (name_at pool class) (key_at pool member))
+method_naming l c pool special const = plain
+
+-- ---- classes (JVMS 5.4.3.1)
+
+abbrev pub class_naming : Option ℕ → Naming
+class_naming number = alone (option_map sites.Class number)
+
+-- the class at an index
+abbrev pub named_class : Linking → List Const → ℕ → Naming
+named_class l pool index = class_naming (class_number l.numbering (name_at pool index))
+
+-- the array of the class at an index
+abbrev pub array_of_named : Linking → List Const → ℕ → Naming
+array_of_named l pool index =
+    class_naming (array_number l.numbering (array_of_kind (kind_named (name_at pool index))))
+
+-- ---- instructions
+
+-- what the constant of an instruction means in the code of class c, whose pool this is
+abbrev pub naming_of : Linking → ℕ → List Const → Op → Naming
+naming_of l c pool (ops.PushConstant i) = naming_at pool i (push_naming l pool)
+naming_of l c pool (ops.PushWideConstant i) = naming_at pool i (push_naming l pool)
+naming_of l c pool (ops.GetStatic i) = naming_at pool i (field_naming l pool)
+naming_of l c pool (ops.PutStatic i) = naming_at pool i (field_naming l pool)
+naming_of l c pool (ops.GetField i) = naming_at pool i (field_naming l pool)
+naming_of l c pool (ops.PutField i) = naming_at pool i (field_naming l pool)
+naming_of l c pool (ops.InvokeVirtual i) = naming_at pool i (method_naming l c pool false)
+naming_of l c pool (ops.InvokeSpecial i) = naming_at pool i (method_naming l c pool true)
+naming_of l c pool (ops.InvokeStatic i) = naming_at pool i (method_naming l c pool false)
+naming_of l c pool (ops.InvokeInterface i count) = naming_at pool i (method_naming l c pool false)
+naming_of l c pool (ops.New i) = named_class l pool i
+naming_of l c pool (ops.NewArray primitive) = class_naming (array_number l.numbering (array_of_primitive primitive))
+naming_of l c pool (ops.ANewArray i) = array_of_named l pool i
+naming_of l c pool (ops.MultiANewArray i n) = named_class l pool i
+naming_of l c pool (ops.CheckCast i) = named_class l pool i
+naming_of l c pool (ops.InstanceOf i) = named_class l pool i
+naming_of l c pool op = plain
+
+abbrev pub instr_naming : Linking → ℕ → List Const → Instr → Naming
+instr_naming l c pool i = naming_of l c pool i.op
+
+-- ---- rows of an exception table
+
+-- the class that is caught; index 0 stands for every throwable (JVMS 4.7.3)
+abbrev pub catch_of : Linking → List Const → Row → Option ℕ
+catch_of l pool r = if r.catch_type == 0 then None else class_number l.numbering (name_at pool r.catch_type)
+
+-- ---- methods and classes
+
+abbrev pub rows_of : Member → List Row
+rows_of m = option_map_or (λ (body : CodeBody). body.rows) (body_of m) []
+
+abbrev pub method_namings : Linking → ℕ → List Const → Member → List Naming
+method_namings l c pool m = map (instr_naming l c pool) (instructions_of m)
+
+abbrev pub method_catches : Linking → List Const → Member → List (Option ℕ)
+method_catches l pool m = map (catch_of l pool) (rows_of m)
+
+abbrev pub namings_in : Linking → ℕ × ClassFile → List (List Naming)
+namings_in l x = map (method_namings l x.0 x.1.pool) x.1.methods
+
+abbrev pub catches_in : Linking → ClassFile → List (List (Option ℕ))
+catches_in l f = map (method_catches l f.pool) f.methods
+
+abbrev pub namings_of : Linking → List (List Naming)
+namings_of l = flat_map (namings_in l) (enumerate_from 0 l.program.classes)
+
+abbrev pub catches_of : Linking → List (List (Option ℕ))
+catches_of l = flat_map (catches_in l) l.program.classes
