@@ -12,6 +12,7 @@ use opcodes::{Instr, Op};
 use world_model::{MethodCode, MethodInfo, Naming, Site};
 
 /// A method with code: what its constants mean, by instruction, and what the rows of its exception table catch.
+#[derive(Clone, Copy)]
 pub struct Method<'a> {
     pub info: &'a MethodInfo,
     pub code: &'a MethodCode,

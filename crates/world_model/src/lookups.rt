@@ -65,7 +65,7 @@ pub trait Lookups {
         ensures { option_copied result ≡ slice_get (world self.now).fields n };
 
     /// How many methods there are.
-    fn method_count(&self) -> usize
+    fn method_count(&self) -> u32
         ensures { result ≡ length (world self.now).methods };
 
     /// A method. `None`: there is no method of this number.

@@ -1,0 +1,34 @@
+-- What is kept beside the tables of a method, from what was read.
+use Rattle.std.proofs.Common.{◌≡◌, ℕ, true, List, Option, Some, Result, Ok, Err, refl, ap, subst, sym, ◌∙◌}
+use Rattle.std.specs.Prelude.{is_ok, map}
+use Rattle.std.specs.Option.{option_map}
+use Rattle.std.specs.Result.{result_ok}
+use Rattle.stack_maps.specs.declared.types.FrameTypes.{FrameTypes}
+use Rattle.stack_maps.specs.declared.error.MapWhy.{MapWhy}
+use Rattle.stack_maps.specs.Expansion.{expansion}
+use Rattle.world_model.specs.declared.members.MethodInfo.{MethodInfo}
+use Rattle.world_model.specs.declared.members.MethodCode.{MethodCode}
+use Rattle.world_model.specs.declared.sites.Naming.{Naming}
+use Rattle.world_model.specs.Decoded.{IsDecoded}
+use Rattle.world_model.specs.World.{World}
+use Rattle.verify_types.specs.Environment.{MapFrame, first_frame, map_frame, map_frames, environment_of}
+use Rattle.verify_code.specs.StackMaps.{mapped}
+use Rattle.verify_code.specs.Environments.{HasFrames}
+use Rattle.verify_code.proofs.InstructionLaws.{decoded_in_order}
+
+abbrev Expanded : Type 0
+Expanded = Result (List (ℕ × FrameTypes)) (ℕ × MapWhy)
+
+is_map : (w : World) (m : MethodInfo) (max : ℕ) (r : Expanded) (frames : List MapFrame) → Some frames ≡ option_map (map (map_frame w m max)) (result_ok r)
+    → (is_ok r ≡ true) × (frames ≡ map_frames w m max r)
+is_map w m max (Ok list) frames e = let same : frames ≡ map (map_frame w m max) list = cc in (refl, same)
+is_map w m max (Err why) frames e = absurd cc
+
+pub has_frames : (w : World) (m : MethodInfo) (code : MethodCode) (ns : List Naming) (cs : List (Option ℕ)) (first : FrameTypes) (bytes : List ℕ) (frames : List MapFrame)
+    → first ≡ first_frame w m → bytes ≡ code.map → Some frames ≡ mapped w m code.max_locals first bytes → IsDecoded code
+    → HasFrames (environment_of w m code ns cs) frames
+has_frames w m code ns cs first bytes frames begins is e decoded =
+    let at : Some frames ≡ mapped w m code.max_locals (first_frame w m) code.map =
+    e ∙ ap (λ (f : FrameTypes). mapped w m code.max_locals f bytes) begins ∙ ap (λ bs. mapped w m code.max_locals (first_frame w m) bs) is in
+    let found = is_map w m code.max_locals (expansion (first_frame w m) code.map) frames at in
+    record { mapped = found.0; are = found.1; in_order = decoded_in_order code ns decoded }

@@ -1,0 +1,47 @@
+use Rattle.std.proofs.Common.{◌≡◌, Bool, true, Option, ap, subst, sym, ◌∙◌}
+use Rattle.std.specs.Prelude.{not}
+use Rattle.verify_types.specs.declared.why.VerifyWhy.{VerifyWhy}
+use Rattle.verify_types.specs.Faults.{first_some, is_why}
+use Rattle.verify_instructions.specs.Views.{state_in}
+use Rattle.verify_code.specs.declared.findings.Findings.{Findings}
+use Rattle.verify_code.specs.Findings.{instruction_of, findings_whys}
+use Rattle.verify_code.specs.Walks.{IsAfter}
+use Rattle.verify_code.proofs.WalkLaws.{broken, kept}
+use Rattle.verify_code.proofs.environment.Environment.judge.Goals as goal
+
+pub returns-in-Broken : goal.returns-in-Broken
+returns-in-Broken g c = λ entry arrived.
+    let env = c.args.self.now in
+    let s = state_in c.args.s in
+    let why = c.in-Broken.why in
+    broken env c.args.i.now c.args.naming entry c.args.is_last c.args.fits s why c.why_broken.result
+    (subst (IsAfter env (instruction_of c.args.i.now c.args.naming) s) c.in-Broken.is c.in_ok-why.ensures)
+    arrived
+    (c.why_broken.ensures ∙ ap (λ (f : Findings). first_some (findings_whys f (λ rule. not (is_why rule why)) true true)) c.findings-findings.ensures)
+
+answered : (findings wanted : Findings) (fits on shallow no_deeper : Bool) (why : Option VerifyWhy) → why ≡ first_some (findings_whys findings (λ rule. true) fits shallow)
+    → findings ≡ wanted → fits ≡ on → shallow ≡ no_deeper → why ≡ first_some (findings_whys wanted (λ rule. true) on no_deeper)
+answered findings wanted fits on shallow no_deeper why e found fit deep = rw (sym found, sym fit, sym deep) e
+
+pub returns-in-Some : goal.returns-in-Some
+returns-in-Some g c = λ entry arrived.
+    let env = c.args.self.now in
+    let s = state_in c.args.s in
+    kept env c.args.i.now c.args.naming entry c.args.is_last c.args.fits s (state_in c.in-Kept.after) c.why.result
+    (subst (IsAfter env (instruction_of c.args.i.now c.args.naming) s) c.in-Kept.is c.in_ok-why.ensures)
+    arrived
+    (answered c.findings-findings.result _ c.fits_on-fits_on.result _ c.is_shallow-is_shallow.result _ c.why.result c.why.ensures c.findings-findings.ensures c.fits_on-fits_on.ensures c.is_shallow-is_shallow.ensures)
+    ∙ c.in-Some.is
+
+pub returns-in-None : goal.returns-in-None
+returns-in-None g c = λ entry arrived.
+    let env = c.args.self.now in
+    let s = state_in c.args.s in
+    let after = subst (IsAfter env (instruction_of c.args.i.now c.args.naming) s) c.in-Kept.is c.in_ok-why.ensures in
+    record {
+      none =
+          kept env c.args.i.now c.args.naming entry c.args.is_last c.args.fits s (state_in c.in-Kept.after) c.why.result after arrived
+          (answered c.findings-findings.result _ c.fits_on-fits_on.result _ c.is_shallow-is_shallow.result _ c.why.result c.why.ensures c.findings-findings.ensures c.fits_on-fits_on.ensures c.is_shallow-is_shallow.ensures)
+          ∙ c.in-None.is;
+      is = after;
+    }

@@ -1,0 +1,61 @@
+use Rattle.std.proofs.Common.{◌≡◌, List, Option, None, Some, ap, subst, sym, ◌∙◌}
+use Rattle.std.specs.Option.{option_map}
+use Rattle.std.specs.Option.{option_copied}
+use Rattle.verify_types.specs.declared.why.VerifyWhy.TheVariants as whys
+use Rattle.verify_types.specs.TypeStates.{TypeState}
+use Rattle.verify_types.specs.Environment.{MapFrame, Environment}
+use Rattle.verify_types.specs.Walk.{standing}
+use Rattle.verify_types.specs.Faults.{pc_fault}
+use Rattle.verify_instructions.specs.Views.{state_in}
+use Rattle.verify_code.specs.declared.walk.Passage.{Passage}
+use Rattle.verify_code.specs.Frames.{frame_in, stray_frame}
+use Rattle.verify_code.specs.Walks.{IsPassage, entry_of, place}
+use Rattle.verify_code.proofs.WalkLaws.{broken_there, stray_there}
+use Rattle.verify_code.proofs.environment.Environment.step.Goals as goal
+
+pub returns-in-Broken : goal.returns-in-Broken
+returns-in-Broken g c =
+    let env = c.args.self.now in
+    let before = option_map state_in c.args.before in
+    let entry = entry_of c.args.is_entry before in
+    let At : Option TypeState → Passage → Type 0 = λ s x. IsPassage env (place c.args.i.now c.args.naming s entry c.args.is_last) x in
+    let here = standing env c.args.i.now.pc before in
+    let passed = c.in_ok-why.ensures entry c.in_ok-arrival.ensures.fits in
+    let known = subst (λ s. At s c.in_ok-why.field-0) c.in_ok-arrival.ensures.state passed in
+    broken_there env (place c.args.i.now c.args.naming here entry c.args.is_last) c.in-Broken.why (subst (At here) c.in-Broken.is known)
+
+pub returns-in-Some : goal.returns-in-Some
+returns-in-Some g c =
+    let env = c.args.self.now in
+    let before = option_map state_in c.args.before in
+    let entry = entry_of c.args.is_entry before in
+    let At : Option TypeState → Passage → Type 0 = λ s x. IsPassage env (place c.args.i.now c.args.naming s entry c.args.is_last) x in
+    let here = standing env c.args.i.now.pc before in
+    let passed = c.in_ok-why.ensures entry c.in_ok-arrival.ensures.fits in
+    let known = subst (λ s. At s c.in_ok-why.field-0) c.in_ok-arrival.ensures.state passed in
+    let p = place c.args.i.now c.args.naming here entry c.args.is_last in
+    let on = subst (At here) c.in-On.is known in
+    stray_there env p on.none
+    ∙ ap (λ (fs : List MapFrame). option_map (λ (f : MapFrame). pc_fault f.pc whys.Map) (stray_frame c.args.i.now.pc c.args.i.now.next c.args.is_last fs))
+    (sym (c.self.invariant.are ∙ ap (λ (e : Environment). e.map) c.self.view_is))
+    ∙ ap (λ (o : Option MapFrame). option_map (λ (f : MapFrame). pc_fault f.pc whys.Map) o) (sym c.stray.ensures ∙ ap (λ r. option_map frame_in (option_copied r)) c.in-Some.is)
+
+pub returns-in-None : goal.returns-in-None
+returns-in-None g c =
+    let env = c.args.self.now in
+    let before = option_map state_in c.args.before in
+    let entry = entry_of c.args.is_entry before in
+    let At : Option TypeState → Passage → Type 0 = λ s x. IsPassage env (place c.args.i.now c.args.naming s entry c.args.is_last) x in
+    let here = standing env c.args.i.now.pc before in
+    let passed = c.in_ok-why.ensures entry c.in_ok-arrival.ensures.fits in
+    let known = subst (λ s. At s c.in_ok-why.field-0) c.in_ok-arrival.ensures.state passed in
+    let p = place c.args.i.now c.args.naming here entry c.args.is_last in
+    let on = subst (At here) c.in-On.is known in
+    record {
+      none =
+          stray_there env p on.none
+          ∙ ap (λ (fs : List MapFrame). option_map (λ (f : MapFrame). pc_fault f.pc whys.Map) (stray_frame c.args.i.now.pc c.args.i.now.next c.args.is_last fs))
+          (sym (c.self.invariant.are ∙ ap (λ (e : Environment). e.map) c.self.view_is))
+          ∙ ap (λ (o : Option MapFrame). option_map (λ (f : MapFrame). pc_fault f.pc whys.Map) o) (sym c.stray.ensures ∙ ap (λ r. option_map frame_in (option_copied r)) c.in-None.is);
+      is = on.is;
+    }

@@ -1,0 +1,81 @@
+//! Worlds that are well typed.
+
+ghost use Rattle.std.specs.Prelude.{◌≡◌, Err, IfOk, Some};
+ghost use Rattle.items.specs.Memory.{OkUnless};
+ghost use Rattle.verify_types.specs.declared.fault.VerifyFault.{VerifyFault as Fault};
+ghost use Rattle.verify_types.specs.Faults.{IsWellTyped, first_fault};
+ghost use Rattle.verify_types.specs.Typing.{AreTyped};
+
+use crate::method_fault::world_fault;
+use items::NoMemory;
+use std::alloc::Global;
+use std::marker::Model;
+use thiserror::Error;
+use verify_types::VerifyFault;
+use world_model::Lookups;
+
+/// Why a world was not accepted.
+#[derive(Clone, Copy, Debug, PartialEq, Eq, Error)]
+pub enum VerifyError {
+    /// Where it is not well typed first, and why.
+    #[error("a method is not well typed: {}", .0.why)]
+    Fault(VerifyFault),
+    /// Memory ran out.
+    #[error("out of memory")]
+    NoMemory,
+}
+
+impl From<NoMemory> for VerifyError {
+    ghost use Rattle.verify_code.specs.declared.checked.VerifyError.TheVariants as errors;
+
+    ghost from_gives = { λ _ e. e ≡ errors.NoMemory };
+
+    fn from(_: NoMemory) -> Self {
+        VerifyError::NoMemory
+    }
+}
+
+/// A world each of whose methods is well typed (JVMS 4.10.1).
+#[derive(Drop)]
+pub struct Checked<L: Lookups> {
+    world: L,
+}
+
+impl<L: Lookups> Model for Checked<L> {
+    ghost use Rattle.world_model.specs.World.{World};
+    ghost use Rattle.verify_types.specs.Faults.{IsWellTyped};
+
+    ghost Value = { World };
+
+    ghost view = { λ a. L.world a.world };
+
+    ghost invariant = { λ a. IsWellTyped (L.world a.world) };
+}
+
+/// Accepts a world whose methods are all well typed (JVMS 4.10.1). Else the error names the first place where one isn't.
+pub fn accept<L: Lookups + Drop>(alloc: Global, world: L) -> Result<Checked<L>, VerifyError>
+    // The world that is answered is this one, and it is well typed.
+    ensures found { IfOk result (λ checked. checked ≡ L.world world) }
+    ensures typed { IfOk result IsWellTyped }
+    // A well typed world is answered, unless memory ran out.
+    ensures only { IsWellTyped (L.world world)
+        → OkUnless result VerifyError.NoMemory (λ checked. checked ≡ L.world world) }
+    // A refusal names the first fault.
+    ensures bad { (fault : Fault) → result ≡ Err (VerifyError.Fault fault)
+        → first_fault (L.world world) ≡ Some fault }
+{
+    match world_fault(alloc, &world)? {
+        None => Ok(Checked { world }),
+        Some(fault) => Err(VerifyError::Fault(fault)),
+    }
+}
+
+impl<L: Lookups> Checked<L> {
+    /// The world.
+    pub fn world(&self) -> &L
+        ensures world { L.world result.now ≡ self.now }
+        ensures typed { IsWellTyped self.now }
+    {
+        &self.world
+    }
+}

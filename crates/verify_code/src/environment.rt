@@ -1,0 +1,70 @@
+//! A method as it is verified (JVMS 4.10.1.6, the environment): its tables, and the frames of its stack map.
+
+ghost use Rattle.std.specs.Prelude.{◌≡◌, IfOk, MatchOption, false};
+ghost use Rattle.verify_instructions.specs.Views.{environment_in, state_in};
+ghost use Rattle.world_model.specs.Decoded.{IsDecoded};
+
+use crate::frame_state::{first_frame, state_of};
+use crate::frames::Frames;
+use crate::stack_map::frames_of;
+use items::NoMemory;
+use std::alloc::Global;
+use std::marker::Model;
+use verify_instructions::{Method, State};
+use world_model::Lookups;
+
+/// A method with code in a world, and the frames of its stack map.
+#[derive(Drop)]
+pub struct Environment<'a, L: Lookups> {
+    pub world: &'a L,
+    pub method: Method<'a>,
+    pub frames: Frames,
+}
+
+impl<'a, L: Lookups> Model for Environment<'a, L> {
+    ghost use Rattle.verify_types.specs.Environment.{Environment};
+    ghost use Rattle.verify_instructions.specs.Views.{environment_in};
+    ghost use Rattle.verify_code.specs.Environments.{HasFrames};
+
+    ghost Value = { Environment };
+
+    ghost view = { λ a. environment_in (L.world a.world.now) a.method };
+
+    ghost invariant = { λ a. HasFrames (environment_in (L.world a.world.now) a.method) a.frames };
+}
+
+impl<'a, L: Lookups> Environment<'a, L> {
+    /// The environment of a method. `None`: the bytes of its stack map are no map (JVMS 4.7.4).
+    pub fn new(alloc: Global, world: &'a L, method: Method<'a>) -> Result<Option<Self>, NoMemory>
+        requires { IsDecoded method.code.now }
+        ensures { IfOk result (λ env. MatchOption env
+            ((environment_in (L.world world.now) method.entry).is_mapped ≡ false)
+            (λ env. env ≡ environment_in (L.world world.now) method.entry)) }
+    {
+        let first = first_frame(alloc, world, method.info)?;
+        let code = method.code;
+        match frames_of(
+            alloc,
+            world,
+            method.info,
+            code.max_locals,
+            &first,
+            &code.map,
+        )? {
+            Some(frames) => Ok(Some(Environment {
+                world,
+                method,
+                frames,
+            })),
+            None => Ok(None),
+        }
+    }
+
+    /// The state in which the method begins (JVMS 4.10.1.6, methodInitialStackFrame).
+    pub fn first_state(&self, alloc: Global) -> Result<State, NoMemory>
+        ensures { IfOk result (λ s. state_in s ≡ self.now.first) }
+    {
+        let first = first_frame(alloc, self.world, self.method.info)?;
+        state_of(alloc, self.method.info, self.method.code.max_locals, &first)
+    }
+}

@@ -1,0 +1,190 @@
+//! Where an instruction leads (JVMS 4.10.1.9): its targets, and the next instruction.
+
+ghost use Rattle.std.specs.Prelude.{◌≡◌, is_some, true};
+ghost use Rattle.std.specs.List.{list_all};
+ghost use Rattle.std.specs.Option.{option_map_or};
+ghost use Rattle.instruction_rows.specs.Pcs as pcs;
+ghost use Rattle.instruction_rows.specs.Rows.{targets_of_row};
+ghost use Rattle.instruction_rows.specs.Switches.{lookup_targets, match_target, table_targets};
+ghost use Rattle.instruction_rows.specs.Table.{row};
+ghost use Rattle.verify_types.specs.Environment.{instruction_at, map_at};
+ghost use Rattle.verify_types.specs.Faults as spec;
+ghost use Rattle.verify_types.specs.Handlers as handlers;
+ghost use Rattle.verify_instructions.specs.Views.{state_in};
+ghost use Rattle.verify_code.specs.Frames.{frame_in};
+
+use crate::environment::Environment;
+use crate::frames::Frame;
+use crate::instructions::has_instruction;
+use opcodes::{Instr, LookupSwitch, Match, Op, TableSwitch};
+use verify_instructions::{State, goes_on};
+use world_model::Lookups;
+
+// The pc that a target is. `None`: no code has it.
+fn pc_of(target: i64) -> Option<u32>
+    ensures { result ≡ pcs.pc_of target }
+{
+    if target < 0 || target > 65_535 {
+        None
+    } else {
+        Some(target as u32)
+    }
+}
+
+impl<'a, L: Lookups> Environment<'a, L> {
+    // Whether an instruction lies at this pc.
+    fn has_instruction(&self, pc: u32) -> bool
+        ensures { result ≡ is_some (instruction_at self.now pc) }
+    {
+        has_instruction(&self.method.code.code, pc)
+    }
+
+    /// Whether a frame of the stack map lies at this pc.
+    pub fn has_frame(&self, pc: u32) -> bool
+        ensures { result ≡ is_some (map_at self.now pc) }
+    {
+        self.frames.at(pc).is_some()
+    }
+
+    // Whether an instruction and a frame of the stack map lie at the target.
+    fn is_target(&self, target: i64) -> bool
+        ensures { result ≡ spec.is_target self.now target }
+    {
+        match pc_of(target) {
+            Some(pc) => self.has_instruction(pc) && self.has_frame(pc),
+            None => false,
+        }
+    }
+
+    // Whether all targets of a tableswitch are targets.
+    fn are_table_targets(&self, switch: &TableSwitch) -> bool
+        ensures { result ≡ list_all (spec.is_target self.now) (table_targets switch.now) }
+    {
+        self.is_target(switch.default) && self.are_all_targets(&switch.targets)
+    }
+
+    fn are_all_targets(&self, targets: &[i64]) -> bool
+        ensures { result ≡ list_all (spec.is_target self.now) targets.now }
+    {
+        targets.iter().all(|target| self.is_target(*target))
+    }
+
+    // Whether all targets of a lookupswitch are targets.
+    #[tactic(auto, using(crate::proofs::InstructionLaws::all_matches))]
+    fn are_lookup_targets(&self, switch: &LookupSwitch) -> bool
+        ensures { result ≡ list_all (spec.is_target self.now) (lookup_targets switch.now) }
+    {
+        self.is_target(switch.default) && self.are_match_targets(&switch.matches)
+    }
+
+    fn are_match_targets(&self, matches: &[Match]) -> bool
+        ensures { result ≡ list_all (λ m. spec.is_target self.now (match_target m)) matches.now }
+    {
+        matches.iter().all(|m| self.is_target(m.target))
+    }
+
+    /// Whether all targets of an instruction are targets.
+    pub fn are_targets(&self, op: &Op) -> bool
+        ensures { result ≡ list_all (spec.is_target self.now) (targets_of_row (row op.now)) }
+    {
+        match op {
+            Op::IfZero(_, target) => self.is_target(*target),
+            Op::IfInts(_, target) => self.is_target(*target),
+            Op::IfReferences(_, target) => self.is_target(*target),
+            Op::IfNull(_, target) => self.is_target(*target),
+            Op::Goto(target) => self.is_target(*target),
+            Op::TableSwitch(switch) => self.are_table_targets(switch.get()),
+            Op::LookupSwitch(switch) => self.are_lookup_targets(switch.get()),
+            _ => true,
+        }
+    }
+
+    /// Whether a state fits a frame of the stack map. One that names a constant that is no class isn't judged here.
+    pub fn fits_frame(&self, s: &State, frame: &Frame) -> bool
+        ensures { result ≡ handlers.fits_frame self.now (state_in s.now) (frame_in frame.now) }
+    {
+        match &frame.state {
+            Some(other) => s.fits(self.world, other),
+            None => true,
+        }
+    }
+
+    /// Whether a state fits the frame of the stack map at a pc, if there is one.
+    pub fn fits_at(&self, s: &State, pc: u32) -> bool
+        ensures { result ≡
+            option_map_or (handlers.fits_frame self.now (state_in s.now)) (map_at self.now pc) true }
+    {
+        match self.frames.at(pc) {
+            Some(frame) => self.fits_frame(s, frame),
+            None => true,
+        }
+    }
+
+    // Whether a state fits the frame of the stack map at a target, if there is one.
+    fn fits_target(&self, s: &State, target: i64) -> bool
+        ensures { result ≡ spec.fits_target self.now (state_in s.now) target }
+    {
+        match pc_of(target) {
+            Some(pc) => self.fits_at(s, pc),
+            None => true,
+        }
+    }
+
+    // Whether a state fits the frames at all targets of a tableswitch.
+    fn fits_table(&self, s: &State, switch: &TableSwitch) -> bool
+        ensures { result ≡
+            list_all (spec.fits_target self.now (state_in s.now)) (table_targets switch.now) }
+    {
+        self.fits_target(s, switch.default) && self.fits_all(s, &switch.targets)
+    }
+
+    fn fits_all(&self, s: &State, targets: &[i64]) -> bool
+        ensures { result ≡ list_all (spec.fits_target self.now (state_in s.now)) targets.now }
+    {
+        targets.iter().all(|target| self.fits_target(s, *target))
+    }
+
+    // Whether a state fits the frames at all targets of a lookupswitch.
+    #[tactic(auto, using(crate::proofs::InstructionLaws::all_matches))]
+    fn fits_lookup(&self, s: &State, switch: &LookupSwitch) -> bool
+        ensures { result ≡
+            list_all (spec.fits_target self.now (state_in s.now)) (lookup_targets switch.now) }
+    {
+        self.fits_target(s, switch.default) && self.fits_matches(s, &switch.matches)
+    }
+
+    fn fits_matches(&self, s: &State, matches: &[Match]) -> bool
+        ensures { result ≡
+            list_all (λ m. spec.fits_target self.now (state_in s.now) (match_target m)) matches.now }
+    {
+        matches.iter().all(|m| self.fits_target(s, m.target))
+    }
+
+    /// Whether the state after an instruction fits the frames at all of its targets.
+    pub fn fits_targets(&self, s: &State, op: &Op) -> bool
+        ensures { result ≡
+            list_all (spec.fits_target self.now (state_in s.now)) (targets_of_row (row op.now)) }
+    {
+        match op {
+            Op::IfZero(_, target) => self.fits_target(s, *target),
+            Op::IfInts(_, target) => self.fits_target(s, *target),
+            Op::IfReferences(_, target) => self.fits_target(s, *target),
+            Op::IfNull(_, target) => self.fits_target(s, *target),
+            Op::Goto(target) => self.fits_target(s, *target),
+            Op::TableSwitch(switch) => self.fits_table(s, switch.get()),
+            Op::LookupSwitch(switch) => self.fits_lookup(s, switch.get()),
+            _ => true,
+        }
+    }
+
+    /// Whether the state after an instruction fits the next one.
+    pub fn fits_next(&self, s: &State, i: &Instr) -> bool
+        ensures { result ≡ spec.fits_next self.now (row i.now.op) i.now.next (state_in s.now) }
+    {
+        if goes_on(&i.op) {
+            self.fits_at(s, i.next)
+        } else {
+            self.has_frame(i.next)
+        }
+    }
+}
