@@ -1,6 +1,6 @@
 //! The classes of a program, and each by its name.
 
-ghost use Rattle.std.specs.Prelude.{◌≡◌, false, ◌+◌, ◌<◌, ◌^◌, ◌++◌, length, IfOk, OnOk, vec_len, slice_get, slice_index_or};
+ghost use Rattle.std.specs.Prelude.{◌≡◌, false, ◌+◌, ◌<◌, ◌^◌, ◌++◌, drop, length, IfOk, OnOk, vec_len, slice_get, slice_index_or};
 ghost use Rattle.std.specs.Option.{option_copied};
 ghost use Rattle.linkage.specs.Program.{Program, class_named, own_name as name_of};
 ghost use Rattle.linkage.specs.Program as spec;
@@ -137,6 +137,16 @@ impl Classes {
         ensures few { length result.now < 2 ^ 32 }
     {
         &self.files
+    }
+
+    /// The files of the classes that aren't built in.
+    pub fn from_files(&self) -> &[ClassFile]
+        ensures { result.now ≡ drop self.now.built_in self.now.classes }
+    {
+        match self.files.split_at_checked(self.built_in as usize) {
+            Some((_, files)) => files,
+            None => &[],
+        }
     }
 
     /// The file of a class. `None`: there is no such class.

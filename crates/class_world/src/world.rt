@@ -1,4 +1,4 @@
-ghost use Rattle.std.specs.Prelude.{◌≡◌, ◌++◌, ℕ, List, Some, IfOk, OnOk, slice_get, vec_len};
+ghost use Rattle.std.specs.Prelude.{◌≡◌, ◌++◌, ℕ, List, Some, IfOk, OnOk, drop, slice_get, vec_len};
 ghost use Rattle.std.specs.Option.{option_copied};
 ghost use Rattle.items.specs.Memory.{OkUnless};
 ghost use Rattle.linkage.specs.declared.why.LinkWhy.{LinkWhy};
@@ -61,6 +61,20 @@ pub fn link(
 }
 
 impl World {
+    /// The files of the classes, the built-in ones first.
+    pub fn classes(&self) -> &[ClassFile]
+        ensures { result.now ≡ self.now.classes }
+    {
+        self.hierarchy.classes().files()
+    }
+
+    /// The files of the classes that aren't built in.
+    pub fn files(&self) -> &[ClassFile]
+        ensures { result.now ≡ drop self.now.built_in self.now.classes }
+    {
+        self.hierarchy.classes().from_files()
+    }
+
     /// The class of this name. `None`: the program has no such class.
     pub fn class_named(&self, name: &[u16]) -> Option<u32>
         ensures { result ≡ spec.class_named self.now name.now }

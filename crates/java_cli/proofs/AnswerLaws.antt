@@ -17,23 +17,28 @@ use Rattle.ref_model.specs.Alone.{alone}
 use Rattle.jvm_edges.specs.declared.output.PartWritten.{PartWritten}
 use Rattle.java_cli.specs.declared.errors.LoadError.{LoadError}
 use Rattle.java_cli.specs.declared.errors.LoadError.TheVariants as load
-use Rattle.java_cli.specs.declared.errors.LinkError.{LinkError}
-use Rattle.java_cli.specs.declared.errors.LinkError.TheVariants as link
-use Rattle.java_cli.specs.declared.report.LinkWhy.TheVariants.{Unsupported}
+use Rattle.class_world.specs.declared.error.LinkError.{LinkError}
+use Rattle.class_world.specs.declared.error.LinkError.TheVariants as link
+use Rattle.linkage.specs.declared.fault.LinkFault as faults
+use Rattle.linkage.specs.declared.why.LinkWhy.{LinkWhy}
+use Rattle.linkage.specs.declared.why.LinkWhy.TheVariants.{Unsupported}
+use Rattle.java_cli.specs.declared.errors.StartError.{StartError}
+use Rattle.java_cli.specs.declared.errors.StartError.TheVariants as start
 use Rattle.java_cli.specs.declared.report.Report.{Report}
 use Rattle.java_cli.specs.declared.report.Which.TheVariants.{Files}
 use Rattle.java_cli.specs.declared.report.Why.{Why}
 use Rattle.java_cli.specs.declared.report.Why.TheVariants.{Ended, Usage, Limit, NoMain, LinkFault, SinkFault, NoMemory}
 use Rattle.java_cli.specs.Limits.{most_files}
-use Rattle.java_cli.specs.Errors.{load_answer, link_answer}
+use Rattle.java_cli.specs.Errors.{load_answer, link_answer, start_answer}
 use Rattle.java_cli.specs.Words.{Command}
 use Rattle.java_cli.specs.Answers.{line_of, line_for, usage_line}
 use Rattle.java_cli.specs.MainClass.{class_named, has_main}
-use Rattle.plain_program.specs.Programs.{IsSpelled, IsLinked}
+use Rattle.java_cli.specs.Linking.{IsLinkFault, AreAccepted}
+use Rattle.plain_program.specs.Programs.{IsSpelled, IsPlainProgram}
 use Rattle.java_cli.specs.Programs.{IsProgram}
-use Rattle.java_cli.specs.Causes.{Contents, HasContents, HaveContents, IsClass, AreClasses, IsBad, IsWrong, FirstWrong, IsFirstName, IsLinkAnswer, IsDue, too_many, wrong, by_linking, HasCause, IsReached, contents_of, IsExact, IsRefusal, StoreFaults}
+use Rattle.java_cli.specs.Causes.{Contents, HasContents, HaveContents, IsClass, AreClasses, IsBad, IsWrong, FirstWrong, IsFirstName, IsProgramAnswer, IsDue, too_many, wrong, by_linking, HasCause, IsReached, contents_of, IsExact, IsRefusal, StoreFaults}
 use Rattle.java_cli.specs.LoadCauses.{IsRead, IsWrongFile, NotRead, IsStopped}
-use Rattle.java_cli.specs.LinkCauses.{NotLinked, first_name}
+use Rattle.java_cli.specs.LinkCauses.{NotLinked, NotStarted, first_name}
 use Rattle.java_cli.proofs.NameLaws.{first_is}
 use Rattle.plain_program.specs.Runs.{IsRun}
 use Rattle.java_cli.specs.Runs.{RanCommand}
@@ -99,23 +104,45 @@ one_first : (classes : List ClassFile) (a b : List ℕ) → IsFirstName classes 
 one_first [] a b x y = absurd x
 one_first (f ∷ classes) a b x y = same_Some a b (sym x ∙ y)
 
-pub one_link_answer : (name : List ℕ) (classes : List ClassFile) (a b : Why) → IsLinkAnswer name classes a → IsLinkAnswer name classes b → a ≡ b
-one_link_answer name classes NoMain NoMain x y = refl
-one_link_answer name classes NoMain (LinkFault class reason) x y = let no : false ≡ true = sym x ∙ y.main in absurd cc
-one_link_answer name classes NoMain Ended x y = let no : false ≡ true = sym x ∙ y.1.main in absurd cc
-one_link_answer name classes NoMain b x y = absurd y
-one_link_answer name classes (LinkFault class reason) NoMain x y = let no : false ≡ true = sym y ∙ x.main in absurd cc
-one_link_answer name classes (LinkFault class reason) (LinkFault other again) x y =
-    let names : class ≡ other = one_first classes class other x.first y.first in
-    let reasons : reason ≡ again = x.unsupported ∙ sym y.unsupported in
+-- classes that link have no fault
+linked_or_fault : (classes : List ClassFile) (class : List ℕ) (reason : LinkWhy) → AreAccepted classes → IsLinkFault classes class reason → ⊥
+linked_or_fault classes class reason links fault =
+    let none : Option faults.LinkFault = None in
+    let no : none ≡ Some (record { class = class; why = reason }) = sym links ∙ fault in
+    absurd cc
+
+-- there is one first fault
+one_fault : (classes : List ClassFile) (class other : List ℕ) (reason again : LinkWhy) → IsLinkFault classes class reason → IsLinkFault classes other again → LinkFault class reason ≡ LinkFault other again
+one_fault classes class other reason again x y =
+    ap (λ (f : faults.LinkFault). LinkFault f.class f.why) (same_Some (record { class = class; why = reason }) (record { class = other; why = again }) (sym x ∙ y))
+
+main_or_none : (name : List ℕ) (classes : List ClassFile) → has_main name classes ≡ false → has_main name classes ≡ true → ⊥
+main_or_none name classes x y = let no : false ≡ true = sym x ∙ y in absurd cc
+
+pub one_program_answer : (name : List ℕ) (classes : List ClassFile) (a b : Why) → IsProgramAnswer name classes a → IsProgramAnswer name classes b → a ≡ b
+one_program_answer name classes NoMain NoMain x y = refl
+one_program_answer name classes NoMain (LinkFault class reason) x (inl y) = absurd (linked_or_fault classes class reason x.0 y)
+one_program_answer name classes NoMain (LinkFault class reason) x (inr y) = absurd (main_or_none name classes x.1 y.2.main)
+one_program_answer name classes NoMain Ended x y = absurd (main_or_none name classes x.1 y.1.main)
+one_program_answer name classes NoMain b x y = absurd y
+one_program_answer name classes (LinkFault class reason) NoMain (inl x) y = absurd (linked_or_fault classes class reason y.0 x)
+one_program_answer name classes (LinkFault class reason) NoMain (inr x) y = absurd (main_or_none name classes y.1 x.2.main)
+one_program_answer name classes (LinkFault class reason) (LinkFault other again) (inl x) (inl y) = one_fault classes class other reason again x y
+one_program_answer name classes (LinkFault class reason) (LinkFault other again) (inl x) (inr y) = absurd (linked_or_fault classes class reason y.1 x)
+one_program_answer name classes (LinkFault class reason) (LinkFault other again) (inr x) (inl y) = absurd (linked_or_fault classes other again x.1 y)
+one_program_answer name classes (LinkFault class reason) (LinkFault other again) (inr x) (inr y) =
+    let names : class ≡ other = one_first classes class other x.2.first y.2.first in
+    let reasons : reason ≡ again = x.0 ∙ sym y.0 in
     cc
-one_link_answer name classes (LinkFault class reason) Ended x y = absurd (x.none y.0 y.1)
-one_link_answer name classes (LinkFault class reason) b x y = absurd y
-one_link_answer name classes Ended NoMain x y = let no : false ≡ true = sym y ∙ x.1.main in absurd cc
-one_link_answer name classes Ended (LinkFault class reason) x y = absurd (y.none x.0 x.1)
-one_link_answer name classes Ended Ended x y = refl
-one_link_answer name classes Ended b x y = absurd y
-one_link_answer name classes a b x y = absurd x
+one_program_answer name classes (LinkFault class reason) Ended (inl x) y = absurd (linked_or_fault classes class reason y.1.accepted x)
+one_program_answer name classes (LinkFault class reason) Ended (inr x) y = absurd (x.2.none y.1.method y.1.plain)
+one_program_answer name classes (LinkFault class reason) b x y = absurd y
+one_program_answer name classes Ended NoMain x y = absurd (main_or_none name classes y.1 x.1.main)
+one_program_answer name classes Ended (LinkFault class reason) x (inl y) = absurd (linked_or_fault classes class reason x.1.accepted y)
+one_program_answer name classes Ended (LinkFault class reason) x (inr y) = absurd (y.2.none x.1.method x.1.plain)
+one_program_answer name classes Ended Ended x y = refl
+one_program_answer name classes Ended b x y = absurd y
+one_program_answer name classes a b x y = absurd x
 
 -- ---- too many files
 
@@ -252,11 +279,11 @@ load_refusal load.TooLarge = tt
 load_refusal (load.BadClass file at why) = tt
 load_refusal load.NoMemory = tt
 
--- ---- classes that were linked, or not
+-- ---- classes that were accepted and ran, or not
 
-link_due : (known : Option store.Files) (c : Command) (classes : List ClassFile) (why : Why) → length c.files ≤ most_files → AreRead known c.files classes → IsLinkAnswer (class_named c.main) classes why
+program_due : (known : Option store.Files) (c : Command) (classes : List ClassFile) (why : Why) → length c.files ≤ most_files → AreRead known c.files classes → IsProgramAnswer (class_named c.main) classes why
     → (files : store.Files) (answer : Why) → known ≡ Some files → IsDue c (contents_of files c.files) answer → answer ≡ why
-link_due known c classes why few read link_answer_is files answer is due = by due
+program_due known c classes why few read program_answer_is files answer is due = by due
   where
     same : read.contents ≡ contents_of files c.files
     same = held_is files c.files read.contents (subst (λ (t : Option store.Files). HaveContents t c.files read.contents) is read.holds)
@@ -269,39 +296,65 @@ link_due known c classes why few read link_answer_is files answer is due = by du
     by (wrong f error y is) = absurd (wrong_or_classes 0 (contents_of files c.files) error classes y are)
     by (by_linking f others others_are y) =
         let one : others ≡ classes = read.only others (subst (λ (contents : List Contents). AreClasses contents others) (sym same) others_are) in
-        one_link_answer (class_named c.main) classes answer why (subst (λ (cs : List ClassFile). IsLinkAnswer (class_named c.main) cs answer) one y) link_answer_is
+        one_program_answer (class_named c.main) classes answer why (subst (λ (cs : List ClassFile). IsProgramAnswer (class_named c.main) cs answer) one y) program_answer_is
 
-link_cause : (known : Option store.Files) (c : Command) (classes : List ClassFile) (why : Why) → length c.files ≤ most_files → AreRead known c.files classes → IsLinkAnswer (class_named c.main) classes why → HasCause known c why
-link_cause known c classes why few read link_answer_is = record { contents = read.contents; holds = read.holds; due = by_linking few classes read.read link_answer_is }
+program_cause : (known : Option store.Files) (c : Command) (classes : List ClassFile) (why : Why) → length c.files ≤ most_files → AreRead known c.files classes → IsProgramAnswer (class_named c.main) classes why → HasCause known c why
+program_cause known c classes why few read program_answer_is = record { contents = read.contents; holds = read.holds; due = by_linking few classes read.read program_answer_is }
 
-pub unlinked_exact : (known : Option store.Files) (faulty : Type 0) (c : Command) (classes : List ClassFile) (error : LinkError) → length c.files ≤ most_files → AllZip (IsRead known) c.files classes
-    → NotLinked (class_named c.main) classes error → IsExact known faulty c (link_answer error)
-unlinked_exact known faulty c classes error few all is = by error is
+-- an answer to the classes is exact
+program_exact : (known : Option store.Files) (faulty : Type 0) (c : Command) (classes : List ClassFile) (why : Why) → length c.files ≤ most_files → AllZip (IsRead known) c.files classes
+    → IsProgramAnswer (class_named c.main) classes why → IsExact known faulty c why
+program_exact known faulty c classes why few all is = by why is
   where
     read : AreRead known c.files classes
     read = all_read known c.files classes all
 
-    by : (error : LinkError) → NotLinked (class_named c.main) classes error → IsExact known faulty c (link_answer error)
-    by link.NoMemory is = record { cause = tt; due = λ files answer is due. tt }
-    by link.NoMain is = record { cause = link_cause known c classes NoMain few read is; due = link_due known c classes NoMain few read is }
-    by (link.Fault class reason) is = record { cause = link_cause known c classes (LinkFault class reason) few read is; due = link_due known c classes (LinkFault class reason) few read is }
+    by : (why : Why) → IsProgramAnswer (class_named c.main) classes why → IsExact known faulty c why
+    by NoMain is = record { cause = program_cause known c classes NoMain few read is; due = program_due known c classes NoMain few read is }
+    by (LinkFault class reason) is = record { cause = program_cause known c classes (LinkFault class reason) few read is; due = program_due known c classes (LinkFault class reason) few read is }
+    by Ended is = record { cause = program_cause known c classes Ended few read is; due = program_due known c classes Ended few read is }
+    by why is = absurd is
 
--- an error of linking is no end and no fault of a sink, and comes after no fault of the store
+pub memory_exact : (known : Option store.Files) (faulty : Type 0) (c : Command) → IsExact known faulty c NoMemory
+memory_exact known faulty c = record { cause = tt; due = λ files answer is due. tt }
+
+-- classes that don't link
+pub unlinked_exact : (known : Option store.Files) (faulty : Type 0) (c : Command) (classes : List ClassFile) (error : LinkError) → length c.files ≤ most_files → AllZip (IsRead known) c.files classes
+    → NotLinked classes error → IsExact known faulty c (link_answer error)
+unlinked_exact known faulty c classes link.NoMemory few all is = memory_exact known faulty c
+unlinked_exact known faulty c classes (link.Fault class reason) few all is = program_exact known faulty c classes (LinkFault class reason) few all (inl is)
+
+-- classes that are accepted, and don't start
+pub unstarted_exact : (known : Option store.Files) (faulty : Type 0) (c : Command) (classes : List ClassFile) (error : StartError) → length c.files ≤ most_files → AllZip (IsRead known) c.files classes
+    → AreAccepted classes → NotStarted (class_named c.main) classes error → IsExact known faulty c (start_answer error)
+unstarted_exact known faulty c classes start.NoMemory few all accepted is = memory_exact known faulty c
+unstarted_exact known faulty c classes start.NoMain few all accepted is = program_exact known faulty c classes NoMain few all (accepted, is)
+unstarted_exact known faulty c classes (start.Unsupported class) few all accepted is = program_exact known faulty c classes (LinkFault class Unsupported) few all (inr (refl, accepted, is))
+
+-- an error of linking or of the start is no end and no fault of a sink, and comes after no fault of the store
 pub link_refusal : (error : LinkError) → IsRefusal (link_answer error)
-link_refusal link.NoMain = tt
 link_refusal (link.Fault class why) = tt
 link_refusal link.NoMemory = tt
 
 pub link_faults : (error : LinkError) (before now : ℕ) → now ≡ before → StoreFaults (link_answer error) before now
-link_faults link.NoMain before now kept = kept
 link_faults (link.Fault class why) before now kept = kept
 link_faults link.NoMemory before now kept = tt
 
--- without a method there is no program
-pub unlinked_is : (name : List ℕ) (classes : List ClassFile) (error : LinkError) → has_main name classes ≡ true → ((m : Method) → IsLinked classes m → ⊥) → AllByRecursion IsSpelled classes
-    → error ≡ link.Fault (first_name classes) Unsupported → NotLinked name classes error
-unlinked_is name classes error main none spelled is =
-    subst (λ (e : LinkError). NotLinked name classes e) (sym is) (record { main = main; none = λ p program. none program.method program.linked; first = first_is name classes main spelled; unsupported = refl })
+pub start_refusal : (error : StartError) → IsRefusal (start_answer error)
+start_refusal start.NoMain = tt
+start_refusal (start.Unsupported class) = tt
+start_refusal start.NoMemory = tt
+
+pub start_faults : (error : StartError) (before now : ℕ) → now ≡ before → StoreFaults (start_answer error) before now
+start_faults start.NoMain before now kept = kept
+start_faults (start.Unsupported class) before now kept = kept
+start_faults start.NoMemory before now kept = tt
+
+-- without a method nothing starts
+pub unstarted_is : (name : List ℕ) (classes : List ClassFile) (error : StartError) → has_main name classes ≡ true → ((m : Method) → IsPlainProgram classes m → ⊥) → AllByRecursion IsSpelled classes
+    → error ≡ start.Unsupported (first_name classes) → NotStarted name classes error
+unstarted_is name classes error main none spelled is =
+    subst (λ (e : StartError). NotStarted name classes e) (sym is) (record { main = main; none = none; first = first_is name classes main spelled })
 
 -- files that were read are spelled
 pub all_spelled : (known : Option store.Files) (names : List (List ℕ)) (classes : List ClassFile) → AllZip (IsRead known) names classes → AllByRecursion IsSpelled classes
@@ -314,26 +367,21 @@ all_spelled known (name ∷ names) (f ∷ classes) read = (by read.0.contents re
     by None is = absurd is
     by (Some bytes) is = (bytes, is.1)
 
-pub program_is : (name : List ℕ) (classes : List ClassFile) (m : Method) → has_main name classes ≡ true → IsLinked classes m → IsProgram name classes (alone m)
-program_is name classes m main linked = record { method = m; main = main; linked = linked; is_program = refl }
+pub program_is : (name : List ℕ) (classes : List ClassFile) (m : Method) → AreAccepted classes → has_main name classes ≡ true → IsPlainProgram classes m → IsProgram name classes (alone m)
+program_is name classes m accepted main plain = record { method = m; accepted = accepted; main = main; plain = plain; is_program = refl }
 
-pub ended_exact : (known : Option store.Files) (faulty : Type 0) (c : Command) (classes : List ClassFile) (m : Method) → length c.files ≤ most_files → AllZip (IsRead known) c.files classes → has_main (class_named c.main) classes ≡ true
-    → IsLinked classes m → IsExact known faulty c Ended
-ended_exact known faulty c classes m few all main linked =
-    let read = all_read known c.files classes all in
-    let is = program_is (class_named c.main) classes m main linked in
-    record { cause = link_cause known c classes Ended few read (alone m, is); due = link_due known c classes Ended few read (alone m, is) }
+pub ended_exact : (known : Option store.Files) (faulty : Type 0) (c : Command) (classes : List ClassFile) (m : Method) → length c.files ≤ most_files → AllZip (IsRead known) c.files classes → AreAccepted classes
+    → has_main (class_named c.main) classes ≡ true → IsPlainProgram classes m → IsExact known faulty c Ended
+ended_exact known faulty c classes m few all accepted main plain =
+    program_exact known faulty c classes Ended few all (alone m, program_is (class_named c.main) classes m accepted main plain)
 
-pub memory_exact : (known : Option store.Files) (faulty : Type 0) (c : Command) → IsExact known faulty c NoMemory
-memory_exact known faulty c = record { cause = tt; due = λ files answer is due. tt }
-
-pub ran_command : (known : Option store.Files) (c : Command) (classes : List ClassFile) (m : Method) (history : List Entry) (out : List ℕ) → AllZip (IsRead known) c.files classes → has_main (class_named c.main) classes ≡ true
-    → IsLinked classes m → IsRun (alone m) history out → RanCommand known c history out
-ran_command known c classes m history out all main linked run_is =
+pub ran_command : (known : Option store.Files) (c : Command) (classes : List ClassFile) (m : Method) (history : List Entry) (out : List ℕ) → AllZip (IsRead known) c.files classes → AreAccepted classes
+    → has_main (class_named c.main) classes ≡ true → IsPlainProgram classes m → IsRun (alone m) history out → RanCommand known c history out
+ran_command known c classes m history out all accepted main plain run_is =
     let read = all_read known c.files classes all in
     record {
       program = alone m;
-      given = record { contents = read.contents; classes = classes; holds = read.holds; read = read.read; accepted = program_is (class_named c.main) classes m main linked };
+      given = record { contents = read.contents; classes = classes; holds = read.holds; read = read.read; accepted = program_is (class_named c.main) classes m accepted main plain };
       run_is = run_is;
     }
 

@@ -8,11 +8,13 @@ use Rattle.class_file.specs.File.{first_bad}
 use Rattle.class_file.proofs.OutcomeLaws.{one_value, none_bad, some_spelled}
 use Rattle.ref_model.specs.Program.{Method}
 use Rattle.ref_model.specs.Alone.{alone}
-use Rattle.plain_program.specs.Programs.{IsSpelled, IsLinked}
-use Rattle.plain_program.proofs.Deciding.{linked_or_not}
+use Rattle.linkage.specs.declared.fault.LinkFault as faults
+use Rattle.linkage.specs.declared.why.LinkWhy.TheVariants.{Unsupported}
+use Rattle.linkage.specs.Faults.{link_fault}
+use Rattle.plain_program.specs.Programs.{IsSpelled, IsPlainProgram}
+use Rattle.plain_program.proofs.Deciding.{plain_or_not}
 use Rattle.java_cli.specs.declared.errors.LoadError.{LoadError}
 use Rattle.java_cli.specs.declared.errors.LoadError.TheVariants as load
-use Rattle.java_cli.specs.declared.report.LinkWhy.TheVariants.{Unsupported}
 use Rattle.java_cli.specs.declared.report.Which.TheVariants.{Files}
 use Rattle.java_cli.specs.declared.report.Why.{Why}
 use Rattle.java_cli.specs.declared.report.Why.TheVariants.{Ended, Limit, NoMain, LinkFault}
@@ -20,10 +22,11 @@ use Rattle.java_cli.specs.Limits.{most_files, most_bytes}
 use Rattle.java_cli.specs.Errors.{load_answer}
 use Rattle.java_cli.specs.Words.{Command}
 use Rattle.java_cli.specs.MainClass.{class_named, has_main}
-use Rattle.java_cli.specs.Causes.{Contents, IsClass, AreClasses, IsWrong, FirstWrong, IsLinkAnswer, IsDue, too_many, wrong, by_linking, AreBytes, OneIsDue}
+use Rattle.java_cli.specs.Linking.{program_of, AreAccepted}
+use Rattle.java_cli.specs.Causes.{Contents, IsClass, AreClasses, IsWrong, FirstWrong, IsProgramAnswer, IsDue, too_many, wrong, by_linking, AreBytes, OneIsDue}
 use Rattle.java_cli.specs.LinkCauses.{first_name}
 use Rattle.java_cli.proofs.NameLaws.{first_is}
-use Rattle.java_cli.proofs.AnswerLaws.{one_wrong, wrong_or_classes, one_link_answer, program_is}
+use Rattle.java_cli.proofs.AnswerLaws.{one_wrong, wrong_or_classes, one_program_answer, program_is}
 
 -- ---- at most one
 
@@ -42,9 +45,9 @@ one_list (h ∷ contents) (f ∷ a) (g ∷ b) x y =
     let others : a ≡ b = one_list contents a b x.1 y.1 in
     cc
 
-one_linked : (name : List ℕ) (contents : List Contents) (cs ds : List ClassFile) (a b : Why) → AreClasses contents cs → AreClasses contents ds → IsLinkAnswer name cs a → IsLinkAnswer name ds b → a ≡ b
-one_linked name contents cs ds a b are are_too x y =
-    one_link_answer name ds a b (subst (λ (es : List ClassFile). IsLinkAnswer name es a) (one_list contents cs ds are are_too) x) y
+one_program : (name : List ℕ) (contents : List Contents) (cs ds : List ClassFile) (a b : Why) → AreClasses contents cs → AreClasses contents ds → IsProgramAnswer name cs a → IsProgramAnswer name ds b → a ≡ b
+one_program name contents cs ds a b are are_too x y =
+    one_program_answer name ds a b (subst (λ (es : List ClassFile). IsProgramAnswer name es a) (one_list contents cs ds are are_too) x) y
 
 one_due : (c : Command) (contents : List Contents) (a b : Why) → IsDue c contents a → IsDue c contents b → a ≡ b
 one_due c contents a b (too_many m e) (too_many n f) = e ∙ sym f
@@ -55,7 +58,7 @@ one_due c contents a b (wrong few error x e) (wrong few_too other y f) = e ∙ a
 one_due c contents a b (wrong few error x e) (by_linking few_too classes are y) = absurd (wrong_or_classes 0 contents error classes x are)
 one_due c contents a b (by_linking few classes are x) (too_many n f) = absurd (omega (arith, n, few))
 one_due c contents a b (by_linking few classes are x) (wrong few_too error y f) = absurd (wrong_or_classes 0 contents error classes y are)
-one_due c contents a b (by_linking few classes are x) (by_linking few_too others are_too y) = one_linked (class_named c.main) contents classes others a b are are_too x y
+one_due c contents a b (by_linking few classes are x) (by_linking few_too others are_too y) = one_program (class_named c.main) contents classes others a b are are_too x y
 
 -- ---- at least one
 
@@ -95,19 +98,24 @@ all_spelled [] (f ∷ classes) are = absurd are
 all_spelled (h ∷ contents) [] are = absurd are
 all_spelled (h ∷ contents) (f ∷ classes) are = (one_spelled h f are.0, all_spelled contents classes are.1)
 
-by_linked : (name : List ℕ) (classes : List ClassFile) → AllByRecursion IsSpelled classes → has_main name classes ≡ true → ((m : Method) × IsLinked classes m) ⊎ ((m : Method) → IsLinked classes m → ⊥) → (a : Why) × IsLinkAnswer name classes a
-by_linked name classes spelled main (inl x) = (Ended, (alone x.0, program_is name classes x.0 main x.1))
-by_linked name classes spelled main (inr refuted) =
-    (LinkFault (first_name classes) Unsupported, record { main = main; none = λ p is. refuted is.method is.linked; first = first_is name classes main spelled; unsupported = refl })
+by_plain : (name : List ℕ) (classes : List ClassFile) → AllByRecursion IsSpelled classes → AreAccepted classes → has_main name classes ≡ true → ((m : Method) × IsPlainProgram classes m) ⊎ ((m : Method) → IsPlainProgram classes m → ⊥)
+    → (a : Why) × IsProgramAnswer name classes a
+by_plain name classes spelled accepted main (inl x) = (Ended, (alone x.0, program_is name classes x.0 accepted main x.1))
+by_plain name classes spelled accepted main (inr refuted) =
+    (LinkFault (first_name classes) Unsupported, inr (refl, accepted, record { main = main; none = refuted; first = first_is name classes main spelled }))
 
-by_main : (name : List ℕ) (classes : List ClassFile) → AllByRecursion IsSpelled classes → (b : Bool) → has_main name classes ≡ b → (a : Why) × IsLinkAnswer name classes a
-by_main name classes spelled false e = (NoMain, e)
-by_main name classes spelled true e = by_linked name classes spelled e (linked_or_not classes spelled)
+by_main : (name : List ℕ) (classes : List ClassFile) → AllByRecursion IsSpelled classes → AreAccepted classes → (b : Bool) → has_main name classes ≡ b → (a : Why) × IsProgramAnswer name classes a
+by_main name classes spelled accepted false e = (NoMain, (accepted, e))
+by_main name classes spelled accepted true e = by_plain name classes spelled accepted e (plain_or_not classes spelled)
+
+by_fault : (name : List ℕ) (classes : List ClassFile) → AllByRecursion IsSpelled classes → (o : Option faults.LinkFault) → link_fault (program_of classes) ≡ o → (a : Why) × IsProgramAnswer name classes a
+by_fault name classes spelled None e = by_main name classes spelled e (has_main name classes) refl
+by_fault name classes spelled (Some f) e = (LinkFault f.class f.why, inl e)
 
 by_files : (c : Command) (contents : List Contents) → length c.files ≤ most_files → ((error : LoadError) × FirstWrong 0 contents error) ⊎ ((classes : List ClassFile) × AreClasses contents classes) → (a : Why) × IsDue c contents a
 by_files c contents few (inl x) = (load_answer x.0, wrong few x.0 x.1 refl)
 by_files c contents few (inr x) =
-    let a = by_main (class_named c.main) x.0 (all_spelled contents x.0 x.1) (has_main (class_named c.main) x.0) refl in
+    let a = by_fault (class_named c.main) x.0 (all_spelled contents x.0 x.1) (link_fault (program_of x.0)) refl in
     (a.0, by_linking few x.0 x.1 a.1)
 
 some_due : (c : Command) (contents : List Contents) → AllByRecursion AreBytes contents → (a : Why) × IsDue c contents a

@@ -1,4 +1,5 @@
 pub mod LoadLaws
 pub mod NameLaws
+pub mod LinkLaws
 pub mod AnswerLaws
 pub mod DueLaws

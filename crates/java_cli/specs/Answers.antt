@@ -6,8 +6,8 @@ use Rattle.std.specs.Str.{encode_utf8_all}
 use Rattle.std.specs.Char.Utf16.{utf16_chars}
 use Rattle.class_grammar.specs.declared.class_why.ClassWhy.{ClassWhy}
 use Rattle.class_grammar.specs.declared.class_why.ClassWhy.TheVariants as class_whys
-use Rattle.java_cli.specs.declared.report.LinkWhy.{LinkWhy}
-use Rattle.java_cli.specs.declared.report.LinkWhy.TheVariants as link_whys
+use Rattle.linkage.specs.declared.why.LinkWhy.{LinkWhy}
+use Rattle.linkage.specs.declared.why.LinkWhy.TheVariants as link_whys
 use Rattle.java_cli.specs.declared.report.Which.{Which}
 use Rattle.java_cli.specs.declared.report.Which.TheVariants.{Files, FileSize}
 use Rattle.java_cli.specs.declared.report.Why.{Why}
@@ -45,7 +45,17 @@ class_why_name class_whys.Code = codes "Code"
 class_why_name class_whys.Range = codes "Range"
 class_why_name class_whys.Unsupported = codes "Unsupported"
 
+-- the name of what is wrong with a class of a program
 abbrev pub link_why_name : LinkWhy → List ℕ
+link_why_name link_whys.Duplicate = codes "Duplicate"
+link_why_name link_whys.MissingClass = codes "MissingClass"
+link_why_name link_whys.Cycle = codes "Cycle"
+link_why_name link_whys.WrongKind = codes "WrongKind"
+link_why_name link_whys.FinalParent = codes "FinalParent"
+link_why_name link_whys.Native = codes "Native"
+link_why_name link_whys.BadCode = codes "BadCode"
+link_why_name link_whys.MissingField = codes "MissingField"
+link_why_name link_whys.MissingMethod = codes "MissingMethod"
 link_why_name link_whys.Unsupported = codes "Unsupported"
 
 abbrev pub which_name : Which → List ℕ

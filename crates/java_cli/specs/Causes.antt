@@ -10,11 +10,11 @@ use Rattle.class_grammar.specs.declared.class_why.ClassWhy.{ClassWhy}
 use Rattle.class_grammar.specs.Pool.{class_name_at}
 use Rattle.class_grammar.specs.Grammar.{Spells}
 use Rattle.class_file.specs.File.{first_bad}
-use Rattle.ref_model.specs.Program.{Program}
+use Rattle.linkage.specs.declared.why.LinkWhy.TheVariants.{Unsupported}
+use Rattle.ref_model.specs.Program.{Method, Program}
+use Rattle.plain_program.specs.Programs.{IsPlainProgram}
 use Rattle.java_cli.specs.declared.errors.LoadError.{LoadError}
 use Rattle.java_cli.specs.declared.errors.LoadError.TheVariants as load
-use Rattle.java_cli.specs.declared.report.LinkWhy.{LinkWhy}
-use Rattle.java_cli.specs.declared.report.LinkWhy.TheVariants.{Unsupported}
 use Rattle.java_cli.specs.declared.report.Which.TheVariants.{Files}
 use Rattle.java_cli.specs.declared.report.Why.{Why}
 use Rattle.java_cli.specs.declared.report.Why.TheVariants.{Ended, Usage, Limit, Missing, SourceFault, BadClass, NoMain, LinkFault, SinkFault, NoMemory}
@@ -22,6 +22,7 @@ use Rattle.java_cli.specs.Limits.{most_files, most_bytes}
 use Rattle.java_cli.specs.Errors.{load_answer}
 use Rattle.java_cli.specs.Words.{Command}
 use Rattle.java_cli.specs.MainClass.{class_named, has_main}
+use Rattle.java_cli.specs.Linking.{IsLinkFault, AreAccepted}
 use Rattle.java_cli.specs.Programs.{IsProgram}
 
 -- ---- the contents of a file: `None` where there is no such file
@@ -73,19 +74,20 @@ abbrev pub IsFirstName : List ClassFile → List ℕ → Type 0
 IsFirstName [] name = ⊥
 IsFirstName (f ∷ classes) name = class_name_at f.pool f.own ≡ Some name
 
--- there is a main, but the classes are no program that is linked today
-pub record IsUnlinked (name : List ℕ) (classes : List ClassFile) (class : List ℕ) (reason : LinkWhy) : Type 0 where
+-- There is a main, but the classes are no program that runs today. The first of them has this name.
+pub record CannotRun (name : List ℕ) (classes : List ClassFile) (class : List ℕ) : Type 0 where
   pub main : has_main name classes ≡ true
-  pub none : (p : Program) → IsProgram name classes p → ⊥
+  pub none : (m : Method) → IsPlainProgram classes m → ⊥
   pub first : IsFirstName classes class
-  pub unsupported : reason ≡ Unsupported
 
--- The answer to classes, where main is to be in the one of this name. No other answer is one.
-abbrev pub IsLinkAnswer : List ℕ → List ClassFile → Why → Type 0
-IsLinkAnswer name classes NoMain = has_main name classes ≡ false
-IsLinkAnswer name classes (LinkFault class reason) = IsUnlinked name classes class reason
-IsLinkAnswer name classes Ended = (p : Program) × IsProgram name classes p
-IsLinkAnswer name classes why = ⊥
+-- The answer to classes, where main is to be in the one of this name: the first fault of linking; then, of classes that are
+-- accepted, no main; then what can't run yet; then the end of the run. No other answer is one.
+abbrev pub IsProgramAnswer : List ℕ → List ClassFile → Why → Type 0
+IsProgramAnswer name classes NoMain = AreAccepted classes × (has_main name classes ≡ false)
+IsProgramAnswer name classes (LinkFault class reason) =
+    IsLinkFault classes class reason ⊎ ((reason ≡ Unsupported) × AreAccepted classes × CannotRun name classes class)
+IsProgramAnswer name classes Ended = (p : Program) × IsProgram name classes p
+IsProgramAnswer name classes why = ⊥
 
 -- ---- the whole command
 
@@ -93,7 +95,7 @@ IsLinkAnswer name classes why = ⊥
 pub data IsDue (c : Command) (contents : List Contents) (why : Why) : Type 0 where
   too_many : most_files < length c.files → why ≡ Limit Files most_files → IsDue c contents why
   wrong : length c.files ≤ most_files → (error : LoadError) → FirstWrong 0 contents error → why ≡ load_answer error → IsDue c contents why
-  by_linking : length c.files ≤ most_files → (classes : List ClassFile) → AreClasses contents classes → IsLinkAnswer (class_named c.main) classes why → IsDue c contents why
+  by_linking : length c.files ≤ most_files → (classes : List ClassFile) → AreClasses contents classes → IsProgramAnswer (class_named c.main) classes why → IsDue c contents why
 
 -- it is due by the store's files
 pub record HasCause (known : Option store.Files) (c : Command) (why : Why) : Type 0 where

@@ -1,9 +1,12 @@
--- The answers to the errors of loading and of linking.
+-- The answers to the errors of loading, of linking and of the start.
 use Rattle.std.specs.Prelude.{Result, Ok, Err}
 use Rattle.java_cli.specs.declared.errors.LoadError.{LoadError}
 use Rattle.java_cli.specs.declared.errors.LoadError.TheVariants as load
-use Rattle.java_cli.specs.declared.errors.LinkError.{LinkError}
-use Rattle.java_cli.specs.declared.errors.LinkError.TheVariants as link
+use Rattle.class_world.specs.declared.error.LinkError.{LinkError}
+use Rattle.class_world.specs.declared.error.LinkError.TheVariants as link
+use Rattle.linkage.specs.declared.why.LinkWhy.TheVariants.{Unsupported}
+use Rattle.java_cli.specs.declared.errors.StartError.{StartError}
+use Rattle.java_cli.specs.declared.errors.StartError.TheVariants as start
 use Rattle.java_cli.specs.declared.report.Which.TheVariants.{FileSize}
 use Rattle.java_cli.specs.declared.report.Why.{Why}
 use Rattle.java_cli.specs.declared.report.Why.TheVariants.{Ended, Limit, Missing, SourceFault, BadClass, NoMain, LinkFault, NoMemory}
@@ -17,9 +20,13 @@ load_answer (load.BadClass file at why) = BadClass file at why
 load_answer load.NoMemory = NoMemory
 
 abbrev pub link_answer : LinkError → Why
-link_answer link.NoMain = NoMain
 link_answer (link.Fault class why) = LinkFault class why
 link_answer link.NoMemory = NoMemory
+
+abbrev pub start_answer : StartError → Why
+start_answer start.NoMain = NoMain
+start_answer (start.Unsupported class) = LinkFault class Unsupported
+start_answer start.NoMemory = NoMemory
 
 -- the answer to files that were read, which is the end of the run that follows, or to one that was not
 abbrev pub loaded_answer : {X : Type 0} → Result X LoadError → Why

@@ -1,6 +1,7 @@
 pub mod Words
 pub mod Commands
 pub mod MainClass
+pub mod Linking
 pub mod Programs
 pub mod Limits
 pub mod Errors

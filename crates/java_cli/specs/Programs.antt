@@ -3,12 +3,14 @@ use Rattle.std.specs.Prelude.{◌≡◌, ℕ, true, List}
 use Rattle.class_model.specs.declared.class_file.ClassFile.{ClassFile}
 use Rattle.ref_model.specs.Program.{Method, Program}
 use Rattle.ref_model.specs.Alone.{alone}
-use Rattle.plain_program.specs.Programs.{IsLinked}
+use Rattle.plain_program.specs.Programs.{IsPlainProgram}
+use Rattle.java_cli.specs.Linking.{AreAccepted}
 use Rattle.java_cli.specs.MainClass.{has_main}
 
--- The classes have main in the class of this name, and the program is that method (own).
+-- The classes are accepted and have main in the class of this name, and the program is that method (own).
 pub record IsProgram (name : List ℕ) (classes : List ClassFile) (p : Program) : Type 0 where
   pub method : Method
+  pub accepted : AreAccepted classes
   pub main : has_main name classes ≡ true
-  pub linked : IsLinked classes method
+  pub plain : IsPlainProgram classes method
   pub is_program : p ≡ alone method

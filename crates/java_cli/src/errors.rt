@@ -1,11 +1,13 @@
-//! The errors of loading and of linking, and the answers to them.
+//! The errors of loading, of linking and of the start, and the answers to them.
 
 ghost use Rattle.std.specs.Prelude.{◌≡◌};
 
 use crate::class_files::MOST_BYTES;
-use crate::report::{LinkWhy, Which, Why};
+use crate::report::{Which, Why};
 use class_file::ClassWhy;
+use class_world::LinkError;
 use items::Items;
+use linkage::LinkWhy;
 use std::alloc::{AllocError, AllocFailed};
 
 /// Why a file was not read as a class file. `file` is its index among the FILE words, from 0.
@@ -23,13 +25,13 @@ pub enum LoadError {
     NoMemory,
 }
 
-/// Why classes were not linked.
+/// Why classes that are accepted as a program are not run.
 #[derive(Debug, Drop, PartialEq, Eq)]
-pub enum LinkError {
+pub enum StartError {
     /// No class is the main class with a `main` (JLS 12.1.4).
     NoMain,
-    /// The class of this name could not be linked (JVMS 5.4).
-    Fault { class: Items<u16>, why: LinkWhy },
+    /// The program isn't of the form that runs today (own). `class` is the name of its first file's class.
+    Unsupported { class: Items<u16> },
     /// Memory ran out.
     NoMemory,
 }
@@ -44,13 +46,13 @@ impl<T: Drop> From<AllocFailed<T>> for LoadError {
     }
 }
 
-impl From<AllocError> for LinkError {
-    ghost use Rattle.java_cli.specs.declared.errors.LinkError.TheVariants as errors;
+impl From<AllocError> for StartError {
+    ghost use Rattle.java_cli.specs.declared.errors.StartError.TheVariants as errors;
 
     ghost from_gives = { λ _ e. e ≡ errors.NoMemory };
 
     fn from(_: AllocError) -> Self {
-        LinkError::NoMemory
+        StartError::NoMemory
     }
 }
 
@@ -80,9 +82,25 @@ impl From<LinkError> for Why {
 
     fn from(error: LinkError) -> Self {
         match error {
-            LinkError::NoMain => Why::NoMain,
             LinkError::Fault { class, why } => Why::LinkFault { class, why },
             LinkError::NoMemory => Why::NoMemory,
+        }
+    }
+}
+
+impl From<StartError> for Why {
+    ghost use Rattle.java_cli.specs.Errors.{start_answer};
+
+    ghost from_gives = { λ error why. why ≡ start_answer error };
+
+    fn from(error: StartError) -> Self {
+        match error {
+            StartError::NoMain => Why::NoMain,
+            StartError::Unsupported { class } => Why::LinkFault {
+                class,
+                why: LinkWhy::Unsupported,
+            },
+            StartError::NoMemory => Why::NoMemory,
         }
     }
 }

@@ -3,11 +3,12 @@ ghost use Rattle.java_cli.specs.Answers.{line_of, line_with, limit_line, bad_cla
 ghost use Rattle.java_cli.specs.Commands.{command_texts};
 ghost use Rattle.java_cli.specs.Lines.{bytes_of};
 
-use crate::report::{LinkWhy, Which, Why};
+use crate::report::{Which, Why};
 use crate::utf8::utf8;
 use crate::words::Command;
 use class_file::ClassWhy;
 use itoa::Buffer;
+use linkage::LinkWhy;
 use std::alloc::{AllocError, Global};
 
 /// The line of `Why::Usage`.
@@ -133,6 +134,15 @@ fn link_why_name(why: LinkWhy) -> &'static [u8]
     ensures { result.now ≡ link_why_name_of why }
 {
     match why {
+        LinkWhy::Duplicate => b"Duplicate",
+        LinkWhy::MissingClass => b"MissingClass",
+        LinkWhy::Cycle => b"Cycle",
+        LinkWhy::WrongKind => b"WrongKind",
+        LinkWhy::FinalParent => b"FinalParent",
+        LinkWhy::Native => b"Native",
+        LinkWhy::BadCode => b"BadCode",
+        LinkWhy::MissingField => b"MissingField",
+        LinkWhy::MissingMethod => b"MissingMethod",
         LinkWhy::Unsupported => b"Unsupported",
     }
 }

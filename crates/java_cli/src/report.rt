@@ -3,6 +3,7 @@ ghost use Rattle.std.specs.Prelude.{◌≡◌};
 use class_file::ClassWhy;
 use history::Entry;
 use items::Items;
+use linkage::LinkWhy;
 use std::alloc::AllocError;
 
 /// Which sink.
@@ -19,13 +20,6 @@ pub enum Which {
     Files,
     /// The bytes of a file.
     FileSize,
-}
-
-/// Why a class could not be linked (own).
-#[derive(Clone, Copy, Debug, PartialEq, Eq)]
-pub enum LinkWhy {
-    /// There are several class files, or the one is not of the plain form.
-    Unsupported,
 }
 
 /// Why the call returned. `file` is the index of a file among the FILE words, from 0.
@@ -45,7 +39,7 @@ pub enum Why {
     BadClass { file: u32, at: u32, why: ClassWhy },
     /// No file's class is the main class with a `main` (JLS 12.1.4).
     NoMain,
-    /// The class of this name could not be linked (JVMS 5.4).
+    /// The class of this name does not link (JVMS 5.3, 5.4), or the program can't run yet (own).
     LinkFault { class: Items<u16>, why: LinkWhy },
     /// The sink failed after it had taken so many bytes of what was to be written.
     SinkFault { which: SinkName, written: u64 },

@@ -290,14 +290,24 @@ fn one_file_word_too_many_is_refused(rt: HostRuntime) -> Result<(), Fail> {
     Ok(())
 }
 
+/// `A.class`, whose superclass is B.
+fn child_of_b(alloc: Global) -> Result<Vec<u8>, AllocError> {
+    let mut bytes = Vec::from_slice(alloc, &A_CLASS[..17])?;
+    bytes.extend_from_slice(b"\x01\x00\x01B")?;
+    bytes.extend_from_slice(&A_CLASS[36..])?;
+    Ok(bytes)
+}
+
 #[test]
 fn classes_that_make_no_program_are_refused(rt: HostRuntime) -> Result<(), Fail> {
-    let other_parent = replaced(rt.alloc(), &A_CLASS, 241, &[(35, b'x')])?;
+    let child = child_of_b(rt.alloc())?;
+    let class_b = replaced(rt.alloc(), &A_CLASS, 241, &[(13, b'B')])?;
     let private_main = replaced(rt.alloc(), &A_CLASS, 241, &[(205, 0x0a)])?;
     let member_main = replaced(rt.alloc(), &A_CLASS, 241, &[(205, 0x01)])?;
     let files = [
         ("A.class", A_CLASS.as_slice()),
-        ("P.class", other_parent.as_slice()),
+        ("B.class", class_b.as_slice()),
+        ("C.class", child.as_slice()),
         ("V.class", private_main.as_slice()),
         ("M.class", member_main.as_slice()),
     ];
@@ -306,9 +316,14 @@ fn classes_that_make_no_program_are_refused(rt: HostRuntime) -> Result<(), Fail>
         ("run b.B A.class", 70, "jvt: no main in b.B\n"),
         ("run A V.class", 70, "jvt: no main in A\n"),
         ("run A M.class", 70, "jvt: no main in A\n"),
-        ("run B A.class A.class", 70, "jvt: no main in B\n"),
-        ("run A A.class A.class", 68, "jvt: link A: Unsupported\n"),
-        ("run A P.class", 68, "jvt: link A: Unsupported\n"),
+        ("run C A.class B.class", 70, "jvt: no main in C\n"),
+        ("run A A.class B.class", 68, "jvt: link A: Unsupported\n"),
+        ("run A B.class A.class", 68, "jvt: link B: Unsupported\n"),
+        ("run A C.class B.class", 68, "jvt: link A: Unsupported\n"),
+        ("run A C.class", 68, "jvt: link A: MissingClass\n"),
+        ("run B C.class", 68, "jvt: link A: MissingClass\n"),
+        ("run A A.class A.class", 68, "jvt: link A: Duplicate\n"),
+        ("run C B.class B.class", 68, "jvt: link B: Duplicate\n"),
     ];
     for (words, status, line) in table {
         let case = Case {

@@ -14,7 +14,7 @@ use Rattle.plain_program.specs.Decoding.{op_at}
 use Rattle.plain_program.specs.Methods.{only_code}
 use Rattle.plain_program.specs.PlainForm.{is_plain}
 use Rattle.plain_program.specs.Typing.{is_typed}
-use Rattle.plain_program.specs.Programs.{IsSpelled, IsMethod, IsLinked}
+use Rattle.plain_program.specs.Programs.{IsSpelled, IsMethod, IsPlainProgram}
 use Rattle.plain_program.proofs.DecodingLaws.{IsBytes, Takes, op_takes, tail_of, none_from}
 use Rattle.plain_program.proofs.Preparing.{is_untyped, spelled_bytes}
 
@@ -75,7 +75,7 @@ by_body f spelled (Some body) e = by_code f body e (decided_code (length body.co
 
 -- ---- classes
 
-by_plain : (f : ClassFile) → IsSpelled f → (b : Bool) → is_plain f ≡ b → ((m : Method) × IsLinked (f ∷ []) m) ⊎ ((m : Method) → IsLinked (f ∷ []) m → ⊥)
+by_plain : (f : ClassFile) → IsSpelled f → (b : Bool) → is_plain f ≡ b → ((m : Method) × IsPlainProgram (f ∷ []) m) ⊎ ((m : Method) → IsPlainProgram (f ∷ []) m → ⊥)
 by_plain f spelled false e = inr (λ m is. no_plain is.file is.only is.plain)
   where
     no_plain : (g : ClassFile) → f ∷ [] ≡ g ∷ [] → is_plain g ≡ true → ⊥
@@ -85,18 +85,18 @@ by_plain f spelled true e = by_method (by_body f spelled (only_code f.methods) r
     of_file : (m : Method) (g : ClassFile) → f ∷ [] ≡ g ∷ [] → IsMethod g m → IsMethod f m
     of_file m g only is = let same : g ≡ f = cc in subst (λ (h : ClassFile). IsMethod h m) same is
 
-    by_method : ((m : Method) × IsMethod f m) ⊎ ((m : Method) → IsMethod f m → ⊥) → ((m : Method) × IsLinked (f ∷ []) m) ⊎ ((m : Method) → IsLinked (f ∷ []) m → ⊥)
+    by_method : ((m : Method) × IsMethod f m) ⊎ ((m : Method) → IsMethod f m → ⊥) → ((m : Method) × IsPlainProgram (f ∷ []) m) ⊎ ((m : Method) → IsPlainProgram (f ∷ []) m → ⊥)
     by_method (inl x) = inl (x.0, record { file = f; only = refl; plain = e; is_method = x.1 })
     by_method (inr refuted) = inr (λ m is. refuted m (of_file m is.file is.only is.is_method))
 
 -- classes are a plain program, or are none
-pub linked_or_not : (classes : List ClassFile) → AllByRecursion IsSpelled classes → ((m : Method) × IsLinked classes m) ⊎ ((m : Method) → IsLinked classes m → ⊥)
-linked_or_not [] spelled = inr (λ m is. none is.file is.only)
+pub plain_or_not : (classes : List ClassFile) → AllByRecursion IsSpelled classes → ((m : Method) × IsPlainProgram classes m) ⊎ ((m : Method) → IsPlainProgram classes m → ⊥)
+plain_or_not [] spelled = inr (λ m is. none is.file is.only)
   where
     none : (g : ClassFile) → [] ≡ g ∷ [] → ⊥
     none g e = absurd cc
-linked_or_not (f ∷ []) spelled = by_plain f spelled.0 (is_plain f) refl
-linked_or_not (f ∷ g ∷ classes) spelled = inr (λ m is. two is.file is.only)
+plain_or_not (f ∷ []) spelled = by_plain f spelled.0 (is_plain f) refl
+plain_or_not (f ∷ g ∷ classes) spelled = inr (λ m is. two is.file is.only)
   where
     two : (h : ClassFile) → f ∷ g ∷ classes ≡ h ∷ [] → ⊥
     two h e = absurd cc

@@ -18,7 +18,7 @@ use Rattle.ref_model.specs.Program.{Method}
 use Rattle.plain_program.specs.Methods.{code_of, code_in, only_code}
 use Rattle.plain_program.specs.Typing.{is_typed}
 use Rattle.plain_program.specs.Programs.{IsSpelled}
-use Rattle.plain_program.specs.Programs.{IsMethod, IsLinked}
+use Rattle.plain_program.specs.Programs.{IsMethod, IsPlainProgram}
 use Rattle.plain_program.specs.declared.plain_method.PlainMethod.{PlainMethod}
 use Rattle.plain_program.proofs.DecodingLaws.{IsBytes, one_decoding}
 
@@ -54,7 +54,7 @@ one_spelled classes f e all = let one : AllByRecursion IsSpelled (f ∷ []) = su
 -- ---- what is linked
 
 pub no_method : {E : Type 0} (classes : List ClassFile) (f : ClassFile) (r : Result (Option PlainMethod) E) → classes ≡ f ∷ [] → IfOk r (λ o. IfNone o ((m : Method) → IsMethod f m → ⊥))
-    → IfOk r (λ o. IfNone o ((m : Method) → IsLinked classes m → ⊥))
+    → IfOk r (λ o. IfNone o ((m : Method) → IsPlainProgram classes m → ⊥))
 no_method classes f (Ok None) e none = λ m is. none m (subst (λ (g : ClassFile). IsMethod g m) (same_file is.file (sym is.only ∙ e)) is.is_method)
   where
     same_file : (g : ClassFile) → g ∷ [] ≡ f ∷ [] → g ≡ f

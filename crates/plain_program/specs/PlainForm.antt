@@ -1,5 +1,5 @@
 -- The plain form: a class of one method, whose constants name no more than a stream and its printing of an int
--- (own). It is all that is linked today. Attributes that mean nothing here may stand anywhere.
+-- (own). It is all that runs today. Attributes that mean nothing here may stand anywhere.
 use Rattle.std.specs.Prelude.{ℕ, Bool, false, true, List, length, drop, codes, nat_le, ◌==◌, ◌&&◌, if◌then◌else◌, not}
 use Rattle.std.specs.Option.{option_map_or}
 use Rattle.std.specs.List.{list_any, list_all, enumerate_from}

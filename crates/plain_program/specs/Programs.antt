@@ -27,7 +27,7 @@ pub record IsMethod (file : ClassFile) (m : Method) : Type 0 where
   pub typed : is_typed m [] m.code ≡ true
 
 -- The classes are one of the plain form, and the method is its own.
-pub record IsLinked (classes : List ClassFile) (m : Method) : Type 0 where
+pub record IsPlainProgram (classes : List ClassFile) (m : Method) : Type 0 where
   pub file : ClassFile
   pub only : classes ≡ file ∷ []
   pub plain : is_plain file ≡ true

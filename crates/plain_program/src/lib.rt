@@ -1,5 +1,5 @@
 //! The programs that run today (own): one class of the plain form, whose main consists of four kinds of instructions.
-//! The linker, and the machine after it, replace this crate.
+//! The machine replaces this crate.
 #![tactic(auto)]
 
 mod decode;

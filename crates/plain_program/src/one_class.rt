@@ -1,11 +1,11 @@
-//! From class files to the method that runs.
+//! Whether classes are a program that runs today, and its method.
 
 ghost use Rattle.std.specs.Prelude.{◌≡◌, ◌<◌, ◌^◌, Some, length, IfOk, IfSome, IfNone};
 ghost use Rattle.std.specs.List.{AllByRecursion};
 ghost use Rattle.class_model.specs.declared.attribute.CodeBody.{CodeBody};
 ghost use Rattle.ref_model.specs.Program.{Method};
 ghost use Rattle.plain_program.specs.Methods.{method_of, only_code as only_code_in};
-ghost use Rattle.plain_program.specs.Programs.{IsSpelled, IsMethod, IsLinked};
+ghost use Rattle.plain_program.specs.Programs.{IsSpelled, IsMethod, IsPlainProgram};
 
 use crate::decode::decode;
 use crate::plain_form::{is_plain, only_code};
@@ -21,8 +21,8 @@ pub fn prepare<'a>(
     classes: &'a [ClassFile],
 ) -> Result<Option<PlainMethod<'a>>, AllocError>
     requires { AllByRecursion IsSpelled classes.now }
-    ensures found { IfOk result (λ o. IfSome o (λ m. IsLinked classes.now (method_of m))) }
-    ensures none { IfOk result (λ o. IfNone o ((m : Method) → IsLinked classes.now m → ⊥)) }
+    ensures found { IfOk result (λ o. IfSome o (λ m. IsPlainProgram classes.now (method_of m))) }
+    ensures none { IfOk result (λ o. IfNone o ((m : Method) → IsPlainProgram classes.now m → ⊥)) }
 {
     let [file] = classes else {
         return Ok(None);

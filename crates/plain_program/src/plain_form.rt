@@ -1,4 +1,4 @@
-//! The plain form (own): all that is linked today.
+//! The plain form (own): all that runs today.
 
 ghost use Rattle.std.specs.Prelude.{◌≡◌, IfOk, not};
 ghost use Rattle.std.specs.Option.{option_copied};

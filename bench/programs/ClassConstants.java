@@ -1,0 +1,2 @@
+// Unsupported: ldc of a Class constant
+class ClassConstants { public static void main(String[] args) { Object c = ClassConstants.class; System.out.println(c == null); } }
