@@ -1,2 +1,2 @@
-// WrongKind, MissingMethod or Unsupported: an enum of the program calls a constructor of Enum, which isn't built in
+// MissingMethod: Enum has no constructor, so no program declares an enum
 class Enums { enum Color { RED, GREEN } public static void main(String[] args) { System.out.println(Color.RED.ordinal()); } }

@@ -1,2 +1,2 @@
-// MissingClass or MissingMethod: AutoCloseable and addSuppressed aren't built in
+// MissingClass: AutoCloseable isn't built in
 class Resources { static class R implements AutoCloseable { public void close() {} } public static void main(String[] args) { try (R r = new R()) { System.out.println(r != null); } } }
