@@ -1,0 +1,19 @@
+//! The tables of a world: the numbers of names, array types, fields and methods, and what the constants of instructions mean
+//! (JVMS 5.4; the numbers: own). They are those of `world_model`'s definitions.
+#![tactic(auto)]
+
+mod array_numbers;
+mod codes;
+mod infos;
+mod kinds;
+mod names;
+mod numbering;
+mod strings;
+
+pub use array_numbers::{ArrayNumbers, all_arrays};
+pub use codes::{code_of, instructions_of};
+pub use infos::{all_codes, all_fields, all_methods};
+pub use kinds::{kind_named, kind_of, signature_of};
+pub use names::Names;
+pub use numbering::Numbering;
+pub use strings::{all_strings, string_number};
