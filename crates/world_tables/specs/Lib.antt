@@ -1,2 +1,4 @@
 pub mod Names
 pub mod Starts
+pub mod MemberNumbers
+pub mod Linkings

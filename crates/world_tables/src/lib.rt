@@ -6,14 +6,18 @@ mod array_numbers;
 mod codes;
 mod infos;
 mod kinds;
+mod member_numbers;
 mod names;
 mod numbering;
+mod sites;
 mod strings;
 
 pub use array_numbers::{ArrayNumbers, all_arrays};
 pub use codes::{code_of, instructions_of};
 pub use infos::{all_codes, all_fields, all_methods};
 pub use kinds::{kind_named, kind_of, signature_of};
+pub use member_numbers::MemberNumbers;
 pub use names::Names;
 pub use numbering::Numbering;
+pub use sites::{Linker, catch_of, naming_of};
 pub use strings::{all_strings, string_number};
