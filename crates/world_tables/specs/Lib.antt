@@ -2,3 +2,4 @@ pub mod Names
 pub mod Starts
 pub mod MemberNumbers
 pub mod Linkings
+pub mod Tables

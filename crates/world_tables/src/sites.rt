@@ -47,12 +47,7 @@ fn alone(site: Option<Site>) -> Naming
 }
 
 // A site of a member of the class of this name.
-fn member_of(
-    alloc: Global,
-    l: Linker,
-    name: &[u16],
-    site: Option<Site>,
-) -> Result<Naming, NoMemory>
+fn member_of(alloc: Global, l: Linker, name: &[u16], site: Option<Site>) -> Result<Naming, NoMemory>
     ensures { IfOk result (λ n. n ≡ spec.member_of (linking_in l.entry) name.now site) }
 {
     match site {
@@ -117,12 +112,7 @@ fn field_site(l: Linker, name: &[u16], key: MemberKey) -> Result<Option<Site>, N
     }
 }
 
-fn named_field(
-    alloc: Global,
-    l: Linker,
-    name: &[u16],
-    key: MemberKey,
-) -> Result<Naming, NoMemory>
+fn named_field(alloc: Global, l: Linker, name: &[u16], key: MemberKey) -> Result<Naming, NoMemory>
     ensures { IfOk result (λ n. n ≡
         spec.named_field (linking_in l.entry) name.now (key_of key.entry)) }
 {
@@ -306,12 +296,7 @@ fn named_class(alloc: Global, l: Linker, pool: &[Const], index: u16) -> Result<N
 }
 
 // The array of the class at an index.
-fn array_of_named(
-    alloc: Global,
-    l: Linker,
-    pool: &[Const],
-    index: u16,
-) -> Result<Naming, NoMemory>
+fn array_of_named(alloc: Global, l: Linker, pool: &[Const], index: u16) -> Result<Naming, NoMemory>
     ensures { IfOk result (λ n. n ≡ spec.array_of_named (linking_in l.entry) pool.now index) }
 {
     let kind = array_of_kind(kind_named(alloc, name_at(pool, index))?);
