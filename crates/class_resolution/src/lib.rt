@@ -19,4 +19,4 @@ pub use members::{
     MemberKey, has_flag, index_of, is_abstract, is_final, is_native, is_open, is_private, is_static,
 };
 pub use resolution::{class_method, field_of, interface_method};
-pub use selection::{key_in, select};
+pub use selection::{key_in, select, select_special};

@@ -156,8 +156,8 @@ pub fn class_method(
     from_interfaces(alloc, world, class, key)
 }
 
-// The public instance method of Object.
-fn object_method(world: &Hierarchy, key: MemberKey) -> Option<Place>
+/// The public instance method of Object.
+pub fn object_method(world: &Hierarchy, key: MemberKey) -> Option<Place>
     ensures { result ≡ spec.object_method world.now (key_of key.entry) }
 {
     let object = world.classes().object()?;

@@ -1,10 +1,14 @@
 -- What is kept of a linked world.
+use Rattle.std.specs.Prelude.{◌≡◌}
 use Rattle.linkage.specs.Program.{Program}
 use Rattle.linkage.specs.Faults.{Links}
+use Rattle.world_model.specs.World.{World}
+use Rattle.world_model.specs.Worlds.{world_of}
 use Rattle.class_world.specs.declared.world.World.TheInside.{Inside}
 
 abbrev pub program_of : Inside → Program
-program_of a = a.hierarchy
+program_of a = a.tables.program
 
-abbrev pub IsLinked : Inside → Type 0
-IsLinked a = Links a.hierarchy
+pub record IsLinked (a : Inside) : Type 0 where
+  pub links : Links a.tables.program
+  pub tables : a.tables ≡ world_of a.tables.program

@@ -8,6 +8,7 @@ ghost use Rattle.linkage.specs.Hierarchy as hierarchy;
 ghost use Rattle.linkage.specs.Members as members;
 ghost use Rattle.linkage.specs.Selection as selection;
 ghost use Rattle.class_resolution.specs.Keys.{key_of};
+ghost use Rattle.world_model.specs.Worlds.{world_of};
 
 use crate::error::LinkError;
 use class_model::ClassFile;
@@ -17,11 +18,12 @@ use link_checks::link_fault;
 use linkage::{Choice, LinkFault, Place};
 use std::alloc::Global;
 use std::marker::Model;
+use world_tables::Tables;
 
 /// The classes of a program that links, each by its number, which is its place in the list.
 #[derive(Drop)]
 pub struct World {
-    hierarchy: Hierarchy,
+    tables: Tables,
 }
 
 impl Model for World {
@@ -55,7 +57,9 @@ pub fn link(
 {
     let hierarchy = Hierarchy::new(alloc, Classes::new(alloc, built_in, files)?)?;
     match link_fault(alloc, &hierarchy)? {
-        None => Ok(World { hierarchy }),
+        None => Ok(World {
+            tables: Tables::new(alloc, hierarchy)?,
+        }),
         Some(LinkFault { class, why }) => Err(LinkError::Fault { class, why }),
     }
 }
@@ -65,55 +69,61 @@ impl World {
     pub fn classes(&self) -> &[ClassFile]
         ensures { result.now ≡ self.now.classes }
     {
-        self.hierarchy.classes().files()
+        self.tables.hierarchy().classes().files()
     }
 
     /// The files of the classes that aren't built in.
     pub fn files(&self) -> &[ClassFile]
         ensures { result.now ≡ drop self.now.built_in self.now.classes }
     {
-        self.hierarchy.classes().from_files()
+        self.tables.hierarchy().classes().from_files()
     }
 
     /// The class of this name. `None`: the program has no such class.
     pub fn class_named(&self, name: &[u16]) -> Option<u32>
         ensures { result ≡ spec.class_named self.now name.now }
     {
-        self.hierarchy.classes().class_named(name)
+        self.tables.hierarchy().classes().class_named(name)
     }
 
     /// The file of a class. `None`: there is no such class.
     pub fn file(&self, class: u32) -> Option<&ClassFile>
         ensures { option_copied result ≡ slice_get self.now.classes class }
     {
-        self.hierarchy.classes().file(class)
+        self.tables.hierarchy().classes().file(class)
     }
 
     /// The superclass of a class; Object has none.
     pub fn parent(&self, class: u32) -> Option<u32>
         ensures { result ≡ hierarchy.parent_of self.now class }
     {
-        self.hierarchy.parent(class)
+        self.tables.hierarchy().parent(class)
     }
 
     /// Whether a class is the other, or has it among its superclasses and superinterfaces.
     pub fn is_sub(&self, class: u32, other: u32) -> bool
         ensures { result ≡ hierarchy.is_below self.now class other }
     {
-        self.hierarchy.is_below(class, other)
+        self.tables.hierarchy().is_below(class, other)
     }
 
     /// The method of this key that the class itself declares. `None`: it declares none.
     pub fn method_named(&self, class: u32, key: MemberKey) -> Option<Place>
         ensures { result ≡ members.declared_method self.now (key_of key.entry) class }
     {
-        self.hierarchy.declared_method(key, class)
+        self.tables.hierarchy().declared_method(key, class)
     }
 
     /// What invokevirtual or invokeinterface of a method selects on an object of a class (JVMS 5.4.6).
     pub fn select(&self, alloc: Global, class: u32, method: Place) -> Result<Choice, NoMemory>
         ensures { IfOk result (λ choice. choice ≡ selection.select self.now class method) }
     {
-        select(alloc, &self.hierarchy, class, method)
+        select(alloc, self.tables.hierarchy(), class, method)
+    }
+    /// The tables of the world: the numbers of names, array types, fields and methods, and what the constants of instructions mean.
+    pub fn tables(&self) -> &Tables
+        ensures { result.now ≡ world_of self.now }
+    {
+        &self.tables
     }
 }

@@ -37,7 +37,8 @@ fn is_left_out(name: &[u16], key: MemberKey) -> bool
     is_floating(key.descriptor) || is_floating_array(name)
 }
 
-fn resolved_field(world: &Hierarchy, name: &[u16], key: MemberKey) -> Option<Place>
+/// The field that a name and a key mean (JVMS 5.4.3.2).
+pub fn resolved_field(world: &Hierarchy, name: &[u16], key: MemberKey) -> Option<Place>
     ensures { result ≡ spec.resolved_field world.now name.now (key_of key.entry) }
 {
     field_of(world, home_of(world.classes(), name)?, key)
@@ -110,7 +111,8 @@ fn field_fault_at(namer: Namer, wanted: bool, index: u16) -> Option<LinkWhy>
     }
 }
 
-fn resolved_method(
+/// The method that a name and a key mean, in an interface or in a class (JVMS 5.4.3.3, 5.4.3.4).
+pub fn resolved_method(
     alloc: Global,
     world: &Hierarchy,
     by_interface: bool,

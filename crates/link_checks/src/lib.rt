@@ -8,4 +8,5 @@ mod program;
 mod rules;
 
 pub use code::{Front, front_of};
+pub use instructions::{resolved_field, resolved_method};
 pub use program::link_fault;

@@ -1,5 +1,5 @@
 -- The method that an invocation runs on an object of a class (JVMS 5.4.5, 5.4.6, 6.5).
-use Rattle.std.specs.Prelude.{ℕ, not, List, [], ◌∷◌, Option, Some, None, codes, drop, unwrap_or, slice_get, ◌&&◌, if◌then◌else◌}
+use Rattle.std.specs.Prelude.{ℕ, Bool, not, List, [], ◌∷◌, Option, Some, None, codes, drop, unwrap_or, slice_get, ◌&&◌, if◌then◌else◌}
 use Rattle.std.specs.Option.{option_or, option_map_or, option_and_then}
 use Rattle.class_model.specs.declared.constant.Const.{Const}
 use Rattle.class_model.specs.declared.member.Member.{Member}
@@ -48,16 +48,15 @@ select p c at =
 
 -- ---- invokespecial (JVMS 6.5)
 
+-- whether the class named is above the class c
+abbrev pub is_superclass : Program → ℕ → ℕ → Bool
+is_superclass p c named = is_among (drop 1 (superclasses p c)) named
+
 -- The class in which the search begins: that above the class c whose code it is, where the constant names a class above c and no
 -- constructor; else the class named. ACC_SUPER counts as set (JVMS 4.1).
 abbrev pub special_start : Program → ℕ → ℕ → Key → Option ℕ
 special_start p c named key =
-    if not (same_text key.name (codes "<init>")) && is_among (drop 1 (superclasses p c)) named then parent_of p c
-    else Some named
-
--- the classes in which it goes on, from the first up; an interface is followed by none
-abbrev pub special_line : Program → ℕ → List ℕ
-special_line p start = if is_interface p start then start ∷ [] else superclasses p start
+    if not (same_text key.name (codes "<init>")) && is_superclass p c named then parent_of p c else Some named
 
 -- the method of instances of this key that the class declares
 abbrev pub instance_method : Program → Key → ℕ → Option Place
@@ -68,12 +67,21 @@ abbrev pub only_body : List Place → Option Place
 only_body (at ∷ []) = Some at
 only_body bodies = None
 
--- what is found from a class on: in the line of classes, else, from an interface, in Object, else the one maximally specific method
--- of the superinterfaces that isn't abstract
+-- the one maximally specific method of the superinterfaces that isn't abstract
+abbrev pub sole_from : Program → Key → ℕ → Option Place
+sole_from p key start = only_body (most_specific_bodies p start key)
+
+-- what is found from a class on: there and in its superclasses, else in the superinterfaces
+abbrev pub from_class : Program → Key → ℕ → Option Place
+from_class p key start = option_or (first_in (instance_method p key) (superclasses p start)) (sole_from p key start)
+
+-- from an interface on: there, else in Object, else in the superinterfaces
+abbrev pub from_interface : Program → Key → ℕ → Option Place
+from_interface p key start =
+    option_or (instance_method p key start) (option_or (object_method p key) (sole_from p key start))
+
 abbrev pub special_from : Program → Key → ℕ → Option Place
-special_from p key start =
-    option_or (first_in (instance_method p key) (special_line p start))
-    (option_or (if is_interface p start then object_method p key else None) (only_body (most_specific_bodies p start key)))
+special_from p key start = if is_interface p start then from_interface p key start else from_class p key start
 
 -- The method that invokespecial in the code of class c runs, where its constant names this class and means this method; where none is
 -- found, the method that the constant means (own).

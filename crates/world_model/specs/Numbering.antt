@@ -2,9 +2,9 @@
 -- names of classes that a pool or a descriptor has, in the order in which they are met. Behind these come the array types: those that a
 -- pool or a descriptor has, those that newarray and anewarray make, and the types of their elements. They are grouped by the type of
 -- their last elements, and in a group those of fewer dimensions come first.
-use Rattle.std.specs.Prelude.{ℕ, zero, suc, ◌+◌, ◌-◌, List, [], ◌∷◌, ◌++◌, Option, Some, None, length, map, take, position, is_some, unwrap_or, get_or, slice_set, max, min, nat_lt, nat_le, ◌==◌, ◌&&◌, if◌then◌else◌}
+use Rattle.std.specs.Prelude.{ℕ, zero, suc, ◌+◌, ◌-◌, List, [], ◌∷◌, ◌++◌, Option, Some, None, length, map, take, position, is_some, unwrap_or, get_or, slice_set, max, min, replicate, nat_lt, nat_le, ◌==◌, ◌&&◌, if◌then◌else◌}
 use Rattle.std.specs.Option.{option_map, option_map_or, option_to_list}
-use Rattle.std.specs.List.{flat_map, fold, repeat, enumerate_from, sum}
+use Rattle.std.specs.List.{flat_map, fold, enumerate_from, sum}
 use Rattle.class_model.specs.declared.constant.Const.{Const}
 use Rattle.class_model.specs.declared.constant.Const.TheVariants.{Class, NameAndType, MethodType}
 use Rattle.class_model.specs.declared.member.Member.{Member}
@@ -104,16 +104,6 @@ number_of names name = position (λ other. same_text other name) names
 abbrev pub with_name : List (List ℕ) → List ℕ → List (List ℕ)
 with_name names name = if is_some (number_of names name) then names else names ++ name ∷ []
 
-abbrev pub with_element : List (List ℕ) → ElementType → List (List ℕ)
-with_element names (elements.Class name) = with_name names name
-with_element names element = names
-
-abbrev pub with_kind : List (List ℕ) → Kind → List (List ℕ)
-with_kind names kind = with_element names kind.element
-
-abbrev pub names_of : Program → List (List ℕ)
-names_of p = fold with_kind (map own_name p.classes) (kinds_of p)
-
 -- ---- array types
 
 -- The types that are no arrays in order: the eight primitive ones, and behind them the classes.
@@ -140,14 +130,36 @@ base_at index =
     else if index == 7 then bases.Double
     else bases.Class (index - 8)
 
--- by the same order the greatest number of dimensions of an array of such elements, with one kind more
-abbrev pub deeper : List (List ℕ) → List ℕ → Kind → List ℕ
-deeper names depths kind =
-    let index = element_index names kind.element in
-    slice_set depths index (max (get_or depths index 0) kind.dimensions)
+-- The names of classes, those of the program first; and by the order of the types that are no arrays the greatest number of dimensions of
+-- an array of such elements.
+pub record Numbering : Type 0 where
+  pub names : List (List ℕ)
+  pub depths : List ℕ
 
-abbrev pub depths_of : List (List ℕ) → Program → List ℕ
-depths_of names p = fold (deeper names) (repeat (8 + length names) (0 ∷ [])) (kinds_of p)
+-- with one name more, unless it is there
+abbrev pub with_class : Numbering → List ℕ → Numbering
+with_class n name =
+    if is_some (number_of n.names name) then n else record { names = n.names ++ name ∷ []; depths = n.depths ++ 0 ∷ [] }
+
+abbrev pub with_element : Numbering → ElementType → Numbering
+with_element n (elements.Class name) = with_class n name
+with_element n element = n
+
+-- where an array of such elements has so many dimensions
+abbrev pub deeper : Numbering → ElementType → ℕ → Numbering
+deeper n element dimensions =
+    let index = element_index n.names element in
+    record { names = n.names; depths = slice_set n.depths index (max (get_or n.depths index 0) dimensions) }
+
+abbrev pub with_kind : Numbering → Kind → Numbering
+with_kind n kind = deeper (with_element n kind.element) kind.element kind.dimensions
+
+-- the classes of the program alone
+abbrev pub first_numbers : Program → Numbering
+first_numbers p = record { names = map own_name p.classes; depths = replicate (8 + length p.classes) 0 }
+
+abbrev pub numbering_of : Program → Numbering
+numbering_of p = fold with_kind (first_numbers p) (kinds_of p)
 
 -- the array types of so many dimensions at most
 abbrev pub arrays_of_base : Base → ℕ → List ArrayType
@@ -158,13 +170,6 @@ abbrev pub arrays_of : List ℕ → List ArrayType
 arrays_of depths = flat_map (λ x. arrays_of_base (base_at x.0) x.1) (enumerate_from 0 depths)
 
 -- ---- numbers
-
-pub record Numbering : Type 0 where
-  pub names : List (List ℕ)
-  pub depths : List ℕ
-
-abbrev pub numbering_of : Program → Numbering
-numbering_of p = record { names = names_of p; depths = depths_of (names_of p) p }
 
 -- the number of an array type; it has none if no array of such elements is as deep
 abbrev pub array_number : Numbering → Kind → Option ℕ

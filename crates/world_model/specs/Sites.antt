@@ -50,11 +50,17 @@ naming_at pool index of = option_map_or of (slice_get pool index) plain
 
 -- ---- constants that are pushed (JVMS 6.5, ldc, ldc_w, ldc2_w)
 
+-- the String of a text
+abbrev pub string_naming : Linking → List ℕ → Naming
+string_naming l text = alone (option_map (λ n. sites.Value (values.Ref n)) (string_number l.strings text))
+
+abbrev pub string_at : Linking → List Const → ℕ → Naming
+string_at l pool index = option_map_or (string_naming l) (text_at pool index) plain
+
 abbrev pub push_naming : Linking → List Const → Const → Naming
 push_naming l pool (Integer n) = alone (Some (sites.Value (values.Int n)))
 push_naming l pool (Long n) = alone (Some (sites.Value (values.Long n)))
-push_naming l pool (Text index) =
-    alone (option_map (λ n. sites.Value (values.Ref n)) (option_and_then (string_number l.strings) (text_at pool index)))
+push_naming l pool (Text index) = string_at l pool index
 push_naming l pool c = plain
 
 -- ---- fields (JVMS 5.4.3.2)
@@ -62,29 +68,38 @@ push_naming l pool c = plain
 abbrev pub field_site : Linking → List ℕ → Key → Option Site
 field_site l name key = option_map (λ at. sites.Field (field_number l.program at)) (resolved_field l.program name key)
 
+abbrev pub named_field : Linking → List ℕ → Key → Naming
+named_field l name key = member_of l name (field_site l name key)
+
 abbrev pub field_naming : Linking → List Const → Const → Naming
-field_naming l pool (Fieldref class member) =
-    member_of l (name_at pool class) (field_site l (name_at pool class) (key_at pool member))
+field_naming l pool (Fieldref class member) = named_field l (name_at pool class) (key_at pool member)
 field_naming l pool c = plain
 
 -- ---- methods (JVMS 5.4.3.3, 5.4.3.4)
 
--- the method that the constant means; of invokespecial that which it selects in the code of class c (JVMS 6.5)
+-- the method that invokespecial selects in the code of class c, of the one that its constant means (JVMS 6.5)
+abbrev pub special_place : Linking → ℕ → List ℕ → Key → Place → Place
+special_place l c name key resolved =
+    option_map_or (λ home. select_special l.program c home key resolved) (home_of l.program name) resolved
+
+-- the method that the constant means, or that invokespecial selects
 abbrev pub method_place : Linking → ℕ → Bool → Bool → List ℕ → Key → Option Place
 method_place l c special of_interface name key =
-    option_map (λ at. if special
-    then option_map_or (λ home. select_special l.program c home key at) (home_of l.program name) at
-    else at) (resolved_method l.program of_interface name key)
+    option_map (λ at. if special then special_place l c name key at else at)
+    (resolved_method l.program of_interface name key)
 
 abbrev pub method_site : Linking → ℕ → Bool → Bool → List ℕ → Key → Option Site
 method_site l c special of_interface name key =
     option_map (λ at. sites.Method (method_number l.program at)) (method_place l c special of_interface name key)
 
+abbrev pub named_method : Linking → ℕ → Bool → Bool → List ℕ → Key → Naming
+named_method l c special of_interface name key = member_of l name (method_site l c special of_interface name key)
+
 abbrev pub method_naming : Linking → ℕ → List Const → Bool → Const → Naming
 method_naming l c pool special (Methodref class member) =
-    member_of l (name_at pool class) (method_site l c special false (name_at pool class) (key_at pool member))
+    named_method l c special false (name_at pool class) (key_at pool member)
 method_naming l c pool special (InterfaceMethodref class member) =
-    member_of l (name_at pool class) (method_site l c special true (name_at pool class) (key_at pool member))
+    named_method l c special true (name_at pool class) (key_at pool member)
 method_naming l c pool special const = plain
 
 -- ---- classes (JVMS 5.4.3.1)

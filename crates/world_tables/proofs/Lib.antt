@@ -1,0 +1,4 @@
+pub mod NameLaws
+pub mod FoldLaws
+pub mod StartLaws
+pub mod TableLaws

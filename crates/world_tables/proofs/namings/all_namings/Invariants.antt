@@ -1,0 +1,8 @@
+use Rattle.std.proofs.Common.{◌≡◌, ◌++◌, drop}
+use Rattle.world_tables.specs.Linkings.{linking_in}
+use Rattle.std.specs.List.{flat_map, enumerate_from}
+use Rattle.world_model.specs.Sites.{namings_in, namings_of}
+use Rattle.world_tables.proofs.namings.all_namings.Given as goal
+
+abbrev pub invariant-loop-class : goal.invariant-loop-class
+invariant-loop-class l = namings_of (linking_in l.l) ≡ l.namings.items ++ flat_map (namings_in (linking_in l.l)) (enumerate_from l.class (drop l.class l.files))

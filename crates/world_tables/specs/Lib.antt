@@ -1,0 +1,5 @@
+pub mod Names
+pub mod Starts
+pub mod MemberNumbers
+pub mod Linkings
+pub mod Tables

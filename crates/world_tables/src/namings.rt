@@ -1,0 +1,123 @@
+//! What the constants of all instructions mean, by method.
+
+ghost use Rattle.std.specs.Prelude.{◌≡◌, ◌++◌, map, OnOk, IfOk};
+ghost use Rattle.world_model.specs.Sites as spec;
+ghost use Rattle.world_tables.specs.Linkings.{linking_in};
+
+use crate::codes::{body_of, instructions_of};
+use crate::sites::{Linker, catch_of, naming_of};
+use class_model::{ClassFile, Const, Member, Row};
+use items::{Items, NoMemory};
+use opcodes::Instr;
+use std::alloc::Global;
+use world_model::Naming;
+
+fn instr_namings(
+    alloc: Global,
+    l: Linker,
+    class: u32,
+    pool: &[Const],
+    instrs: &[Instr],
+) -> Result<Items<Naming>, NoMemory>
+    ensures { IfOk result (λ v. v ≡
+        map (spec.instr_naming (linking_in l.entry) class pool.now) instrs.now) }
+{
+    let mut namings = Vec::new(alloc);
+    for instr in instrs {
+        namings.push(naming_of(alloc, l, class, pool, &instr.op)?)?;
+    }
+    Ok(Items::from(namings))
+}
+
+fn method_namings(
+    alloc: Global,
+    l: Linker,
+    class: u32,
+    pool: &[Const],
+    method: &Member,
+) -> Result<Items<Naming>, NoMemory>
+    ensures { IfOk result (λ v. v ≡
+        spec.method_namings (linking_in l.entry) class pool.now method.now) }
+{
+    let instrs = instructions_of(alloc, method)?;
+    instr_namings(alloc, l, class, pool, &instrs)
+}
+
+fn add_namings(
+    alloc: Global,
+    l: Linker,
+    class: u32,
+    file: &ClassFile,
+    namings: &mut Vec<Items<Naming>>,
+) -> Result<(), NoMemory>
+    ensures { OnOk result (namings.new.items ≡
+        namings.old.items ++ spec.namings_in (linking_in l.entry) (class, file.now)) }
+{
+    for method in file.methods.iter() {
+        namings.push(method_namings(alloc, l, class, &file.pool, method)?)?;
+    }
+    Ok(())
+}
+
+/// What the constants of instructions mean, by the method's number.
+pub fn all_namings(alloc: Global, l: Linker) -> Result<Vec<Items<Naming>>, NoMemory>
+    ensures { IfOk result (λ v. v.items ≡ spec.namings_of (linking_in l.entry)) }
+{
+    let mut namings = Vec::new(alloc);
+    let files = l.members.hierarchy().classes().files();
+    for (class, file) in files.iter().enumerate() {
+        add_namings(alloc, l, class as u32, file, &mut namings)?;
+    }
+    Ok(namings)
+}
+
+fn rows_of(method: &Member) -> &[Row]
+    ensures { result.now ≡ spec.rows_of method.now }
+{
+    match body_of(method) {
+        Some(body) => &body.rows,
+        None => &[],
+    }
+}
+
+fn row_catches(
+    alloc: Global,
+    l: Linker,
+    pool: &[Const],
+    rows: &[Row],
+) -> Result<Items<Option<u32>>, NoMemory>
+    ensures { IfOk result (λ v. v ≡
+        map (spec.catch_of (linking_in l.entry) pool.now) rows.now) }
+{
+    let mut catches = Vec::new(alloc);
+    for row in rows {
+        catches.push(catch_of(alloc, l, pool, row)?)?;
+    }
+    Ok(Items::from(catches))
+}
+
+fn add_catches(
+    alloc: Global,
+    l: Linker,
+    file: &ClassFile,
+    catches: &mut Vec<Items<Option<u32>>>,
+) -> Result<(), NoMemory>
+    ensures { OnOk result (catches.new.items ≡
+        catches.old.items ++ spec.catches_in (linking_in l.entry) file.now) }
+{
+    for method in file.methods.iter() {
+        catches.push(row_catches(alloc, l, &file.pool, rows_of(method))?)?;
+    }
+    Ok(())
+}
+
+/// Which classes the rows of exception tables catch, by the method's number.
+pub fn all_catches(alloc: Global, l: Linker) -> Result<Vec<Items<Option<u32>>>, NoMemory>
+    ensures { IfOk result (λ v. v.items ≡ spec.catches_of (linking_in l.entry)) }
+{
+    let mut catches = Vec::new(alloc);
+    for file in l.members.hierarchy().classes().files() {
+        add_catches(alloc, l, file, &mut catches)?;
+    }
+    Ok(catches)
+}

@@ -1,0 +1,171 @@
+//! All tables of a world, and the look-ups in them.
+
+ghost use Rattle.std.specs.Prelude.{◌≡◌, length, get_or, slice_get, codes, [], IfOk};
+ghost use Rattle.std.specs.Option.{option_copied};
+ghost use Rattle.class_grammar.specs.Names.{object_class};
+ghost use Rattle.world_model.specs.World as spec;
+ghost use Rattle.world_model.specs.Worlds.{world_of};
+ghost use Rattle.world_model.specs.Decoded.{code_at};
+
+use crate::array_numbers::{ArrayNumbers, all_arrays};
+use crate::infos::{all_codes, all_fields, all_methods};
+use crate::member_numbers::MemberNumbers;
+use crate::namings::{all_catches, all_namings};
+use crate::numbering::Numbering;
+use crate::sites::Linker;
+use crate::strings::all_strings;
+use class_resolution::Hierarchy;
+use items::{Items, NoMemory};
+use stack_maps::{Base, VType};
+use std::alloc::Global;
+use std::marker::Model;
+use world_model::{ArrayType, FieldInfo, MethodCode, MethodInfo, Naming};
+
+/// A program and its tables.
+#[derive(Drop)]
+pub struct Tables {
+    members: MemberNumbers,
+    numbers: ArrayNumbers,
+    arrays: Vec<ArrayType>,
+    fields: Vec<FieldInfo>,
+    methods: Vec<MethodInfo>,
+    codes: Vec<Option<MethodCode>>,
+    namings: Vec<Items<Naming>>,
+    catches: Vec<Items<Option<u32>>>,
+}
+
+impl Model for Tables {
+    ghost use Rattle.world_model.specs.World.{World};
+
+    ghost Value = { World };
+
+    ghost use Rattle.world_tables.specs.Tables.{world_in};
+
+    ghost view = { world_in };
+}
+
+impl Tables {
+    /// The tables of a program. Numbers from 2^32 on count as memory run out.
+    pub fn new(alloc: Global, hierarchy: Hierarchy) -> Result<Self, NoMemory>
+        ensures { IfOk result (λ tables. tables ≡ world_of hierarchy) }
+    {
+        let members = MemberNumbers::new(alloc, hierarchy)?;
+        let world = members.hierarchy();
+        let numbers = ArrayNumbers::new(alloc, Numbering::new(alloc, world)?)?;
+        let strings = all_strings(alloc, world)?;
+        let arrays = all_arrays(alloc, numbers.depths())?;
+        let fields = all_fields(alloc, world)?;
+        let methods = all_methods(alloc, world)?;
+        let codes = all_codes(alloc, world)?;
+        let l = Linker {
+            members: &members,
+            numbers: &numbers,
+            strings: &strings,
+        };
+        let namings = all_namings(alloc, l)?;
+        let catches = all_catches(alloc, l)?;
+        Ok(Tables {
+            members,
+            numbers,
+            arrays,
+            fields,
+            methods,
+            codes,
+            namings,
+            catches,
+        })
+    }
+
+    /// The classes of the program.
+    pub fn hierarchy(&self) -> &Hierarchy
+        ensures { result.now ≡ self.now.program }
+    {
+        self.members.hierarchy()
+    }
+
+    /// The number of the class of this name. `None`: no pool or descriptor has the name.
+    pub fn name_number(&self, name: &[u16]) -> Option<u32>
+        ensures { result ≡ spec.name_number self.now name.now }
+    {
+        self.numbers.names().number(name)
+    }
+
+    /// How many names have a number. The array types have those behind them.
+    pub fn name_count(&self) -> u32
+        ensures { result ≡ length self.now.names }
+    {
+        self.numbers.names().count()
+    }
+
+    /// A field. `None`: there is no field of this number.
+    pub fn field(&self, n: u32) -> Option<&FieldInfo>
+        ensures { option_copied result ≡ slice_get self.now.fields n }
+    {
+        self.fields.get(n as usize)
+    }
+
+    /// How many methods there are.
+    pub fn method_count(&self) -> usize
+        ensures { result ≡ length self.now.methods }
+    {
+        self.methods.len()
+    }
+
+    /// A method. `None`: there is no method of this number.
+    pub fn method(&self, n: u32) -> Option<&MethodInfo>
+        ensures { option_copied result ≡ slice_get self.now.methods n }
+    {
+        self.methods.get(n as usize)
+    }
+
+    /// The code of a method. `None`: it has none, or there is no method of this number.
+    pub fn code(&self, method: u32) -> Option<&MethodCode>
+        ensures { option_copied result ≡ code_at self.now method }
+    {
+        match self.codes.get(method as usize) {
+            Some(code) => code.as_ref(),
+            None => None,
+        }
+    }
+
+    /// What the constants of a method's instructions mean, by instruction.
+    pub fn namings(&self, method: u32) -> &[Naming]
+        ensures { result.now ≡ get_or self.now.namings method [] }
+    {
+        match self.namings.get(method as usize) {
+            Some(namings) => namings,
+            None => &[],
+        }
+    }
+
+    /// What the rows of a method's exception table catch, `None` for every throwable.
+    pub fn catches(&self, method: u32) -> &[Option<u32>]
+        ensures { result.now ≡ get_or self.now.catches method [] }
+    {
+        match self.catches.get(method as usize) {
+            Some(catches) => catches,
+            None => &[],
+        }
+    }
+
+    // The array type of a number.
+    fn array_type(&self, n: u32) -> Option<ArrayType>
+        ensures { result ≡ spec.array_type self.now n }
+    {
+        let count = self.name_count();
+        if n < count {
+            return None;
+        }
+        self.arrays.get((n - count) as usize).copied()
+    }
+
+    /// The type of the objects of a class or an array class.
+    pub fn class_type(&self, class: u32) -> VType
+        ensures { result ≡ spec.class_type self.now class }
+    {
+        match self.array_type(class) {
+            Some(array) => VType::Named(array.dimensions, array.base),
+            None => VType::Named(0, Base::Class(class)),
+        }
+    }
+}
