@@ -25,28 +25,28 @@ pub struct Owner {
     pub count: u32,
 }
 
-/// A monitor in use: its owner, and the slot with its two lists of threads.
+/// A monitor in use: its owner, and the number of its pair of lists of threads.
 #[derive(Clone, Copy, Debug)]
 pub struct Record {
     pub owner: Option<Owner>,
-    pub slot: u32,
+    pub pair: u32,
 }
 
 impl Record {
     /// The list of the threads that wait to take the monitor.
     pub fn entry(self) -> u32
-        requires { waits_of self.slot < 2 ^ 32 }
-        ensures { result ≡ entry_of self.slot }
+        requires { waits_of self.pair < 2 ^ 32 }
+        ensures { result ≡ entry_of self.pair }
     {
-        2 * self.slot
+        2 * self.pair
     }
 
     /// The list of the threads that wait to be notified.
     pub fn waits(self) -> u32
-        requires { waits_of self.slot < 2 ^ 32 }
-        ensures { result ≡ waits_of self.slot }
+        requires { waits_of self.pair < 2 ^ 32 }
+        ensures { result ≡ waits_of self.pair }
     {
-        2 * self.slot + 1
+        2 * self.pair + 1
     }
 
     /// The owner.
@@ -86,7 +86,7 @@ impl Record {
     {
         Record {
             owner: Some(Owner { thread, count }),
-            slot: self.slot,
+            pair: self.pair,
         }
     }
 
@@ -96,35 +96,35 @@ impl Record {
     {
         Record {
             owner: None,
-            slot: self.slot,
+            pair: self.pair,
         }
     }
 }
 
 /// The first thread that waits to take a monitor.
 pub fn first_in_line(lists: &ThreadLists, kept: Record) -> Option<u32>
-    requires inside { waits_of kept.slot < length lists.now.lists }
-    requires fits { waits_of kept.slot < 2 ^ 32 }
-    ensures { result ≡ first lists.now.lists (entry_of kept.slot) }
+    requires inside { waits_of kept.pair < length lists.now.lists }
+    requires fits { waits_of kept.pair < 2 ^ 32 }
+    ensures { result ≡ first lists.now.lists (entry_of kept.pair) }
 {
     lists.first(kept.entry())
 }
 
 /// The first thread that waits to be notified.
 pub fn first_waiter(lists: &ThreadLists, kept: Record) -> Option<u32>
-    requires inside { waits_of kept.slot < length lists.now.lists }
-    requires fits { waits_of kept.slot < 2 ^ 32 }
-    ensures { result ≡ first lists.now.lists (waits_of kept.slot) }
+    requires inside { waits_of kept.pair < length lists.now.lists }
+    requires fits { waits_of kept.pair < 2 ^ 32 }
+    ensures { result ≡ first lists.now.lists (waits_of kept.pair) }
 {
     lists.first(kept.waits())
 }
 
 /// Whether no thread is in a list of a monitor.
 pub fn is_deserted(lists: &ThreadLists, kept: Record) -> bool
-    requires inside { waits_of kept.slot < length lists.now.lists }
-    requires fits { waits_of kept.slot < 2 ^ 32 }
-    ensures { result ≡ (is_empty (list_at lists.now.lists (entry_of kept.slot))
-        && is_empty (list_at lists.now.lists (waits_of kept.slot))) }
+    requires inside { waits_of kept.pair < length lists.now.lists }
+    requires fits { waits_of kept.pair < 2 ^ 32 }
+    ensures { result ≡ (is_empty (list_at lists.now.lists (entry_of kept.pair))
+        && is_empty (list_at lists.now.lists (waits_of kept.pair))) }
 {
     first_in_line(lists, kept).is_none() && first_waiter(lists, kept).is_none()
 }
@@ -178,49 +178,49 @@ pub fn drop_record(records: &mut HashMap<u32, Record>, o: u32)
     let _ = records.remove(&o);
 }
 
-/// Takes a vacant slot.
-pub fn take_slot(vacant: &mut Vec<u32>) -> u32
+/// Takes a vacant pair of lists.
+pub fn take_pair(vacant: &mut Vec<u32>) -> u32
     requires { 0 < vec_len vacant.old }
     ensures items { vacant.old.items ≡ vacant.new.items ++ result ∷ [] }
     ensures len { vec_len vacant.old ≡ vec_len vacant.new + 1 }
     ensures capacity { vec_capacity vacant.new ≡ vec_capacity vacant.old }
 {
-    let Some(slot) = vacant.pop() else {
+    let Some(pair) = vacant.pop() else {
         unreachable!()
     };
-    slot
+    pair
 }
 
-/// Makes one more slot, which is vacant. After an error there are as many as before.
-fn add_slot(vacant: &mut Vec<u32>, slots: &mut u32, lists: &mut ThreadLists) -> Result<(), NoMemory>
-    requires slots { 2 * slots.old ≡ length lists.old.lists }
-    requires capacity { slots.old ≤ vec_capacity vacant.old }
-    ensures grows { Grows vacant.old slots.old lists.old vacant.new slots.new lists.new }
+/// Makes one more pair of lists, which is vacant. After an error there are as many as before.
+fn add_pair(vacant: &mut Vec<u32>, pairs: &mut u32, lists: &mut ThreadLists) -> Result<(), NoMemory>
+    requires pairs { 2 * pairs.old ≡ length lists.old.lists }
+    requires capacity { pairs.old ≤ vec_capacity vacant.old }
+    ensures grows { Grows vacant.old pairs.old lists.old vacant.new pairs.new lists.new }
     ensures ok { OnOk result (vec_len vacant.new ≡ vec_len vacant.old + 1) }
 {
     lists.once();
-    let most = vacant.len().max(*slots as usize);
+    let most = vacant.len().max(*pairs as usize);
     vacant.reserve(most + 1 - vacant.len())?;
     lists.add_lists(2)?;
-    vacant.push_reserved(*slots);
-    *slots += 1;
+    vacant.push_reserved(*pairs);
+    *pairs += 1;
     Ok(())
 }
 
-/// Makes slots until this many are vacant. After an error there may be more than before.
-pub fn add_slots(
+/// Makes pairs of lists until this many are vacant. After an error there may be more than before.
+pub fn add_pairs(
     vacant: &mut Vec<u32>,
-    slots: &mut u32,
+    pairs: &mut u32,
     lists: &mut ThreadLists,
     count: u32,
 ) -> Result<(), NoMemory>
-    requires slots { 2 * slots.old ≡ length lists.old.lists }
-    requires capacity { slots.old ≤ vec_capacity vacant.old }
-    ensures grows { Grows vacant.old slots.old lists.old vacant.new slots.new lists.new }
+    requires pairs { 2 * pairs.old ≡ length lists.old.lists }
+    requires capacity { pairs.old ≤ vec_capacity vacant.old }
+    ensures grows { Grows vacant.old pairs.old lists.old vacant.new pairs.new lists.new }
     ensures ok { OnOk result (count ≤ vec_len vacant.new) }
 {
     for _i in vacant.len()..count as usize {
-        add_slot(vacant, slots, lists)?;
+        add_pair(vacant, pairs, lists)?;
     }
     Ok(())
 }

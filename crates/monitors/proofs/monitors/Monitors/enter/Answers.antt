@@ -8,7 +8,7 @@ use Rattle.monitors.proofs.monitors.Monitors.enter.Goals as goal
 
 pub invariant_of-self : goal.invariant_of-self
 invariant_of-self c =
-    (enter_opens c.self.inside c.self.invariant c.args.o c.take_slot-slot.result (sym c.find.ensures ∙ c.in_default.is) c.take_slot-slot.new.vacant c.take_slot-slot.ensures.items c.take_slot-slot.ensures.len c.take_slot-slot.ensures.capacity c.args.t c.put.new.records (c.put.ensures.now ∙ ap Some c.owned_by.ensures) c.put.ensures.others c.put.ensures.len c.put.ensures.spare).kept
+    (enter_opens c.self.inside c.self.invariant c.args.o c.take_pair-pair.result (sym c.find.ensures ∙ c.in_default.is) c.take_pair-pair.new.vacant c.take_pair-pair.ensures.items c.take_pair-pair.ensures.len c.take_pair-pair.ensures.capacity c.args.t c.put.new.records (c.put.ensures.now ∙ ap Some c.owned_by.ensures) c.put.ensures.others c.put.ensures.len c.put.ensures.spare).kept
 
 pub returns-in_default-clause-entered : goal.returns-in_default-clause-entered
 returns-in_default-clause-entered c =
@@ -16,7 +16,7 @@ returns-in_default-clause-entered c =
 
 pub returns-in_default-clause-monitor : goal.returns-in_default-clause-monitor
 returns-in_default-clause-monitor c =
-    rw (← c.self.view_is) (enter_opens c.self.inside c.self.invariant c.args.o c.take_slot-slot.result (sym c.find.ensures ∙ c.in_default.is) c.take_slot-slot.new.vacant c.take_slot-slot.ensures.items c.take_slot-slot.ensures.len c.take_slot-slot.ensures.capacity c.args.t c.put.new.records (c.put.ensures.now ∙ ap Some c.owned_by.ensures) c.put.ensures.others c.put.ensures.len c.put.ensures.spare).becomes
+    rw (← c.self.view_is) (enter_opens c.self.inside c.self.invariant c.args.o c.take_pair-pair.result (sym c.find.ensures ∙ c.in_default.is) c.take_pair-pair.new.vacant c.take_pair-pair.ensures.items c.take_pair-pair.ensures.len c.take_pair-pair.ensures.capacity c.args.t c.put.new.records (c.put.ensures.now ∙ ap Some c.owned_by.ensures) c.put.ensures.others c.put.ensures.len c.put.ensures.spare).becomes
 
 pub push-requires-clause-free : goal.push-requires-clause-free
 push-requires-clause-free c =

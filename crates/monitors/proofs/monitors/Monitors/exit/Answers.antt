@@ -24,7 +24,7 @@ returns-then-left-gt0-clause-owner c =
 
 pub returns-then-left-gt0-clause-woken : goal.returns-then-left-gt0-clause-woken
 returns-then-left-gt0-clause-woken c =
-    rw (← c.self.view_is) (sym (ap woken_by_exit (in_use_is c.self.inside c.args.o c.in_ok-kept.kept c.in_ok-kept.ensures.found) ∙ ap (λ (b : Bool). if b then None else slice_get (list_at c.self.inside.lists.lists (entry_of c.in_ok-kept.kept.slot)) 0) (lt-ltb 1 (count_of c.in_ok-kept.kept.owner) (omega (arith, c.count.ensures, c.saturating_sub-left.ensures, c.if-left-gt0.true)))))
+    rw (← c.self.view_is) (sym (ap woken_by_exit (in_use_is c.self.inside c.args.o c.in_ok-kept.kept c.in_ok-kept.ensures.found) ∙ ap (λ (b : Bool). if b then None else slice_get (list_at c.self.inside.lists.lists (entry_of c.in_ok-kept.kept.pair)) 0) (lt-ltb 1 (count_of c.in_ok-kept.kept.owner) (omega (arith, c.count.ensures, c.saturating_sub-left.ensures, c.if-left-gt0.true)))))
 
 pub returns-then-left-gt0-clause-ok : goal.returns-then-left-gt0-clause-ok
 returns-then-left-gt0-clause-ok c =
@@ -44,7 +44,7 @@ returns-then-is_deserted-clause-owner c =
 
 pub returns-then-is_deserted-clause-woken : goal.returns-then-is_deserted-clause-woken
 returns-then-is_deserted-clause-woken c =
-    rw (← c.self.view_is) (sym (ap woken_by_exit (in_use_is c.self.inside c.args.o c.in_ok-kept.kept c.in_ok-kept.ensures.found) ∙ ap (λ (b : Bool). if b then None else slice_get (list_at c.self.inside.lists.lists (entry_of c.in_ok-kept.kept.slot)) 0) (le-ltb 1 (count_of c.in_ok-kept.kept.owner) (omega (arith, c.count.ensures, c.saturating_sub-left.ensures, c.if-left-gt0.false))) ∙ ap (λ xs. slice_get xs 0) (call.empty_first (list_at c.self.inside.lists.lists (entry_of c.in_ok-kept.kept.slot)) (list_at c.self.inside.lists.lists (waits_of c.in_ok-kept.kept.slot)) (sym c.is_deserted.ensures ∙ c.if-is_deserted.true))))
+    rw (← c.self.view_is) (sym (ap woken_by_exit (in_use_is c.self.inside c.args.o c.in_ok-kept.kept c.in_ok-kept.ensures.found) ∙ ap (λ (b : Bool). if b then None else slice_get (list_at c.self.inside.lists.lists (entry_of c.in_ok-kept.kept.pair)) 0) (le-ltb 1 (count_of c.in_ok-kept.kept.owner) (omega (arith, c.count.ensures, c.saturating_sub-left.ensures, c.if-left-gt0.false))) ∙ ap (λ xs. slice_get xs 0) (call.empty_first (list_at c.self.inside.lists.lists (entry_of c.in_ok-kept.kept.pair)) (list_at c.self.inside.lists.lists (waits_of c.in_ok-kept.kept.pair)) (sym c.is_deserted.ensures ∙ c.if-is_deserted.true))))
 
 pub returns-then-is_deserted-clause-ok : goal.returns-then-is_deserted-clause-ok
 returns-then-is_deserted-clause-ok c =
@@ -60,7 +60,7 @@ returns-clause-owner c =
 
 pub returns-clause-woken : goal.returns-clause-woken
 returns-clause-woken c =
-    rw (← c.self.view_is) (c.first_in_line.ensures ∙ sym (ap woken_by_exit (in_use_is c.self.inside c.args.o c.in_ok-kept.kept c.in_ok-kept.ensures.found) ∙ ap (λ (b : Bool). if b then None else slice_get (list_at c.self.inside.lists.lists (entry_of c.in_ok-kept.kept.slot)) 0) (le-ltb 1 (count_of c.in_ok-kept.kept.owner) (omega (arith, c.count.ensures, c.saturating_sub-left.ensures, c.if-left-gt0.false)))))
+    rw (← c.self.view_is) (c.first_in_line.ensures ∙ sym (ap woken_by_exit (in_use_is c.self.inside c.args.o c.in_ok-kept.kept c.in_ok-kept.ensures.found) ∙ ap (λ (b : Bool). if b then None else slice_get (list_at c.self.inside.lists.lists (entry_of c.in_ok-kept.kept.pair)) 0) (le-ltb 1 (count_of c.in_ok-kept.kept.owner) (omega (arith, c.count.ensures, c.saturating_sub-left.ensures, c.if-left-gt0.false)))))
 
 pub returns-clause-ok : goal.returns-clause-ok
 returns-clause-ok c =
