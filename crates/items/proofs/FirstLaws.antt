@@ -1,9 +1,9 @@
 -- The first of a list, by its definition and as a relation.
-use Rattle.std.proofs.Common.{◌≡◌, Bool, true, false, List, [], ◌∷◌, ◌++◌, Option, Some, None, refl, ap, sym, ◌∙◌}
+use Rattle.std.proofs.Common.{◌≡◌, Bool, true, false, List, [], ◌∷◌, ◌++◌, Option, Some, None, refl, ap, ◌∙◌}
 use Rattle.std.specs.Prelude.{map}
 use Rattle.std.specs.Option.{option_map, option_or}
 use Rattle.std.specs.List.{flat_map}
-use Rattle.items.specs.First.{unless, first_some, first_in, Each, AllNone, IsFirst}
+use Rattle.items.specs.First.{unless, first_some, first_in, AllNone, IsFirst}
 
 -- ---- one that may be there
 

@@ -1,5 +1,5 @@
 -- A well typed program as a relation for each instruction, without an order of rules (JVMS 4.10.1).
-use Rattle.std.specs.Prelude.{◌≡◌, ℕ, true, false, List, [], ◌∷◌, ◌++◌, Option, Some, None, Ok, ◌&&◌}
+use Rattle.std.specs.Prelude.{◌≡◌, ℕ, true, false, [], Some, Ok, ◌&&◌}
 use Rattle.std.specs.List.{list_all}
 use Rattle.items.specs.First.{Each}
 use Rattle.instruction_rows.specs.Rows.{targets_of_row, row_goes_on}

@@ -1,4 +1,4 @@
-use Rattle.std.proofs.Common.{◌≡◌, List, ap, sym, ◌∙◌}
+use Rattle.std.proofs.Common.{List, ap, sym, ◌∙◌}
 use Rattle.class_model.specs.declared.attribute.Attribute.{Attribute}
 use Rattle.items.specs.First.{first_in}
 use Rattle.linkage.specs.Faults.{attribute_faults}

@@ -1,5 +1,4 @@
 use Rattle.std.proofs.Common.{◌≡◌, drop}
-use Rattle.std.specs.List.{enumerate_from}
 use Rattle.items.specs.First.{first_in}
 use Rattle.link_checks.specs.Firsts.{code_why}
 use Rattle.link_checks.proofs.program.codes_fault.Given as goal
