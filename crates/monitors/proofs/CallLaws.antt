@@ -1,10 +1,12 @@
 -- What each call leaves of the monitor that it changes.
 use Rattle.std.proofs.Common.{◌≡◌, ◌+◌, ◌-◌, ◌<◌, ◌≤◌, ◌&&◌, ◌==◌, ◌↔◌, ℕ, Bool, true, false, List, [], ◌∷◌, ◌++◌, Option, Some, None, append-nil, drop, if◌then◌else◌, is_none, is_some, add-zero, not, length, length-append, nat_eq, nat_lt, set, slice_get, take, sym, ◌∙◌, ap, subst, refl, arith, inl, inr, vec_len}
+use Rattle.std.specs.Prelude.{map, min}
+use Rattle.std.specs.Map.{lookup}
 use Rattle.std.specs.declared.hash.BuildHasherDefault.{BuildHasherDefault}
 use Rattle.std.specs.declared.hash.FoldHasher.{FoldHasher}
 use Rattle.std.specs.Global.{Vec}
 use Rattle.std.specs.HashMap.{HashMap, get, hash_map_len, spare}
-use Rattle.std.specs.Option.{option_and_then}
+use Rattle.std.specs.Option.{IfSome, option_and_then}
 use Rattle.std.specs.Vec.{vec_capacity}
 use Rattle.std.proofs.lemmas.Bool.{cases_eq, cases_lt, eq-eqb}
 use Rattle.std.proofs.lemmas.Bool.Decides.{nat_tests}
@@ -14,7 +16,7 @@ use Rattle.monitors.specs.declared.records.Owner.{Owner}
 use Rattle.monitors.specs.declared.records.Record.{Record}
 use Rattle.monitors.specs.declared.monitors.Monitors.TheInside.{Inside}
 use Rattle.monitors.specs.Monitors.{InNoList, IsInLine, IsWaiting, Monitor, after_enter, after_exit, after_leave_wait, after_line_up, after_notify, after_notify_all, after_retake, after_wait, free, is_empty, is_free, is_taken, count_in, monitor_of}
-use Rattle.monitors.specs.Records.{IsKept, count_of, entry_of, seen, thread_of, waits_of}
+use Rattle.monitors.specs.Records.{Fits, IsKept, count_of, entered, entry_of, known, left, left_by, seen, thread_of, waits_of}
 use Rattle.monitors.proofs.ListLaws.{Paired, Paired-entry, Paired-push, Paired-same, Paired-wait, Paired-waits}
 use Rattle.monitors.proofs.MonitorLaws.{After, After-change, After-close, After-is, After-open, free_thread, in_use_is, unused_is}
 use Rattle.monitors.proofs.RecordLaws.{KeepsRecords}
@@ -103,21 +105,31 @@ module _ (a : Inside) (kept : IsKept a) (o : ℕ) (r : Record) (was : get nat_eq
       Paired-push a.lists.lists (set a.lists.lists (waits_of r.pair) (without t waits)) r.pair entry (without t waits) (t ∷ []) inside
       (Paired-waits a.lists.lists a.lists.lists r.pair entry waits (without t waits) inside (Paired-same a.lists.lists r.pair))
 
+  -- the record after a thread enters, by whether another is the owner
+  entered_by : (t : ℕ) (taken : Bool) → is_taken (thread_of r.owner) t ≡ taken → Some (entered t r) ≡ Some (if taken then r else record r { owner = Some (record { thread = t; count = count_of r.owner + 1 }) })
+  entered_by t taken e = ap (λ (b : Bool). Some (if b then r else record r { owner = Some (record { thread = t; count = count_of r.owner + 1 }) })) e
+
+  -- the vacant pairs stay
+  with_vacant : (m : Monitor) (records : Records) (vacant : Vec ℕ) (lists : Lists) → vacant ≡ a.vacant → After a o m (record a { records = records; lists = lists }) → After a o m (record a { records = records; vacant = vacant; lists = lists })
+  with_vacant m records vacant lists e after = subst (λ (v : Vec ℕ). After a o m (record a { records = records; vacant = v; lists = lists })) (sym e) after
+
   -- a thread waits for a monitor that another owns
-  pub enter_blocks : (t : ℕ) (lists : Lists) → is_taken (thread_of r.owner) t ≡ true → lists ≡ record a.lists { lists = push a.lists.lists (entry_of r.pair) (t ∷ []) } → After a o (after_enter t (monitor_of (seen a) o)) (record a { lists = lists })
-  enter_blocks t lists taken e =
-      After-is a o (monitor r.owner (entry ++ t ∷ []) waits) (after_enter t (monitor_of (seen a) o)) (record a { lists = lists })
+  pub enter_blocks : (t : ℕ) (records : Records) (vacant : Vec ℕ) (lists : Lists) → is_taken (thread_of r.owner) t ≡ true → get nat_eq records o ≡ Some (entered t r) → KeepsRecords (get nat_eq a.records) (get nat_eq records) o → hash_map_len records ≡ hash_map_len a.records + (if is_some (get nat_eq a.records o) then 0 else 1) → spare a.records ≤ spare records + 1 → vacant ≡ a.vacant → lists ≡ record a.lists { lists = push a.lists.lists (entry_of r.pair) (t ∷ []) } → After a o (after_enter t (monitor_of (seen a) o)) (record a { records = records; vacant = vacant; lists = lists })
+  enter_blocks t records vacant lists taken now others size more same e =
+      with_vacant (after_enter t (monitor_of (seen a) o)) records vacant lists same
+      (After-is a o (monitor r.owner (entry ++ t ∷ []) waits) (after_enter t (monitor_of (seen a) o)) (record a { records = records; lists = lists })
       (sym (ap (λ (b : Bool). if b then monitor r.owner (entry ++ t ∷ []) waits else record { owner = Some t; count = count_of r.owner + 1; entry = entry; waits = waits }) taken) ∙ ap (after_enter t) (sym (in_use_is a o r was)))
-      (lists_change lists (record a.lists { lists = push a.lists.lists (entry_of r.pair) (t ∷ []) }) (entry ++ t ∷ []) waits e (pushed t) refl (used-entry (monitor r.owner (entry ++ t ∷ []) waits) (is_empty-push entry t)))
+      (both_change records lists (record a.lists { lists = push a.lists.lists (entry_of r.pair) (t ∷ []) }) r.owner (entry ++ t ∷ []) waits (now ∙ entered_by t true taken) others size more e (pushed t) refl (used-entry (monitor r.owner (entry ++ t ∷ []) waits) (is_empty-push entry t))))
 
   -- a thread takes a monitor, or enters it once more
-  pub enter_takes : (t n : ℕ) (records : Records) → is_taken (thread_of r.owner) t ≡ false → n ≡ count_of r.owner + 1 → get nat_eq records o ≡ Some (record r { owner = Some (record { thread = t; count = n }) }) → KeepsRecords (get nat_eq a.records) (get nat_eq records) o → hash_map_len records ≡ hash_map_len a.records + (if is_some (get nat_eq a.records o) then 0 else 1) → spare a.records ≤ spare records + 1 → After a o (after_enter t (monitor_of (seen a) o)) (record a { records = records })
-  enter_takes t n records taken e now others size more =
-      After-is a o (monitor (Some (record { thread = t; count = n })) entry waits) (after_enter t (monitor_of (seen a) o)) (record a { records = records })
-      (ap (λ k. record { owner = Some t; count = k; entry = entry; waits = waits }) e
-      ∙ sym (ap (λ (b : Bool). if b then monitor r.owner (entry ++ t ∷ []) waits else record { owner = Some t; count = count_of r.owner + 1; entry = entry; waits = waits }) taken)
+  pub enter_takes : (t : ℕ) (records : Records) (vacant : Vec ℕ) → is_taken (thread_of r.owner) t ≡ false → get nat_eq records o ≡ Some (entered t r) → KeepsRecords (get nat_eq a.records) (get nat_eq records) o → hash_map_len records ≡ hash_map_len a.records + (if is_some (get nat_eq a.records o) then 0 else 1) → spare a.records ≤ spare records + 1 → vacant ≡ a.vacant → After a o (after_enter t (monitor_of (seen a) o)) (record a { records = records; vacant = vacant })
+  enter_takes t records vacant taken now others size more same =
+      let owner : Option Owner = Some (record { thread = t; count = count_of r.owner + 1 }) in
+      with_vacant (after_enter t (monitor_of (seen a) o)) records vacant a.lists same
+      (After-is a o (monitor owner entry waits) (after_enter t (monitor_of (seen a) o)) (record a { records = records })
+      (sym (ap (λ (b : Bool). if b then monitor r.owner (entry ++ t ∷ []) waits else record { owner = Some t; count = count_of r.owner + 1; entry = entry; waits = waits }) taken)
       ∙ ap (after_enter t) (sym (in_use_is a o r was)))
-      (owner_change records (Some (record { thread = t; count = n })) now others size more refl)
+      (owner_change records owner (now ∙ entered_by t false taken) others size more refl))
 
   -- a thread count_in up
   pub line_up_adds : (t : ℕ) (lists : Lists) → lists ≡ record a.lists { lists = push a.lists.lists (entry_of r.pair) (t ∷ []) } → After a o (after_line_up t (monitor_of (seen a) o)) (record a { lists = lists })
@@ -132,15 +144,28 @@ module _ (a : Inside) (kept : IsKept a) (o : ℕ) (r : Record) (was : get nat_eq
       (both_change records lists (record a.lists { lists = set a.lists.lists (entry_of r.pair) (without t entry) }) (Some (record { thread = t; count = n })) (without t entry) waits now others size more e
       (Paired-entry a.lists.lists a.lists.lists r.pair entry waits (without t entry) inside (Paired-same a.lists.lists r.pair)) refl refl)
 
+  -- what is left of an owner that leaves once
+  left_is : (owner : Option Owner) (t : ℕ) (again : Bool) → thread_of owner ≡ Some t → nat_lt 1 (count_of owner) ≡ again → option_and_then left_by owner ≡ (if again then Some (record { thread = t; count = count_of owner - 1 }) else None)
+  left_is None t again owned e = absurd cc
+  left_is (Some w) t again owned e =
+      let same : w.thread ≡ t = cc in
+      let some : ℕ → Option Owner = λ n. Some (record { thread = n; count = w.count - 1 }) in
+      ap (λ (b : Bool). if b then some w.thread else None) e ∙ ap (λ n. if again then some n else None) same
+
+  left_change : (records : Records) (t : ℕ) (again : Bool) → thread_of r.owner ≡ Some t → nat_lt 1 (count_of r.owner) ≡ again → get nat_eq records o ≡ Some (left r) → KeepsRecords (get nat_eq a.records) (get nat_eq records) o → hash_map_len records ≡ hash_map_len a.records → spare records ≡ spare a.records → is_free (monitor (if again then Some (record { thread = t; count = count_of r.owner - 1 }) else None) entry waits) ≡ false → After a o (monitor (if again then Some (record { thread = t; count = count_of r.owner - 1 }) else None) entry waits) (record a { records = records })
+  left_change records t again owned e now others size room used =
+      owner_change records (if again then Some (record { thread = t; count = count_of r.owner - 1 }) else None)
+      (now ∙ ap (λ (owner : Option Owner). Some (record r { owner = owner })) (left_is r.owner t again owned e)) others
+      (size ∙ sym (ap (λ x. hash_map_len a.records + (if is_some x then 0 else 1)) was ∙ add-zero (hash_map_len a.records))) (omega (arith, room)) used
+
   -- the owner leaves a monitor that it entered more than once
-  pub exit_lowers : (t n : ℕ) (records : Records) → thread_of r.owner ≡ Some t → nat_lt 1 (count_of r.owner) ≡ true → n ≡ count_of r.owner - 1 → get nat_eq records o ≡ Some (record r { owner = Some (record { thread = t; count = n }) }) → KeepsRecords (get nat_eq a.records) (get nat_eq records) o → hash_map_len records ≡ hash_map_len a.records + (if is_some (get nat_eq a.records o) then 0 else 1) → spare a.records ≤ spare records + 1 → After a o (after_exit (monitor_of (seen a) o)) (record a { records = records })
-  exit_lowers t n records owned more_than_once e now others size more =
-      After-is a o (monitor (Some (record { thread = t; count = n })) entry waits) (after_exit (monitor_of (seen a) o)) (record a { records = records })
-      (ap (λ x. record { owner = x; count = n; entry = entry; waits = waits }) (sym owned)
-      ∙ ap (λ k. record { owner = thread_of r.owner; count = k; entry = entry; waits = waits }) e
-      ∙ sym (ap (λ (b : Bool). if b then record { owner = thread_of r.owner; count = count_of r.owner - 1; entry = entry; waits = waits } else record { owner = None; count = 0; entry = entry; waits = waits }) more_than_once)
+  pub exit_lowers : (t : ℕ) (records : Records) → thread_of r.owner ≡ Some t → nat_lt 1 (count_of r.owner) ≡ true → get nat_eq records o ≡ Some (left r) → KeepsRecords (get nat_eq a.records) (get nat_eq records) o → hash_map_len records ≡ hash_map_len a.records → spare records ≡ spare a.records → After a o (after_exit (monitor_of (seen a) o)) (record a { records = records })
+  exit_lowers t records owned again now others size room =
+      After-is a o (monitor (Some (record { thread = t; count = count_of r.owner - 1 })) entry waits) (after_exit (monitor_of (seen a) o)) (record a { records = records })
+      (ap (λ x. record { owner = x; count = count_of r.owner - 1; entry = entry; waits = waits }) (sym owned)
+      ∙ sym (ap (λ (b : Bool). if b then record { owner = thread_of r.owner; count = count_of r.owner - 1; entry = entry; waits = waits } else record { owner = None; count = 0; entry = entry; waits = waits }) again)
       ∙ ap after_exit (sym (in_use_is a o r was)))
-      (owner_change records (Some (record { thread = t; count = n })) now others size more refl)
+      (left_change records t true owned again now others size room refl)
 
   exits : nat_lt 1 (count_of r.owner) ≡ false → record { owner = None; count = 0; entry = entry; waits = waits } ≡ after_exit (monitor_of (seen a) o)
   exits once =
@@ -148,18 +173,22 @@ module _ (a : Inside) (kept : IsKept a) (o : ℕ) (r : Record) (was : get nat_eq
       ∙ ap after_exit (sym (in_use_is a o r was))
 
   -- it leaves one for which others wait
-  pub exit_leaves : (records : Records) → nat_lt 1 (count_of r.owner) ≡ false → is_empty entry && is_empty waits ≡ false → get nat_eq records o ≡ Some (record r { owner = None }) → KeepsRecords (get nat_eq a.records) (get nat_eq records) o → hash_map_len records ≡ hash_map_len a.records + (if is_some (get nat_eq a.records o) then 0 else 1) → spare a.records ≤ spare records + 1 → After a o (after_exit (monitor_of (seen a) o)) (record a { records = records })
-  exit_leaves records once lined now others size more =
-      After-is a o (monitor None entry waits) (after_exit (monitor_of (seen a) o)) (record a { records = records }) (exits once) (owner_change records None now others size more lined)
+  pub exit_leaves : (t : ℕ) (records : Records) → thread_of r.owner ≡ Some t → nat_lt 1 (count_of r.owner) ≡ false → is_empty entry && is_empty waits ≡ false → get nat_eq records o ≡ Some (left r) → KeepsRecords (get nat_eq a.records) (get nat_eq records) o → hash_map_len records ≡ hash_map_len a.records → spare records ≡ spare a.records → After a o (after_exit (monitor_of (seen a) o)) (record a { records = records })
+  exit_leaves t records owned once lined now others size room =
+      After-is a o (monitor None entry waits) (after_exit (monitor_of (seen a) o)) (record a { records = records }) (exits once) (left_change records t false owned once now others size room lined)
 
   -- it leaves one for which nobody waits
-  pub exit_closes : (records : Records) (vacant : Vec ℕ) → nat_lt 1 (count_of r.owner) ≡ false → is_empty entry && is_empty waits ≡ true → get nat_eq records o ≡ None → KeepsRecords (get nat_eq a.records) (get nat_eq records) o → hash_map_len records + (if is_some (get nat_eq a.records o) then 1 else 0) ≡ hash_map_len a.records → spare a.records ≤ spare records → vacant.items ≡ a.vacant.items ++ r.pair ∷ [] → vec_len vacant ≡ vec_len a.vacant + 1 → vec_capacity vacant ≡ vec_capacity a.vacant → After a o (after_exit (monitor_of (seen a) o)) (record a { records = records; vacant = vacant })
-  exit_closes records vacant once deserted now others size more items len capacity =
+  pub exit_closes : (between records : Records) (vacant : Vec ℕ) → nat_lt 1 (count_of r.owner) ≡ false → is_empty entry && is_empty waits ≡ true
+      → get nat_eq between o ≡ Some (left r) → KeepsRecords (get nat_eq a.records) (get nat_eq between) o → hash_map_len between ≡ hash_map_len a.records → spare between ≡ spare a.records
+      → get nat_eq records o ≡ None → KeepsRecords (get nat_eq between) (get nat_eq records) o → hash_map_len records + (if is_some (get nat_eq between o) then 1 else 0) ≡ hash_map_len between → spare between ≤ spare records
+      → vacant.items ≡ a.vacant.items ++ r.pair ∷ [] → vec_len vacant ≡ vec_len a.vacant + 1 → vec_capacity vacant ≡ vec_capacity a.vacant → After a o (after_exit (monitor_of (seen a) o)) (record a { records = records; vacant = vacant })
+  exit_closes between records vacant once deserted left_now left_others left_size left_room now others size more items len capacity =
       let none = empty_first entry waits deserted in
       let nobody = empty_second entry waits deserted in
       After-is a o free (after_exit (monitor_of (seen a) o)) (record a { records = records; vacant = vacant })
       (sym (ap (λ xs. record { owner = None; count = 0; entry = xs; waits = waits }) none ∙ ap (λ xs. record { owner = None; count = 0; entry = []; waits = xs }) nobody) ∙ exits once)
-      (After-close a (record a { records = records; vacant = vacant }) kept o r was now others (sym (ap (λ x. hash_map_len records + (if is_some x then 1 else 0)) was) ∙ size) more items len capacity refl refl none nobody)
+      (After-close a (record a { records = records; vacant = vacant }) kept o r was now (λ p ne. others p ne ∙ left_others p ne)
+      (sym (ap (λ x. hash_map_len records + (if is_some x then 1 else 0)) left_now) ∙ size ∙ left_size) (omega (arith, more, left_room)) items len capacity refl refl none nobody)
 
   -- the owner leaves a monitor wholly and waits
   pub wait_leaves : (t : ℕ) (records : Records) (lists : Lists) → get nat_eq records o ≡ Some (record r { owner = None }) → KeepsRecords (get nat_eq a.records) (get nat_eq records) o → hash_map_len records ≡ hash_map_len a.records + (if is_some (get nat_eq a.records o) then 0 else 1) → spare a.records ≤ spare records + 1 → lists ≡ record a.lists { lists = push a.lists.lists (waits_of r.pair) (t ∷ []) } → After a o (after_wait t (monitor_of (seen a) o)) (record a { records = records; lists = lists })
@@ -236,6 +265,29 @@ in_line_used a o t none h = let w : 0 < count t [] = subst (IsInLine t) (unused_
 
 pub waiting_used : (a : Inside) (o t : ℕ) → get nat_eq a.records o ≡ None → IsWaiting t (monitor_of (seen a) o) → ⊥
 waiting_used a o t none h = let w : 0 < count t [] = subst (IsWaiting t) (unused_is a o none) h in omega (arith, w)
+
+-- a count that a thread may raise
+pub count_fits : (a : Inside) (o : ℕ) → (monitor_of (seen a) o).count + 1 < 4294967296 → IfSome (get nat_eq a.records o) (λ (r : Record). count_of r.owner + 1 < 4294967296)
+count_fits a o h = by (get nat_eq a.records o) refl
+  where
+    by : (x : Option Record) → get nat_eq a.records o ≡ x → IfSome x (λ (r : Record). count_of r.owner + 1 < 4294967296)
+    by None i = tt
+    by (Some r) i = subst (λ (m : Monitor). m.count + 1 < 4294967296) (in_use_is a o r i) h
+
+-- the same entries
+pub same_entries : (a : Inside) (records : Records) → IsKept a → records.entries ≡ a.records.entries → IsKept (record a { records = records })
+same_entries a records kept e =
+    record {
+      fits = subst (λ (es : List (ℕ × Record)). Fits (λ o. lookup (nat_eq o) es) a.vacant.items a.lists.lists) (sym e) kept.fits;
+      pairs = kept.pairs;
+      capacity = kept.capacity;
+      whole = omega (arith, kept.whole, ap (λ (es : List (ℕ × Record)). length es) e);
+    }
+
+pub same_seen : (a : Inside) (records : Records) → records.entries ≡ a.records.entries → spare records ≡ spare a.records → seen (record a { records = records }) ≡ seen a
+same_seen a records e room =
+    ap (λ (es : List (ℕ × Record)). record { used = map (λ (x : ℕ × Record). (x.0, known a.lists.lists x.1)) es; threads = a.lists.threads; spare = min (spare records) (vec_len a.vacant) }) e
+    ∙ ap (λ n. record { used = map (λ (x : ℕ × Record). (x.0, known a.lists.lists x.1)) a.records.entries; threads = a.lists.threads; spare = min n (vec_len a.vacant) }) room
 
 -- a call by a thread that isn't the owner
 pub by_other : (a : Inside) (o t : ℕ) (owner : Option ℕ) → owner ≡ option_and_then (λ (r : Record). thread_of r.owner) (get nat_eq a.records o) → (owner ≡ Some t → ⊥) → (owner ≡ (monitor_of (seen a) o).owner) × ((monitor_of (seen a) o).owner ≡ Some t → ⊥)

@@ -1,13 +1,14 @@
 -- How monitors are kept: those in use have a record, and each record has a pair of lists of threads, by its number.
-use Rattle.std.specs.Prelude.{◌≡◌, ◌≤◌, ◌<◌, ◌+◌, ◌*◌, ◌⊎◌, ℕ, false, List, [], Option, None, Some, length, map, min, nat_eq, vec_len}
+use Rattle.std.specs.Prelude.{◌≡◌, ◌≤◌, ◌<◌, ◌+◌, ◌-◌, ◌*◌, ◌⊎◌, ℕ, false, List, [], ◌∷◌, ◌++◌, Option, None, Some, length, map, min, nat_eq, nat_lt, vec_len, if◌then◌else◌}
 use Rattle.std.specs.HashMap.{get, hash_map_len, spare}
+use Rattle.std.specs.Option.{option_and_then}
 use Rattle.std.specs.Vec.{vec_capacity}
 use Rattle.monitors.specs.declared.records.Owner.{Owner}
 use Rattle.monitors.specs.declared.records.Record.{Record}
 use Rattle.monitors.specs.declared.monitors.Monitors.TheInside.{Inside}
 use Rattle.std.specs.Global.{Vec}
 use Rattle.thread_lists.specs.Lists.{Lists, count, list_at}
-use Rattle.monitors.specs.Monitors.{Monitor, Monitors, is_free}
+use Rattle.monitors.specs.Monitors.{Monitor, Monitors, is_free, is_taken}
 
 -- the entry list and the wait list of a pair
 abbrev pub entry_of : ℕ → ℕ
@@ -24,6 +25,20 @@ thread_of (Some owner) = Some owner.thread
 abbrev pub count_of : Option Owner → ℕ
 count_of None = 0
 count_of (Some owner) = owner.count
+
+-- a record after a thread enters its monitor
+abbrev pub entered : ℕ → Record → Record
+entered t r =
+    if is_taken (thread_of r.owner) t then r
+    else record r { owner = Some (record { thread = t; count = count_of r.owner + 1 }) }
+
+-- an owner after it leaves once, where it still owns the monitor
+abbrev pub left_by : Owner → Option Owner
+left_by owner = if nat_lt 1 owner.count then Some (record owner { count = owner.count - 1 }) else None
+
+-- a record after its owner leaves its monitor once
+abbrev pub left : Record → Record
+left r = record r { owner = option_and_then left_by r.owner }
 
 -- the monitor that a record stands for
 abbrev pub known : List (List ℕ) → Record → Monitor
@@ -69,6 +84,14 @@ pub record IsKept (a : Inside) : Type 0 where
   pub pairs : 2 * a.pairs ≡ length a.lists.lists
   pub capacity : a.pairs ≤ vec_capacity a.vacant
   pub whole : hash_map_len a.records + vec_len a.vacant ≡ a.pairs
+
+-- a new record has the last vacant pair, and this thread as its owner
+pub record OpensPair (new : Option Record) (t : ℕ) (vacant vacant' : Vec ℕ) : Type 0 where
+  pub pair : ℕ
+  pub now : new ≡ Some (record { owner = Some (record { thread = t; count = 1 }); pair = pair })
+  pub items : vacant.items ≡ vacant'.items ++ pair ∷ []
+  pub len : vec_len vacant ≡ vec_len vacant' + 1
+  pub capacity : vec_capacity vacant' ≡ vec_capacity vacant
 
 -- from n pairs on more were made, which are vacant, up to n', and all else stays
 pub record Grows (vacant : Vec ℕ) (n : ℕ) (lists : Lists) (vacant' : Vec ℕ) (n' : ℕ) (lists' : Lists) : Type 0 where

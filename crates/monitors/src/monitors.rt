@@ -3,8 +3,8 @@ ghost use Rattle.std.specs.Bool.{OnFalse, OnTrue};
 ghost use Rattle.monitors.specs.Monitors.{Becomes, InNoList, IsByOwner, IsInLine, IsInUse, IsWaiting, after_enter, after_exit, after_leave_wait, after_line_up, after_notify, after_notify_all, after_retake, after_wait, is_taken, count_in, monitor_of, woken_by_exit};
 
 use crate::records::{
-    NotOwner, Record, add_pairs, drop_record, find, find_owned, first_in_line, first_waiter,
-    is_deserted, put, take_pair,
+    NotOwner, Record, add_pairs, drop_record, enter_record, find, find_owned, first_in_line,
+    first_waiter, is_deserted, leave_record, put, take_pair,
 };
 use items::NoMemory;
 use std::alloc::Global;
@@ -128,20 +128,13 @@ impl Monitors {
         ensures monitor { Becomes self.old self.new o (after_enter t (monitor_of self.old o)) }
     {
         self.lists.once();
-        let Some(kept) = find(&self.records, o) else {
-            let pair = take_pair(&mut self.vacant);
-            put(
-                &mut self.records,
-                o,
-                Record { owner: None, pair }.owned_by(t, 1),
-            );
+        let Some(kept) = enter_record(&mut self.records, &mut self.vacant, o, t) else {
             return Enter::Got;
         };
         if kept.is_taken(t) {
             self.lists.push(kept.entry(), t);
             return Enter::Blocked;
         }
-        put(&mut self.records, o, kept.owned_by(t, kept.count() + 1));
         Enter::Got
     }
 
@@ -195,10 +188,8 @@ impl Monitors {
         ensures err { OnErr result (self.new ≡ self.old) }
     {
         self.lists.once();
-        let kept = find_owned(&self.records, o, t)?;
-        let left = kept.count().saturating_sub(1);
-        if left > 0 {
-            put(&mut self.records, o, kept.owned_by(t, left));
+        let kept = leave_record(&mut self.records, o, t)?;
+        if kept.count() > 1 {
             return Ok(None);
         }
         if is_deserted(&self.lists, kept) {
@@ -206,7 +197,6 @@ impl Monitors {
             self.vacant.push_reserved(kept.pair);
             return Ok(None);
         }
-        put(&mut self.records, o, kept.without_owner());
         Ok(first_in_line(&self.lists, kept))
     }
 

@@ -1,13 +1,14 @@
-ghost use Rattle.std.specs.Prelude.{◌≡◌, ◌≢◌, ◌+◌, ◌*◌, ◌<◌, ◌≤◌, ◌^◌, ◌&&◌, ℕ, None, Some, [], ◌∷◌, ◌++◌, if◌then◌else◌, is_some, length, nat_eq, not, vec_len, IfErr, IfOk, OnOk};
+ghost use Rattle.std.specs.Prelude.{◌≡◌, ◌≢◌, ◌+◌, ◌*◌, ◌<◌, ◌≤◌, ◌^◌, ◌&&◌, ℕ, None, Some, [], ◌∷◌, ◌++◌, if◌then◌else◌, is_some, length, nat_eq, not, vec_len, IfErr, IfNone, IfOk, IfSome, OnErr, OnOk};
 ghost use Rattle.std.specs.HashMap.{get, hash_map_len, spare};
 ghost use Rattle.std.specs.Option.{option_and_then, option_map_or};
 ghost use Rattle.std.specs.Vec.{vec_capacity};
 ghost use Rattle.thread_lists.specs.Lists.{first, list_at};
 ghost use Rattle.monitors.specs.Monitors.{is_empty, is_taken};
-ghost use Rattle.monitors.specs.Records.{Grows, count_of, entry_of, thread_of, waits_of};
+ghost use Rattle.monitors.specs.Records.{Grows, OpensPair, count_of, entered, entry_of, left, thread_of, waits_of};
 
 use items::NoMemory;
 use std::collections::HashMap;
+use std::collections::hash_map::Entry;
 use thiserror::Error;
 use thread_lists::ThreadLists;
 
@@ -90,6 +91,28 @@ impl Record {
         }
     }
 
+    /// The same after this thread enters the monitor, which stays as it is where another is the owner.
+    pub fn entered_by(self, thread: u32) -> Self
+        requires { count_of self.owner + 1 < 2 ^ 32 }
+        ensures { result ≡ entered thread self }
+    {
+        if self.is_taken(thread) {
+            return self;
+        }
+        self.owned_by(thread, self.count() + 1)
+    }
+
+    /// The same after its owner leaves the monitor once.
+    pub fn left(self) -> Self
+        ensures { result ≡ left self }
+    {
+        let count = self.count().saturating_sub(1);
+        match self.owner {
+            Some(owner) if count > 0 => self.owned_by(owner.thread, count),
+            _ => self.without_owner(),
+        }
+    }
+
     /// The same without an owner.
     pub fn without_owner(self) -> Self
         ensures { result ≡ record self { owner = None } }
@@ -153,6 +176,37 @@ pub fn find_owned(records: &HashMap<u32, Record>, o: u32, thread: u32) -> Result
     }
 }
 
+/// The owner of an object's monitor leaves it once. The answer is its record before. This looks the object up once.
+pub fn leave_record(
+    records: &mut HashMap<u32, Record>,
+    o: u32,
+    thread: u32,
+) -> Result<Record, NotOwner>
+    ensures found { IfOk result (λ kept. get nat_eq records.old o ≡ Some kept) }
+    ensures owner { IfOk result (λ kept. thread_of kept.owner ≡ Some thread) }
+    ensures now { IfOk result (λ kept. get nat_eq records.new o ≡ Some (left kept)) }
+    ensures others { OnOk result
+        ((p : ℕ) → p ≢ o → get nat_eq records.new p ≡ get nat_eq records.old p) }
+    ensures len { hash_map_len records.new ≡ hash_map_len records.old }
+    ensures spare { spare records.new ≡ spare records.old }
+    ensures other { IfErr result (λ refusal. refusal.owner ≢ Some thread) }
+    ensures refused { IfErr result (λ refusal. refusal.owner ≡
+        option_and_then (λ kept. thread_of kept.owner) (get nat_eq records.old o)) }
+    ensures err { OnErr result (records.new.entries ≡ records.old.entries) }
+{
+    let Some(place) = records.get_mut(&o) else {
+        return Err(NotOwner { owner: None });
+    };
+    let kept = *place;
+    match kept.owner() {
+        Some(owner) if owner == thread => {
+            *place = kept.left();
+            Ok(kept)
+        }
+        owner => Err(NotOwner { owner }),
+    }
+}
+
 /// Sets the record of an object's monitor. A new one needs room.
 pub fn put(records: &mut HashMap<u32, Record>, o: u32, new: Record)
     requires { get nat_eq records.old o ≡ None → 0 < spare records.old }
@@ -176,6 +230,42 @@ pub fn drop_record(records: &mut HashMap<u32, Record>, o: u32)
     ensures spare { spare records.old ≤ spare records.new }
 {
     let _ = records.remove(&o);
+}
+
+/// A thread enters an object's monitor, which takes a vacant pair of lists where it wasn't in use. The answer is its record
+/// before. This looks the object up once.
+pub fn enter_record(
+    records: &mut HashMap<u32, Record>,
+    vacant: &mut Vec<u32>,
+    o: u32,
+    thread: u32,
+) -> Option<Record>
+    requires spare { get nat_eq records.old o ≡ None → 0 < spare records.old }
+    requires vacant { 0 < vec_len vacant.old }
+    requires count { IfSome (get nat_eq records.old o) (λ kept. count_of kept.owner + 1 < 2 ^ 32) }
+    ensures was { result ≡ get nat_eq records.old o }
+    ensures opened { IfNone result
+        (OpensPair (get nat_eq records.new o) thread vacant.old vacant.new) }
+    ensures now { IfSome result (λ kept. get nat_eq records.new o ≡ Some (entered thread kept)) }
+    ensures vacant { IfSome result (λ kept. vacant.new ≡ vacant.old) }
+    ensures others { (p : ℕ) → p ≢ o → get nat_eq records.new p ≡ get nat_eq records.old p }
+    ensures len { hash_map_len records.new ≡
+        hash_map_len records.old + (if is_some (get nat_eq records.old o) then 0 else 1) }
+    ensures spare { spare records.old ≤ spare records.new + 1 }
+{
+    match records.entry(o) {
+        Ok(Entry::Occupied(mut place)) => {
+            let kept = *place.get();
+            let _ = place.insert(kept.entered_by(thread));
+            Some(kept)
+        }
+        Ok(Entry::Vacant(place)) => {
+            let pair = take_pair(vacant);
+            let _ = place.insert(Record { owner: None, pair }.owned_by(thread, 1));
+            None
+        }
+        Err(_) => unreachable!(),
+    }
 }
 
 /// Takes a vacant pair of lists.
