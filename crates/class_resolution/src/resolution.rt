@@ -1,6 +1,7 @@
 //! The field or method that a name means in a class (JVMS 5.4.3.2 to 5.4.3.4).
 
 ghost use Rattle.std.specs.Prelude.{◌≡◌, IfOk};
+ghost use Rattle.items.specs.First.{first_in};
 ghost use Rattle.linkage.specs.Resolution as spec;
 ghost use Rattle.linkage.specs.Members.{declared_field, declared_method, has_method, is_abstract_method};
 ghost use Rattle.class_resolution.specs.Keys.{key_of};
@@ -12,7 +13,7 @@ use linkage::Place;
 use std::alloc::Global;
 
 fn first_field(world: &Hierarchy, key: MemberKey, classes: &[u32]) -> Option<Place>
-    ensures { result ≡ spec.first_in (declared_field world.now (key_of key.entry)) classes.now }
+    ensures { result ≡ first_in (declared_field world.now (key_of key.entry)) classes.now }
 {
     for class in classes {
         if let Some(found) = world.declared_field(key, *class) {
@@ -23,7 +24,7 @@ fn first_field(world: &Hierarchy, key: MemberKey, classes: &[u32]) -> Option<Pla
 }
 
 fn first_method(world: &Hierarchy, key: MemberKey, classes: &[u32]) -> Option<Place>
-    ensures { result ≡ spec.first_in (declared_method world.now (key_of key.entry)) classes.now }
+    ensures { result ≡ first_in (declared_method world.now (key_of key.entry)) classes.now }
 {
     for class in classes {
         if let Some(found) = world.declared_method(key, *class) {

@@ -1,7 +1,7 @@
 //! The method that an invocation runs on an object (JVMS 5.4.6).
 
 ghost use Rattle.std.specs.Prelude.{◌≡◌, IfOk};
-ghost use Rattle.linkage.specs.Resolution.{first_in};
+ghost use Rattle.items.specs.First.{first_in};
 ghost use Rattle.linkage.specs.Selection as spec;
 ghost use Rattle.class_resolution.specs.Keys.{key_of};
 
@@ -79,7 +79,8 @@ fn select_by_key(
     class: u32,
     key: MemberKey,
 ) -> Result<Choice, NoMemory>
-    ensures { IfOk result (λ choice. choice ≡ spec.select_by_key world.now class (key_of key.entry)) }
+    ensures { IfOk result (λ choice.
+        choice ≡ spec.select_by_key world.now class (key_of key.entry)) }
 {
     if let Some(at) = first_override(world, key, world.superclasses(class)) {
         return Ok(by_body(world, at));

@@ -36,7 +36,8 @@ pub fn fill_u2(out: &mut Vec<u8>, at: usize)
 pub fn fill_u4(out: &mut Vec<u8>, at: usize)
     requires in_out { at + 4 ≤ length out.old.items }
     requires in_range { length (drop (at + 4) out.old.items) < 2 ^ 32 }
-    ensures { out.new.items ≡ take at out.old.items ++ spec.length_and_bytes (drop (at + 4) out.old.items) }
+    ensures { out.new.items ≡
+        take at out.old.items ++ spec.length_and_bytes (drop (at + 4) out.old.items) }
 {
     let behind = at + 4;
     let len = (out.len() - behind) as u32;

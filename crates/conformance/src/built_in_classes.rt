@@ -3,6 +3,7 @@
 ghost use Rattle.std.specs.Prelude.{All};
 ghost use Rattle.lib_table.specs.Spelled.{IsSpelled};
 
+use crate::ascii::units_of;
 use class_file::read;
 use class_model::ClassFile;
 use class_write::write;
@@ -389,14 +390,6 @@ const NO_NATIVES: [(&[u8], &[u8], &[u8]); 5] = [
     (b"java/lang/Thread", b"length", b"()I"),
     (b"A", b"length", b"()I"),
 ];
-
-fn units_of(alloc: Global, text: &[u8]) -> Result<Vec<u16>, AllocError> {
-    let mut units = Vec::new(alloc);
-    for byte in text {
-        units.push(u16::from(*byte))?;
-    }
-    Ok(units)
-}
 
 fn native_named(
     alloc: Global,

@@ -2,6 +2,7 @@
 //! superclass; then `implements NAME`, `field FLAGS NAME DESCRIPTOR`, `method FLAGS NAME DESCRIPTOR`, and for a method with code what is
 //! in it and `end`: a `byte`, an opcode with what it names (`get`, `call`, `icall`, `type`), or a handler that catches a class.
 
+use crate::ascii::units_of;
 use class_model::{Attribute, Body, ClassFile, CodeBody, Const, Member, Row};
 use class_world::{LinkError, link};
 use items::{Items, NoMemory};
@@ -44,10 +45,7 @@ impl Sketch {
     }
 
     fn text(&mut self, text: &str) -> Result<u16, NoMemory> {
-        let mut units = Vec::new(self.alloc);
-        for byte in text.bytes() {
-            units.push(u16::from(byte))?;
-        }
+        let units = units_of(self.alloc, text.as_bytes())?;
         self.add(Const::Utf8(Items::from(units)))
     }
 
@@ -212,8 +210,108 @@ fn class_file(alloc: Global, text: &str) -> Result<ClassFile, NoMemory> {
     })
 }
 
-// The first letter of the class where the first fault of these classes is, and the fault.
-fn fault_of(alloc: Global, classes: &str) -> Result<Option<(u16, LinkWhy)>, NoMemory> {
+// Programs that link.
+const LINKED: [&str; 8] = [
+    "33 A java/lang/Object",
+    "33 A java/lang/Object field 0 x I field 0 x J method 1025 x (I)V method 1025 x (J)V",
+    "33 A B method 2 f ()V byte 177 end|33 B java/lang/Object method 17 f ()V byte 177 end",
+    "33 A java/lang/Object implements I method 9 f ()V get 178 A x I end|1537 I java/lang/Object field 9 x I",
+    "33 A java/lang/Object method 9 f ()V call 182 [A m ()V end",
+    "33 A java/lang/Object implements I method 9 f ()V call 182 A g ()V end|1537 I java/lang/Object method 1025 g ()V",
+    "33 A java/lang/Object method 9 f ()V icall 185 I m ()V byte 1 byte 0 end|1537 I java/lang/Object",
+    "33 A java/lang/Object method 1025 f (LF;LD;)V",
+];
+
+// Programs by what is wrong with them first, which is in the class of the first file.
+const REFUSED: [(LinkWhy, &[&'static str]); 10] = [
+    (
+        LinkWhy::Duplicate,
+        &[
+            "33 A java/lang/Object|33 A java/lang/Object",
+            "33 A java/lang/Object field 0 x I field 8 x I",
+            "33 A java/lang/Object method 1025 f ()V method 1025 f ()V",
+        ],
+    ),
+    (
+        LinkWhy::MissingClass,
+        &[
+            "33 A B",
+            "33 A java/lang/Object implements I",
+            "33 A java/lang/Object method 9 f ()V type 187 B end",
+            "33 A java/lang/Object method 9 f ()V type 192 [[LB; end",
+            "33 A java/lang/Object method 9 f ()V byte 177 catch B end",
+        ],
+    ),
+    (
+        LinkWhy::Cycle,
+        &["33 A B|33 B A", "1537 I java/lang/Object implements I"],
+    ),
+    (
+        LinkWhy::WrongKind,
+        &[
+            "33 [A java/lang/Object",
+            "33 A I|1537 I java/lang/Object",
+            "1537 I B|33 B java/lang/Object",
+            "33 A java/lang/Object implements B|33 B java/lang/Object",
+            "1537 I java/lang/Object field 1 x I",
+            "1057 A java/lang/Object method 1032 f ()V",
+            "33 A java/lang/Object field 8 x I method 9 f ()V get 180 A x I end",
+            "33 A java/lang/Object method 9 f ()V call 182 A f ()V end",
+            "33 A java/lang/Object method 9 f ()V icall 184 A f ()V end",
+            "1537 I java/lang/Object method 9 f ()V call 184 I f ()V end",
+            "1057 A java/lang/Object method 9 f ()V type 187 A end",
+            "33 A java/lang/Object method 9 f ()V type 187 [A end",
+            "33 A java/lang/Object method 9 f ()V type 197 [[I byte 3 end",
+        ],
+    ),
+    (
+        LinkWhy::FinalParent,
+        &[
+            "33 A B|49 B java/lang/Object",
+            "33 A B method 1 f ()V byte 177 end|33 B java/lang/Object method 17 f ()V byte 177 end",
+        ],
+    ),
+    (LinkWhy::Native, &["33 A java/lang/Object method 257 f ()V"]),
+    (
+        LinkWhy::BadCode,
+        &[
+            "33 A java/lang/Object method 9 f ()V byte 203 end",
+            "33 A java/lang/Object method 9 f ()V byte 16 end",
+            "33 A java/lang/Object field 8 x I method 9 f ()V get 182 A x I end",
+            "33 A java/lang/Object method 9 f ()V icall 185 I m ()V byte 2 byte 0 end|1537 I java/lang/Object",
+        ],
+    ),
+    (
+        LinkWhy::MissingField,
+        &["33 A java/lang/Object method 9 f ()V get 178 A y I byte 203 end"],
+    ),
+    (
+        LinkWhy::MissingMethod,
+        &[
+            "33 A java/lang/Object method 9 f ()V call 184 A g ()V end",
+            "33 A java/lang/Object method 9 f ()V call 182 [A g ()V end",
+        ],
+    ),
+    (
+        LinkWhy::Unsupported,
+        &[
+            "33 A java/lang/Object field 0 x F",
+            "33 A java/lang/Object method 1025 f ([D)V",
+            "33 A java/lang/Object method 9 f ()V byte 98 end",
+            "33 A java/lang/Object method 9 f ()V byte 188 byte 6 end",
+            "33 A java/lang/Object method 9 f ()V type 189 [F end",
+            "33 A java/lang/Object method 9 f ()V call 183 java/lang/Object 0p ()V end",
+            "33 A 0Hidden",
+        ],
+    ),
+];
+
+// A program whose first file is faultless by itself.
+const LATER: &str =
+    "33 M A method 9 f ()V call 184 A g ()V end|33 A B|33 B A method 9 g ()V byte 177 end";
+
+// The name of the class where the first fault of these classes is, and the fault.
+fn fault_of(alloc: Global, classes: &str) -> Result<Option<(Items<u16>, LinkWhy)>, NoMemory> {
     let mut files = Vec::new(alloc);
     for text in classes.split('|') {
         files.push(class_file(alloc, text)?)?;
@@ -226,224 +324,57 @@ fn fault_of(alloc: Global, classes: &str) -> Result<Option<(u16, LinkWhy)>, NoMe
     built_in.push(class_file(alloc, "32 0Hidden java/lang/Object")?)?;
     match link(alloc, built_in, files) {
         Ok(_) => Ok(None),
-        Err(LinkError::Fault { class, why }) => {
-            Ok(Some((class.first().copied().unwrap_or(0), why)))
-        }
+        Err(LinkError::Fault { class, why }) => Ok(Some((class, why))),
         Err(LinkError::NoMemory) => Err(NoMemory),
     }
 }
 
+// Whether the first fault of these classes is this one, in the class of this name.
+fn is_refused(alloc: Global, classes: &str, name: &str, why: LinkWhy) -> Result<bool, NoMemory> {
+    let Some((class, found)) = fault_of(alloc, classes)? else {
+        return Ok(false);
+    };
+    Ok(found == why && class.iter().copied().eq(name.bytes().map(u16::from)))
+}
+
+// The name of the class of the first file.
+fn first_name(classes: &str) -> &str {
+    classes.split_whitespace().nth(1).unwrap_or("")
+}
+
+// The first of these programs of which this isn't the first fault, in the class of the first file.
+fn first_other(
+    alloc: Global,
+    why: LinkWhy,
+    programs: &[&'static str],
+) -> Result<Option<&'static str>, NoMemory> {
+    for classes in programs {
+        if !is_refused(alloc, *classes, first_name(*classes), why)? {
+            return Ok(Some(*classes));
+        }
+    }
+    Ok(None)
+}
+
 #[test]
-fn classes_and_members_are_judged(rt: HostRuntime) -> Result<(), Fail> {
-    let table: [(&str, Option<(u16, LinkWhy)>); 17] = [
-        ("33 A java/lang/Object", None),
-        (
-            "33 A java/lang/Object|33 A java/lang/Object",
-            Some((u16::from(b'A'), LinkWhy::Duplicate)),
-        ),
-        (
-            "33 A java/lang/Object field 0 x I field 8 x I",
-            Some((u16::from(b'A'), LinkWhy::Duplicate)),
-        ),
-        (
-            "33 A java/lang/Object method 1025 f ()V method 1025 f ()V",
-            Some((u16::from(b'A'), LinkWhy::Duplicate)),
-        ),
-        (
-            "33 A java/lang/Object field 0 x I field 0 x J method 1025 x (I)V method 1025 x (J)V",
-            None,
-        ),
-        ("33 A B", Some((u16::from(b'A'), LinkWhy::MissingClass))),
-        (
-            "33 A java/lang/Object implements I",
-            Some((u16::from(b'A'), LinkWhy::MissingClass)),
-        ),
-        (
-            "33 A java/lang/Object method 9 f ()V type 187 B end",
-            Some((u16::from(b'A'), LinkWhy::MissingClass)),
-        ),
-        (
-            "33 A java/lang/Object method 9 f ()V type 192 [[LB; end",
-            Some((u16::from(b'A'), LinkWhy::MissingClass)),
-        ),
-        (
-            "33 A java/lang/Object method 9 f ()V byte 177 catch B end",
-            Some((u16::from(b'A'), LinkWhy::MissingClass)),
-        ),
-        ("33 A B|33 B A", Some((u16::from(b'A'), LinkWhy::Cycle))),
-        (
-            "33 M A method 9 f ()V call 184 A g ()V end|33 A B|33 B A method 9 g ()V byte 177 end",
-            Some((u16::from(b'A'), LinkWhy::Cycle)),
-        ),
-        (
-            "1537 I java/lang/Object implements I",
-            Some((u16::from(b'I'), LinkWhy::Cycle)),
-        ),
-        (
-            "33 [A java/lang/Object",
-            Some((u16::from(b'['), LinkWhy::WrongKind)),
-        ),
-        (
-            "33 A I|1537 I java/lang/Object",
-            Some((u16::from(b'A'), LinkWhy::WrongKind)),
-        ),
-        (
-            "1537 I B|33 B java/lang/Object",
-            Some((u16::from(b'I'), LinkWhy::WrongKind)),
-        ),
-        (
-            "33 A java/lang/Object implements B|33 B java/lang/Object",
-            Some((u16::from(b'A'), LinkWhy::WrongKind)),
-        ),
-    ];
-    for (classes, fault) in table.iter() {
-        assert_eq!(rt; fault_of(rt.alloc(), *classes), Ok(*fault), "{classes}");
+fn faultless_programs_link(rt: HostRuntime) -> Result<(), Fail> {
+    for classes in LINKED {
+        assert!(rt; fault_of(rt.alloc(), classes)?.is_none(), "{classes}");
     }
     Ok(())
 }
 
 #[test]
-fn parents_and_methods_are_judged(rt: HostRuntime) -> Result<(), Fail> {
-    let table: [(&str, Option<(u16, LinkWhy)>); 17] = [
-        (
-            "1537 I java/lang/Object field 1 x I",
-            Some((u16::from(b'I'), LinkWhy::WrongKind)),
-        ),
-        (
-            "1057 A java/lang/Object method 1032 f ()V",
-            Some((u16::from(b'A'), LinkWhy::WrongKind)),
-        ),
-        (
-            "33 A java/lang/Object field 8 x I method 9 f ()V get 180 A x I end",
-            Some((u16::from(b'A'), LinkWhy::WrongKind)),
-        ),
-        (
-            "33 A java/lang/Object method 9 f ()V call 182 A f ()V end",
-            Some((u16::from(b'A'), LinkWhy::WrongKind)),
-        ),
-        (
-            "33 A java/lang/Object method 9 f ()V icall 184 A f ()V end",
-            Some((u16::from(b'A'), LinkWhy::WrongKind)),
-        ),
-        (
-            "1537 I java/lang/Object method 9 f ()V call 184 I f ()V end",
-            Some((u16::from(b'I'), LinkWhy::WrongKind)),
-        ),
-        (
-            "1057 A java/lang/Object method 9 f ()V type 187 A end",
-            Some((u16::from(b'A'), LinkWhy::WrongKind)),
-        ),
-        (
-            "33 A java/lang/Object method 9 f ()V type 187 [A end",
-            Some((u16::from(b'A'), LinkWhy::WrongKind)),
-        ),
-        (
-            "33 A java/lang/Object method 9 f ()V type 197 [[I byte 3 end",
-            Some((u16::from(b'A'), LinkWhy::WrongKind)),
-        ),
-        (
-            "33 A B|49 B java/lang/Object",
-            Some((u16::from(b'A'), LinkWhy::FinalParent)),
-        ),
-        (
-            "33 A B method 1 f ()V byte 177 end|33 B java/lang/Object method 17 f ()V byte 177 end",
-            Some((u16::from(b'A'), LinkWhy::FinalParent)),
-        ),
-        (
-            "33 A B method 2 f ()V byte 177 end|33 B java/lang/Object method 17 f ()V byte 177 end",
-            None,
-        ),
-        (
-            "33 A java/lang/Object method 257 f ()V",
-            Some((u16::from(b'A'), LinkWhy::Native)),
-        ),
-        (
-            "33 A java/lang/Object method 9 f ()V byte 203 end",
-            Some((u16::from(b'A'), LinkWhy::BadCode)),
-        ),
-        (
-            "33 A java/lang/Object method 9 f ()V byte 16 end",
-            Some((u16::from(b'A'), LinkWhy::BadCode)),
-        ),
-        (
-            "33 A java/lang/Object field 8 x I method 9 f ()V get 182 A x I end",
-            Some((u16::from(b'A'), LinkWhy::BadCode)),
-        ),
-        (
-            "33 A java/lang/Object method 9 f ()V get 178 A y I byte 203 end",
-            Some((u16::from(b'A'), LinkWhy::MissingField)),
-        ),
-    ];
-    for (classes, fault) in table.iter() {
-        assert_eq!(rt; fault_of(rt.alloc(), *classes), Ok(*fault), "{classes}");
+fn the_first_fault_is_named(rt: HostRuntime) -> Result<(), Fail> {
+    for (why, programs) in REFUSED {
+        assert_eq!(rt; first_other(rt.alloc(), why, programs), Ok(None), "{why:?}");
     }
     Ok(())
 }
 
 #[test]
-fn code_is_judged(rt: HostRuntime) -> Result<(), Fail> {
-    let table: [(&str, Option<(u16, LinkWhy)>); 15] = [
-        (
-            "33 A java/lang/Object implements I method 9 f ()V get 178 A x I end|1537 I java/lang/Object field 9 x I",
-            None,
-        ),
-        (
-            "33 A java/lang/Object method 9 f ()V call 184 A g ()V end",
-            Some((u16::from(b'A'), LinkWhy::MissingMethod)),
-        ),
-        (
-            "33 A java/lang/Object method 9 f ()V call 182 [A g ()V end",
-            Some((u16::from(b'A'), LinkWhy::MissingMethod)),
-        ),
-        (
-            "33 A java/lang/Object method 9 f ()V call 182 [A m ()V end",
-            None,
-        ),
-        (
-            "33 A java/lang/Object implements I method 9 f ()V call 182 A g ()V end|1537 I java/lang/Object method 1025 g ()V",
-            None,
-        ),
-        (
-            "33 A java/lang/Object method 9 f ()V icall 185 I m ()V byte 1 byte 0 end|1537 I java/lang/Object",
-            None,
-        ),
-        (
-            "33 A java/lang/Object method 9 f ()V icall 185 I m ()V byte 2 byte 0 end|1537 I java/lang/Object",
-            Some((u16::from(b'A'), LinkWhy::BadCode)),
-        ),
-        (
-            "33 A java/lang/Object field 0 x F",
-            Some((u16::from(b'A'), LinkWhy::Unsupported)),
-        ),
-        (
-            "33 A java/lang/Object method 1025 f ([D)V",
-            Some((u16::from(b'A'), LinkWhy::Unsupported)),
-        ),
-        ("33 A java/lang/Object method 1025 f (LF;LD;)V", None),
-        (
-            "33 A java/lang/Object method 9 f ()V byte 98 end",
-            Some((u16::from(b'A'), LinkWhy::Unsupported)),
-        ),
-        (
-            "33 A java/lang/Object method 9 f ()V byte 188 byte 6 end",
-            Some((u16::from(b'A'), LinkWhy::Unsupported)),
-        ),
-        (
-            "33 A java/lang/Object method 9 f ()V type 189 [F end",
-            Some((u16::from(b'A'), LinkWhy::Unsupported)),
-        ),
-        (
-            "33 A java/lang/Object method 9 f ()V call 183 java/lang/Object 0p ()V end",
-            Some((u16::from(b'A'), LinkWhy::Unsupported)),
-        ),
-        (
-            "33 A 0Hidden",
-            Some((u16::from(b'A'), LinkWhy::Unsupported)),
-        ),
-    ];
-    for (classes, fault) in table.iter() {
-        assert_eq!(rt; fault_of(rt.alloc(), *classes), Ok(*fault), "{classes}");
-    }
+fn a_later_class_is_named(rt: HostRuntime) -> Result<(), Fail> {
+    assert!(rt; is_refused(rt.alloc(), LATER, "A", LinkWhy::Cycle)?);
     Ok(())
 }
 

@@ -1,5 +1,6 @@
 //! Descriptors of fields and methods (JVMS 4.3).
 
+use crate::ascii;
 use descriptors::{
     DescriptorError, ElementType, Kind, Signature, field_kind, is_field_descriptor,
     is_method_descriptor, method_kind,
@@ -15,16 +16,11 @@ fn units_of(
     letter: u8,
     behind: &str,
 ) -> Result<Vec<u16>, AllocError> {
-    let mut units = Vec::new(alloc);
-    for byte in before.as_bytes() {
-        units.push(u16::from(*byte))?;
-    }
+    let mut units = ascii::units_of(alloc, before.as_bytes())?;
     for _ in 0..count {
         units.push(u16::from(letter))?;
     }
-    for byte in behind.as_bytes() {
-        units.push(u16::from(*byte))?;
-    }
+    ascii::append(&mut units, behind.as_bytes())?;
     Ok(units)
 }
 
@@ -113,9 +109,9 @@ fn the_first_bad_unit_of_a_field_is_named(rt: HostRuntime) -> Result<(), Fail> {
 
 #[test]
 fn descriptors_of_methods_are_read(rt: HostRuntime) -> Result<(), Fail> {
-    let units = units_of(rt.alloc(), "(IJ[Ljava/lang/String;)[D", 0, b' ', "")?;
+    let units = ascii::units_of(rt.alloc(), b"(IJ[Ljava/lang/String;)[D")?;
     let signature = method(rt.alloc(), &units).ok().ok_or("refused")?;
-    let name = units_of(rt.alloc(), "java/lang/String", 0, b' ', "")?;
+    let name = ascii::units_of(rt.alloc(), b"java/lang/String")?;
     assert!(rt;
         match signature.args.as_slice() {
             [first, second, third] => {

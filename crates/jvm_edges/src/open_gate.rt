@@ -1,3 +1,5 @@
+ghost use Rattle.std.specs.Prelude.{◌≡◌};
+
 use crate::gate::Gate;
 
 /// A gate at which nobody waits.
@@ -6,7 +8,9 @@ pub struct OpenGate;
 
 impl OpenGate {
     /// A gate that every carrier passes at once.
-    pub fn new() -> Self {
+    pub fn new() -> Self
+        ensures { result ≡ record {} }
+    {
         OpenGate
     }
 }

@@ -3,17 +3,25 @@ ghost use Rattle.std.specs.Duration.{as_nanos};
 ghost use Rattle.jvm_edges.specs.Nanos.{clock_nanos, nap_nanos};
 
 use crate::clock::Clock;
+use std::marker::Model;
 use std::time::{Duration, Instant};
 use std::{rt, thread};
 
 /// How long a nap of no length takes, in nanoseconds.
 const SHORT_NAP: u64 = 50_000;
 
-/// The clock of the system, in nanoseconds since `new` was called. It gives 0 where the system's clock fails.
+/// The clock of the system, in nanoseconds since `new` was called. It gives 0 where the system's clock fails. Clauses see it as the
+/// runtime whose clock it reads.
 #[derive(Drop)]
 pub struct RealClock<'a, R: rt::Clock> {
     rt: &'a R,
     start: Option<Instant>,
+}
+
+impl<'a, R: rt::Clock> Model for RealClock<'a, R> {
+    ghost Value = { R };
+
+    ghost view = { λ clock. clock.rt.now };
 }
 
 // The nanoseconds of a time, at most the greatest u64.
@@ -32,7 +40,9 @@ fn nap_length(nanos: u64) -> Duration
 
 impl<'a, R: rt::Clock> RealClock<'a, R> {
     /// A clock that counts from now on by the clock of this runtime.
-    pub fn new(rt: &'a R) -> Self {
+    pub fn new(rt: &'a R) -> Self
+        ensures { result ≡ rt.now }
+    {
         RealClock {
             rt,
             start: Instant::now(rt).ok(),

@@ -1,15 +1,10 @@
 -- The native methods of the built-in classes by name.
-use Rattle.std.specs.Prelude.{ℕ, List, [], ◌∷◌, Option, Some, None, ◌&&◌, if◌then◌else◌}
-use Rattle.std.specs.Option.{option_or}
+use Rattle.std.specs.Prelude.{ℕ, List, Option, Some, None, ◌&&◌, if◌then◌else◌}
+use Rattle.items.specs.First.{first_in}
 use Rattle.class_grammar.specs.Text.{same_text}
 use Rattle.lib_table.specs.declared.native.Native.{Native}
 use Rattle.lib_table.specs.Declarations.{Class, Method, Body, abstract_body, native_body, code_body}
 use Rattle.lib_table.specs.Table.{groups}
-
--- what the function finds first in the list
-abbrev pub first_in : {A B : Type 0} → (A → Option B) → List A → Option B
-first_in find [] = None
-first_in find (x ∷ xs) = option_or (find x) (first_in find xs)
 
 abbrev pub native_in : Body → Option Native
 native_in abstract_body = None

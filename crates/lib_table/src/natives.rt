@@ -2,6 +2,7 @@
 
 ghost use Rattle.std.specs.Prelude.{◌≡◌, map};
 ghost use Rattle.lib_table.specs.Declarations.{class_of, method_of, body_of};
+ghost use Rattle.items.specs.First.{first_in};
 ghost use Rattle.lib_table.specs.Natives as spec;
 
 use crate::declarations::{ClassDeclaration, MethodBody, MethodDeclaration};
@@ -36,7 +37,7 @@ fn first_of_methods(
     methods: &[MethodDeclaration],
 ) -> Option<Native>
     ensures { result ≡
-        spec.first_in (spec.native_of_method name.now descriptor.now) (map method_of methods.now) }
+        first_in (spec.native_of_method name.now descriptor.now) (map method_of methods.now) }
 {
     for method in methods {
         if let Some(native) = native_of_method(name, descriptor, method) {
@@ -69,7 +70,7 @@ fn first_of_classes(
     descriptor: &[u16],
     declarations: &[ClassDeclaration],
 ) -> Option<Native>
-    ensures { result ≡ spec.first_in (spec.native_of_class class.now name.now descriptor.now)
+    ensures { result ≡ first_in (spec.native_of_class class.now name.now descriptor.now)
         (map class_of declarations.now) }
 {
     for declaration in declarations {

@@ -2,7 +2,7 @@
 
 ghost use Rattle.std.specs.Prelude.{◌≡◌, drop};
 ghost use Rattle.std.specs.List.{list_any};
-ghost use Rattle.linkage.specs.Instructions.{first_why};
+ghost use Rattle.items.specs.First.{first_some};
 ghost use Rattle.linkage.specs.Hierarchy.{superclasses};
 ghost use Rattle.linkage.specs.Faults as spec;
 ghost use Rattle.class_grammar.specs.Names.{is_initializer as is_initializer_name};
@@ -19,7 +19,7 @@ use linkage::LinkWhy;
 
 /// What is wrong with the name of a class.
 pub fn name_fault(world: &Hierarchy, class: u32, file: &ClassFile) -> Option<LinkWhy>
-    ensures { result ≡ first_why (spec.name_faults world.now class file.now) }
+    ensures { result ≡ first_some (spec.name_faults world.now class file.now) }
 {
     let name = own_name(file);
     let faults = [
@@ -85,7 +85,7 @@ fn is_internal_to(world: &Hierarchy, class: u32, name: &[u16]) -> bool
 
 /// What is wrong with the superclass.
 pub fn parent_fault(world: &Hierarchy, class: u32, file: &ClassFile) -> Option<LinkWhy>
-    ensures { result ≡ first_why (spec.parent_faults world.now class file.now) }
+    ensures { result ≡ first_some (spec.parent_faults world.now class file.now) }
 {
     match class_name_at(&file.pool, file.parent) {
         Some(name) => parent_fault_of(world, class, name),
@@ -94,7 +94,7 @@ pub fn parent_fault(world: &Hierarchy, class: u32, file: &ClassFile) -> Option<L
 }
 
 fn parent_fault_of(world: &Hierarchy, class: u32, name: &[u16]) -> Option<LinkWhy>
-    ensures { result ≡ first_why (spec.parent_faults_of world.now class name.now) }
+    ensures { result ≡ first_some (spec.parent_faults_of world.now class name.now) }
 {
     let faults = [
         unless(is_known(world.classes(), name), LinkWhy::MissingClass),
@@ -118,7 +118,7 @@ fn is_parent_kind(world: &Hierarchy, class: u32, name: &[u16]) -> bool
 
 /// What is wrong with a direct superinterface.
 pub fn interface_fault(world: &Hierarchy, class: u32, name: &[u16]) -> Option<LinkWhy>
-    ensures { result ≡ first_why (spec.interface_faults world.now class name.now) }
+    ensures { result ≡ first_some (spec.interface_faults world.now class name.now) }
 {
     let is_kind = !is_array_name(name) && !names_class(world, name);
     let faults = [
@@ -167,7 +167,7 @@ pub fn field_fault(
     field: &Member,
 ) -> Option<LinkWhy>
     ensures { result ≡
-        first_why (spec.field_faults_at world.now class file.now index field.now) }
+        first_some (spec.field_faults_at world.now class file.now index field.now) }
 {
     let is_kind = !world.classes().is_interface(class) || is_static(field);
     let faults = [
@@ -231,7 +231,7 @@ pub fn method_fault(
     method: &Member,
 ) -> Option<LinkWhy>
     ensures { result ≡
-        first_why (spec.method_faults_at world.now class file.now index method.now) }
+        first_some (spec.method_faults_at world.now class file.now index method.now) }
 {
     let is_from_file = world.classes().is_from_file(class);
     let faults = [

@@ -4,8 +4,8 @@ ghost use Rattle.std.specs.Prelude.{◌≡◌, ◌<◌, ◌^◌, length, IfOk};
 ghost use Rattle.std.specs.List.{flat_map};
 ghost use Rattle.opcodes.specs.Code.{IsFirstBad};
 ghost use Rattle.opcodes.specs.declared.error.CodeWhy.{CodeWhy};
-ghost use Rattle.linkage.specs.Instructions.{first_why, instr_faults};
-ghost use Rattle.linkage.specs.Resolution.{first_in};
+ghost use Rattle.linkage.specs.Instructions.{instr_faults};
+ghost use Rattle.items.specs.First.{first_in, first_some};
 ghost use Rattle.linkage.specs.Faults as spec;
 ghost use Rattle.link_checks.specs.Firsts.{attribute_why, code_why, instr_why, row_why};
 
@@ -73,7 +73,7 @@ fn instrs_fault(alloc: Global, namer: Namer, instrs: &[Instr]) -> Result<Option<
 
 // What is wrong with the class that a row catches; index 0 stands for every throwable.
 fn row_fault(namer: Namer, row: &Row) -> Option<LinkWhy>
-    ensures { result ≡ first_why (spec.row_faults
+    ensures { result ≡ first_some (spec.row_faults
         namer.entry.world.now namer.entry.class namer.entry.pool.now row.now) }
 {
     if row.catch_type == 0 {
@@ -97,7 +97,7 @@ fn rows_fault(namer: Namer, rows: &[Row]) -> Option<LinkWhy>
 
 /// What is wrong with a code.
 fn code_fault(alloc: Global, namer: Namer, body: &CodeBody) -> Result<Option<LinkWhy>, NoMemory>
-    ensures { IfOk result (λ fault. fault ≡ first_why (spec.code_faults
+    ensures { IfOk result (λ fault. fault ≡ first_some (spec.code_faults
         namer.entry.world.now namer.entry.class namer.entry.pool.now body.now)) }
 {
     let front = front_of(alloc, &body.code)?;
@@ -112,7 +112,7 @@ fn attribute_fault(
     namer: Namer,
     attribute: &Attribute,
 ) -> Result<Option<LinkWhy>, NoMemory>
-    ensures { IfOk result (λ fault. fault ≡ first_why (spec.attribute_faults
+    ensures { IfOk result (λ fault. fault ≡ first_some (spec.attribute_faults
         namer.entry.world.now namer.entry.class namer.entry.pool.now attribute.now)) }
 {
     match &attribute.body {

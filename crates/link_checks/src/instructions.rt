@@ -1,6 +1,7 @@
 //! What may be wrong with the constant that an instruction names (JVMS 5.4.3, 6.5).
 
 ghost use Rattle.std.specs.Prelude.{◌≡◌, IfOk};
+ghost use Rattle.items.specs.First.{first_some};
 ghost use Rattle.linkage.specs.Instructions as spec;
 ghost use Rattle.class_resolution.specs.Keys.{key_of};
 
@@ -69,7 +70,7 @@ fn field_fault(
     name: &[u16],
     key: MemberKey,
 ) -> Option<LinkWhy>
-    ensures { result ≡ spec.first_why
+    ensures { result ≡ first_some
         (spec.field_faults world.now class wanted name.now (key_of key.entry)) }
 {
     let found = resolved_field(world, name, key);
@@ -86,7 +87,7 @@ fn field_fault(
 
 // What is wrong with a constant that is to name a field.
 fn field_const_fault(namer: Namer, wanted: bool, constant: &Const) -> Option<LinkWhy>
-    ensures { result ≡ spec.first_why (spec.field_const_faults namer.entry.world.now
+    ensures { result ≡ first_some (spec.field_const_faults namer.entry.world.now
         namer.entry.class namer.entry.pool.now wanted constant.now) }
 {
     match constant {
@@ -102,8 +103,9 @@ fn field_const_fault(namer: Namer, wanted: bool, constant: &Const) -> Option<Lin
 }
 
 fn field_fault_at(namer: Namer, wanted: bool, index: u16) -> Option<LinkWhy>
-    ensures { result ≡ spec.first_why (spec.const_faults namer.entry.pool.now index
-        (spec.field_const_faults namer.entry.world.now namer.entry.class namer.entry.pool.now wanted)) }
+    ensures { result ≡ first_some (spec.const_faults namer.entry.pool.now index
+        (spec.field_const_faults namer.entry.world.now namer.entry.class namer.entry.pool.now
+        wanted)) }
 {
     match namer.pool.get(usize::from(index)) {
         Some(constant) => field_const_fault(namer, wanted, constant),
@@ -181,7 +183,7 @@ fn method_fault(
     name: &[u16],
     key: MemberKey,
 ) -> Result<Option<LinkWhy>, NoMemory>
-    ensures { IfOk result (λ fault. fault ≡ spec.first_why
+    ensures { IfOk result (λ fault. fault ≡ first_some
         (spec.method_faults world.now class call by_interface name.now (key_of key.entry))) }
 {
     let found = resolved_method(alloc, world, by_interface, name, key)?;
@@ -206,7 +208,7 @@ fn method_const_fault(
     call: Invocation,
     constant: &Const,
 ) -> Result<Option<LinkWhy>, NoMemory>
-    ensures { IfOk result (λ fault. fault ≡ spec.first_why (spec.method_const_faults
+    ensures { IfOk result (λ fault. fault ≡ first_some (spec.method_const_faults
         namer.entry.world.now namer.entry.class namer.entry.pool.now call constant.now)) }
 {
     match constant {
@@ -236,8 +238,9 @@ fn method_fault_at(
     call: Invocation,
     index: u16,
 ) -> Result<Option<LinkWhy>, NoMemory>
-    ensures { IfOk result (λ fault. fault ≡ spec.first_why (spec.const_faults namer.entry.pool.now index
-        (spec.method_const_faults namer.entry.world.now namer.entry.class namer.entry.pool.now call))) }
+    ensures { IfOk result (λ fault. fault ≡ first_some (spec.const_faults namer.entry.pool.now index
+        (spec.method_const_faults namer.entry.world.now namer.entry.class namer.entry.pool.now
+        call))) }
 {
     match namer.pool.get(usize::from(index)) {
         Some(constant) => method_const_fault(alloc, namer, call, constant),
@@ -280,7 +283,7 @@ fn is_deepest(name: &[u16], purpose: Purpose) -> bool
 
 /// What is wrong with the name of a class (JVMS 5.4.3.1).
 pub fn class_fault(world: &Hierarchy, class: u32, purpose: Purpose, name: &[u16]) -> Option<LinkWhy>
-    ensures { result ≡ spec.first_why (spec.class_faults world.now class purpose name.now) }
+    ensures { result ≡ first_some (spec.class_faults world.now class purpose name.now) }
 {
     let reserved = is_reserved(world, class, name, false);
     let left_out = is_floating_array(name) || is_deepest(name, purpose);
@@ -298,7 +301,7 @@ fn class_const_fault(
     index: u16,
     constant: &Const,
 ) -> Option<LinkWhy>
-    ensures { result ≡ spec.first_why (spec.class_const_faults namer.entry.world.now
+    ensures { result ≡ first_some (spec.class_const_faults namer.entry.world.now
         namer.entry.class namer.entry.pool.now purpose index constant.now) }
 {
     match constant {
@@ -315,7 +318,7 @@ fn class_const_fault(
 }
 
 fn class_fault_at(namer: Namer, purpose: Purpose, index: u16) -> Option<LinkWhy>
-    ensures { result ≡ spec.first_why (spec.const_faults namer.entry.pool.now index
+    ensures { result ≡ first_some (spec.const_faults namer.entry.pool.now index
         (spec.class_const_faults namer.entry.world.now namer.entry.class namer.entry.pool.now
         purpose index)) }
 {
@@ -327,7 +330,7 @@ fn class_fault_at(namer: Namer, purpose: Purpose, index: u16) -> Option<LinkWhy>
 
 // What is wrong with a constant that is pushed; a `wide` one takes two slots (JVMS 6.5, ldc, ldc2_w).
 fn push_fault(wide: bool, constant: &Const) -> Option<LinkWhy>
-    ensures { result ≡ spec.first_why (spec.push_faults wide constant.now) }
+    ensures { result ≡ first_some (spec.push_faults wide constant.now) }
 {
     match constant {
         Const::Integer(_) | Const::Text(_) => unless(!wide, LinkWhy::BadCode),
@@ -343,7 +346,7 @@ fn push_fault(wide: bool, constant: &Const) -> Option<LinkWhy>
 }
 
 fn push_fault_at(pool: &[Const], wide: bool, index: u16) -> Option<LinkWhy>
-    ensures { result ≡ spec.first_why
+    ensures { result ≡ first_some
         (spec.const_faults pool.now index (spec.push_faults wide)) }
 {
     match pool.get(usize::from(index)) {
@@ -393,7 +396,7 @@ fn interface_call(count: u8) -> Invocation
 
 /// What is wrong with an instruction in the code of a class, as far as its constant says (JVMS 6.5).
 pub fn instr_fault(alloc: Global, namer: Namer, op: &Op) -> Result<Option<LinkWhy>, NoMemory>
-    ensures { IfOk result (λ fault. fault ≡ spec.first_why (spec.instr_faults
+    ensures { IfOk result (λ fault. fault ≡ first_some (spec.instr_faults
         namer.entry.world.now namer.entry.class namer.entry.pool.now op.now)) }
 {
     match op {

@@ -2,8 +2,9 @@
 
 ghost use Rattle.std.specs.Prelude.{◌≡◌, IfOk};
 ghost use Rattle.std.specs.List.{enumerate_from};
-ghost use Rattle.linkage.specs.Resolution.{first_in};
+ghost use Rattle.items.specs.First.{first_in};
 ghost use Rattle.linkage.specs.Faults as spec;
+ghost use Rattle.link_checks.specs.Firsts as firsts;
 ghost use Rattle.link_checks.specs.Firsts.{class_why, code_why, field_why, interface_why, method_why};
 
 use crate::class_rules::{field_fault, interface_fault, method_fault, name_fault, parent_fault};
@@ -113,7 +114,7 @@ fn fault_of_class(
     class: u32,
     file: &ClassFile,
 ) -> Result<Option<LinkFault>, NoMemory>
-    ensures { IfOk result (λ fault. fault ≡ spec.fault_of_class world.now (class, file.now)) }
+    ensures { IfOk result (λ fault. fault ≡ firsts.fault_of_class world.now (class, file.now)) }
 {
     match class_fault(alloc, world, class, file)? {
         Some(why) => Ok(Some(LinkFault {
@@ -125,6 +126,7 @@ fn fault_of_class(
 }
 
 /// What is wrong first with a program, and the class where it is. `None`: the program links.
+#[tactic(auto, using(crate::proofs::FaultLaws::program_is))]
 pub fn link_fault(alloc: Global, world: &Hierarchy) -> Result<Option<LinkFault>, NoMemory>
     ensures { IfOk result (λ fault. fault ≡ spec.link_fault world.now) }
 {

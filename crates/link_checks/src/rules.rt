@@ -1,7 +1,7 @@
 //! Rules in their order: the first that is broken is what is wrong.
 
 ghost use Rattle.std.specs.Prelude.{◌≡◌};
-ghost use Rattle.linkage.specs.Instructions as spec;
+ghost use Rattle.items.specs.First as spec;
 
 use linkage::LinkWhy;
 
@@ -14,7 +14,7 @@ pub fn unless(passed: bool, why: LinkWhy) -> Option<LinkWhy>
 
 /// The first rule that is broken.
 pub fn first_why(faults: &[Option<LinkWhy>]) -> Option<LinkWhy>
-    ensures { result ≡ spec.first_why faults.now }
+    ensures { result ≡ spec.first_some faults.now }
 {
     for fault in faults {
         if let Some(why) = fault {

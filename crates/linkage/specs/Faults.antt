@@ -1,9 +1,10 @@
 -- What may be wrong with a program (JVMS 5.3, 5.4), as one list in order: class by class its name, its superclass, its
 -- superinterfaces, its fields, its methods, and then method by method the instructions by rising pc and the rows of the exception
 -- table. At one place the rules stand in the order of LinkWhy. (the order: own)
-use Rattle.std.specs.Prelude.{◌≡◌, ℕ, zero, suc, ◌+◌, ◌-◌, Bool, true, false, not, List, [], ◌∷◌, ◌++◌, Option, Some, None, Result, Ok, Err, codes, length, drop, is_some, map, filter_map, slice_get, unwrap_or, ◌==◌, ◌&&◌, ◌||◌, if◌then◌else◌}
-use Rattle.std.specs.Option.{option_map, option_map_or, option_and_then}
+use Rattle.std.specs.Prelude.{◌≡◌, ℕ, zero, suc, ◌+◌, ◌-◌, Bool, true, false, not, List, [], ◌∷◌, ◌++◌, Option, Some, None, Ok, Err, length, drop, map, ◌==◌, ◌&&◌, ◌||◌, if◌then◌else◌}
+use Rattle.std.specs.Option.{option_map, option_map_or}
 use Rattle.std.specs.List.{flat_map, list_any, enumerate_from}
+use Rattle.items.specs.First.{unless, first_some}
 use Rattle.class_model.specs.declared.constant.Const.{Const}
 use Rattle.class_model.specs.declared.attribute.Attribute.{Attribute}
 use Rattle.class_model.specs.declared.attribute.Body.{Body}
@@ -13,23 +14,20 @@ use Rattle.class_model.specs.declared.attribute.Row.{Row}
 use Rattle.class_model.specs.declared.member.Member.{Member}
 use Rattle.class_model.specs.declared.class_file.ClassFile.{ClassFile}
 use Rattle.class_grammar.specs.Text.{same_text}
-use Rattle.class_grammar.specs.Pool.{text_at, is_text, has_text, class_name_at}
 use Rattle.class_grammar.specs.Names.{object_class, is_initializer}
 use Rattle.opcodes.specs.declared.op.Instr.{Instr}
 use Rattle.opcodes.specs.declared.op.Op.{Op}
 use Rattle.opcodes.specs.Operands.{op_at}
-use Rattle.linkage.specs.Resolution.{first_in}
 use Rattle.linkage.specs.declared.fault.LinkFault.{LinkFault}
 use Rattle.linkage.specs.declared.why.LinkWhy.{LinkWhy}
 use Rattle.linkage.specs.declared.why.LinkWhy.TheVariants.{Duplicate, MissingClass, Cycle, WrongKind, FinalParent, Native, BadCode, Unsupported}
 use Rattle.linkage.specs.declared.naming.Purpose.TheVariants as purposes
-use Rattle.linkage.specs.declared.place.Place.{Place}
 use Rattle.linkage.specs.Program.{Program, own_name, parent_name, is_array_name, class_named, is_interface, is_final, is_from_file}
 use Rattle.linkage.specs.Hierarchy.{is_below, superclasses}
 use Rattle.linkage.specs.Members.{Key, index_of, declared_method, has_method, is_open, is_static, is_final_member, is_abstract_method, is_native}
 use Rattle.linkage.specs.Selection.{key_in}
 use Rattle.linkage.specs.Constants.{is_known, names_internal, is_floating, name_at}
-use Rattle.linkage.specs.Instructions.{unless, Faults, first_why, instr_faults, class_faults}
+use Rattle.linkage.specs.Instructions.{Faults, instr_faults, class_faults}
 
 -- ---- the name and what is directly above
 
@@ -192,12 +190,21 @@ class_faults_at p c f =
     ++ flat_map (λ x. method_faults_at p c f x.0 x.1) (enumerate_from 0 f.methods)
     ++ flat_map (method_code_faults p c f.pool) f.methods
 
-abbrev pub fault_of_class : Program → ℕ × ClassFile → Option LinkFault
-fault_of_class p x = option_map (λ why. record { class = own_name x.1; why = why }) (first_why (class_faults_at p x.0 x.1))
+-- a fault of this class
+abbrev pub fault_in : ClassFile → LinkWhy → LinkFault
+fault_in f why = record { class = own_name f; why = why }
+
+-- the rules of the class with this number, each with the fault where it is broken
+abbrev pub numbered_faults : Program → ℕ × ClassFile → List (Option LinkFault)
+numbered_faults p x = map (option_map (fault_in x.1)) (class_faults_at p x.0 x.1)
+
+-- all rules of a program
+abbrev pub link_faults : Program → List (Option LinkFault)
+link_faults p = flat_map (numbered_faults p) (enumerate_from 0 p.classes)
 
 -- the first fault of a program
 abbrev pub link_fault : Program → Option LinkFault
-link_fault p = first_in (fault_of_class p) (enumerate_from 0 p.classes)
+link_fault p = first_some (link_faults p)
 
 -- a program links where it has no fault
 abbrev pub Links : Program → Type 0

@@ -1,6 +1,6 @@
 -- The superclasses and superinterfaces of a class (JVMS 5.3.5). These definitions have a meaning in every list of classes, also
 -- where a class is missing or above itself: the faults of such a list are named by them.
-use Rattle.std.specs.Prelude.{ℕ, zero, suc, ◌+◌, Bool, true, false, List, [], ◌∷◌, ◌++◌, Option, Some, None, length, option_and_then, slice_get, filter_map, sum_by, ◌==◌, if◌then◌else◌}
+use Rattle.std.specs.Prelude.{ℕ, zero, suc, ◌+◌, Bool, List, [], ◌∷◌, ◌++◌, Option, None, length, option_and_then, filter_map, ◌==◌, if◌then◌else◌}
 use Rattle.std.specs.Option.{option_map_or, option_to_list}
 use Rattle.std.specs.List.{list_any}
 use Rattle.class_model.specs.declared.class_file.ClassFile.{ClassFile}

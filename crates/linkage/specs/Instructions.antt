@@ -2,9 +2,9 @@
 use Rattle.std.specs.Prelude.{ℕ, ◌+◌, Bool, true, false, not, List, [], ◌∷◌, Option, Some, None, is_some, slice_get, nat_le, ◌==◌, ◌&&◌, ◌||◌, if◌then◌else◌}
 use Rattle.std.specs.Bool.{beq}
 use Rattle.std.specs.Option.{option_map_or, option_and_then}
+use Rattle.items.specs.First.{unless}
 use Rattle.class_model.specs.declared.constant.Const.{Const}
 use Rattle.class_model.specs.declared.constant.Const.TheVariants.{Integer, Float, Long, Double, Class, Text, Fieldref, Methodref, InterfaceMethodref, MethodHandle, MethodType, Dynamic}
-use Rattle.class_model.specs.declared.member.Member.{Member}
 use Rattle.opcodes.specs.declared.op.Op.{Op}
 use Rattle.opcodes.specs.declared.op.Op.TheVariants as ops
 use Rattle.opcodes.specs.declared.op.Primitive.{Primitive}
@@ -15,23 +15,14 @@ use Rattle.linkage.specs.declared.place.Place.{Place}
 use Rattle.linkage.specs.declared.naming.Invocation.{Invocation}
 use Rattle.linkage.specs.declared.naming.Purpose.{Purpose}
 use Rattle.linkage.specs.declared.naming.Purpose.TheVariants as purposes
-use Rattle.linkage.specs.Program.{Program, class_named, is_array_name, is_interface, is_abstract, is_from_file, is_internal}
+use Rattle.linkage.specs.Program.{Program, class_named, is_array_name, is_interface, is_abstract, is_from_file}
 use Rattle.linkage.specs.Members.{Key, has_field, has_method, is_private, is_static}
 use Rattle.linkage.specs.Resolution.{field_of, class_method, interface_method}
 use Rattle.linkage.specs.Constants.{is_known, names_internal, home_of, is_floating, is_floating_array, dimensions_of, argument_slots, key_at, name_at}
 
--- this fault, unless the test has passed
-abbrev pub unless : Bool → LinkWhy → Option LinkWhy
-unless passed why = if passed then None else Some why
-
+-- rules in order, each with what is wrong where it is broken
 abbrev pub Faults : Type 0
 Faults = List (Option LinkWhy)
-
--- the first rule that is broken
-abbrev pub first_why : Faults → Option LinkWhy
-first_why [] = None
-first_why (None ∷ faults) = first_why faults
-first_why (Some why ∷ faults) = Some why
 
 -- ---- what a class of a file may not name (own)
 

@@ -1,5 +1,5 @@
 -- The fields and methods that classes declare, and their numbers (JVMS 4.5, 4.6).
-use Rattle.std.specs.Prelude.{ℕ, zero, suc, ◌+◌, Bool, false, not, List, [], ◌∷◌, Option, None, length, position, slice_get, take, map, sum_by, ◌&&◌}
+use Rattle.std.specs.Prelude.{ℕ, ◌+◌, Bool, false, not, List, Option, None, length, position, slice_get, take, sum_by, ◌&&◌}
 use Rattle.std.specs.Option.{option_map, option_map_or}
 use Rattle.class_model.specs.declared.access_flags.TheConstants.{ACC_PUBLIC, ACC_PRIVATE, ACC_STATIC, ACC_FINAL, ACC_ABSTRACT, ACC_NATIVE}
 use Rattle.class_model.specs.declared.constant.Const.{Const}

@@ -1,7 +1,6 @@
 -- A program: its classes in order, the built-in ones first. A class is told by its index in this list. (own)
-use Rattle.std.specs.Prelude.{ℕ, Bool, true, false, not, List, [], ◌∷◌, ◌++◌, length, Option, Some, None, codes, drop, is_some, unwrap_or, slice_get, position, filter_map, bit_and, nat_lt, nat_le, ◌==◌, ◌&&◌, ◌||◌, if◌then◌else◌}
-use Rattle.std.specs.Option.{option_map, option_map_or, option_to_list}
-use Rattle.std.specs.List.{list_any}
+use Rattle.std.specs.Prelude.{ℕ, Bool, false, not, List, [], ◌++◌, length, Option, codes, unwrap_or, slice_get, position, bit_and, nat_lt, nat_le, ◌==◌, ◌&&◌}
+use Rattle.std.specs.Option.{option_map_or}
 use Rattle.class_model.specs.declared.access_flags.TheConstants.{ACC_FINAL, ACC_INTERFACE, ACC_ABSTRACT, ACC_PUBLIC}
 use Rattle.class_model.specs.declared.class_file.ClassFile.{ClassFile}
 use Rattle.class_grammar.specs.Text.{same_text}

@@ -1,18 +1,13 @@
 -- The field or method that a name means in a class (JVMS 5.4.3.2 to 5.4.3.4). Access isn't checked. (own)
-use Rattle.std.specs.Prelude.{ℕ, Bool, true, false, not, List, [], ◌∷◌, Option, Some, None, filter, filter_map, ◌==◌, ◌&&◌, if◌then◌else◌}
+use Rattle.std.specs.Prelude.{ℕ, Bool, not, List, [], ◌∷◌, Option, Some, None, filter, filter_map, ◌==◌, ◌&&◌, if◌then◌else◌}
 use Rattle.std.specs.Option.{option_or, option_and_then}
 use Rattle.std.specs.List.{list_any}
-use Rattle.class_model.specs.declared.member.Member.{Member}
+use Rattle.items.specs.First.{first_in}
 use Rattle.class_grammar.specs.Names.{object_class}
 use Rattle.linkage.specs.declared.place.Place.{Place}
 use Rattle.linkage.specs.Program.{Program, class_named, is_interface}
 use Rattle.linkage.specs.Hierarchy.{supers, superclasses, is_below}
 use Rattle.linkage.specs.Members.{Key, declared_field, declared_method, has_method, is_open, is_public_instance, is_abstract_method}
-
--- what the function finds first in the list
-abbrev pub first_in : {A B : Type 0} → (A → Option B) → List A → Option B
-first_in find [] = None
-first_in find (x ∷ xs) = option_or (find x) (first_in find xs)
 
 -- A field (JVMS 5.4.3.2): that of the class itself, else of what is above its superinterfaces in their order, else of what is
 -- above its superclass.

@@ -1,6 +1,7 @@
 -- The method that an invocation runs on an object of a class (JVMS 5.4.5, 5.4.6, 6.5).
 use Rattle.std.specs.Prelude.{ℕ, Bool, not, List, [], ◌∷◌, Option, Some, None, codes, drop, unwrap_or, slice_get, ◌&&◌, if◌then◌else◌}
 use Rattle.std.specs.Option.{option_or, option_map_or, option_and_then}
+use Rattle.items.specs.First.{first_in}
 use Rattle.class_model.specs.declared.constant.Const.{Const}
 use Rattle.class_model.specs.declared.member.Member.{Member}
 use Rattle.class_grammar.specs.Pool.{text_at}
@@ -11,7 +12,7 @@ use Rattle.linkage.specs.declared.choice.Choice.TheVariants.{Method, Abstract, S
 use Rattle.linkage.specs.Program.{Program, class_at, is_interface}
 use Rattle.linkage.specs.Hierarchy.{is_among, parent_of, superclasses}
 use Rattle.linkage.specs.Members.{Key, declared_method, has_method, is_private, is_static, is_abstract_method}
-use Rattle.linkage.specs.Resolution.{first_in, if_open, most_specific_bodies, object_method}
+use Rattle.linkage.specs.Resolution.{if_open, most_specific_bodies, object_method}
 
 -- the name and the descriptor of a member
 abbrev pub key_in : List Const → Member → Key

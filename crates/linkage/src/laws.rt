@@ -1,12 +1,15 @@
-//! Laws of the definitions, each the contract of a function that does nothing.
+//! What holds of the definitions in `specs/`, each as a call that does nothing.
 
-ghost use Rattle.std.specs.Prelude.{◌≡◌, Some, None};
+ghost use Rattle.std.specs.Prelude.{◌≡◌, ◌↔◌, Some};
+ghost use Rattle.items.specs.First.{AllNone, IsFirst};
 ghost use Rattle.linkage.specs.Program.{Program};
 ghost use Rattle.linkage.specs.declared.fault.LinkFault.{LinkFault};
-ghost use Rattle.linkage.specs.Faults.{Links, link_fault};
+ghost use Rattle.linkage.specs.Faults.{Links, link_fault, link_faults};
 
-/// A program links or has exactly one first fault.
-pub fn one_outcome()
-    ensures links { (p : Program) (f : LinkFault) → Links p → link_fault p ≡ Some f → ⊥ }
-    ensures one { (p : Program) (f g : LinkFault) → link_fault p ≡ Some f → link_fault p ≡ Some g → f ≡ g }
+/// A program links exactly where none of the rules in `link_faults` is broken. Else the fault that is named is the first: it is there, and
+/// none stands before it in the order of classes, of their parts, and of reasons (JVMS 5.3, 5.4; the order: own).
+pub fn first_faults()
+    ensures first { (p : Program) (f : LinkFault)
+        → link_fault p ≡ Some f ↔ IsFirst (link_faults p) f }
+    ensures none { (p : Program) → Links p ↔ AllNone (link_faults p) }
 {}

@@ -10,7 +10,7 @@ mod why;
 
 pub use choice::Choice;
 pub use fault::LinkFault;
-pub use laws::one_outcome;
+pub use laws::first_faults;
 pub use naming::{Invocation, Purpose};
 pub use place::Place;
 pub use why::LinkWhy;

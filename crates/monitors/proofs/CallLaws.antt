@@ -1,10 +1,12 @@
 -- What each call leaves of the monitor that it changes.
 use Rattle.std.proofs.Common.{◌≡◌, ◌+◌, ◌-◌, ◌<◌, ◌≤◌, ◌&&◌, ◌==◌, ◌↔◌, ℕ, Bool, true, false, List, [], ◌∷◌, ◌++◌, Option, Some, None, append-nil, drop, if◌then◌else◌, is_none, is_some, add-zero, not, length, length-append, nat_eq, nat_lt, set, slice_get, take, sym, ◌∙◌, ap, subst, refl, arith, inl, inr, vec_len}
+use Rattle.std.specs.Prelude.{map, min}
+use Rattle.std.specs.Map.{lookup}
 use Rattle.std.specs.declared.hash.BuildHasherDefault.{BuildHasherDefault}
 use Rattle.std.specs.declared.hash.FoldHasher.{FoldHasher}
 use Rattle.std.specs.Global.{Vec}
 use Rattle.std.specs.HashMap.{HashMap, get, hash_map_len, spare}
-use Rattle.std.specs.Option.{option_and_then}
+use Rattle.std.specs.Option.{IfSome, option_and_then}
 use Rattle.std.specs.Vec.{vec_capacity}
 use Rattle.std.proofs.lemmas.Bool.{cases_eq, cases_lt, eq-eqb}
 use Rattle.std.proofs.lemmas.Bool.Decides.{nat_tests}
@@ -14,8 +16,8 @@ use Rattle.monitors.specs.declared.records.Owner.{Owner}
 use Rattle.monitors.specs.declared.records.Record.{Record}
 use Rattle.monitors.specs.declared.monitors.Monitors.TheInside.{Inside}
 use Rattle.monitors.specs.Monitors.{InNoList, IsInLine, IsWaiting, Monitor, after_enter, after_exit, after_leave_wait, after_line_up, after_notify, after_notify_all, after_retake, after_wait, free, is_empty, is_free, is_taken, count_in, monitor_of}
-use Rattle.monitors.specs.Records.{IsKept, count_of, entry_of, seen, thread_of, waits_of}
-use Rattle.monitors.proofs.ListLaws.{Slotted, Slotted-entry, Slotted-push, Slotted-same, Slotted-wait, Slotted-waits}
+use Rattle.monitors.specs.Records.{Fits, IsKept, count_of, entered, entry_of, known, left, left_by, seen, thread_of, waits_of}
+use Rattle.monitors.proofs.ListLaws.{Paired, Paired-entry, Paired-push, Paired-same, Paired-wait, Paired-waits}
 use Rattle.monitors.proofs.MonitorLaws.{After, After-change, After-close, After-is, After-open, free_thread, in_use_is, unused_is}
 use Rattle.monitors.proofs.RecordLaws.{KeepsRecords}
 
@@ -70,77 +72,100 @@ After-same a o kept =
 -- a monitor in use
 module _ (a : Inside) (kept : IsKept a) (o : ℕ) (r : Record) (was : get nat_eq a.records o ≡ Some r) where
   abbrev pub entry : List ℕ
-  entry = list_at a.lists.lists (entry_of r.slot)
+  entry = list_at a.lists.lists (entry_of r.pair)
 
   abbrev pub waits : List ℕ
-  waits = list_at a.lists.lists (waits_of r.slot)
+  waits = list_at a.lists.lists (waits_of r.pair)
 
-  inside : waits_of r.slot < length a.lists.lists
+  inside : waits_of r.pair < length a.lists.lists
   inside = kept.fits.inside o r was
 
   abbrev monitor : Option Owner → List ℕ → List ℕ → Monitor
   monitor owner xs ys = record { owner = thread_of owner; count = count_of owner; entry = xs; waits = ys }
 
-  lists_change : (lists new : Lists) (xs ys : List ℕ) → lists ≡ new → Slotted a.lists.lists new.lists r.slot xs ys → new.threads ≡ a.lists.threads → is_free (monitor r.owner xs ys) ≡ false → After a o (monitor r.owner xs ys) (record a { lists = lists })
-  lists_change lists new xs ys e slotted threads used =
+  lists_change : (lists new : Lists) (xs ys : List ℕ) → lists ≡ new → Paired a.lists.lists new.lists r.pair xs ys → new.threads ≡ a.lists.threads → is_free (monitor r.owner xs ys) ≡ false → After a o (monitor r.owner xs ys) (record a { lists = lists })
+  lists_change lists new xs ys e paired threads used =
       subst (λ (ls : Lists). After a o (monitor r.owner xs ys) (record a { lists = ls })) (sym e)
-      (After-change a (record a { lists = new }) kept o r was xs ys slotted r.owner was (λ p ne. refl) refl (omega arith) refl refl threads used)
+      (After-change a (record a { lists = new }) kept o r was xs ys paired r.owner was (λ p ne. refl) refl (omega arith) refl refl threads used)
 
   owner_change : (records : Records) (owner : Option Owner) → get nat_eq records o ≡ Some (record r { owner = owner }) → KeepsRecords (get nat_eq a.records) (get nat_eq records) o → hash_map_len records ≡ hash_map_len a.records + (if is_some (get nat_eq a.records o) then 0 else 1) → spare a.records ≤ spare records + 1 → is_free (monitor owner entry waits) ≡ false → After a o (monitor owner entry waits) (record a { records = records })
   owner_change records owner now others size more used =
-      After-change a (record a { records = records }) kept o r was entry waits (Slotted-same a.lists.lists r.slot) owner now others (size ∙ ap (λ x. hash_map_len a.records + (if is_some x then 0 else 1)) was ∙ add-zero (hash_map_len a.records)) more refl refl refl used
+      After-change a (record a { records = records }) kept o r was entry waits (Paired-same a.lists.lists r.pair) owner now others (size ∙ ap (λ x. hash_map_len a.records + (if is_some x then 0 else 1)) was ∙ add-zero (hash_map_len a.records)) more refl refl refl used
 
-  both_change : (records : Records) (lists new : Lists) (owner : Option Owner) (xs ys : List ℕ) → get nat_eq records o ≡ Some (record r { owner = owner }) → KeepsRecords (get nat_eq a.records) (get nat_eq records) o → hash_map_len records ≡ hash_map_len a.records + (if is_some (get nat_eq a.records o) then 0 else 1) → spare a.records ≤ spare records + 1 → lists ≡ new → Slotted a.lists.lists new.lists r.slot xs ys → new.threads ≡ a.lists.threads → is_free (monitor owner xs ys) ≡ false → After a o (monitor owner xs ys) (record a { records = records; lists = lists })
-  both_change records lists new owner xs ys now others size more e slotted threads used =
+  both_change : (records : Records) (lists new : Lists) (owner : Option Owner) (xs ys : List ℕ) → get nat_eq records o ≡ Some (record r { owner = owner }) → KeepsRecords (get nat_eq a.records) (get nat_eq records) o → hash_map_len records ≡ hash_map_len a.records + (if is_some (get nat_eq a.records o) then 0 else 1) → spare a.records ≤ spare records + 1 → lists ≡ new → Paired a.lists.lists new.lists r.pair xs ys → new.threads ≡ a.lists.threads → is_free (monitor owner xs ys) ≡ false → After a o (monitor owner xs ys) (record a { records = records; lists = lists })
+  both_change records lists new owner xs ys now others size more e paired threads used =
       subst (λ (ls : Lists). After a o (monitor owner xs ys) (record a { records = records; lists = ls })) (sym e)
-      (After-change a (record a { records = records; lists = new }) kept o r was xs ys slotted owner now others (size ∙ ap (λ x. hash_map_len a.records + (if is_some x then 0 else 1)) was ∙ add-zero (hash_map_len a.records)) more refl refl threads used)
+      (After-change a (record a { records = records; lists = new }) kept o r was xs ys paired owner now others (size ∙ ap (λ x. hash_map_len a.records + (if is_some x then 0 else 1)) was ∙ add-zero (hash_map_len a.records)) more refl refl threads used)
 
-  pushed : (t : ℕ) → Slotted a.lists.lists (push a.lists.lists (entry_of r.slot) (t ∷ [])) r.slot (entry ++ t ∷ []) waits
-  pushed t = Slotted-push a.lists.lists a.lists.lists r.slot entry waits (t ∷ []) inside (Slotted-same a.lists.lists r.slot)
+  pushed : (t : ℕ) → Paired a.lists.lists (push a.lists.lists (entry_of r.pair) (t ∷ [])) r.pair (entry ++ t ∷ []) waits
+  pushed t = Paired-push a.lists.lists a.lists.lists r.pair entry waits (t ∷ []) inside (Paired-same a.lists.lists r.pair)
 
-  moved : (t : ℕ) → Slotted a.lists.lists (push (set a.lists.lists (waits_of r.slot) (without t waits)) (entry_of r.slot) (t ∷ [])) r.slot (entry ++ t ∷ []) (without t waits)
+  moved : (t : ℕ) → Paired a.lists.lists (push (set a.lists.lists (waits_of r.pair) (without t waits)) (entry_of r.pair) (t ∷ [])) r.pair (entry ++ t ∷ []) (without t waits)
   moved t =
-      Slotted-push a.lists.lists (set a.lists.lists (waits_of r.slot) (without t waits)) r.slot entry (without t waits) (t ∷ []) inside
-      (Slotted-waits a.lists.lists a.lists.lists r.slot entry waits (without t waits) inside (Slotted-same a.lists.lists r.slot))
+      Paired-push a.lists.lists (set a.lists.lists (waits_of r.pair) (without t waits)) r.pair entry (without t waits) (t ∷ []) inside
+      (Paired-waits a.lists.lists a.lists.lists r.pair entry waits (without t waits) inside (Paired-same a.lists.lists r.pair))
+
+  -- the record after a thread enters, by whether another is the owner
+  entered_by : (t : ℕ) (taken : Bool) → is_taken (thread_of r.owner) t ≡ taken → Some (entered t r) ≡ Some (if taken then r else record r { owner = Some (record { thread = t; count = count_of r.owner + 1 }) })
+  entered_by t taken e = ap (λ (b : Bool). Some (if b then r else record r { owner = Some (record { thread = t; count = count_of r.owner + 1 }) })) e
+
+  -- the vacant pairs stay
+  with_vacant : (m : Monitor) (records : Records) (vacant : Vec ℕ) (lists : Lists) → vacant ≡ a.vacant → After a o m (record a { records = records; lists = lists }) → After a o m (record a { records = records; vacant = vacant; lists = lists })
+  with_vacant m records vacant lists e after = subst (λ (v : Vec ℕ). After a o m (record a { records = records; vacant = v; lists = lists })) (sym e) after
 
   -- a thread waits for a monitor that another owns
-  pub enter_blocks : (t : ℕ) (lists : Lists) → is_taken (thread_of r.owner) t ≡ true → lists ≡ record a.lists { lists = push a.lists.lists (entry_of r.slot) (t ∷ []) } → After a o (after_enter t (monitor_of (seen a) o)) (record a { lists = lists })
-  enter_blocks t lists taken e =
-      After-is a o (monitor r.owner (entry ++ t ∷ []) waits) (after_enter t (monitor_of (seen a) o)) (record a { lists = lists })
+  pub enter_blocks : (t : ℕ) (records : Records) (vacant : Vec ℕ) (lists : Lists) → is_taken (thread_of r.owner) t ≡ true → get nat_eq records o ≡ Some (entered t r) → KeepsRecords (get nat_eq a.records) (get nat_eq records) o → hash_map_len records ≡ hash_map_len a.records + (if is_some (get nat_eq a.records o) then 0 else 1) → spare a.records ≤ spare records + 1 → vacant ≡ a.vacant → lists ≡ record a.lists { lists = push a.lists.lists (entry_of r.pair) (t ∷ []) } → After a o (after_enter t (monitor_of (seen a) o)) (record a { records = records; vacant = vacant; lists = lists })
+  enter_blocks t records vacant lists taken now others size more same e =
+      with_vacant (after_enter t (monitor_of (seen a) o)) records vacant lists same
+      (After-is a o (monitor r.owner (entry ++ t ∷ []) waits) (after_enter t (monitor_of (seen a) o)) (record a { records = records; lists = lists })
       (sym (ap (λ (b : Bool). if b then monitor r.owner (entry ++ t ∷ []) waits else record { owner = Some t; count = count_of r.owner + 1; entry = entry; waits = waits }) taken) ∙ ap (after_enter t) (sym (in_use_is a o r was)))
-      (lists_change lists (record a.lists { lists = push a.lists.lists (entry_of r.slot) (t ∷ []) }) (entry ++ t ∷ []) waits e (pushed t) refl (used-entry (monitor r.owner (entry ++ t ∷ []) waits) (is_empty-push entry t)))
+      (both_change records lists (record a.lists { lists = push a.lists.lists (entry_of r.pair) (t ∷ []) }) r.owner (entry ++ t ∷ []) waits (now ∙ entered_by t true taken) others size more e (pushed t) refl (used-entry (monitor r.owner (entry ++ t ∷ []) waits) (is_empty-push entry t))))
 
   -- a thread takes a monitor, or enters it once more
-  pub enter_takes : (t n : ℕ) (records : Records) → is_taken (thread_of r.owner) t ≡ false → n ≡ count_of r.owner + 1 → get nat_eq records o ≡ Some (record r { owner = Some (record { thread = t; count = n }) }) → KeepsRecords (get nat_eq a.records) (get nat_eq records) o → hash_map_len records ≡ hash_map_len a.records + (if is_some (get nat_eq a.records o) then 0 else 1) → spare a.records ≤ spare records + 1 → After a o (after_enter t (monitor_of (seen a) o)) (record a { records = records })
-  enter_takes t n records taken e now others size more =
-      After-is a o (monitor (Some (record { thread = t; count = n })) entry waits) (after_enter t (monitor_of (seen a) o)) (record a { records = records })
-      (ap (λ k. record { owner = Some t; count = k; entry = entry; waits = waits }) e
-      ∙ sym (ap (λ (b : Bool). if b then monitor r.owner (entry ++ t ∷ []) waits else record { owner = Some t; count = count_of r.owner + 1; entry = entry; waits = waits }) taken)
+  pub enter_takes : (t : ℕ) (records : Records) (vacant : Vec ℕ) → is_taken (thread_of r.owner) t ≡ false → get nat_eq records o ≡ Some (entered t r) → KeepsRecords (get nat_eq a.records) (get nat_eq records) o → hash_map_len records ≡ hash_map_len a.records + (if is_some (get nat_eq a.records o) then 0 else 1) → spare a.records ≤ spare records + 1 → vacant ≡ a.vacant → After a o (after_enter t (monitor_of (seen a) o)) (record a { records = records; vacant = vacant })
+  enter_takes t records vacant taken now others size more same =
+      let owner : Option Owner = Some (record { thread = t; count = count_of r.owner + 1 }) in
+      with_vacant (after_enter t (monitor_of (seen a) o)) records vacant a.lists same
+      (After-is a o (monitor owner entry waits) (after_enter t (monitor_of (seen a) o)) (record a { records = records })
+      (sym (ap (λ (b : Bool). if b then monitor r.owner (entry ++ t ∷ []) waits else record { owner = Some t; count = count_of r.owner + 1; entry = entry; waits = waits }) taken)
       ∙ ap (after_enter t) (sym (in_use_is a o r was)))
-      (owner_change records (Some (record { thread = t; count = n })) now others size more refl)
+      (owner_change records owner (now ∙ entered_by t false taken) others size more refl))
 
   -- a thread count_in up
-  pub line_up_adds : (t : ℕ) (lists : Lists) → lists ≡ record a.lists { lists = push a.lists.lists (entry_of r.slot) (t ∷ []) } → After a o (after_line_up t (monitor_of (seen a) o)) (record a { lists = lists })
+  pub line_up_adds : (t : ℕ) (lists : Lists) → lists ≡ record a.lists { lists = push a.lists.lists (entry_of r.pair) (t ∷ []) } → After a o (after_line_up t (monitor_of (seen a) o)) (record a { lists = lists })
   line_up_adds t lists e =
       After-is a o (monitor r.owner (entry ++ t ∷ []) waits) (after_line_up t (monitor_of (seen a) o)) (record a { lists = lists }) (ap (after_line_up t) (sym (in_use_is a o r was)))
-      (lists_change lists (record a.lists { lists = push a.lists.lists (entry_of r.slot) (t ∷ []) }) (entry ++ t ∷ []) waits e (pushed t) refl (used-entry (monitor r.owner (entry ++ t ∷ []) waits) (is_empty-push entry t)))
+      (lists_change lists (record a.lists { lists = push a.lists.lists (entry_of r.pair) (t ∷ []) }) (entry ++ t ∷ []) waits e (pushed t) refl (used-entry (monitor r.owner (entry ++ t ∷ []) waits) (is_empty-push entry t)))
 
   -- a thread in line takes a monitor
-  pub retake_takes : (t n : ℕ) (records : Records) (lists : Lists) → get nat_eq records o ≡ Some (record r { owner = Some (record { thread = t; count = n }) }) → KeepsRecords (get nat_eq a.records) (get nat_eq records) o → hash_map_len records ≡ hash_map_len a.records + (if is_some (get nat_eq a.records o) then 0 else 1) → spare a.records ≤ spare records + 1 → lists ≡ record a.lists { lists = set a.lists.lists (entry_of r.slot) (without t entry) } → After a o (after_retake t n (monitor_of (seen a) o)) (record a { records = records; lists = lists })
+  pub retake_takes : (t n : ℕ) (records : Records) (lists : Lists) → get nat_eq records o ≡ Some (record r { owner = Some (record { thread = t; count = n }) }) → KeepsRecords (get nat_eq a.records) (get nat_eq records) o → hash_map_len records ≡ hash_map_len a.records + (if is_some (get nat_eq a.records o) then 0 else 1) → spare a.records ≤ spare records + 1 → lists ≡ record a.lists { lists = set a.lists.lists (entry_of r.pair) (without t entry) } → After a o (after_retake t n (monitor_of (seen a) o)) (record a { records = records; lists = lists })
   retake_takes t n records lists now others size more e =
       After-is a o (monitor (Some (record { thread = t; count = n })) (without t entry) waits) (after_retake t n (monitor_of (seen a) o)) (record a { records = records; lists = lists }) (ap (after_retake t n) (sym (in_use_is a o r was)))
-      (both_change records lists (record a.lists { lists = set a.lists.lists (entry_of r.slot) (without t entry) }) (Some (record { thread = t; count = n })) (without t entry) waits now others size more e
-      (Slotted-entry a.lists.lists a.lists.lists r.slot entry waits (without t entry) inside (Slotted-same a.lists.lists r.slot)) refl refl)
+      (both_change records lists (record a.lists { lists = set a.lists.lists (entry_of r.pair) (without t entry) }) (Some (record { thread = t; count = n })) (without t entry) waits now others size more e
+      (Paired-entry a.lists.lists a.lists.lists r.pair entry waits (without t entry) inside (Paired-same a.lists.lists r.pair)) refl refl)
+
+  -- what is left of an owner that leaves once
+  left_is : (owner : Option Owner) (t : ℕ) (again : Bool) → thread_of owner ≡ Some t → nat_lt 1 (count_of owner) ≡ again → option_and_then left_by owner ≡ (if again then Some (record { thread = t; count = count_of owner - 1 }) else None)
+  left_is None t again owned e = absurd cc
+  left_is (Some w) t again owned e =
+      let same : w.thread ≡ t = cc in
+      let some : ℕ → Option Owner = λ n. Some (record { thread = n; count = w.count - 1 }) in
+      ap (λ (b : Bool). if b then some w.thread else None) e ∙ ap (λ n. if again then some n else None) same
+
+  left_change : (records : Records) (t : ℕ) (again : Bool) → thread_of r.owner ≡ Some t → nat_lt 1 (count_of r.owner) ≡ again → get nat_eq records o ≡ Some (left r) → KeepsRecords (get nat_eq a.records) (get nat_eq records) o → hash_map_len records ≡ hash_map_len a.records → spare records ≡ spare a.records → is_free (monitor (if again then Some (record { thread = t; count = count_of r.owner - 1 }) else None) entry waits) ≡ false → After a o (monitor (if again then Some (record { thread = t; count = count_of r.owner - 1 }) else None) entry waits) (record a { records = records })
+  left_change records t again owned e now others size room used =
+      owner_change records (if again then Some (record { thread = t; count = count_of r.owner - 1 }) else None)
+      (now ∙ ap (λ (owner : Option Owner). Some (record r { owner = owner })) (left_is r.owner t again owned e)) others
+      (size ∙ sym (ap (λ x. hash_map_len a.records + (if is_some x then 0 else 1)) was ∙ add-zero (hash_map_len a.records))) (omega (arith, room)) used
 
   -- the owner leaves a monitor that it entered more than once
-  pub exit_lowers : (t n : ℕ) (records : Records) → thread_of r.owner ≡ Some t → nat_lt 1 (count_of r.owner) ≡ true → n ≡ count_of r.owner - 1 → get nat_eq records o ≡ Some (record r { owner = Some (record { thread = t; count = n }) }) → KeepsRecords (get nat_eq a.records) (get nat_eq records) o → hash_map_len records ≡ hash_map_len a.records + (if is_some (get nat_eq a.records o) then 0 else 1) → spare a.records ≤ spare records + 1 → After a o (after_exit (monitor_of (seen a) o)) (record a { records = records })
-  exit_lowers t n records owned more_than_once e now others size more =
-      After-is a o (monitor (Some (record { thread = t; count = n })) entry waits) (after_exit (monitor_of (seen a) o)) (record a { records = records })
-      (ap (λ x. record { owner = x; count = n; entry = entry; waits = waits }) (sym owned)
-      ∙ ap (λ k. record { owner = thread_of r.owner; count = k; entry = entry; waits = waits }) e
-      ∙ sym (ap (λ (b : Bool). if b then record { owner = thread_of r.owner; count = count_of r.owner - 1; entry = entry; waits = waits } else record { owner = None; count = 0; entry = entry; waits = waits }) more_than_once)
+  pub exit_lowers : (t : ℕ) (records : Records) → thread_of r.owner ≡ Some t → nat_lt 1 (count_of r.owner) ≡ true → get nat_eq records o ≡ Some (left r) → KeepsRecords (get nat_eq a.records) (get nat_eq records) o → hash_map_len records ≡ hash_map_len a.records → spare records ≡ spare a.records → After a o (after_exit (monitor_of (seen a) o)) (record a { records = records })
+  exit_lowers t records owned again now others size room =
+      After-is a o (monitor (Some (record { thread = t; count = count_of r.owner - 1 })) entry waits) (after_exit (monitor_of (seen a) o)) (record a { records = records })
+      (ap (λ x. record { owner = x; count = count_of r.owner - 1; entry = entry; waits = waits }) (sym owned)
+      ∙ sym (ap (λ (b : Bool). if b then record { owner = thread_of r.owner; count = count_of r.owner - 1; entry = entry; waits = waits } else record { owner = None; count = 0; entry = entry; waits = waits }) again)
       ∙ ap after_exit (sym (in_use_is a o r was)))
-      (owner_change records (Some (record { thread = t; count = n })) now others size more refl)
+      (left_change records t true owned again now others size room refl)
 
   exits : nat_lt 1 (count_of r.owner) ≡ false → record { owner = None; count = 0; entry = entry; waits = waits } ≡ after_exit (monitor_of (seen a) o)
   exits once =
@@ -148,34 +173,38 @@ module _ (a : Inside) (kept : IsKept a) (o : ℕ) (r : Record) (was : get nat_eq
       ∙ ap after_exit (sym (in_use_is a o r was))
 
   -- it leaves one for which others wait
-  pub exit_leaves : (records : Records) → nat_lt 1 (count_of r.owner) ≡ false → is_empty entry && is_empty waits ≡ false → get nat_eq records o ≡ Some (record r { owner = None }) → KeepsRecords (get nat_eq a.records) (get nat_eq records) o → hash_map_len records ≡ hash_map_len a.records + (if is_some (get nat_eq a.records o) then 0 else 1) → spare a.records ≤ spare records + 1 → After a o (after_exit (monitor_of (seen a) o)) (record a { records = records })
-  exit_leaves records once lined now others size more =
-      After-is a o (monitor None entry waits) (after_exit (monitor_of (seen a) o)) (record a { records = records }) (exits once) (owner_change records None now others size more lined)
+  pub exit_leaves : (t : ℕ) (records : Records) → thread_of r.owner ≡ Some t → nat_lt 1 (count_of r.owner) ≡ false → is_empty entry && is_empty waits ≡ false → get nat_eq records o ≡ Some (left r) → KeepsRecords (get nat_eq a.records) (get nat_eq records) o → hash_map_len records ≡ hash_map_len a.records → spare records ≡ spare a.records → After a o (after_exit (monitor_of (seen a) o)) (record a { records = records })
+  exit_leaves t records owned once lined now others size room =
+      After-is a o (monitor None entry waits) (after_exit (monitor_of (seen a) o)) (record a { records = records }) (exits once) (left_change records t false owned once now others size room lined)
 
   -- it leaves one for which nobody waits
-  pub exit_closes : (records : Records) (vacant : Vec ℕ) → nat_lt 1 (count_of r.owner) ≡ false → is_empty entry && is_empty waits ≡ true → get nat_eq records o ≡ None → KeepsRecords (get nat_eq a.records) (get nat_eq records) o → hash_map_len records + (if is_some (get nat_eq a.records o) then 1 else 0) ≡ hash_map_len a.records → spare a.records ≤ spare records → vacant.items ≡ a.vacant.items ++ r.slot ∷ [] → vec_len vacant ≡ vec_len a.vacant + 1 → vec_capacity vacant ≡ vec_capacity a.vacant → After a o (after_exit (monitor_of (seen a) o)) (record a { records = records; vacant = vacant })
-  exit_closes records vacant once deserted now others size more items len capacity =
+  pub exit_closes : (between records : Records) (vacant : Vec ℕ) → nat_lt 1 (count_of r.owner) ≡ false → is_empty entry && is_empty waits ≡ true
+      → get nat_eq between o ≡ Some (left r) → KeepsRecords (get nat_eq a.records) (get nat_eq between) o → hash_map_len between ≡ hash_map_len a.records → spare between ≡ spare a.records
+      → get nat_eq records o ≡ None → KeepsRecords (get nat_eq between) (get nat_eq records) o → hash_map_len records + (if is_some (get nat_eq between o) then 1 else 0) ≡ hash_map_len between → spare between ≤ spare records
+      → vacant.items ≡ a.vacant.items ++ r.pair ∷ [] → vec_len vacant ≡ vec_len a.vacant + 1 → vec_capacity vacant ≡ vec_capacity a.vacant → After a o (after_exit (monitor_of (seen a) o)) (record a { records = records; vacant = vacant })
+  exit_closes between records vacant once deserted left_now left_others left_size left_room now others size more items len capacity =
       let none = empty_first entry waits deserted in
       let nobody = empty_second entry waits deserted in
       After-is a o free (after_exit (monitor_of (seen a) o)) (record a { records = records; vacant = vacant })
       (sym (ap (λ xs. record { owner = None; count = 0; entry = xs; waits = waits }) none ∙ ap (λ xs. record { owner = None; count = 0; entry = []; waits = xs }) nobody) ∙ exits once)
-      (After-close a (record a { records = records; vacant = vacant }) kept o r was now others (sym (ap (λ x. hash_map_len records + (if is_some x then 1 else 0)) was) ∙ size) more items len capacity refl refl none nobody)
+      (After-close a (record a { records = records; vacant = vacant }) kept o r was now (λ p ne. others p ne ∙ left_others p ne)
+      (sym (ap (λ x. hash_map_len records + (if is_some x then 1 else 0)) left_now) ∙ size ∙ left_size) (omega (arith, more, left_room)) items len capacity refl refl none nobody)
 
   -- the owner leaves a monitor wholly and waits
-  pub wait_leaves : (t : ℕ) (records : Records) (lists : Lists) → get nat_eq records o ≡ Some (record r { owner = None }) → KeepsRecords (get nat_eq a.records) (get nat_eq records) o → hash_map_len records ≡ hash_map_len a.records + (if is_some (get nat_eq a.records o) then 0 else 1) → spare a.records ≤ spare records + 1 → lists ≡ record a.lists { lists = push a.lists.lists (waits_of r.slot) (t ∷ []) } → After a o (after_wait t (monitor_of (seen a) o)) (record a { records = records; lists = lists })
+  pub wait_leaves : (t : ℕ) (records : Records) (lists : Lists) → get nat_eq records o ≡ Some (record r { owner = None }) → KeepsRecords (get nat_eq a.records) (get nat_eq records) o → hash_map_len records ≡ hash_map_len a.records + (if is_some (get nat_eq a.records o) then 0 else 1) → spare a.records ≤ spare records + 1 → lists ≡ record a.lists { lists = push a.lists.lists (waits_of r.pair) (t ∷ []) } → After a o (after_wait t (monitor_of (seen a) o)) (record a { records = records; lists = lists })
   wait_leaves t records lists now others size more e =
       After-is a o (monitor None entry (waits ++ t ∷ [])) (after_wait t (monitor_of (seen a) o)) (record a { records = records; lists = lists }) (ap (after_wait t) (sym (in_use_is a o r was)))
-      (both_change records lists (record a.lists { lists = push a.lists.lists (waits_of r.slot) (t ∷ []) }) None entry (waits ++ t ∷ []) now others size more e
-      (Slotted-wait a.lists.lists a.lists.lists r.slot entry waits (t ∷ []) inside (Slotted-same a.lists.lists r.slot)) refl (used-waits (monitor None entry (waits ++ t ∷ [])) (is_empty-push waits t)))
+      (both_change records lists (record a.lists { lists = push a.lists.lists (waits_of r.pair) (t ∷ []) }) None entry (waits ++ t ∷ []) now others size more e
+      (Paired-wait a.lists.lists a.lists.lists r.pair entry waits (t ∷ []) inside (Paired-same a.lists.lists r.pair)) refl (used-waits (monitor None entry (waits ++ t ∷ [])) (is_empty-push waits t)))
 
   -- the first that waits count_in up
-  pub notify_moves : (w : ℕ) (lists : Lists) → slice_get waits 0 ≡ Some w → count w waits ≤ 1 → lists ≡ record a.lists { lists = push (set a.lists.lists (waits_of r.slot) (without w waits)) (entry_of r.slot) (w ∷ []) } → After a o (after_notify (monitor_of (seen a) o)) (record a { lists = lists })
+  pub notify_moves : (w : ℕ) (lists : Lists) → slice_get waits 0 ≡ Some w → count w waits ≤ 1 → lists ≡ record a.lists { lists = push (set a.lists.lists (waits_of r.pair) (without w waits)) (entry_of r.pair) (w ∷ []) } → After a o (after_notify (monitor_of (seen a) o)) (record a { lists = lists })
   notify_moves w lists first once e =
       After-is a o (monitor r.owner (entry ++ w ∷ []) (without w waits)) (after_notify (monitor_of (seen a) o)) (record a { lists = lists })
       (ap (λ xs. monitor r.owner (entry ++ w ∷ []) xs) (without-first waits w first once)
       ∙ ap (λ xs. monitor r.owner (entry ++ xs) (drop 1 waits)) (sym (begins waits w first))
       ∙ ap after_notify (sym (in_use_is a o r was)))
-      (lists_change lists (record a.lists { lists = push (set a.lists.lists (waits_of r.slot) (without w waits)) (entry_of r.slot) (w ∷ []) }) (entry ++ w ∷ []) (without w waits) e (moved w) refl (used-entry (monitor r.owner (entry ++ w ∷ []) (without w waits)) (is_empty-push entry w)))
+      (lists_change lists (record a.lists { lists = push (set a.lists.lists (waits_of r.pair) (without w waits)) (entry_of r.pair) (w ∷ []) }) (entry ++ w ∷ []) (without w waits) e (moved w) refl (used-entry (monitor r.owner (entry ++ w ∷ []) (without w waits)) (is_empty-push entry w)))
 
   -- nobody waits
   pub notify_none : slice_get waits 0 ≡ None → After a o (after_notify (monitor_of (seen a) o)) a
@@ -190,45 +219,45 @@ module _ (a : Inside) (kept : IsKept a) (o : ℕ) (r : Record) (was : get nat_eq
       (After-same a o kept)
 
   -- all that wait line up
-  pub notify_all_moves : (t : ℕ) (lists : Lists) → thread_of r.owner ≡ Some t → lists ≡ record a.lists { lists = append a.lists.lists (waits_of r.slot) (entry_of r.slot) } → After a o (after_notify_all (monitor_of (seen a) o)) (record a { lists = lists })
+  pub notify_all_moves : (t : ℕ) (lists : Lists) → thread_of r.owner ≡ Some t → lists ≡ record a.lists { lists = append a.lists.lists (waits_of r.pair) (entry_of r.pair) } → After a o (after_notify_all (monitor_of (seen a) o)) (record a { lists = lists })
   notify_all_moves t lists owned e =
       After-is a o (monitor r.owner (entry ++ waits) []) (after_notify_all (monitor_of (seen a) o)) (record a { lists = lists }) (ap after_notify_all (sym (in_use_is a o r was)))
-      (lists_change lists (record a.lists { lists = append a.lists.lists (waits_of r.slot) (entry_of r.slot) }) (entry ++ waits) [] e
-      (Slotted-waits a.lists.lists (push a.lists.lists (entry_of r.slot) waits) r.slot (entry ++ waits) waits [] inside
-      (Slotted-push a.lists.lists a.lists.lists r.slot entry waits waits inside (Slotted-same a.lists.lists r.slot)))
+      (lists_change lists (record a.lists { lists = append a.lists.lists (waits_of r.pair) (entry_of r.pair) }) (entry ++ waits) [] e
+      (Paired-waits a.lists.lists (push a.lists.lists (entry_of r.pair) waits) r.pair (entry ++ waits) waits [] inside
+      (Paired-push a.lists.lists a.lists.lists r.pair entry waits waits inside (Paired-same a.lists.lists r.pair)))
       refl (used-owner (monitor r.owner (entry ++ waits) []) t owned))
 
   -- a thread that waits count_in up
-  pub leave_wait_moves : (t : ℕ) (lists : Lists) → lists ≡ record a.lists { lists = push (set a.lists.lists (waits_of r.slot) (without t waits)) (entry_of r.slot) (t ∷ []) } → After a o (after_leave_wait t (monitor_of (seen a) o)) (record a { lists = lists })
+  pub leave_wait_moves : (t : ℕ) (lists : Lists) → lists ≡ record a.lists { lists = push (set a.lists.lists (waits_of r.pair) (without t waits)) (entry_of r.pair) (t ∷ []) } → After a o (after_leave_wait t (monitor_of (seen a) o)) (record a { lists = lists })
   leave_wait_moves t lists e =
       After-is a o (monitor r.owner (entry ++ t ∷ []) (without t waits)) (after_leave_wait t (monitor_of (seen a) o)) (record a { lists = lists }) (ap (after_leave_wait t) (sym (in_use_is a o r was)))
-      (lists_change lists (record a.lists { lists = push (set a.lists.lists (waits_of r.slot) (without t waits)) (entry_of r.slot) (t ∷ []) }) (entry ++ t ∷ []) (without t waits) e (moved t) refl (used-entry (monitor r.owner (entry ++ t ∷ []) (without t waits)) (is_empty-push entry t)))
+      (lists_change lists (record a.lists { lists = push (set a.lists.lists (waits_of r.pair) (without t waits)) (entry_of r.pair) (t ∷ []) }) (entry ++ t ∷ []) (without t waits) e (moved t) refl (used-entry (monitor r.owner (entry ++ t ∷ []) (without t waits)) (is_empty-push entry t)))
 
 -- a monitor that is free
-module _ (a : Inside) (kept : IsKept a) (o slot : ℕ) (was : get nat_eq a.records o ≡ None) (vacant : Vec ℕ) (taken : a.vacant.items ≡ vacant.items ++ slot ∷ []) (len : vec_len a.vacant ≡ vec_len vacant + 1) (capacity : vec_capacity vacant ≡ vec_capacity a.vacant) where
-  vacant_held : 0 < count slot a.vacant.items
-  vacant_held = omega (arith, ap (count slot) taken, count-append slot vacant.items (slot ∷ []), count-same slot [])
+module _ (a : Inside) (kept : IsKept a) (o pair : ℕ) (was : get nat_eq a.records o ≡ None) (vacant : Vec ℕ) (taken : a.vacant.items ≡ vacant.items ++ pair ∷ []) (len : vec_len a.vacant ≡ vec_len vacant + 1) (capacity : vec_capacity vacant ≡ vec_capacity a.vacant) where
+  vacant_held : 0 < count pair a.vacant.items
+  vacant_held = omega (arith, ap (count pair) taken, count-append pair vacant.items (pair ∷ []), count-same pair [])
 
-  pub slot_inside : waits_of slot < length a.lists.lists
-  slot_inside = kept.fits.vacant_inside slot vacant_held
+  pub pair_inside : waits_of pair < length a.lists.lists
+  pair_inside = kept.fits.vacant_inside pair vacant_held
 
-  nothing : Slotted a.lists.lists a.lists.lists slot [] []
+  nothing : Paired a.lists.lists a.lists.lists pair [] []
   nothing =
-      record { size = refl; keeps = λ k ne nw. refl; entry_is = kept.fits.vacant_entry slot vacant_held; waits_is = kept.fits.vacant_waits slot vacant_held }
+      record { size = refl; keeps = λ k ne nw. refl; entry_is = kept.fits.vacant_entry pair vacant_held; waits_is = kept.fits.vacant_waits pair vacant_held }
 
   -- a thread takes it
-  pub enter_opens : (t : ℕ) (records : Records) → get nat_eq records o ≡ Some (record { owner = Some (record { thread = t; count = 1 }); slot = slot }) → KeepsRecords (get nat_eq a.records) (get nat_eq records) o → hash_map_len records ≡ hash_map_len a.records + (if is_some (get nat_eq a.records o) then 0 else 1) → spare a.records ≤ spare records + 1 → After a o (after_enter t (monitor_of (seen a) o)) (record a { records = records; vacant = vacant })
+  pub enter_opens : (t : ℕ) (records : Records) → get nat_eq records o ≡ Some (record { owner = Some (record { thread = t; count = 1 }); pair = pair }) → KeepsRecords (get nat_eq a.records) (get nat_eq records) o → hash_map_len records ≡ hash_map_len a.records + (if is_some (get nat_eq a.records o) then 0 else 1) → spare a.records ≤ spare records + 1 → After a o (after_enter t (monitor_of (seen a) o)) (record a { records = records; vacant = vacant })
   enter_opens t records now others size more =
       After-is a o (record { owner = Some t; count = 1; entry = []; waits = [] }) (after_enter t (monitor_of (seen a) o)) (record a { records = records; vacant = vacant }) (ap (after_enter t) (sym (unused_is a o was)))
-      (After-open a (record a { records = records; vacant = vacant }) kept o slot was taken [] [] nothing (Some (record { thread = t; count = 1 })) now others (size ∙ ap (λ x. hash_map_len a.records + (if is_some x then 0 else 1)) was) more len capacity refl refl refl)
+      (After-open a (record a { records = records; vacant = vacant }) kept o pair was taken [] [] nothing (Some (record { thread = t; count = 1 })) now others (size ∙ ap (λ x. hash_map_len a.records + (if is_some x then 0 else 1)) was) more len capacity refl refl refl)
 
   -- a thread count_in up
-  pub line_up_opens : (t : ℕ) (records : Records) (lists : Lists) → get nat_eq records o ≡ Some (record { owner = None; slot = slot }) → KeepsRecords (get nat_eq a.records) (get nat_eq records) o → hash_map_len records ≡ hash_map_len a.records + (if is_some (get nat_eq a.records o) then 0 else 1) → spare a.records ≤ spare records + 1 → lists ≡ record a.lists { lists = push a.lists.lists (entry_of slot) (t ∷ []) } → After a o (after_line_up t (monitor_of (seen a) o)) (record a { records = records; vacant = vacant; lists = lists })
+  pub line_up_opens : (t : ℕ) (records : Records) (lists : Lists) → get nat_eq records o ≡ Some (record { owner = None; pair = pair }) → KeepsRecords (get nat_eq a.records) (get nat_eq records) o → hash_map_len records ≡ hash_map_len a.records + (if is_some (get nat_eq a.records o) then 0 else 1) → spare a.records ≤ spare records + 1 → lists ≡ record a.lists { lists = push a.lists.lists (entry_of pair) (t ∷ []) } → After a o (after_line_up t (monitor_of (seen a) o)) (record a { records = records; vacant = vacant; lists = lists })
   line_up_opens t records lists now others size more e =
       subst (λ (ls : Lists). After a o (after_line_up t (monitor_of (seen a) o)) (record a { records = records; vacant = vacant; lists = ls })) (sym e)
-      (After-is a o (record { owner = None; count = 0; entry = t ∷ []; waits = [] }) (after_line_up t (monitor_of (seen a) o)) (record a { records = records; vacant = vacant; lists = record a.lists { lists = push a.lists.lists (entry_of slot) (t ∷ []) } }) (ap (after_line_up t) (sym (unused_is a o was)))
-      (After-open a (record a { records = records; vacant = vacant; lists = record a.lists { lists = push a.lists.lists (entry_of slot) (t ∷ []) } }) kept o slot was taken (t ∷ []) []
-      (Slotted-push a.lists.lists a.lists.lists slot [] [] (t ∷ []) slot_inside nothing) None now others (size ∙ ap (λ x. hash_map_len a.records + (if is_some x then 0 else 1)) was) more len capacity refl refl refl))
+      (After-is a o (record { owner = None; count = 0; entry = t ∷ []; waits = [] }) (after_line_up t (monitor_of (seen a) o)) (record a { records = records; vacant = vacant; lists = record a.lists { lists = push a.lists.lists (entry_of pair) (t ∷ []) } }) (ap (after_line_up t) (sym (unused_is a o was)))
+      (After-open a (record a { records = records; vacant = vacant; lists = record a.lists { lists = push a.lists.lists (entry_of pair) (t ∷ []) } }) kept o pair was taken (t ∷ []) []
+      (Paired-push a.lists.lists a.lists.lists pair [] [] (t ∷ []) pair_inside nothing) None now others (size ∙ ap (λ x. hash_map_len a.records + (if is_some x then 0 else 1)) was) more len capacity refl refl refl))
 
 -- a thread that is in a list of a monitor: that is in use
 pub in_line_used : (a : Inside) (o t : ℕ) → get nat_eq a.records o ≡ None → IsInLine t (monitor_of (seen a) o) → ⊥
@@ -236,6 +265,29 @@ in_line_used a o t none h = let w : 0 < count t [] = subst (IsInLine t) (unused_
 
 pub waiting_used : (a : Inside) (o t : ℕ) → get nat_eq a.records o ≡ None → IsWaiting t (monitor_of (seen a) o) → ⊥
 waiting_used a o t none h = let w : 0 < count t [] = subst (IsWaiting t) (unused_is a o none) h in omega (arith, w)
+
+-- a count that a thread may raise
+pub count_fits : (a : Inside) (o : ℕ) → (monitor_of (seen a) o).count + 1 < 4294967296 → IfSome (get nat_eq a.records o) (λ (r : Record). count_of r.owner + 1 < 4294967296)
+count_fits a o h = by (get nat_eq a.records o) refl
+  where
+    by : (x : Option Record) → get nat_eq a.records o ≡ x → IfSome x (λ (r : Record). count_of r.owner + 1 < 4294967296)
+    by None i = tt
+    by (Some r) i = subst (λ (m : Monitor). m.count + 1 < 4294967296) (in_use_is a o r i) h
+
+-- the same entries
+pub same_entries : (a : Inside) (records : Records) → IsKept a → records.entries ≡ a.records.entries → IsKept (record a { records = records })
+same_entries a records kept e =
+    record {
+      fits = subst (λ (es : List (ℕ × Record)). Fits (λ o. lookup (nat_eq o) es) a.vacant.items a.lists.lists) (sym e) kept.fits;
+      pairs = kept.pairs;
+      capacity = kept.capacity;
+      whole = omega (arith, kept.whole, ap (λ (es : List (ℕ × Record)). length es) e);
+    }
+
+pub same_seen : (a : Inside) (records : Records) → records.entries ≡ a.records.entries → spare records ≡ spare a.records → seen (record a { records = records }) ≡ seen a
+same_seen a records e room =
+    ap (λ (es : List (ℕ × Record)). record { used = map (λ (x : ℕ × Record). (x.0, known a.lists.lists x.1)) es; threads = a.lists.threads; spare = min (spare records) (vec_len a.vacant) }) e
+    ∙ ap (λ n. record { used = map (λ (x : ℕ × Record). (x.0, known a.lists.lists x.1)) a.records.entries; threads = a.lists.threads; spare = min n (vec_len a.vacant) }) room
 
 -- a call by a thread that isn't the owner
 pub by_other : (a : Inside) (o t : ℕ) (owner : Option ℕ) → owner ≡ option_and_then (λ (r : Record). thread_of r.owner) (get nat_eq a.records o) → (owner ≡ Some t → ⊥) → (owner ≡ (monitor_of (seen a) o).owner) × ((monitor_of (seen a) o).owner ≡ Some t → ⊥)
@@ -261,28 +313,28 @@ pub append_is : (lists : Lists) (i i' j j' : ℕ) → i ≡ i' → j ≡ j' → 
 append_is lists i i' j j' e f =
     ap (λ k. record lists { lists = append lists.lists k j }) e ∙ ap (λ k. record lists { lists = append lists.lists i' k }) f
 
--- there is room among the vacant slots for one that is in use
+-- there is room among the vacant pairs for one that is in use
 pub vacant_has_room : (a : Inside) → IsKept a → (o : ℕ) (r : Record) → get nat_eq a.records o ≡ Some r → vec_len a.vacant < vec_capacity a.vacant
 vacant_has_room a kept o r was =
-    let le = length-le (a.vacant.items ++ r.slot ∷ []) a.slots once within in
-    omega (arith, le, length-append a.vacant.items (r.slot ∷ []), a.vacant.ok.0, kept.capacity)
+    let le = length-le (a.vacant.items ++ r.pair ∷ []) a.pairs once within in
+    omega (arith, le, length-append a.vacant.items (r.pair ∷ []), a.vacant.ok.0, kept.capacity)
   where
-    after : (slot : ℕ) → count slot (a.vacant.items ++ r.slot ∷ []) ≡ count slot a.vacant.items + count slot (r.slot ∷ [])
-    after slot = count-append slot a.vacant.items (r.slot ∷ [])
+    after : (pair : ℕ) → count pair (a.vacant.items ++ r.pair ∷ []) ≡ count pair a.vacant.items + count pair (r.pair ∷ [])
+    after pair = count-append pair a.vacant.items (r.pair ∷ [])
 
-    once : (slot : ℕ) → count slot (a.vacant.items ++ r.slot ∷ []) ≤ 1
-    once slot =
-        elim (cases_eq slot r.slot) [
-          | inl e ↦ subst (λ s. count s (a.vacant.items ++ r.slot ∷ []) ≤ 1) (sym e) (omega (arith, after r.slot, count-same r.slot [], kept.fits.vacant_apart o r was))
-          | inr ne ↦ omega (arith, after slot, count-other slot r.slot [] (λ e. ne (sym e)), kept.fits.vacant_once slot)
+    once : (pair : ℕ) → count pair (a.vacant.items ++ r.pair ∷ []) ≤ 1
+    once pair =
+        elim (cases_eq pair r.pair) [
+          | inl e ↦ subst (λ s. count s (a.vacant.items ++ r.pair ∷ []) ≤ 1) (sym e) (omega (arith, after r.pair, count-same r.pair [], kept.fits.vacant_apart o r was))
+          | inr ne ↦ omega (arith, after pair, count-other pair r.pair [] (λ e. ne (sym e)), kept.fits.vacant_once pair)
         ]
 
-    within : (slot : ℕ) → a.slots ≤ slot → count slot (a.vacant.items ++ r.slot ∷ []) ≡ 0
-    within slot le =
-        let here : r.slot ≡ slot → ⊥ = λ e. omega (arith, kept.fits.inside o r was, kept.slots) in
-        elim (cases_lt 0 (count slot a.vacant.items)) [
-          | inl h ↦ absurd (omega (arith, kept.fits.vacant_inside slot h, kept.slots))
-          | inr z ↦ omega (arith, after slot, count-other slot r.slot [] here, z)
+    within : (pair : ℕ) → a.pairs ≤ pair → count pair (a.vacant.items ++ r.pair ∷ []) ≡ 0
+    within pair le =
+        let here : r.pair ≡ pair → ⊥ = λ e. omega (arith, kept.fits.inside o r was, kept.pairs) in
+        elim (cases_lt 0 (count pair a.vacant.items)) [
+          | inl h ↦ absurd (omega (arith, kept.fits.vacant_inside pair h, kept.pairs))
+          | inr z ↦ omega (arith, after pair, count-other pair r.pair [] here, z)
         ]
 
 -- whether a thread is in a list of a monitor
@@ -299,4 +351,4 @@ holds_is a kept t holds e = (
     in_none zero_of o None i = ap (count_in t) (unused_is a o i)
     in_none zero_of o (Some r) i =
         let inside = kept.fits.inside o r i in
-        ap (count_in t) (in_use_is a o r i) ∙ omega (arith, zero_of, total-le t a.lists.lists (entry_of r.slot) (omega (arith, inside)), total-le t a.lists.lists (waits_of r.slot) inside)
+        ap (count_in t) (in_use_is a o r i) ∙ omega (arith, zero_of, total-le t a.lists.lists (entry_of r.pair) (omega (arith, inside)), total-le t a.lists.lists (waits_of r.pair) inside)

@@ -13,7 +13,7 @@ use Rattle.monitors.specs.declared.records.Record.{Record}
 use Rattle.monitors.specs.declared.monitors.Monitors.TheInside.{Inside}
 use Rattle.monitors.specs.Monitors.{Becomes, InNoList, Monitor, free, is_free, count_in, monitor_of}
 use Rattle.monitors.specs.Records.{Fits, IsKept, count_of, entry_of, known, seen, thread_of, waits_of}
-use Rattle.monitors.proofs.ListLaws.{Slotted}
+use Rattle.monitors.proofs.ListLaws.{Paired}
 use Rattle.monitors.proofs.RecordLaws.{Changes, Closes, Fits-changes, Fits-closes, Fits-opens, KeepsRecords, Opens, read, read-changed, read-closed, read-opened, read-unchanged, read-unclosed, read-unopened}
 
 -- a monitor as the records and lists have it
@@ -50,15 +50,15 @@ pub After-is : (a : Inside) (o : ℕ) (m n : Monitor) (b : Inside) → m ≡ n �
 After-is a o m n b e after = subst (λ x. After a o x b) e after
 
 -- a monitor in use, of which the owner and the two lists change
-module _ (a b : Inside) (kept : IsKept a) (o : ℕ) (r : Record) (was : get nat_eq a.records o ≡ Some r) (entry waits : List ℕ) (slotted : Slotted a.lists.lists b.lists.lists r.slot entry waits) where
-  pub After-change : (owner : Option Owner) → get nat_eq b.records o ≡ Some (record r { owner = owner }) → KeepsRecords (get nat_eq a.records) (get nat_eq b.records) o → hash_map_len b.records ≡ hash_map_len a.records → spare a.records ≤ spare b.records + 1 → b.vacant ≡ a.vacant → b.slots ≡ a.slots → b.lists.threads ≡ a.lists.threads → is_free (record { owner = thread_of owner; count = count_of owner; entry = entry; waits = waits }) ≡ false → After a o (record { owner = thread_of owner; count = count_of owner; entry = entry; waits = waits }) b
-  After-change owner now others size more vacant slots threads used =
+module _ (a b : Inside) (kept : IsKept a) (o : ℕ) (r : Record) (was : get nat_eq a.records o ≡ Some r) (entry waits : List ℕ) (paired : Paired a.lists.lists b.lists.lists r.pair entry waits) where
+  pub After-change : (owner : Option Owner) → get nat_eq b.records o ≡ Some (record r { owner = owner }) → KeepsRecords (get nat_eq a.records) (get nat_eq b.records) o → hash_map_len b.records ≡ hash_map_len a.records → spare a.records ≤ spare b.records + 1 → b.vacant ≡ a.vacant → b.pairs ≡ a.pairs → b.lists.threads ≡ a.lists.threads → is_free (record { owner = thread_of owner; count = count_of owner; entry = entry; waits = waits }) ≡ false → After a o (record { owner = thread_of owner; count = count_of owner; entry = entry; waits = waits }) b
+  After-change owner now others size more vacant pairs threads used =
       record {
         kept = record {
           fits = subst (λ (v : Vec ℕ). Fits (get nat_eq b.records) v.items b.lists.lists) (sym vacant) (Fits-changes (get nat_eq a.records) (get nat_eq b.records) a.vacant.items a.lists.lists b.lists.lists o r (record r { owner = owner }) kept.fits change);
-          slots = omega (arith, kept.slots, slots, slotted.size);
-          capacity = omega (arith, kept.capacity, slots, ap (λ (v : Vec ℕ). vec_capacity v) vacant);
-          whole = omega (arith, kept.whole, size, slots, ap (λ (v : Vec ℕ). vec_len v) vacant);
+          pairs = omega (arith, kept.pairs, pairs, paired.size);
+          capacity = omega (arith, kept.capacity, pairs, ap (λ (v : Vec ℕ). vec_capacity v) vacant);
+          whole = omega (arith, kept.whole, size, pairs, ap (λ (v : Vec ℕ). vec_len v) vacant);
         };
         becomes = record {
           changed = monitor_is b o ∙ read-changed (get nat_eq a.records) (get nat_eq b.records) a.vacant.items a.lists.lists b.lists.lists o r (record r { owner = owner }) kept.fits change ∙ reads;
@@ -69,49 +69,49 @@ module _ (a b : Inside) (kept : IsKept a) (o : ℕ) (r : Record) (was : get nat_
       }
     where
       reads : known b.lists.lists (record r { owner = owner }) ≡ record { owner = thread_of owner; count = count_of owner; entry = entry; waits = waits }
-      reads = ap (λ xs. record { owner = thread_of owner; count = count_of owner; entry = xs; waits = list_at b.lists.lists (waits_of r.slot) }) slotted.entry_is
-          ∙ ap (λ xs. record { owner = thread_of owner; count = count_of owner; entry = entry; waits = xs }) slotted.waits_is
+      reads = ap (λ xs. record { owner = thread_of owner; count = count_of owner; entry = xs; waits = list_at b.lists.lists (waits_of r.pair) }) paired.entry_is
+          ∙ ap (λ xs. record { owner = thread_of owner; count = count_of owner; entry = entry; waits = xs }) paired.waits_is
 
       change : Changes (get nat_eq a.records) (get nat_eq b.records) a.lists.lists b.lists.lists o r (record r { owner = owner })
-      change = record { was = was; slot = refl; now = now; others = others; size = slotted.size; keeps = slotted.keeps; in_use = ap is_free reads ∙ used }
+      change = record { was = was; pair = refl; now = now; others = others; size = paired.size; keeps = paired.keeps; in_use = ap is_free reads ∙ used }
 
 -- a monitor comes into use
-module _ (a b : Inside) (kept : IsKept a) (o slot : ℕ) (was : get nat_eq a.records o ≡ None) (taken : a.vacant.items ≡ b.vacant.items ++ slot ∷ []) (entry waits : List ℕ) (slotted : Slotted a.lists.lists b.lists.lists slot entry waits) where
-  pub After-open : (owner : Option Owner) → get nat_eq b.records o ≡ Some (record { owner = owner; slot = slot }) → KeepsRecords (get nat_eq a.records) (get nat_eq b.records) o → hash_map_len b.records ≡ hash_map_len a.records + 1 → spare a.records ≤ spare b.records + 1 → vec_len a.vacant ≡ vec_len b.vacant + 1 → vec_capacity b.vacant ≡ vec_capacity a.vacant → b.slots ≡ a.slots → b.lists.threads ≡ a.lists.threads → is_free (record { owner = thread_of owner; count = count_of owner; entry = entry; waits = waits }) ≡ false → After a o (record { owner = thread_of owner; count = count_of owner; entry = entry; waits = waits }) b
-  After-open owner now others size more len capacity slots threads used =
+module _ (a b : Inside) (kept : IsKept a) (o pair : ℕ) (was : get nat_eq a.records o ≡ None) (taken : a.vacant.items ≡ b.vacant.items ++ pair ∷ []) (entry waits : List ℕ) (paired : Paired a.lists.lists b.lists.lists pair entry waits) where
+  pub After-open : (owner : Option Owner) → get nat_eq b.records o ≡ Some (record { owner = owner; pair = pair }) → KeepsRecords (get nat_eq a.records) (get nat_eq b.records) o → hash_map_len b.records ≡ hash_map_len a.records + 1 → spare a.records ≤ spare b.records + 1 → vec_len a.vacant ≡ vec_len b.vacant + 1 → vec_capacity b.vacant ≡ vec_capacity a.vacant → b.pairs ≡ a.pairs → b.lists.threads ≡ a.lists.threads → is_free (record { owner = thread_of owner; count = count_of owner; entry = entry; waits = waits }) ≡ false → After a o (record { owner = thread_of owner; count = count_of owner; entry = entry; waits = waits }) b
+  After-open owner now others size more len capacity pairs threads used =
       record {
         kept = record {
-          fits = Fits-opens (get nat_eq a.records) (get nat_eq b.records) a.vacant.items b.vacant.items a.lists.lists b.lists.lists o (record { owner = owner; slot = slot }) kept.fits opens;
-          slots = omega (arith, kept.slots, slots, slotted.size);
-          capacity = omega (arith, kept.capacity, slots, capacity);
-          whole = omega (arith, kept.whole, size, slots, len);
+          fits = Fits-opens (get nat_eq a.records) (get nat_eq b.records) a.vacant.items b.vacant.items a.lists.lists b.lists.lists o (record { owner = owner; pair = pair }) kept.fits opens;
+          pairs = omega (arith, kept.pairs, pairs, paired.size);
+          capacity = omega (arith, kept.capacity, pairs, capacity);
+          whole = omega (arith, kept.whole, size, pairs, len);
         };
         becomes = record {
-          changed = monitor_is b o ∙ read-opened (get nat_eq a.records) (get nat_eq b.records) a.vacant.items b.vacant.items a.lists.lists b.lists.lists o (record { owner = owner; slot = slot }) kept.fits opens ∙ reads;
-          others = λ p ne. monitor_is b p ∙ read-unopened (get nat_eq a.records) (get nat_eq b.records) a.vacant.items b.vacant.items a.lists.lists b.lists.lists o (record { owner = owner; slot = slot }) kept.fits opens p ne ∙ sym (monitor_is a p);
+          changed = monitor_is b o ∙ read-opened (get nat_eq a.records) (get nat_eq b.records) a.vacant.items b.vacant.items a.lists.lists b.lists.lists o (record { owner = owner; pair = pair }) kept.fits opens ∙ reads;
+          others = λ p ne. monitor_is b p ∙ read-unopened (get nat_eq a.records) (get nat_eq b.records) a.vacant.items b.vacant.items a.lists.lists b.lists.lists o (record { owner = owner; pair = pair }) kept.fits opens p ne ∙ sym (monitor_is a p);
           threads = threads;
           spare = omega (arith, more, len);
         };
       }
     where
-      reads : known b.lists.lists (record { owner = owner; slot = slot }) ≡ record { owner = thread_of owner; count = count_of owner; entry = entry; waits = waits }
-      reads = ap (λ xs. record { owner = thread_of owner; count = count_of owner; entry = xs; waits = list_at b.lists.lists (waits_of slot) }) slotted.entry_is
-          ∙ ap (λ xs. record { owner = thread_of owner; count = count_of owner; entry = entry; waits = xs }) slotted.waits_is
+      reads : known b.lists.lists (record { owner = owner; pair = pair }) ≡ record { owner = thread_of owner; count = count_of owner; entry = entry; waits = waits }
+      reads = ap (λ xs. record { owner = thread_of owner; count = count_of owner; entry = xs; waits = list_at b.lists.lists (waits_of pair) }) paired.entry_is
+          ∙ ap (λ xs. record { owner = thread_of owner; count = count_of owner; entry = entry; waits = xs }) paired.waits_is
 
-      opens : Opens (get nat_eq a.records) (get nat_eq b.records) a.vacant.items b.vacant.items a.lists.lists b.lists.lists o (record { owner = owner; slot = slot })
-      opens = record { was = was; taken = taken; now = now; others = others; size = slotted.size; keeps = slotted.keeps; in_use = ap is_free reads ∙ used }
+      opens : Opens (get nat_eq a.records) (get nat_eq b.records) a.vacant.items b.vacant.items a.lists.lists b.lists.lists o (record { owner = owner; pair = pair })
+      opens = record { was = was; taken = taken; now = now; others = others; size = paired.size; keeps = paired.keeps; in_use = ap is_free reads ∙ used }
 
 -- a monitor falls free
 module _ (a b : Inside) (kept : IsKept a) (o : ℕ) (r : Record) (was : get nat_eq a.records o ≡ Some r) where
-  pub After-close : get nat_eq b.records o ≡ None → KeepsRecords (get nat_eq a.records) (get nat_eq b.records) o → hash_map_len b.records + 1 ≡ hash_map_len a.records → spare a.records ≤ spare b.records → b.vacant.items ≡ a.vacant.items ++ r.slot ∷ [] → vec_len b.vacant ≡ vec_len a.vacant + 1 → vec_capacity b.vacant ≡ vec_capacity a.vacant → b.slots ≡ a.slots → b.lists ≡ a.lists → list_at a.lists.lists (entry_of r.slot) ≡ [] → list_at a.lists.lists (waits_of r.slot) ≡ [] → After a o free b
-  After-close now others size more vacant len capacity slots lists entry waits =
+  pub After-close : get nat_eq b.records o ≡ None → KeepsRecords (get nat_eq a.records) (get nat_eq b.records) o → hash_map_len b.records + 1 ≡ hash_map_len a.records → spare a.records ≤ spare b.records → b.vacant.items ≡ a.vacant.items ++ r.pair ∷ [] → vec_len b.vacant ≡ vec_len a.vacant + 1 → vec_capacity b.vacant ≡ vec_capacity a.vacant → b.pairs ≡ a.pairs → b.lists ≡ a.lists → list_at a.lists.lists (entry_of r.pair) ≡ [] → list_at a.lists.lists (waits_of r.pair) ≡ [] → After a o free b
+  After-close now others size more vacant len capacity pairs lists entry waits =
       record {
         kept = record {
           fits = subst (λ (ls : Lists). Fits (get nat_eq b.records) b.vacant.items ls.lists) (sym lists)
               (subst (λ xs. Fits (get nat_eq b.records) xs a.lists.lists) (sym vacant) (Fits-closes (get nat_eq a.records) (get nat_eq b.records) a.vacant.items a.lists.lists o r kept.fits closes));
-          slots = omega (arith, kept.slots, slots, ap (λ (ls : Lists). length ls.lists) lists);
-          capacity = omega (arith, kept.capacity, slots, capacity);
-          whole = omega (arith, kept.whole, size, slots, len);
+          pairs = omega (arith, kept.pairs, pairs, ap (λ (ls : Lists). length ls.lists) lists);
+          capacity = omega (arith, kept.capacity, pairs, capacity);
+          whole = omega (arith, kept.whole, size, pairs, len);
         };
         becomes = record {
           changed = monitor_is b o ∙ ap (λ (ls : Lists). read (get nat_eq b.records) ls.lists o) lists ∙ read-closed (get nat_eq a.records) (get nat_eq b.records) a.vacant.items a.lists.lists o r kept.fits closes;

@@ -19,7 +19,7 @@ use Rattle.monitors.proofs.MonitorLaws.{in_use_is, unused_is}
 
 module _ (a : Inside) (kept : IsKept a) (once : (t : ℕ) → total (count t) a.lists.lists ≤ 1) where
   entry : ℕ → Record → ℕ
-  entry t r = count t (list_at a.lists.lists (entry_of r.slot))
+  entry t r = count t (list_at a.lists.lists (entry_of r.pair))
 
   of_two : (t i j : ℕ) → i < length a.lists.lists → j < length a.lists.lists → (i ≡ j → ⊥) → count t (list_at a.lists.lists i) + count t (list_at a.lists.lists j) ≤ 1
   of_two t i j hi hj ne = omega (arith, once t, total-two t a.lists.lists i j hi hj ne)
@@ -28,7 +28,7 @@ module _ (a : Inside) (kept : IsKept a) (once : (t : ℕ) → total (count t) a.
   one t o None e = subst (λ m. count_in t m ≤ 1) (sym (unused_is a o e)) (omega arith)
   one t o (Some r) e =
       let inside = kept.fits.inside o r e in
-      subst (λ m. count_in t m ≤ 1) (sym (in_use_is a o r e)) (of_two t (entry_of r.slot) (waits_of r.slot) (omega arith) inside (λ i. omega arith))
+      subst (λ m. count_in t m ≤ 1) (sym (in_use_is a o r e)) (of_two t (entry_of r.pair) (waits_of r.pair) (omega arith) inside (λ i. omega arith))
 
   pub once_in : (t o : ℕ) → count_in t (monitor_of (seen a) o) ≤ 1
   once_in t o = one t o (get nat_eq a.records o) refl
@@ -37,15 +37,15 @@ module _ (a : Inside) (kept : IsKept a) (once : (t : ℕ) → total (count t) a.
   two t o p ne None y e f = let none = ap (count_in t) (unused_is a o e) in omega (arith, none, once_in t p)
   two t o p ne (Some r) None e f = let none = ap (count_in t) (unused_is a p f) in omega (arith, none, once_in t o)
   two t o p ne (Some r) (Some q) e f =
-      let differ : r.slot ≡ q.slot → ⊥ = λ i. ne (kept.fits.apart o p r q e f i) in
+      let differ : r.pair ≡ q.pair → ⊥ = λ i. ne (kept.fits.apart o p r q e f i) in
       let ir = kept.fits.inside o r e in
       let iq = kept.fits.inside p q f in
       let mine = ap (count_in t) (in_use_is a o r e) in
       let other = ap (count_in t) (in_use_is a p q f) in
-      let a1 = of_two t (entry_of r.slot) (entry_of q.slot) (omega arith) (omega arith) (λ i. differ (omega arith)) in
-      let a2 = of_two t (entry_of r.slot) (waits_of q.slot) (omega arith) iq (λ i. omega arith) in
-      let a3 = of_two t (waits_of r.slot) (entry_of q.slot) ir (omega arith) (λ i. omega arith) in
-      let a4 = of_two t (waits_of r.slot) (waits_of q.slot) ir iq (λ i. differ (omega arith)) in
+      let a1 = of_two t (entry_of r.pair) (entry_of q.pair) (omega arith) (omega arith) (λ i. differ (omega arith)) in
+      let a2 = of_two t (entry_of r.pair) (waits_of q.pair) (omega arith) iq (λ i. omega arith) in
+      let a3 = of_two t (waits_of r.pair) (entry_of q.pair) ir (omega arith) (λ i. omega arith) in
+      let a4 = of_two t (waits_of r.pair) (waits_of q.pair) ir iq (λ i. differ (omega arith)) in
       omega (arith, mine, other, a1, a2, a3, a4, once_in t o, once_in t p)
 
   pub apart_in : (t o p : ℕ) → (o ≡ p → ⊥) → count_in t (monitor_of (seen a) o) + count_in t (monitor_of (seen a) p) ≤ 1

@@ -1,4 +1,4 @@
--- What stays when slots are made.
+-- What stays when pairs are made.
 use Rattle.std.proofs.Common.{◌≡◌, ◌+◌, ◌*◌, ◌<◌, ◌≤◌, ◌⊎◌, ℕ, zero, suc, List, [], ◌∷◌, ◌++◌, Option, Some, None, inl, inr, length, length-append, nat_eq, sym, ◌∙◌, ap, subst, refl, arith, unwrap_or, vec_len, get_or}
 use Rattle.std.specs.Global.{Vec}
 use Rattle.std.specs.HashMap.{get, hash_map_len}
@@ -14,18 +14,18 @@ use Rattle.monitors.specs.Monitors.{free, is_free, monitor_of}
 use Rattle.monitors.specs.Records.{Fits, Grows, IsKept, count_of, entry_of, known, seen, thread_of, waits_of}
 use Rattle.monitors.proofs.MonitorLaws.{monitor_is}
 
--- the lists of a slot that there was
-pub known-kept : (lists lists' : List (List ℕ)) (r : Record) → ((k : ℕ) → k < length lists → list_at lists' k ≡ list_at lists k) → waits_of r.slot < length lists → known lists' r ≡ known lists r
+-- the lists of a pair that there was
+pub known-kept : (lists lists' : List (List ℕ)) (r : Record) → ((k : ℕ) → k < length lists → list_at lists' k ≡ list_at lists k) → waits_of r.pair < length lists → known lists' r ≡ known lists r
 known-kept lists lists' r keeps inside =
-    ap (λ xs. record { owner = thread_of r.owner; count = count_of r.owner; entry = xs; waits = list_at lists' (waits_of r.slot) }) (keeps (entry_of r.slot) (omega arith))
-    ∙ ap (λ xs. record { owner = thread_of r.owner; count = count_of r.owner; entry = list_at lists (entry_of r.slot); waits = xs }) (keeps (waits_of r.slot) inside)
+    ap (λ xs. record { owner = thread_of r.owner; count = count_of r.owner; entry = xs; waits = list_at lists' (waits_of r.pair) }) (keeps (entry_of r.pair) (omega arith))
+    ∙ ap (λ xs. record { owner = thread_of r.owner; count = count_of r.owner; entry = list_at lists (entry_of r.pair); waits = xs }) (keeps (waits_of r.pair) inside)
 
 empty_two : (i : ℕ) → get_or {A = List ℕ} ([] ∷ [] ∷ []) i [] ≡ []
 empty_two zero = refl
 empty_two (suc zero) = refl
 empty_two (suc (suc i)) = refl
 
--- one more slot
+-- one more pair
 module _ (records : ℕ → Option Record) (vacant : List ℕ) (lists : List (List ℕ)) (n : ℕ) (size : 2 * n ≡ length lists) where
   abbrev more : List (List ℕ)
   more = lists ++ [] ∷ [] ∷ []
@@ -39,14 +39,14 @@ module _ (records : ℕ → Option Record) (vacant : List ℕ) (lists : List (Li
   beyond : (k : ℕ) → length lists ≤ k → list_at more k ≡ []
   beyond k h = get_or-append_right lists ([] ∷ [] ∷ []) (length lists) k [] refl h ∙ empty_two _
 
-  after : (slot : ℕ) → count slot (vacant ++ n ∷ []) ≡ count slot vacant + count slot (n ∷ [])
-  after slot = count-append slot vacant (n ∷ [])
+  after : (pair : ℕ) → count pair (vacant ++ n ∷ []) ≡ count pair vacant + count pair (n ∷ [])
+  after pair = count-append pair vacant (n ∷ [])
 
-  new_or_old : (slot : ℕ) → 0 < count slot (vacant ++ n ∷ []) → (slot ≡ n) ⊎ (0 < count slot vacant)
-  new_or_old slot h =
-      elim (cases_eq slot n) [
+  new_or_old : (pair : ℕ) → 0 < count pair (vacant ++ n ∷ []) → (pair ≡ n) ⊎ (0 < count pair vacant)
+  new_or_old pair h =
+      elim (cases_eq pair n) [
         | inl e ↦ inl e
-        | inr ne ↦ inr (omega (arith, after slot, count-other slot n [] (λ e. ne (sym e)), h))
+        | inr ne ↦ inr (omega (arith, after pair, count-other pair n [] (λ e. ne (sym e)), h))
       ]
 
   pub Fits-more : Fits records vacant lists → Fits records (vacant ++ n ∷ []) more
@@ -54,17 +54,17 @@ module _ (records : ℕ → Option Record) (vacant : List ℕ) (lists : List (Li
       record {
         inside = λ o r e. omega (arith, fits.inside o r e, longer);
         apart = fits.apart;
-        vacant_inside = λ slot h. elim (new_or_old slot h) [ inl e ↦ omega (arith, longer, size, e) | inr v ↦ omega (arith, fits.vacant_inside slot v, longer) ];
-        vacant_once = λ slot. elim (cases_eq slot n) [
+        vacant_inside = λ pair h. elim (new_or_old pair h) [ inl e ↦ omega (arith, longer, size, e) | inr v ↦ omega (arith, fits.vacant_inside pair v, longer) ];
+        vacant_once = λ pair. elim (cases_eq pair n) [
           | inl e ↦ subst (λ s. count s (vacant ++ n ∷ []) ≤ 1) (sym e) (elim (cases_lt 0 (count n vacant)) [
             | inl h ↦ absurd (omega (arith, fits.vacant_inside n h, size))
             | inr z ↦ omega (arith, after n, count-same n [], z)
           ])
-          | inr ne ↦ omega (arith, after slot, count-other slot n [] (λ e. ne (sym e)), fits.vacant_once slot)
+          | inr ne ↦ omega (arith, after pair, count-other pair n [] (λ e. ne (sym e)), fits.vacant_once pair)
         ];
-        vacant_apart = λ o r e. omega (arith, after r.slot, fits.vacant_apart o r e, count-other r.slot n [] (λ i. omega (arith, fits.inside o r e, size)));
-        vacant_entry = λ slot h. elim (new_or_old slot h) [ inl e ↦ beyond (entry_of slot) (omega (arith, size, e)) | inr v ↦ keeps (entry_of slot) (omega (arith, fits.vacant_inside slot v)) ∙ fits.vacant_entry slot v ];
-        vacant_waits = λ slot h. elim (new_or_old slot h) [ inl e ↦ beyond (waits_of slot) (omega (arith, size, e)) | inr v ↦ keeps (waits_of slot) (fits.vacant_inside slot v) ∙ fits.vacant_waits slot v ];
+        vacant_apart = λ o r e. omega (arith, after r.pair, fits.vacant_apart o r e, count-other r.pair n [] (λ i. omega (arith, fits.inside o r e, size)));
+        vacant_entry = λ pair h. elim (new_or_old pair h) [ inl e ↦ beyond (entry_of pair) (omega (arith, size, e)) | inr v ↦ keeps (entry_of pair) (omega (arith, fits.vacant_inside pair v)) ∙ fits.vacant_entry pair v ];
+        vacant_waits = λ pair h. elim (new_or_old pair h) [ inl e ↦ beyond (waits_of pair) (omega (arith, size, e)) | inr v ↦ keeps (waits_of pair) (fits.vacant_inside pair v) ∙ fits.vacant_waits pair v ];
         used = λ k t h held. elim (cases_lt k (length lists)) [
           | inl l ↦ fits.used k t l (subst (λ xs. 0 < count t xs) (keeps k l) held)
           | inr g ↦ let none : 0 < count t [] = subst (λ xs. 0 < count t xs) (beyond k g) held in absurd (omega (arith, none))
@@ -76,7 +76,7 @@ pub Grows-same : (vacant vacant' : Vec ℕ) (n : ℕ) (lists : Lists) → vacant
 Grows-same vacant vacant' n lists items len capacity size room =
     record {
       fits = λ records fits. subst (λ xs. Fits records xs lists.lists) (sym items) fits;
-      slots = size;
+      pairs = size;
       capacity = omega arith;
       keeps = λ k h. refl;
       longer = omega arith;
@@ -89,7 +89,7 @@ pub Grows-one : (vacant vacant' : Vec ℕ) (n : ℕ) (lists lists' : Lists) → 
 Grows-one vacant vacant' n lists lists' items len room size e =
     subst (λ (ls : Lists). Grows vacant n lists vacant' (n + 1) ls) (sym e) (record {
       fits = λ records fits. subst (λ xs. Fits records xs (lists.lists ++ [] ∷ [] ∷ [])) (sym items) (Fits-more records vacant.items lists.lists n size fits);
-      slots = omega (arith, size, length-append lists.lists ([] ∷ [] ∷ []));
+      pairs = omega (arith, size, length-append lists.lists ([] ∷ [] ∷ []));
       capacity = room;
       keeps = λ k h. get_or_append_left lists.lists ([] ∷ [] ∷ []) [] k h;
       longer = omega (arith, length-append lists.lists ([] ∷ [] ∷ []));
@@ -102,7 +102,7 @@ pub Grows-trans : (u v w : Vec ℕ) (i j k : ℕ) (a b c : Lists) → Grows u i 
 Grows-trans u v w i j k a b c g h =
     record {
       fits = λ records fits. h.fits records (g.fits records fits);
-      slots = h.slots;
+      pairs = h.pairs;
       capacity = h.capacity;
       keeps = λ n l. h.keeps n (omega (arith, g.longer, l)) ∙ g.keeps n l;
       longer = omega (arith, g.longer, h.longer);
@@ -111,13 +111,13 @@ Grows-trans u v w i j k a b c g h =
       more = omega (arith, g.more, h.more);
     }
 
--- monitors stay when there are more slots
-module _ (a b : Inside) (kept : IsKept a) (same : (o : ℕ) → get nat_eq b.records o ≡ get nat_eq a.records o) (size : hash_map_len b.records ≡ hash_map_len a.records) (grows : Grows a.vacant a.slots a.lists b.vacant b.slots b.lists) where
+-- monitors stay when there are more pairs
+module _ (a b : Inside) (kept : IsKept a) (same : (o : ℕ) → get nat_eq b.records o ≡ get nat_eq a.records o) (size : hash_map_len b.records ≡ hash_map_len a.records) (grows : Grows a.vacant a.pairs a.lists b.vacant b.pairs b.lists) where
   pub room-kept : IsKept b
   room-kept =
       record {
         fits = grows.fits (get nat_eq b.records) (subst (λ (records : ℕ → Option Record). Fits records a.vacant.items a.lists.lists) (λ i o. sym (same o) i) kept.fits);
-        slots = grows.slots;
+        pairs = grows.pairs;
         capacity = grows.capacity;
         whole = omega (arith, kept.whole, grows.len, grows.more, size);
       }

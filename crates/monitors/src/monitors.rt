@@ -3,8 +3,8 @@ ghost use Rattle.std.specs.Bool.{OnFalse, OnTrue};
 ghost use Rattle.monitors.specs.Monitors.{Becomes, InNoList, IsByOwner, IsInLine, IsInUse, IsWaiting, after_enter, after_exit, after_leave_wait, after_line_up, after_notify, after_notify_all, after_retake, after_wait, is_taken, count_in, monitor_of, woken_by_exit};
 
 use crate::records::{
-    NotOwner, Record, add_slots, drop_record, find, find_owned, first_in_line, first_waiter,
-    is_deserted, put, take_slot,
+    NotOwner, Record, add_pairs, drop_record, enter_record, find, find_owned, first_in_line,
+    first_waiter, is_deserted, leave_record, put, take_pair,
 };
 use items::NoMemory;
 use std::alloc::Global;
@@ -26,7 +26,7 @@ pub enum Enter {
 pub struct Monitors {
     records: HashMap<u32, Record>,
     vacant: Vec<u32>,
-    slots: u32,
+    pairs: u32,
     lists: ThreadLists,
 }
 
@@ -50,7 +50,7 @@ impl Monitors {
         Monitors {
             records: HashMap::new(alloc),
             vacant: Vec::new(alloc),
-            slots: 0,
+            pairs: 0,
             lists: ThreadLists::new(alloc),
         }
     }
@@ -63,7 +63,7 @@ impl Monitors {
         ensures spare { self.old.spare ≤ self.new.spare }
     {
         self.records.reserve(calls as usize)?;
-        add_slots(&mut self.vacant, &mut self.slots, &mut self.lists, calls)
+        add_pairs(&mut self.vacant, &mut self.pairs, &mut self.lists, calls)
     }
 
     /// One more thread that may use monitors: its number. More than 2^32 - 1 threads are want of memory too.
@@ -128,20 +128,13 @@ impl Monitors {
         ensures monitor { Becomes self.old self.new o (after_enter t (monitor_of self.old o)) }
     {
         self.lists.once();
-        let Some(kept) = find(&self.records, o) else {
-            let slot = take_slot(&mut self.vacant);
-            put(
-                &mut self.records,
-                o,
-                Record { owner: None, slot }.owned_by(t, 1),
-            );
+        let Some(kept) = enter_record(&mut self.records, &mut self.vacant, o, t) else {
             return Enter::Got;
         };
         if kept.is_taken(t) {
             self.lists.push(kept.entry(), t);
             return Enter::Blocked;
         }
-        put(&mut self.records, o, kept.owned_by(t, kept.count() + 1));
         Enter::Got
     }
 
@@ -154,8 +147,8 @@ impl Monitors {
     {
         self.lists.once();
         let Some(kept) = find(&self.records, o) else {
-            let slot = take_slot(&mut self.vacant);
-            let new = Record { owner: None, slot };
+            let pair = take_pair(&mut self.vacant);
+            let new = Record { owner: None, pair };
             self.lists.push(new.entry(), t);
             put(&mut self.records, o, new);
             return;
@@ -190,22 +183,20 @@ impl Monitors {
     pub fn exit(&mut self, o: u32, t: u32) -> Result<Option<u32>, NotOwner>
         ensures owner { IsByOwner result (monitor_of self.old o).owner t }
         ensures woken { IfOk result (λ thread. thread ≡ woken_by_exit (monitor_of self.old o)) }
-        ensures ok { OnOk result (Becomes self.old self.new o (after_exit (monitor_of self.old o))) }
+        ensures ok { OnOk result
+            (Becomes self.old self.new o (after_exit (monitor_of self.old o))) }
         ensures err { OnErr result (self.new ≡ self.old) }
     {
         self.lists.once();
-        let kept = find_owned(&self.records, o, t)?;
-        let left = kept.count().saturating_sub(1);
-        if left > 0 {
-            put(&mut self.records, o, kept.owned_by(t, left));
+        let kept = leave_record(&mut self.records, o, t)?;
+        if kept.count() > 1 {
             return Ok(None);
         }
         if is_deserted(&self.lists, kept) {
             drop_record(&mut self.records, o);
-            self.vacant.push_reserved(kept.slot);
+            self.vacant.push_reserved(kept.pair);
             return Ok(None);
         }
-        put(&mut self.records, o, kept.without_owner());
         Ok(first_in_line(&self.lists, kept))
     }
 

@@ -1,13 +1,14 @@
-ghost use Rattle.std.specs.Prelude.{◌≡◌, ◌≢◌, ◌+◌, ◌*◌, ◌<◌, ◌≤◌, ◌^◌, ◌&&◌, ℕ, None, Some, [], ◌∷◌, ◌++◌, if◌then◌else◌, is_some, length, nat_eq, not, vec_len, IfErr, IfOk, OnOk};
+ghost use Rattle.std.specs.Prelude.{◌≡◌, ◌≢◌, ◌+◌, ◌*◌, ◌<◌, ◌≤◌, ◌^◌, ◌&&◌, ℕ, None, Some, [], ◌∷◌, ◌++◌, if◌then◌else◌, is_some, length, nat_eq, not, vec_len, IfErr, IfNone, IfOk, IfSome, OnErr, OnOk};
 ghost use Rattle.std.specs.HashMap.{get, hash_map_len, spare};
 ghost use Rattle.std.specs.Option.{option_and_then, option_map_or};
 ghost use Rattle.std.specs.Vec.{vec_capacity};
 ghost use Rattle.thread_lists.specs.Lists.{first, list_at};
 ghost use Rattle.monitors.specs.Monitors.{is_empty, is_taken};
-ghost use Rattle.monitors.specs.Records.{Grows, count_of, entry_of, thread_of, waits_of};
+ghost use Rattle.monitors.specs.Records.{Grows, OpensPair, count_of, entered, entry_of, left, thread_of, waits_of};
 
 use items::NoMemory;
 use std::collections::HashMap;
+use std::collections::hash_map::Entry;
 use thiserror::Error;
 use thread_lists::ThreadLists;
 
@@ -25,28 +26,28 @@ pub struct Owner {
     pub count: u32,
 }
 
-/// A monitor in use: its owner, and the slot with its two lists of threads.
+/// A monitor in use: its owner, and the number of its pair of lists of threads.
 #[derive(Clone, Copy, Debug)]
 pub struct Record {
     pub owner: Option<Owner>,
-    pub slot: u32,
+    pub pair: u32,
 }
 
 impl Record {
     /// The list of the threads that wait to take the monitor.
     pub fn entry(self) -> u32
-        requires { waits_of self.slot < 2 ^ 32 }
-        ensures { result ≡ entry_of self.slot }
+        requires { waits_of self.pair < 2 ^ 32 }
+        ensures { result ≡ entry_of self.pair }
     {
-        2 * self.slot
+        2 * self.pair
     }
 
     /// The list of the threads that wait to be notified.
     pub fn waits(self) -> u32
-        requires { waits_of self.slot < 2 ^ 32 }
-        ensures { result ≡ waits_of self.slot }
+        requires { waits_of self.pair < 2 ^ 32 }
+        ensures { result ≡ waits_of self.pair }
     {
-        2 * self.slot + 1
+        2 * self.pair + 1
     }
 
     /// The owner.
@@ -86,7 +87,29 @@ impl Record {
     {
         Record {
             owner: Some(Owner { thread, count }),
-            slot: self.slot,
+            pair: self.pair,
+        }
+    }
+
+    /// The same after this thread enters the monitor, which stays as it is where another is the owner.
+    pub fn entered_by(self, thread: u32) -> Self
+        requires { count_of self.owner + 1 < 2 ^ 32 }
+        ensures { result ≡ entered thread self }
+    {
+        if self.is_taken(thread) {
+            return self;
+        }
+        self.owned_by(thread, self.count() + 1)
+    }
+
+    /// The same after its owner leaves the monitor once.
+    pub fn left(self) -> Self
+        ensures { result ≡ left self }
+    {
+        let count = self.count().saturating_sub(1);
+        match self.owner {
+            Some(owner) if count > 0 => self.owned_by(owner.thread, count),
+            _ => self.without_owner(),
         }
     }
 
@@ -96,35 +119,35 @@ impl Record {
     {
         Record {
             owner: None,
-            slot: self.slot,
+            pair: self.pair,
         }
     }
 }
 
 /// The first thread that waits to take a monitor.
 pub fn first_in_line(lists: &ThreadLists, kept: Record) -> Option<u32>
-    requires inside { waits_of kept.slot < length lists.now.lists }
-    requires fits { waits_of kept.slot < 2 ^ 32 }
-    ensures { result ≡ first lists.now.lists (entry_of kept.slot) }
+    requires inside { waits_of kept.pair < length lists.now.lists }
+    requires fits { waits_of kept.pair < 2 ^ 32 }
+    ensures { result ≡ first lists.now.lists (entry_of kept.pair) }
 {
     lists.first(kept.entry())
 }
 
 /// The first thread that waits to be notified.
 pub fn first_waiter(lists: &ThreadLists, kept: Record) -> Option<u32>
-    requires inside { waits_of kept.slot < length lists.now.lists }
-    requires fits { waits_of kept.slot < 2 ^ 32 }
-    ensures { result ≡ first lists.now.lists (waits_of kept.slot) }
+    requires inside { waits_of kept.pair < length lists.now.lists }
+    requires fits { waits_of kept.pair < 2 ^ 32 }
+    ensures { result ≡ first lists.now.lists (waits_of kept.pair) }
 {
     lists.first(kept.waits())
 }
 
 /// Whether no thread is in a list of a monitor.
 pub fn is_deserted(lists: &ThreadLists, kept: Record) -> bool
-    requires inside { waits_of kept.slot < length lists.now.lists }
-    requires fits { waits_of kept.slot < 2 ^ 32 }
-    ensures { result ≡ (is_empty (list_at lists.now.lists (entry_of kept.slot))
-        && is_empty (list_at lists.now.lists (waits_of kept.slot))) }
+    requires inside { waits_of kept.pair < length lists.now.lists }
+    requires fits { waits_of kept.pair < 2 ^ 32 }
+    ensures { result ≡ (is_empty (list_at lists.now.lists (entry_of kept.pair))
+        && is_empty (list_at lists.now.lists (waits_of kept.pair))) }
 {
     first_in_line(lists, kept).is_none() && first_waiter(lists, kept).is_none()
 }
@@ -149,6 +172,37 @@ pub fn find_owned(records: &HashMap<u32, Record>, o: u32, thread: u32) -> Result
     };
     match kept.owner() {
         Some(owner) if owner == thread => Ok(kept),
+        owner => Err(NotOwner { owner }),
+    }
+}
+
+/// The owner of an object's monitor leaves it once. The answer is its record before. This looks the object up once.
+pub fn leave_record(
+    records: &mut HashMap<u32, Record>,
+    o: u32,
+    thread: u32,
+) -> Result<Record, NotOwner>
+    ensures found { IfOk result (λ kept. get nat_eq records.old o ≡ Some kept) }
+    ensures owner { IfOk result (λ kept. thread_of kept.owner ≡ Some thread) }
+    ensures now { IfOk result (λ kept. get nat_eq records.new o ≡ Some (left kept)) }
+    ensures others { OnOk result
+        ((p : ℕ) → p ≢ o → get nat_eq records.new p ≡ get nat_eq records.old p) }
+    ensures len { hash_map_len records.new ≡ hash_map_len records.old }
+    ensures spare { spare records.new ≡ spare records.old }
+    ensures other { IfErr result (λ refusal. refusal.owner ≢ Some thread) }
+    ensures refused { IfErr result (λ refusal. refusal.owner ≡
+        option_and_then (λ kept. thread_of kept.owner) (get nat_eq records.old o)) }
+    ensures err { OnErr result (records.new.entries ≡ records.old.entries) }
+{
+    let Some(place) = records.get_mut(&o) else {
+        return Err(NotOwner { owner: None });
+    };
+    let kept = *place;
+    match kept.owner() {
+        Some(owner) if owner == thread => {
+            *place = kept.left();
+            Ok(kept)
+        }
         owner => Err(NotOwner { owner }),
     }
 }
@@ -178,49 +232,85 @@ pub fn drop_record(records: &mut HashMap<u32, Record>, o: u32)
     let _ = records.remove(&o);
 }
 
-/// Takes a vacant slot.
-pub fn take_slot(vacant: &mut Vec<u32>) -> u32
+/// A thread enters an object's monitor, which takes a vacant pair of lists where it wasn't in use. The answer is its record
+/// before. This looks the object up once.
+pub fn enter_record(
+    records: &mut HashMap<u32, Record>,
+    vacant: &mut Vec<u32>,
+    o: u32,
+    thread: u32,
+) -> Option<Record>
+    requires spare { get nat_eq records.old o ≡ None → 0 < spare records.old }
+    requires vacant { 0 < vec_len vacant.old }
+    requires count { IfSome (get nat_eq records.old o) (λ kept. count_of kept.owner + 1 < 2 ^ 32) }
+    ensures was { result ≡ get nat_eq records.old o }
+    ensures opened { IfNone result
+        (OpensPair (get nat_eq records.new o) thread vacant.old vacant.new) }
+    ensures now { IfSome result (λ kept. get nat_eq records.new o ≡ Some (entered thread kept)) }
+    ensures vacant { IfSome result (λ kept. vacant.new ≡ vacant.old) }
+    ensures others { (p : ℕ) → p ≢ o → get nat_eq records.new p ≡ get nat_eq records.old p }
+    ensures len { hash_map_len records.new ≡
+        hash_map_len records.old + (if is_some (get nat_eq records.old o) then 0 else 1) }
+    ensures spare { spare records.old ≤ spare records.new + 1 }
+{
+    match records.entry(o) {
+        Ok(Entry::Occupied(mut place)) => {
+            let kept = *place.get();
+            let _ = place.insert(kept.entered_by(thread));
+            Some(kept)
+        }
+        Ok(Entry::Vacant(place)) => {
+            let pair = take_pair(vacant);
+            let _ = place.insert(Record { owner: None, pair }.owned_by(thread, 1));
+            None
+        }
+        Err(_) => unreachable!(),
+    }
+}
+
+/// Takes a vacant pair of lists.
+pub fn take_pair(vacant: &mut Vec<u32>) -> u32
     requires { 0 < vec_len vacant.old }
     ensures items { vacant.old.items ≡ vacant.new.items ++ result ∷ [] }
     ensures len { vec_len vacant.old ≡ vec_len vacant.new + 1 }
     ensures capacity { vec_capacity vacant.new ≡ vec_capacity vacant.old }
 {
-    let Some(slot) = vacant.pop() else {
+    let Some(pair) = vacant.pop() else {
         unreachable!()
     };
-    slot
+    pair
 }
 
-/// Makes one more slot, which is vacant. After an error there are as many as before.
-fn add_slot(vacant: &mut Vec<u32>, slots: &mut u32, lists: &mut ThreadLists) -> Result<(), NoMemory>
-    requires slots { 2 * slots.old ≡ length lists.old.lists }
-    requires capacity { slots.old ≤ vec_capacity vacant.old }
-    ensures grows { Grows vacant.old slots.old lists.old vacant.new slots.new lists.new }
+/// Makes one more pair of lists, which is vacant. After an error there are as many as before.
+fn add_pair(vacant: &mut Vec<u32>, pairs: &mut u32, lists: &mut ThreadLists) -> Result<(), NoMemory>
+    requires pairs { 2 * pairs.old ≡ length lists.old.lists }
+    requires capacity { pairs.old ≤ vec_capacity vacant.old }
+    ensures grows { Grows vacant.old pairs.old lists.old vacant.new pairs.new lists.new }
     ensures ok { OnOk result (vec_len vacant.new ≡ vec_len vacant.old + 1) }
 {
     lists.once();
-    let most = vacant.len().max(*slots as usize);
+    let most = vacant.len().max(*pairs as usize);
     vacant.reserve(most + 1 - vacant.len())?;
     lists.add_lists(2)?;
-    vacant.push_reserved(*slots);
-    *slots += 1;
+    vacant.push_reserved(*pairs);
+    *pairs += 1;
     Ok(())
 }
 
-/// Makes slots until this many are vacant. After an error there may be more than before.
-pub fn add_slots(
+/// Makes pairs of lists until this many are vacant. After an error there may be more than before.
+pub fn add_pairs(
     vacant: &mut Vec<u32>,
-    slots: &mut u32,
+    pairs: &mut u32,
     lists: &mut ThreadLists,
     count: u32,
 ) -> Result<(), NoMemory>
-    requires slots { 2 * slots.old ≡ length lists.old.lists }
-    requires capacity { slots.old ≤ vec_capacity vacant.old }
-    ensures grows { Grows vacant.old slots.old lists.old vacant.new slots.new lists.new }
+    requires pairs { 2 * pairs.old ≡ length lists.old.lists }
+    requires capacity { pairs.old ≤ vec_capacity vacant.old }
+    ensures grows { Grows vacant.old pairs.old lists.old vacant.new pairs.new lists.new }
     ensures ok { OnOk result (count ≤ vec_len vacant.new) }
 {
     for _i in vacant.len()..count as usize {
-        add_slot(vacant, slots, lists)?;
+        add_pair(vacant, pairs, lists)?;
     }
     Ok(())
 }

@@ -3,6 +3,8 @@ use Rattle.std.proofs.Common.{◌≡◌, ℕ, true, List, [], ◌∷◌, Option,
 use Rattle.std.specs.Prelude.{◌&&◌, not, map, is_none}
 use Rattle.std.specs.Option.{option_map, option_map_or}
 use Rattle.std.specs.List.{enumerate_from, list_all}
+use Rattle.items.specs.First.{unless, AllNone}
+use Rattle.items.proofs.FirstLaws.{none_first, not_there}
 use Rattle.instruction_rows.specs.declared.row_why.RowWhy.{RowWhy}
 use Rattle.instruction_rows.specs.declared.row_why.RowWhy.TheVariants as row_whys
 use Rattle.instruction_rows.specs.Rows.{targets_of_row, row_goes_on}
@@ -14,9 +16,9 @@ use Rattle.verify_types.specs.Environment.{Environment, MapFrame, environment, m
 use Rattle.verify_types.specs.Effects.{row_of, state_after}
 use Rattle.verify_types.specs.Handlers.{are_satisfied, is_returned, is_finished}
 use Rattle.verify_types.specs.Walk.{Placed, walk}
-use Rattle.verify_types.specs.Faults.{unless, is_target, entry_fits, result_fits, keeps_rule, is_shallow, result_is_shallow, has_locals, state_whys, whys_at, pc_fault, stray_frames, placed_faults, method_faults, fault_in, environment_faults, numbered_faults, world_faults, IsWellTyped}
-use Rattle.verify_types.specs.Acceptance.{AllNone, KeepsRules, IsAccepted, AreAccepted}
-use Rattle.verify_types.proofs.ListLaws.{none_first, each_all, each_join, flat_each, each_kept, mapped, no_fault, true_and, option_case}
+use Rattle.verify_types.specs.Faults.{is_target, entry_fits, result_fits, keeps_rule, is_shallow, result_is_shallow, has_locals, state_whys, whys_at, pc_fault, stray_frames, placed_faults, method_faults, fault_in, environment_faults, numbered_faults, world_faults, IsWellTyped}
+use Rattle.verify_types.specs.Acceptance.{KeepsRules, IsAccepted, AreAccepted}
+use Rattle.verify_types.proofs.ListLaws.{each_all, each_join, flat_each, each_kept, mapped, true_and, option_case}
 
 -- ---- an instruction
 
@@ -36,24 +38,24 @@ state_faultless env p h =
     let init = kept row_whys.Init after h.after h.is in
     let fits = subst Fits (sym h.is) h.frames in
     let shallow = subst Shallow (sym h.is) h.after_shallow in (
-      no_fault (list_all (is_target env) (targets_of_row r)) whys.Target h.targets,
+      not_there (list_all (is_target env) (targets_of_row r)) whys.Target h.targets,
       (
-        no_fault (entry_fits env p && result_fits env p after) whys.Frame (true_and (entry_fits env p) (result_fits env p after) h.entry fits),
+        not_there (entry_fits env p && result_fits env p after) whys.Frame (true_and (entry_fits env p) (result_fits env p after) h.entry fits),
         (
-          no_fault (keeps_rule row_whys.Kind after) whys.Kind kind,
+          not_there (keeps_rule row_whys.Kind after) whys.Kind kind,
           (
-            no_fault (keeps_rule row_whys.Depth after && is_shallow env h.state && result_is_shallow env after) whys.Depth
+            not_there (keeps_rule row_whys.Depth after && is_shallow env h.state && result_is_shallow env after) whys.Depth
                 (true_and (keeps_rule row_whys.Depth after && is_shallow env h.state) (result_is_shallow env after) (true_and (keeps_rule row_whys.Depth after) (is_shallow env h.state) depth h.before_shallow) shallow),
             (
-              no_fault (keeps_rule row_whys.Locals after && has_locals env h.state) whys.Locals (true_and (keeps_rule row_whys.Locals after) (has_locals env h.state) locals h.locals),
+              not_there (keeps_rule row_whys.Locals after && has_locals env h.state) whys.Locals (true_and (keeps_rule row_whys.Locals after) (has_locals env h.state) locals h.locals),
               (
-                no_fault (are_satisfied env p.instruction.instr.pc h.state) whys.Handler h.handlers,
+                not_there (are_satisfied env p.instruction.instr.pc h.state) whys.Handler h.handlers,
                 (
-                  no_fault (is_returned env r h.state) whys.Return h.returned,
+                  not_there (is_returned env r h.state) whys.Return h.returned,
                   (
-                    no_fault (keeps_rule row_whys.Init after && is_finished r h.state) whys.Init (true_and (keeps_rule row_whys.Init after) (is_finished r h.state) init h.finished),
+                    not_there (keeps_rule row_whys.Init after && is_finished r h.state) whys.Init (true_and (keeps_rule row_whys.Init after) (is_finished r h.state) init h.finished),
                     (
-                      no_fault (not (row_goes_on r && p.is_last)) whys.End (ap (λ b. not b) h.ended),
+                      not_there (not (row_goes_on r && p.is_last)) whys.End (ap (λ b. not b) h.ended),
                       tt,
                     ),
                   ),
@@ -78,7 +80,7 @@ placed_faultless env p h =
 
 pub accepted_faultless : (env : Environment) → IsAccepted env → AllNone (method_faults env)
 accepted_faultless env h = (
-  no_fault env.is_mapped (pc_fault 0 whys.Map) h.mapped,
+  not_there env.is_mapped (pc_fault 0 whys.Map) h.mapped,
   flat_each (λ x. x ≡ None) (placed_faults env) (walk env) (each_kept (KeepsRules env) (λ p. AllNone (placed_faults env p)) (placed_faultless env) (walk env) h.each),
 )
 

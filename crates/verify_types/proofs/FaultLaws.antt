@@ -3,6 +3,8 @@ use Rattle.std.proofs.Common.{◌≡◌, ℕ, ◌+◌, true, false, List, [], �
 use Rattle.std.specs.Prelude.{◌&&◌, slice_get, is_none}
 use Rattle.std.specs.Option.{option_map_or}
 use Rattle.std.specs.List.{enumerate_from, list_all}
+use Rattle.items.specs.First.{unless, AllNone}
+use Rattle.items.proofs.FirstLaws.{passed, first_none}
 use Rattle.instruction_rows.specs.declared.row_why.RowWhy.{RowWhy}
 use Rattle.instruction_rows.specs.declared.row_why.RowWhy.TheVariants as row_whys
 use Rattle.instruction_rows.specs.Rows.{targets_of_row, row_goes_on}
@@ -15,9 +17,9 @@ use Rattle.verify_types.specs.Environment.{Environment, MapFrame, environment}
 use Rattle.verify_types.specs.Effects.{row_of, state_after}
 use Rattle.verify_types.specs.Handlers.{are_satisfied, is_returned, is_finished}
 use Rattle.verify_types.specs.Walk.{Placed}
-use Rattle.verify_types.specs.Faults.{unless, is_target, entry_fits, result_fits, keeps_rule, is_shallow, result_is_shallow, has_locals, state_whys, stray_frames, method_faults, fault_in, environment_faults, numbered_faults, world_faults, IsWellTyped}
-use Rattle.verify_types.specs.Acceptance.{AllNone, KeepsRules}
-use Rattle.verify_types.proofs.ListLaws.{and_true, passed, not_true, first_none, each_flat, unmapped, numbered}
+use Rattle.verify_types.specs.Faults.{is_target, entry_fits, result_fits, keeps_rule, is_shallow, result_is_shallow, has_locals, state_whys, stray_frames, method_faults, fault_in, environment_faults, numbered_faults, world_faults, IsWellTyped}
+use Rattle.verify_types.specs.Acceptance.{KeepsRules}
+use Rattle.verify_types.proofs.ListLaws.{and_true, not_true, each_flat, unmapped, numbered}
 
 -- ---- a program
 

@@ -1,53 +1,19 @@
--- Lists of faults: none of them, the first of them, and what they are made of.
-use Rattle.std.proofs.Common.{◌≡◌, ℕ, zero, suc, ◌+◌, Bool, true, false, cond, List, [], ◌∷◌, ◌++◌, Option, Some, None, refl, ap, sym, ◌∙◌, subst, arith}
+-- What holds of each item of a list, of the list that is made of it, and of what a test finds in it.
+use Rattle.std.proofs.Common.{◌≡◌, ℕ, zero, suc, ◌+◌, Bool, true, false, cond, List, [], ◌∷◌, ◌++◌, Option, Some, None, refl, ap, sym, subst, arith}
 use Rattle.std.specs.Prelude.{◌&&◌, not, map, filter, find, slice_get, is_some}
 use Rattle.std.specs.Option.{option_map, option_map_or}
 use Rattle.std.specs.List.{flat_map, enumerate_from, list_all, IsAmong}
 use Rattle.std.proofs.lemmas.List.Sums.{AllPass-from_list_all}
 use Rattle.std.proofs.lemmas.Option.{slice_get_within, get_or_from_slice_get}
-use Rattle.verify_types.specs.Faults.{unless, first_some}
-use Rattle.verify_types.specs.Acceptance.{Each, AllNone, IsFirst}
+use Rattle.items.specs.First.{Each, AllNone}
 
 pub and_true : (a b : Bool) → (a && b) ≡ true → (a ≡ true) × (b ≡ true)
 and_true true b e = (refl, e)
 and_true false b e = absurd cc
 
-pub passed : {A : Type 0} (test : Bool) (x : A) → unless test x ≡ None → test ≡ true
-passed true x e = refl
-passed false x e = absurd cc
-
 pub not_true : (b : Bool) → not b ≡ true → b ≡ false
 not_true true e = absurd cc
 not_true false e = refl
-
--- ---- the first of a list
-
-pub first_none : {A : Type 0} (xs : List (Option A)) → first_some xs ≡ None → AllNone xs
-first_none [] e = tt
-first_none (None ∷ xs) e = (refl, first_none xs e)
-first_none (Some x ∷ xs) e = absurd cc
-
-pub none_first : {A : Type 0} (xs : List (Option A)) → AllNone xs → first_some xs ≡ None
-none_first [] none = refl
-none_first (None ∷ xs) none = none_first xs none.1
-none_first (Some x ∷ xs) none = let e = none.0 in absurd cc
-
-pub first_found : {A : Type 0} (xs : List (Option A)) (x : A) → first_some xs ≡ Some x → IsFirst xs x
-first_found [] x e = absurd cc
-first_found (Some y ∷ xs) x e =
-    let same : y ≡ x = cc in
-    record { front = []; rest = xs; parts = ap (λ z. Some z ∷ xs) same; none = tt }
-first_found (None ∷ xs) x e =
-    let below = first_found xs x e in
-    record { front = None ∷ below.front; rest = below.rest; parts = ap (λ ys. None ∷ ys) below.parts; none = (refl, below.none) }
-
-first_behind : {A : Type 0} (front rest : List (Option A)) (x : A) → AllNone front → first_some (front ++ Some x ∷ rest) ≡ Some x
-first_behind [] rest x none = refl
-first_behind (None ∷ front) rest x none = first_behind front rest x none.1
-first_behind (Some y ∷ front) rest x none = let e = none.0 in absurd cc
-
-pub found_first : {A : Type 0} (xs : List (Option A)) (x : A) → IsFirst xs x → first_some xs ≡ Some x
-found_first xs x is = ap (λ ys. first_some ys) is.parts ∙ first_behind is.front is.rest x is.none
 
 -- ---- each of a list
 
@@ -97,10 +63,6 @@ each_kept P Q to (x ∷ xs) h = (to x h.0, each_kept P Q to xs h.1)
 pub mapped : {A B : Type 0} (f : A → B) (xs : List (Option A)) → AllNone xs → AllNone (map (option_map f) xs)
 mapped f [] none = tt
 mapped f (x ∷ xs) none = (ap (λ o. option_map f o) none.0, mapped f xs none.1)
-
-pub no_fault : {A : Type 0} (test : Bool) (x : A) → test ≡ true → unless test x ≡ None
-no_fault true x e = refl
-no_fault false x e = absurd cc
 
 pub true_and : (a b : Bool) → a ≡ true → b ≡ true → (a && b) ≡ true
 true_and true b e g = g

@@ -6,6 +6,8 @@ use Rattle.std.specs.List.{list_all}
 use Rattle.std.specs.Result.{result_ok}
 use Rattle.verify_types.specs.declared.why.VerifyWhy.TheVariants as whys
 use Rattle.std.proofs.lemmas.Bool.{ne_eqb, eqb-true, lt-ltb, leb-true, cases_lt}
+use Rattle.items.specs.First.{Each, AllNone}
+use Rattle.items.proofs.FirstLaws.{passed}
 use Rattle.instruction_rows.specs.Pcs.{pc_of}
 use Rattle.instruction_rows.specs.Rows.{targets_of_row, row_goes_on}
 use Rattle.world_model.specs.World.{World}
@@ -18,12 +20,12 @@ use Rattle.verify_types.specs.Calls.{covers}
 use Rattle.verify_types.specs.Handlers.{fits_frame, caught_type, caught, is_satisfied, are_satisfied}
 use Rattle.verify_types.specs.Walk.{Placed, standing, behind, is_end, placed, walk, placed_at}
 use Rattle.verify_types.specs.Faults.{is_target, fits_target, fits_next, is_inside, pc_fault, placed_faults, method_faults, IsWellTyped}
-use Rattle.verify_types.specs.Acceptance.{Each, AllNone, KeepsRules, IsAccepted, AreAccepted}
+use Rattle.verify_types.specs.Acceptance.{KeepsRules, IsAccepted, AreAccepted}
 use Rattle.world_model.specs.Decoded.{AreDecoded}
 use Rattle.verify_types.proofs.CodeLaws.{InOrder, IsLinkedCode, are_linked}
 use Rattle.verify_types.specs.Typing.{Leads, LeadsTo, IsFine, IsTypedMethod, AreTyped}
 use Rattle.verify_types.proofs.KindLaws.{fits_kept}
-use Rattle.verify_types.proofs.ListLaws.{and_true, passed, each_flat, each_found, found_passes, none_left, among_all, at_all, option_true, some_is_some, option_case}
+use Rattle.verify_types.proofs.ListLaws.{and_true, each_flat, each_found, found_passes, none_left, among_all, at_all, option_true, some_is_some, option_case}
 use Rattle.verify_types.proofs.FaultLaws.{none_in_method}
 use Rattle.verify_types.proofs.WalkLaws.{head_of, walked, IsReached}
 

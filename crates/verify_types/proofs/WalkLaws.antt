@@ -4,6 +4,7 @@ use Rattle.std.specs.Prelude.{map, is_none, is_some}
 use Rattle.std.specs.Option.{option_map, option_map_or}
 use Rattle.std.specs.Result.{result_ok}
 use Rattle.std.specs.List.{list_all}
+use Rattle.items.specs.First.{unless, Each, AllNone}
 use Rattle.instruction_rows.specs.Rows.{targets_of_row, row_goes_on}
 use Rattle.verify_types.specs.declared.why.VerifyWhy.TheVariants as whys
 use Rattle.verify_types.specs.TypeStates.{TypeState}
@@ -11,8 +12,8 @@ use Rattle.verify_types.specs.Environment.{Instruction, Environment, MapFrame, m
 use Rattle.verify_types.specs.Effects.{row_of, state_after}
 use Rattle.verify_types.specs.Handlers.{fits_frame}
 use Rattle.verify_types.specs.Walk.{Placed, standing, behind, is_end, placed}
-use Rattle.verify_types.specs.Faults.{unless, fits_target, fits_next, state_whys, whys_at, pc_fault, stray_frames, placed_faults}
-use Rattle.verify_types.specs.Acceptance.{Each, AllNone, KeepsRules}
+use Rattle.verify_types.specs.Faults.{fits_target, fits_next, state_whys, whys_at, pc_fault, stray_frames, placed_faults}
+use Rattle.verify_types.specs.Acceptance.{KeepsRules}
 use Rattle.verify_types.proofs.CodeLaws.{InOrder}
 use Rattle.verify_types.proofs.ListLaws.{and_true, each_split, unmapped, empty}
 use Rattle.verify_types.proofs.FaultLaws.{keeps_rules, has_state}

@@ -1,6 +1,7 @@
 -- A well typed program as a relation for each instruction, without an order of rules (JVMS 4.10.1).
-use Rattle.std.specs.Prelude.{◌≡◌, ℕ, true, false, List, [], ◌∷◌, ◌++◌, Option, Some, None, Ok, ◌&&◌}
+use Rattle.std.specs.Prelude.{◌≡◌, ℕ, true, false, [], Some, Ok, ◌&&◌}
 use Rattle.std.specs.List.{list_all}
+use Rattle.items.specs.First.{Each}
 use Rattle.instruction_rows.specs.Rows.{targets_of_row, row_goes_on}
 use Rattle.world_model.specs.World.{World}
 use Rattle.verify_types.specs.TypeStates.{TypeState}
@@ -9,22 +10,6 @@ use Rattle.verify_types.specs.Effects.{row_of, state_after}
 use Rattle.verify_types.specs.Handlers.{are_satisfied, is_returned, is_finished}
 use Rattle.verify_types.specs.Walk.{Placed, walk}
 use Rattle.verify_types.specs.Faults.{is_target, entry_fits, result_fits, is_shallow, has_locals, stray_frames}
-
--- ---- lists
-
-abbrev pub Each : {A : Type 0} → (A → Type 0) → List A → Type 0
-Each P [] = Unit {0}
-Each P (x ∷ xs) = P x × Each P xs
-
-abbrev pub AllNone : {A : Type 0} → List (Option A) → Type 0
-AllNone xs = Each (λ x. x ≡ None) xs
-
--- x is the first that there is
-pub record IsFirst {A : Type 0} (xs : List (Option A)) (x : A) : Type 0 where
-  pub front : List (Option A)
-  pub rest : List (Option A)
-  pub parts : xs ≡ front ++ Some x ∷ rest
-  pub none : AllNone front
 
 -- ---- a method
 

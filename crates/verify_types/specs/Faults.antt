@@ -3,6 +3,7 @@
 use Rattle.std.specs.Prelude.{◌≡◌, ℕ, ℤ, Bool, true, false, not, List, [], ◌∷◌, ◌++◌, Option, Some, None, Result, Ok, Err, is_none, is_some, length, map, filter, nat_lt, nat_le, ◌&&◌, ◌||◌, if◌then◌else◌}
 use Rattle.std.specs.Option.{option_map, option_map_or, option_and_then}
 use Rattle.std.specs.List.{flat_map, list_all, enumerate_from}
+use Rattle.items.specs.First.{unless, first_some}
 use Rattle.instruction_rows.specs.declared.row_why.RowWhy.{RowWhy}
 use Rattle.instruction_rows.specs.declared.row_why.RowWhy.TheVariants as row_whys
 use Rattle.instruction_rows.specs.Pcs.{pc_of}
@@ -18,16 +19,6 @@ use Rattle.verify_types.specs.Environment.{MapFrame, Environment, environment, m
 use Rattle.verify_types.specs.Effects.{row_of, state_after}
 use Rattle.verify_types.specs.Handlers.{fits_frame, are_satisfied, is_returned, is_finished}
 use Rattle.verify_types.specs.Walk.{Placed, walk}
-
--- this fault, unless the test has passed
-abbrev pub unless : {A : Type 0} → Bool → A → Option A
-unless passed fault = if passed then None else Some fault
-
--- the first of the list
-abbrev pub first_some : {A : Type 0} → List (Option A) → Option A
-first_some [] = None
-first_some (None ∷ xs) = first_some xs
-first_some (Some x ∷ xs) = Some x
 
 -- ---- rules of one instruction
 

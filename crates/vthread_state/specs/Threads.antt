@@ -1,5 +1,5 @@
 -- The table of threads.
-use Rattle.std.specs.Prelude.{ℕ, ◌<◌, List, length, Option, Some, None, slice_get, slice_set}
+use Rattle.std.specs.Prelude.{ℕ, ◌<◌, Bool, List, length, Option, Some, None, slice_get, slice_set}
 use Rattle.std.specs.Option.{ForSome, option_map}
 use Rattle.items.specs.Options.{◌>>=◌}
 use Rattle.vthread_state.specs.declared.phase.Phase.{Phase}
@@ -7,6 +7,7 @@ use Rattle.vthread_state.specs.declared.phase.Phase.TheVariants.{Joining}
 use Rattle.vthread_state.specs.declared.thread.Status.{Status}
 use Rattle.vthread_state.specs.declared.thread.Status.TheVariants.{New, Live, Done}
 use Rattle.vthread_state.specs.declared.thread.Thread.{Thread}
+use Rattle.vthread_state.specs.declared.thread.ThreadKind.{ThreadKind}
 
 -- the threads by number, and how many there may be
 pub record Threads : Type 0 where
@@ -28,6 +29,11 @@ status_at table t = option_map (λ (thread : Thread). thread.status) (thread_at 
 -- the phase of a live thread
 abbrev pub phase_at : Threads → ℕ → Option Phase
 phase_at table t = status_at table t >>= phase_of
+
+-- a thread before it starts
+abbrev pub new_thread : ThreadKind → Bool → ℕ → ℕ → Thread
+new_thread kind daemon object name =
+    record { kind = kind; daemon = daemon; object = object; name = name; status = New }
 
 -- a thread is changed, and all others stay
 abbrev pub threads_with : (Thread → Thread) → List Thread → ℕ → Option Thread → List Thread

@@ -5,7 +5,7 @@ ghost use Rattle.vthread_state.specs.declared.error.ThreadError.TheVariants as e
 ghost use Rattle.vthread_state.specs.declared.phase.Phase.TheVariants as phases;
 ghost use Rattle.vthread_state.specs.declared.thread.Status.TheVariants as statuses;
 ghost use Rattle.vthread_state.specs.JavaState.{java_state};
-ghost use Rattle.vthread_state.specs.Threads.{IsInTable, joins, phase_at, status_at, target_of, target_of_status, thread_at, with_status, with_thread};
+ghost use Rattle.vthread_state.specs.Threads.{IsInTable, joins, new_thread, phase_at, status_at, target_of, target_of_status, thread_at, with_status, with_thread};
 
 use crate::error::{NotNew, ThreadError};
 use crate::java_state::JavaState;
@@ -68,8 +68,7 @@ impl ThreadTable {
     ) -> Result<u32, ThreadError>
         ensures number { IfOk result (λ t. t ≡ length self.old.threads) }
         ensures ok { OnOk result (self.new ≡ record self.old {
-          threads = self.old.threads
-              ++ record { kind = kind; daemon = daemon; object = object; name = name; status = statuses.New } ∷ [];
+          threads = self.old.threads ++ new_thread kind daemon object name ∷ [];
         }) }
         ensures full { (result ≡ Err errors.Full) ↔ (length self.old.threads ≡ self.old.limit) }
         ensures err { OnErr result (self.new ≡ self.old) }

@@ -75,7 +75,9 @@ impl Wakes {
     pub fn take_permit(&mut self, t: u32) -> bool
         requires { t < length self.old.permits }
         ensures was { slice_get self.old.permits t ≡ Some result }
-        ensures after { self.new ≡ record self.old { permits = slice_set self.old.permits t false } }
+        ensures after { self.new ≡ record self.old {
+          permits = slice_set self.old.permits t false;
+        } }
     {
         let available = self.permits[t as usize];
         self.permits[t as usize] = false;

@@ -10,7 +10,7 @@ use Rattle.class_model.specs.declared.attribute.CodeExtra.{CodeExtra}
 use Rattle.class_model.specs.declared.attribute.CodeExtra.TheVariants as extras
 use Rattle.class_model.specs.declared.member.Member.{Member}
 use Rattle.opcodes.specs.declared.op.Instr.{Instr}
-use Rattle.linkage.specs.Resolution.{first_in}
+use Rattle.items.specs.First.{first_in}
 use Rattle.linkage.specs.Faults.{decoded}
 use Rattle.world_model.specs.declared.members.MethodCode.{MethodCode}
 

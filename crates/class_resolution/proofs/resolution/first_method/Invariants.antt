@@ -1,6 +1,6 @@
 use Rattle.std.proofs.Common.{◌≡◌, drop}
 use Rattle.linkage.specs.Members.{declared_method}
-use Rattle.linkage.specs.Resolution.{first_in}
+use Rattle.items.specs.First.{first_in}
 use Rattle.class_resolution.specs.Keys.{key_of}
 use Rattle.class_resolution.proofs.resolution.first_method.Given as goal
 

@@ -1,6 +1,7 @@
 use Rattle.std.proofs.Common.{◌≡◌, drop, map}
 use Rattle.lib_table.specs.Declarations.{class_of}
-use Rattle.lib_table.specs.Natives.{first_in, native_of_class}
+use Rattle.items.specs.First.{first_in}
+use Rattle.lib_table.specs.Natives.{native_of_class}
 use Rattle.lib_table.proofs.natives.first_of_classes.Given as goal
 
 abbrev pub invariant-loop-declaration : goal.invariant-loop-declaration

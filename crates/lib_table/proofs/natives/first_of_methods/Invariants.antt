@@ -1,6 +1,7 @@
 use Rattle.std.proofs.Common.{◌≡◌, drop, map}
 use Rattle.lib_table.specs.Declarations.{method_of}
-use Rattle.lib_table.specs.Natives.{first_in, native_of_method}
+use Rattle.items.specs.First.{first_in}
+use Rattle.lib_table.specs.Natives.{native_of_method}
 use Rattle.lib_table.proofs.natives.first_of_methods.Given as goal
 
 abbrev pub invariant-loop-method : goal.invariant-loop-method

@@ -1,5 +1,5 @@
 use Rattle.std.proofs.Common.{◌≡◌, drop}
-use Rattle.linkage.specs.Resolution.{first_in}
+use Rattle.items.specs.First.{first_in}
 use Rattle.link_checks.specs.Firsts.{attribute_why}
 use Rattle.link_checks.proofs.code.attributes_fault.Given as goal
 

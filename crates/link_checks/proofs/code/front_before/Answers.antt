@@ -1,4 +1,4 @@
-use Rattle.std.proofs.Common.{◌≡◌, Bool, true, List, sym, ap, ◌∙◌}
+use Rattle.std.proofs.Common.{true, List, sym, ap, ◌∙◌}
 use Rattle.opcodes.specs.declared.op.Instr.{Instr}
 use Rattle.linkage.specs.Faults.{Decoded}
 use Rattle.link_checks.proofs.DecodedLaws.{front, front_code}

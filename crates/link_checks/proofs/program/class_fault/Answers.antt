@@ -1,4 +1,4 @@
-use Rattle.std.proofs.Common.{◌≡◌, sym, ◌∙◌}
+use Rattle.std.proofs.Common.{sym, ◌∙◌}
 use Rattle.link_checks.proofs.FaultLaws.{class_is, or_of}
 use Rattle.link_checks.proofs.program.class_fault.Goals as goal
 

@@ -1,6 +1,5 @@
 use Rattle.std.proofs.Common.{◌≡◌, drop}
-use Rattle.std.specs.List.{enumerate_from}
-use Rattle.linkage.specs.Resolution.{first_in}
+use Rattle.items.specs.First.{first_in}
 use Rattle.link_checks.specs.Firsts.{interface_why}
 use Rattle.link_checks.proofs.program.interfaces_fault.Given as goal
 

@@ -1,5 +1,5 @@
 use Rattle.verify_types.specs.Faults.{world_faults}
-use Rattle.verify_types.proofs.ListLaws.{first_found, found_first, first_none, none_first}
+use Rattle.items.proofs.FirstLaws.{first_found, found_first, first_none, none_first}
 use Rattle.verify_types.proofs.AcceptanceLaws.{world_faultless}
 use Rattle.verify_types.proofs.TypingLaws.{world_accepted}
 use Rattle.verify_types.proofs.laws.first_faults.Goals as goal

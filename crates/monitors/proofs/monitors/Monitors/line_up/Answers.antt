@@ -7,11 +7,11 @@ use Rattle.monitors.proofs.monitors.Monitors.line_up.Goals as goal
 
 pub entry-requires : goal.entry-requires
 entry-requires c =
-    omega (arith, call.slot_inside c.self.inside c.self.invariant c.args.o c.take_slot-slot.result (sym c.find.ensures ∙ c.in_default.is) c.take_slot-slot.new.vacant c.take_slot-slot.ensures.items c.take_slot-slot.ensures.len c.take_slot-slot.ensures.capacity, c.once.ensures.few_lists)
+    omega (arith, call.pair_inside c.self.inside c.self.invariant c.args.o c.take_pair-pair.result (sym c.find.ensures ∙ c.in_default.is) c.take_pair-pair.new.vacant c.take_pair-pair.ensures.items c.take_pair-pair.ensures.len c.take_pair-pair.ensures.capacity, c.once.ensures.few_lists)
 
 pub push-requires-clause-list : goal.push-requires-clause-list
 push-requires-clause-list c =
-    omega (arith, call.slot_inside c.self.inside c.self.invariant c.args.o c.take_slot-slot.result (sym c.find.ensures ∙ c.in_default.is) c.take_slot-slot.new.vacant c.take_slot-slot.ensures.items c.take_slot-slot.ensures.len c.take_slot-slot.ensures.capacity, c.entry.ensures)
+    omega (arith, call.pair_inside c.self.inside c.self.invariant c.args.o c.take_pair-pair.result (sym c.find.ensures ∙ c.in_default.is) c.take_pair-pair.new.vacant c.take_pair-pair.ensures.items c.take_pair-pair.ensures.len c.take_pair-pair.ensures.capacity, c.entry.ensures)
 
 pub push-requires-clause-free : goal.push-requires-clause-free
 push-requires-clause-free c =
@@ -19,11 +19,11 @@ push-requires-clause-free c =
 
 pub invariant_of-self : goal.invariant_of-self
 invariant_of-self c =
-    (call.line_up_opens c.self.inside c.self.invariant c.args.o c.take_slot-slot.result (sym c.find.ensures ∙ c.in_default.is) c.take_slot-slot.new.vacant c.take_slot-slot.ensures.items c.take_slot-slot.ensures.len c.take_slot-slot.ensures.capacity c.args.t c.put.new.records c.push.new.self c.put.ensures.now c.put.ensures.others c.put.ensures.len c.put.ensures.spare (c.push.ensures ∙ ap (λ k. record c.self.inside.lists { lists = push c.self.inside.lists.lists k (c.args.t ∷ []) }) c.entry.ensures)).kept
+    (call.line_up_opens c.self.inside c.self.invariant c.args.o c.take_pair-pair.result (sym c.find.ensures ∙ c.in_default.is) c.take_pair-pair.new.vacant c.take_pair-pair.ensures.items c.take_pair-pair.ensures.len c.take_pair-pair.ensures.capacity c.args.t c.put.new.records c.push.new.self c.put.ensures.now c.put.ensures.others c.put.ensures.len c.put.ensures.spare (c.push.ensures ∙ ap (λ k. record c.self.inside.lists { lists = push c.self.inside.lists.lists k (c.args.t ∷ []) }) c.entry.ensures)).kept
 
 pub returns-in_default : goal.returns-in_default
 returns-in_default c =
-    rw (← c.self.view_is) (call.line_up_opens c.self.inside c.self.invariant c.args.o c.take_slot-slot.result (sym c.find.ensures ∙ c.in_default.is) c.take_slot-slot.new.vacant c.take_slot-slot.ensures.items c.take_slot-slot.ensures.len c.take_slot-slot.ensures.capacity c.args.t c.put.new.records c.push.new.self c.put.ensures.now c.put.ensures.others c.put.ensures.len c.put.ensures.spare (c.push.ensures ∙ ap (λ k. record c.self.inside.lists { lists = push c.self.inside.lists.lists k (c.args.t ∷ []) }) c.entry.ensures)).becomes
+    rw (← c.self.view_is) (call.line_up_opens c.self.inside c.self.invariant c.args.o c.take_pair-pair.result (sym c.find.ensures ∙ c.in_default.is) c.take_pair-pair.new.vacant c.take_pair-pair.ensures.items c.take_pair-pair.ensures.len c.take_pair-pair.ensures.capacity c.args.t c.put.new.records c.push.new.self c.put.ensures.now c.put.ensures.others c.put.ensures.len c.put.ensures.spare (c.push.ensures ∙ ap (λ k. record c.self.inside.lists { lists = push c.self.inside.lists.lists k (c.args.t ∷ []) }) c.entry.ensures)).becomes
 
 pub push-requires-2-clause-free : goal.push-requires-2-clause-free
 push-requires-2-clause-free c =

@@ -28,11 +28,11 @@ returns-in_default-clause-ok c =
 
 pub move_last-requires-clause-held : goal.move_last-requires-clause-held
 move_last-requires-clause-held c =
-    subst (λ k. 0 < count c.in-Some.waiter (list_at c.self.inside.lists.lists k)) (sym c.waits.ensures) (first-held (list_at c.self.inside.lists.lists (waits_of c.in_ok-kept.kept.slot)) c.in-Some.waiter (sym c.first_waiter.ensures ∙ c.in-Some.is))
+    subst (λ k. 0 < count c.in-Some.waiter (list_at c.self.inside.lists.lists k)) (sym c.waits.ensures) (first-held (list_at c.self.inside.lists.lists (waits_of c.in_ok-kept.kept.pair)) c.in-Some.waiter (sym c.first_waiter.ensures ∙ c.in-Some.is))
 
 pub invariant_of-self : goal.invariant_of-self
 invariant_of-self c =
-    (call.notify_moves c.self.inside c.self.invariant c.args.o c.in_ok-kept.kept c.in_ok-kept.ensures.found c.in-Some.waiter c.move_last.new.self (sym c.first_waiter.ensures ∙ c.in-Some.is) (omega (arith, c.once.ensures.once c.in-Some.waiter, total-le c.in-Some.waiter c.self.inside.lists.lists (waits_of c.in_ok-kept.kept.slot) (c.self.invariant.fits.inside c.args.o c.in_ok-kept.kept c.in_ok-kept.ensures.found)))
+    (call.notify_moves c.self.inside c.self.invariant c.args.o c.in_ok-kept.kept c.in_ok-kept.ensures.found c.in-Some.waiter c.move_last.new.self (sym c.first_waiter.ensures ∙ c.in-Some.is) (omega (arith, c.once.ensures.once c.in-Some.waiter, total-le c.in-Some.waiter c.self.inside.lists.lists (waits_of c.in_ok-kept.kept.pair) (c.self.invariant.fits.inside c.args.o c.in_ok-kept.kept c.in_ok-kept.ensures.found)))
     (c.move_last.ensures ∙ call.move_is c.self.inside.lists c.in-Some.waiter _ _ _ _ c.waits.ensures c.entry.ensures)).kept
 
 pub returns-clause-owner : goal.returns-clause-owner
@@ -45,5 +45,5 @@ returns-clause-moved c =
 
 pub returns-clause-ok : goal.returns-clause-ok
 returns-clause-ok c =
-    rw (← c.self.view_is) (call.notify_moves c.self.inside c.self.invariant c.args.o c.in_ok-kept.kept c.in_ok-kept.ensures.found c.in-Some.waiter c.move_last.new.self (sym c.first_waiter.ensures ∙ c.in-Some.is) (omega (arith, c.once.ensures.once c.in-Some.waiter, total-le c.in-Some.waiter c.self.inside.lists.lists (waits_of c.in_ok-kept.kept.slot) (c.self.invariant.fits.inside c.args.o c.in_ok-kept.kept c.in_ok-kept.ensures.found)))
+    rw (← c.self.view_is) (call.notify_moves c.self.inside c.self.invariant c.args.o c.in_ok-kept.kept c.in_ok-kept.ensures.found c.in-Some.waiter c.move_last.new.self (sym c.first_waiter.ensures ∙ c.in-Some.is) (omega (arith, c.once.ensures.once c.in-Some.waiter, total-le c.in-Some.waiter c.self.inside.lists.lists (waits_of c.in_ok-kept.kept.pair) (c.self.invariant.fits.inside c.args.o c.in_ok-kept.kept c.in_ok-kept.ensures.found)))
     (c.move_last.ensures ∙ call.move_is c.self.inside.lists c.in-Some.waiter _ _ _ _ c.waits.ensures c.entry.ensures)).becomes

@@ -1,0 +1,18 @@
+//! ASCII texts as units.
+
+use std::alloc::{AllocError, Global};
+
+/// Puts the units of a text behind those that are there.
+pub fn append(units: &mut Vec<u16>, text: &[u8]) -> Result<(), AllocError> {
+    for byte in text {
+        units.push(u16::from(*byte))?;
+    }
+    Ok(())
+}
+
+/// The units of a text.
+pub fn units_of(alloc: Global, text: &[u8]) -> Result<Vec<u16>, AllocError> {
+    let mut units = Vec::new(alloc);
+    append(&mut units, text)?;
+    Ok(units)
+}
