@@ -9,7 +9,8 @@ use Rattle.world_model.specs.World.{World}
 use Rattle.verify_types.specs.declared.fault.PcFault.{PcFault}
 use Rattle.verify_types.specs.declared.fault.VerifyFault.{VerifyFault}
 use Rattle.verify_types.specs.Environment.{Environment, environment}
-use Rattle.verify_types.specs.Faults.{first_some, method_faults, method_fault, fault_in, environment_faults, numbered_faults}
+use Rattle.items.specs.First.{first_some}
+use Rattle.verify_types.specs.Faults.{method_faults, method_fault, fault_in, environment_faults, numbered_faults}
 use Rattle.verify_code.specs.Methods.{numbered_fault}
 use Rattle.verify_code.proofs.WalkLaws.{found_in_front, none_in_front, first_mapped}
 

@@ -16,7 +16,8 @@ use Rattle.verify_types.specs.TypeStates.{TypeState}
 use Rattle.verify_types.specs.Environment.{Instruction, MapFrame, Environment, map_at, with_namings}
 use Rattle.verify_types.specs.Effects.{state_after}
 use Rattle.verify_types.specs.Walk.{Placed, is_end, placed, behind, standing}
-use Rattle.verify_types.specs.Faults.{unless, first_some, is_why, is_shallow, whys_after, state_whys, whys_at, pc_fault, is_inside, stray_frames, placed_faults}
+use Rattle.items.specs.First.{unless, first_some}
+use Rattle.verify_types.specs.Faults.{is_why, is_shallow, whys_after, state_whys, whys_at, pc_fault, is_inside, stray_frames, placed_faults}
 use Rattle.verify_instructions.specs.declared.stop.Stop.{Stop}
 use Rattle.verify_instructions.specs.declared.stop.Stop.TheVariants as stops
 use Rattle.verify_instructions.specs.Answers.{Leaves}

@@ -13,7 +13,8 @@ use Rattle.verify_types.specs.TypeStates.{TypeState}
 use Rattle.verify_types.specs.Environment.{Instruction, Environment}
 use Rattle.verify_types.specs.Effects.{row_of}
 use Rattle.verify_types.specs.Handlers.{are_satisfied, is_returned, is_finished}
-use Rattle.verify_types.specs.Faults.{unless, is_target, is_shallow, has_locals}
+use Rattle.items.specs.First.{unless}
+use Rattle.verify_types.specs.Faults.{is_target, is_shallow, has_locals}
 use Rattle.verify_code.specs.declared.findings.Findings.{Findings}
 
 -- an instruction as the walk has it

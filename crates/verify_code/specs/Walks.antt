@@ -11,7 +11,8 @@ use Rattle.verify_types.specs.Environment.{Instruction, Environment, map_at}
 use Rattle.verify_types.specs.Effects.{state_after}
 use Rattle.verify_types.specs.Handlers.{fits_frame}
 use Rattle.verify_types.specs.Walk.{Placed, behind, placed, walk}
-use Rattle.verify_types.specs.Faults.{first_some, fits_target, fits_next, state_whys, whys_at, placed_faults}
+use Rattle.items.specs.First.{first_some}
+use Rattle.verify_types.specs.Faults.{fits_target, fits_next, state_whys, whys_at, placed_faults}
 use Rattle.verify_instructions.specs.Views.{state_in}
 use Rattle.verify_code.specs.Findings.{instruction_of}
 use Rattle.verify_code.specs.declared.walk.After.{After}

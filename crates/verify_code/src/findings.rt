@@ -1,7 +1,8 @@
 //! What is found at one instruction, and the first rule that is broken there (JVMS 4.10.1).
 
 ghost use Rattle.std.specs.Prelude.{◌≡◌, Some, not, true};
-ghost use Rattle.verify_types.specs.Faults.{first_some, is_why};
+ghost use Rattle.items.specs.First.{first_some};
+ghost use Rattle.verify_types.specs.Faults.{is_why};
 ghost use Rattle.verify_code.specs.Findings.{findings_whys};
 
 use instruction_rows::RowWhy;

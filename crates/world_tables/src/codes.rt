@@ -2,7 +2,7 @@
 
 ghost use Rattle.std.specs.Prelude.{◌≡◌, List, ℕ, IfOk};
 ghost use Rattle.std.specs.Option.{option_copied, option_map};
-ghost use Rattle.linkage.specs.Resolution.{first_in};
+ghost use Rattle.items.specs.First.{first_in};
 ghost use Rattle.linkage.specs.Faults.{decoded};
 ghost use Rattle.world_model.specs.Codes as spec;
 

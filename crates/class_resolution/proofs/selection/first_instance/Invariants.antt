@@ -1,5 +1,5 @@
 use Rattle.std.proofs.Common.{◌≡◌, drop}
-use Rattle.linkage.specs.Resolution.{first_in}
+use Rattle.items.specs.First.{first_in}
 use Rattle.linkage.specs.Selection.{instance_method}
 use Rattle.class_resolution.specs.Keys.{key_of}
 use Rattle.class_resolution.proofs.selection.first_instance.Given as goal

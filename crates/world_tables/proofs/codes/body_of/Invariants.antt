@@ -1,5 +1,5 @@
 use Rattle.std.proofs.Common.{◌≡◌, drop}
-use Rattle.linkage.specs.Resolution.{first_in}
+use Rattle.items.specs.First.{first_in}
 use Rattle.world_model.specs.Codes.{code_in}
 use Rattle.world_tables.proofs.codes.body_of.Given as goal
 

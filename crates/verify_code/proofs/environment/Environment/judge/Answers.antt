@@ -1,7 +1,8 @@
 use Rattle.std.proofs.Common.{◌≡◌, Bool, true, Option, ap, subst, sym, ◌∙◌}
 use Rattle.std.specs.Prelude.{not}
 use Rattle.verify_types.specs.declared.why.VerifyWhy.{VerifyWhy}
-use Rattle.verify_types.specs.Faults.{first_some, is_why}
+use Rattle.items.specs.First.{first_some}
+use Rattle.verify_types.specs.Faults.{is_why}
 use Rattle.verify_instructions.specs.Views.{state_in}
 use Rattle.verify_code.specs.declared.findings.Findings.{Findings}
 use Rattle.verify_code.specs.Findings.{instruction_of, findings_whys}
