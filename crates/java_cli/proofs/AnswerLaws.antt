@@ -17,28 +17,31 @@ use Rattle.ref_model.specs.Alone.{alone}
 use Rattle.jvm_edges.specs.declared.output.PartWritten.{PartWritten}
 use Rattle.java_cli.specs.declared.errors.LoadError.{LoadError}
 use Rattle.java_cli.specs.declared.errors.LoadError.TheVariants as load
-use Rattle.class_world.specs.declared.error.LinkError.{LinkError}
-use Rattle.class_world.specs.declared.error.LinkError.TheVariants as link
 use Rattle.linkage.specs.declared.fault.LinkFault as faults
+use Rattle.linkage.specs.Faults.{Links}
 use Rattle.linkage.specs.declared.why.LinkWhy.{LinkWhy}
 use Rattle.linkage.specs.declared.why.LinkWhy.TheVariants.{Unsupported}
+use Rattle.verify_types.specs.declared.why.VerifyWhy.{VerifyWhy}
+use Rattle.verify_types.specs.declared.fault.VerifyFault as typing
+use Rattle.java_cli.specs.declared.errors.AcceptError.{AcceptError}
+use Rattle.java_cli.specs.declared.errors.AcceptError.TheVariants as accept
 use Rattle.java_cli.specs.declared.errors.StartError.{StartError}
 use Rattle.java_cli.specs.declared.errors.StartError.TheVariants as start
 use Rattle.java_cli.specs.declared.report.Report.{Report}
 use Rattle.java_cli.specs.declared.report.Which.TheVariants.{Files}
 use Rattle.java_cli.specs.declared.report.Why.{Why}
-use Rattle.java_cli.specs.declared.report.Why.TheVariants.{Ended, Usage, Limit, NoMain, LinkFault, SinkFault, NoMemory}
+use Rattle.java_cli.specs.declared.report.Why.TheVariants.{Ended, Usage, Limit, NoMain, LinkFault, VerifyFault, SinkFault, NoMemory}
 use Rattle.java_cli.specs.Limits.{most_files}
-use Rattle.java_cli.specs.Errors.{load_answer, link_answer, start_answer}
+use Rattle.java_cli.specs.Errors.{load_answer, accept_answer, start_answer}
 use Rattle.java_cli.specs.Words.{Command}
 use Rattle.java_cli.specs.Answers.{line_of, line_for, usage_line}
 use Rattle.java_cli.specs.MainClass.{class_named, has_main}
-use Rattle.java_cli.specs.Linking.{IsLinkFault, AreAccepted}
+use Rattle.java_cli.specs.Linking.{program_of, class_text, method_text, IsLinkFault, IsVerifyFault, AreAccepted}
 use Rattle.plain_program.specs.Programs.{IsSpelled, IsPlainProgram}
 use Rattle.java_cli.specs.Programs.{IsProgram}
 use Rattle.java_cli.specs.Causes.{Contents, HasContents, HaveContents, IsClass, AreClasses, IsBad, IsWrong, FirstWrong, IsFirstName, IsProgramAnswer, IsDue, too_many, wrong, by_linking, HasCause, IsReached, contents_of, IsExact, IsRefusal, StoreFaults}
 use Rattle.java_cli.specs.LoadCauses.{IsRead, IsWrongFile, NotRead, IsStopped}
-use Rattle.java_cli.specs.LinkCauses.{NotLinked, NotStarted, first_name}
+use Rattle.java_cli.specs.LinkCauses.{NotAccepted, NotStarted, first_name}
 use Rattle.java_cli.proofs.NameLaws.{first_is}
 use Rattle.plain_program.specs.Runs.{IsRun}
 use Rattle.java_cli.specs.Runs.{RanCommand}
@@ -105,11 +108,30 @@ one_first [] a b x y = absurd x
 one_first (f ∷ classes) a b x y = same_Some a b (sym x ∙ y)
 
 -- classes that link have no fault
-linked_or_fault : (classes : List ClassFile) (class : List ℕ) (reason : LinkWhy) → AreAccepted classes → IsLinkFault classes class reason → ⊥
+linked_or_fault : (classes : List ClassFile) (class : List ℕ) (reason : LinkWhy) → Links (program_of classes) → IsLinkFault classes class reason → ⊥
 linked_or_fault classes class reason links fault =
     let none : Option faults.LinkFault = None in
     let no : none ≡ Some (record { class = class; why = reason }) = sym links ∙ fault in
     absurd cc
+
+-- classes that are accepted have no fault of typing
+typed_or_fault : (classes : List ClassFile) (class method : List ℕ) (pc : ℕ) (reason : VerifyWhy) → AreAccepted classes → IsVerifyFault classes class method pc reason → ⊥
+typed_or_fault classes class method pc reason accepted fault =
+    let none : Option typing.VerifyFault = None in
+    let no : none ≡ Some fault.1.fault = sym accepted.typed ∙ fault.1.first in
+    absurd cc
+
+-- there is one first fault of typing
+one_verify_fault : (classes : List ClassFile) (class other method again : List ℕ) (pc next : ℕ) (reason because : VerifyWhy) → IsVerifyFault classes class method pc reason → IsVerifyFault classes other again next because
+    → VerifyFault class method pc reason ≡ VerifyFault other again next because
+one_verify_fault classes class other method again pc next reason because x y =
+    let p = program_of classes in
+    let same : x.1.fault ≡ y.1.fault = same_Some x.1.fault y.1.fault (sym x.1.first ∙ y.1.first) in
+    let classes_are : class ≡ other = x.1.class_is ∙ ap (λ (f : typing.VerifyFault). class_text p f.class) same ∙ sym y.1.class_is in
+    let methods_are : method ≡ again = x.1.method_is ∙ ap (λ (f : typing.VerifyFault). method_text p.classes f.method) same ∙ sym y.1.method_is in
+    let pcs_are : pc ≡ next = x.1.pc_is ∙ ap (λ (f : typing.VerifyFault). f.pc) same ∙ sym y.1.pc_is in
+    let reasons_are : reason ≡ because = x.1.reason_is ∙ ap (λ (f : typing.VerifyFault). f.why) same ∙ sym y.1.reason_is in
+    cc
 
 -- there is one first fault
 one_fault : (classes : List ClassFile) (class other : List ℕ) (reason again : LinkWhy) → IsLinkFault classes class reason → IsLinkFault classes other again → LinkFault class reason ≡ LinkFault other again
@@ -121,25 +143,35 @@ main_or_none name classes x y = let no : false ≡ true = sym x ∙ y in absurd 
 
 pub one_program_answer : (name : List ℕ) (classes : List ClassFile) (a b : Why) → IsProgramAnswer name classes a → IsProgramAnswer name classes b → a ≡ b
 one_program_answer name classes NoMain NoMain x y = refl
-one_program_answer name classes NoMain (LinkFault class reason) x (inl y) = absurd (linked_or_fault classes class reason x.0 y)
+one_program_answer name classes NoMain (LinkFault class reason) x (inl y) = absurd (linked_or_fault classes class reason x.0.links y)
 one_program_answer name classes NoMain (LinkFault class reason) x (inr y) = absurd (main_or_none name classes x.1 y.2.main)
 one_program_answer name classes NoMain Ended x y = absurd (main_or_none name classes x.1 y.1.main)
+one_program_answer name classes NoMain (VerifyFault class method pc reason) x y = absurd (typed_or_fault classes class method pc reason x.0 y)
 one_program_answer name classes NoMain b x y = absurd y
-one_program_answer name classes (LinkFault class reason) NoMain (inl x) y = absurd (linked_or_fault classes class reason y.0 x)
+one_program_answer name classes (LinkFault class reason) NoMain (inl x) y = absurd (linked_or_fault classes class reason y.0.links x)
 one_program_answer name classes (LinkFault class reason) NoMain (inr x) y = absurd (main_or_none name classes y.1 x.2.main)
 one_program_answer name classes (LinkFault class reason) (LinkFault other again) (inl x) (inl y) = one_fault classes class other reason again x y
-one_program_answer name classes (LinkFault class reason) (LinkFault other again) (inl x) (inr y) = absurd (linked_or_fault classes class reason y.1 x)
-one_program_answer name classes (LinkFault class reason) (LinkFault other again) (inr x) (inl y) = absurd (linked_or_fault classes other again x.1 y)
+one_program_answer name classes (LinkFault class reason) (LinkFault other again) (inl x) (inr y) = absurd (linked_or_fault classes class reason y.1.links x)
+one_program_answer name classes (LinkFault class reason) (LinkFault other again) (inr x) (inl y) = absurd (linked_or_fault classes other again x.1.links y)
 one_program_answer name classes (LinkFault class reason) (LinkFault other again) (inr x) (inr y) =
     let names : class ≡ other = one_first classes class other x.2.first y.2.first in
     let reasons : reason ≡ again = x.0 ∙ sym y.0 in
     cc
-one_program_answer name classes (LinkFault class reason) Ended (inl x) y = absurd (linked_or_fault classes class reason y.1.accepted x)
+one_program_answer name classes (LinkFault class reason) Ended (inl x) y = absurd (linked_or_fault classes class reason y.1.accepted.links x)
 one_program_answer name classes (LinkFault class reason) Ended (inr x) y = absurd (x.2.none y.1.method y.1.plain)
+one_program_answer name classes (LinkFault class reason) (VerifyFault other method pc why) (inl x) y = absurd (linked_or_fault classes class reason y.0 x)
+one_program_answer name classes (LinkFault class reason) (VerifyFault other method pc why) (inr x) y = absurd (typed_or_fault classes other method pc why x.1 y)
 one_program_answer name classes (LinkFault class reason) b x y = absurd y
+one_program_answer name classes (VerifyFault class method pc reason) NoMain x y = absurd (typed_or_fault classes class method pc reason y.0 x)
+one_program_answer name classes (VerifyFault class method pc reason) (LinkFault other why) x (inl y) = absurd (linked_or_fault classes other why x.0 y)
+one_program_answer name classes (VerifyFault class method pc reason) (LinkFault other why) x (inr y) = absurd (typed_or_fault classes class method pc reason y.1 x)
+one_program_answer name classes (VerifyFault class method pc reason) (VerifyFault other again next because) x y = one_verify_fault classes class other method again pc next reason because x y
+one_program_answer name classes (VerifyFault class method pc reason) Ended x y = absurd (typed_or_fault classes class method pc reason y.1.accepted x)
+one_program_answer name classes (VerifyFault class method pc reason) b x y = absurd y
 one_program_answer name classes Ended NoMain x y = absurd (main_or_none name classes y.1 x.1.main)
-one_program_answer name classes Ended (LinkFault class reason) x (inl y) = absurd (linked_or_fault classes class reason x.1.accepted y)
+one_program_answer name classes Ended (LinkFault class reason) x (inl y) = absurd (linked_or_fault classes class reason x.1.accepted.links y)
 one_program_answer name classes Ended (LinkFault class reason) x (inr y) = absurd (y.2.none x.1.method x.1.plain)
+one_program_answer name classes Ended (VerifyFault class method pc reason) x y = absurd (typed_or_fault classes class method pc reason x.1.accepted y)
 one_program_answer name classes Ended Ended x y = refl
 one_program_answer name classes Ended b x y = absurd y
 one_program_answer name classes a b x y = absurd x
@@ -312,17 +344,20 @@ program_exact known faulty c classes why few all is = by why is
     by : (why : Why) → IsProgramAnswer (class_named c.main) classes why → IsExact known faulty c why
     by NoMain is = record { cause = program_cause known c classes NoMain few read is; due = program_due known c classes NoMain few read is }
     by (LinkFault class reason) is = record { cause = program_cause known c classes (LinkFault class reason) few read is; due = program_due known c classes (LinkFault class reason) few read is }
+    by (VerifyFault class method pc reason) is =
+        record { cause = program_cause known c classes (VerifyFault class method pc reason) few read is; due = program_due known c classes (VerifyFault class method pc reason) few read is }
     by Ended is = record { cause = program_cause known c classes Ended few read is; due = program_due known c classes Ended few read is }
     by why is = absurd is
 
 pub memory_exact : (known : Option store.Files) (faulty : Type 0) (c : Command) → IsExact known faulty c NoMemory
 memory_exact known faulty c = record { cause = tt; due = λ files answer is due. tt }
 
--- classes that don't link
-pub unlinked_exact : (known : Option store.Files) (faulty : Type 0) (c : Command) (classes : List ClassFile) (error : LinkError) → length c.files ≤ most_files → AllZip (IsRead known) c.files classes
-    → NotLinked classes error → IsExact known faulty c (link_answer error)
-unlinked_exact known faulty c classes link.NoMemory few all is = memory_exact known faulty c
-unlinked_exact known faulty c classes (link.Fault class reason) few all is = program_exact known faulty c classes (LinkFault class reason) few all (inl is)
+-- classes that are not accepted
+pub unaccepted_exact : (known : Option store.Files) (faulty : Type 0) (c : Command) (classes : List ClassFile) (error : AcceptError) → length c.files ≤ most_files → AllZip (IsRead known) c.files classes
+    → NotAccepted classes error → IsExact known faulty c (accept_answer error)
+unaccepted_exact known faulty c classes accept.NoMemory few all is = memory_exact known faulty c
+unaccepted_exact known faulty c classes (accept.LinkFault class reason) few all is = program_exact known faulty c classes (LinkFault class reason) few all (inl is)
+unaccepted_exact known faulty c classes (accept.VerifyFault class method pc reason) few all is = program_exact known faulty c classes (VerifyFault class method pc reason) few all is
 
 -- classes that are accepted, and don't start
 pub unstarted_exact : (known : Option store.Files) (faulty : Type 0) (c : Command) (classes : List ClassFile) (error : StartError) → length c.files ≤ most_files → AllZip (IsRead known) c.files classes
@@ -331,14 +366,16 @@ unstarted_exact known faulty c classes start.NoMemory few all accepted is = memo
 unstarted_exact known faulty c classes start.NoMain few all accepted is = program_exact known faulty c classes NoMain few all (accepted, is)
 unstarted_exact known faulty c classes (start.Unsupported class) few all accepted is = program_exact known faulty c classes (LinkFault class Unsupported) few all (inr (refl, accepted, is))
 
--- an error of linking or of the start is no end and no fault of a sink, and comes after no fault of the store
-pub link_refusal : (error : LinkError) → IsRefusal (link_answer error)
-link_refusal (link.Fault class why) = tt
-link_refusal link.NoMemory = tt
+-- an error of linking, of typing or of the start is no end and no fault of a sink, and comes after no fault of the store
+pub accept_refusal : (error : AcceptError) → IsRefusal (accept_answer error)
+accept_refusal (accept.LinkFault class why) = tt
+accept_refusal (accept.VerifyFault class method pc why) = tt
+accept_refusal accept.NoMemory = tt
 
-pub link_faults : (error : LinkError) (before now : ℕ) → now ≡ before → StoreFaults (link_answer error) before now
-link_faults (link.Fault class why) before now kept = kept
-link_faults link.NoMemory before now kept = tt
+pub accept_faults : (error : AcceptError) (before now : ℕ) → now ≡ before → StoreFaults (accept_answer error) before now
+accept_faults (accept.LinkFault class why) before now kept = kept
+accept_faults (accept.VerifyFault class method pc why) before now kept = kept
+accept_faults accept.NoMemory before now kept = tt
 
 pub start_refusal : (error : StartError) → IsRefusal (start_answer error)
 start_refusal start.NoMain = tt

@@ -10,19 +10,22 @@ use Rattle.ref_model.specs.Program.{Method}
 use Rattle.ref_model.specs.Alone.{alone}
 use Rattle.linkage.specs.declared.fault.LinkFault as faults
 use Rattle.linkage.specs.declared.why.LinkWhy.TheVariants.{Unsupported}
-use Rattle.linkage.specs.Faults.{link_fault}
+use Rattle.linkage.specs.Faults.{Links, link_fault}
+use Rattle.world_model.specs.Worlds.{world_of}
+use Rattle.verify_types.specs.declared.fault.VerifyFault as typing
+use Rattle.verify_types.specs.Faults.{first_fault}
 use Rattle.plain_program.specs.Programs.{IsSpelled, IsPlainProgram}
 use Rattle.plain_program.proofs.Deciding.{plain_or_not}
 use Rattle.java_cli.specs.declared.errors.LoadError.{LoadError}
 use Rattle.java_cli.specs.declared.errors.LoadError.TheVariants as load
 use Rattle.java_cli.specs.declared.report.Which.TheVariants.{Files}
 use Rattle.java_cli.specs.declared.report.Why.{Why}
-use Rattle.java_cli.specs.declared.report.Why.TheVariants.{Ended, Limit, NoMain, LinkFault}
+use Rattle.java_cli.specs.declared.report.Why.TheVariants.{Ended, Limit, NoMain, LinkFault, VerifyFault}
 use Rattle.java_cli.specs.Limits.{most_files, most_bytes}
 use Rattle.java_cli.specs.Errors.{load_answer}
 use Rattle.java_cli.specs.Words.{Command}
 use Rattle.java_cli.specs.MainClass.{class_named, has_main}
-use Rattle.java_cli.specs.Linking.{program_of, AreAccepted}
+use Rattle.java_cli.specs.Linking.{program_of, class_text, method_text, AreAccepted}
 use Rattle.java_cli.specs.Causes.{Contents, IsClass, AreClasses, IsWrong, FirstWrong, IsProgramAnswer, IsDue, too_many, wrong, by_linking, AreBytes, OneIsDue}
 use Rattle.java_cli.specs.LinkCauses.{first_name}
 use Rattle.java_cli.proofs.NameLaws.{first_is}
@@ -108,8 +111,16 @@ by_main : (name : List ℕ) (classes : List ClassFile) → AllByRecursion IsSpel
 by_main name classes spelled accepted false e = (NoMain, (accepted, e))
 by_main name classes spelled accepted true e = by_plain name classes spelled accepted e (plain_or_not classes spelled)
 
+by_typing : (name : List ℕ) (classes : List ClassFile) → AllByRecursion IsSpelled classes → Links (program_of classes) → (o : Option typing.VerifyFault) → first_fault (world_of (program_of classes)) ≡ o
+    → (a : Why) × IsProgramAnswer name classes a
+by_typing name classes spelled links None e = by_main name classes spelled (record { links = links; typed = e }) (has_main name classes) refl
+by_typing name classes spelled links (Some f) e =
+    let p = program_of classes in
+    let named = record { fault = f; first = e; class_is = refl; method_is = refl; pc_is = refl; reason_is = refl } in
+    (VerifyFault (class_text p f.class) (method_text p.classes f.method) f.pc f.why, (links, named))
+
 by_fault : (name : List ℕ) (classes : List ClassFile) → AllByRecursion IsSpelled classes → (o : Option faults.LinkFault) → link_fault (program_of classes) ≡ o → (a : Why) × IsProgramAnswer name classes a
-by_fault name classes spelled None e = by_main name classes spelled e (has_main name classes) refl
+by_fault name classes spelled None e = by_typing name classes spelled e (first_fault (world_of (program_of classes))) refl
 by_fault name classes spelled (Some f) e = (LinkFault f.class f.why, inl e)
 
 by_files : (c : Command) (contents : List Contents) → length c.files ≤ most_files → ((error : LoadError) × FirstWrong 0 contents error) ⊎ ((classes : List ClassFile) × AreClasses contents classes) → (a : Why) × IsDue c contents a

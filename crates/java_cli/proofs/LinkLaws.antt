@@ -1,4 +1,4 @@
--- From what linking says of a program to what it says of class files.
+-- From what linking and typing say of a program to what they say of class files.
 use Rattle.std.proofs.Common.{◌≡◌, ℕ, List, drop, Some, Result, Ok, Err, refl, sym, ap, subst, ◌∙◌}
 use Rattle.std.specs.Prelude.{IfOk, IfErr}
 use Rattle.std.proofs.Math.Seq.{drop-append_seam}
@@ -8,20 +8,40 @@ use Rattle.class_world.specs.declared.error.LinkError.TheVariants.{Fault, NoMemo
 use Rattle.linkage.specs.declared.why.LinkWhy.{LinkWhy}
 use Rattle.linkage.specs.Program.{Program, program}
 use Rattle.linkage.specs.Faults.{Links, link_fault}
-use Rattle.java_cli.specs.Linking.{built_in, AreAccepted}
-use Rattle.java_cli.specs.LinkCauses.{NotLinked}
+use Rattle.world_model.specs.World.{World}
+use Rattle.world_model.specs.Worlds.{world_of}
+use Rattle.verify_types.specs.Faults.{IsWellTyped}
+use Rattle.java_cli.specs.declared.errors.AcceptError.{AcceptError}
+use Rattle.java_cli.specs.declared.errors.AcceptError.TheVariants as accept
+use Rattle.java_cli.specs.Errors.{unlinked}
+use Rattle.java_cli.specs.Linking.{built_in, program_of, AreAccepted}
+use Rattle.java_cli.specs.LinkCauses.{NotAccepted, NotTyped}
 
-pub accepted_is : (library classes : List ClassFile) (r : Result Program LinkError) → library ≡ built_in → IfOk r (λ w. w ≡ program library classes) → IfOk r Links → IfOk r (λ w. AreAccepted classes)
-accepted_is library classes (Ok w) same found links = subst Links (found ∙ ap (λ (l : List ClassFile). program l classes) same) links
-accepted_is library classes (Err error) same found links = tt
+-- the program that was linked is that of the files
+pub program_is : (library classes : List ClassFile) (p : Program) → library ≡ built_in → p ≡ program library classes → p ≡ program_of classes
+program_is library classes p same found = found ∙ ap (λ (l : List ClassFile). program l classes) same
 
-pub files_are : (library classes : List ClassFile) (r : Result Program LinkError) → IfOk r (λ w. w ≡ program library classes) → IfOk r (λ w. drop w.built_in w.classes ≡ classes)
-files_are library classes (Ok w) found = subst (λ (p : Program). drop p.built_in p.classes ≡ classes) (sym found) (drop-append_seam library classes)
-files_are library classes (Err error) found = tt
+-- what was typed, of the files
+pub accepted_is : (classes : List ClassFile) (p : Program) (r : Result World AcceptError) → p ≡ program_of classes → Links p → IfOk r (λ w. w ≡ world_of p) → IfOk r IsWellTyped → IfOk r (λ w. AreAccepted classes)
+accepted_is classes p (Ok w) same links found typed =
+    record { links = subst Links same links; typed = subst IsWellTyped (found ∙ ap world_of same) typed }
+accepted_is classes p (Err error) same links found typed = tt
 
-pub not_linked : (library classes : List ClassFile) (r : Result Program LinkError) → library ≡ built_in
-    → ((class : List ℕ) (why : LinkWhy) → r ≡ Err (Fault class why) → link_fault (program library classes) ≡ Some (record { class = class; why = why })) → IfErr r (NotLinked classes)
-not_linked library classes (Ok w) same bad = tt
-not_linked library classes (Err NoMemory) same bad = tt
-not_linked library classes (Err (Fault class why)) same bad =
+pub files_are : (classes : List ClassFile) (p : Program) (r : Result World AcceptError) → p ≡ program_of classes → IfOk r (λ w. w ≡ world_of p) → IfOk r (λ w. drop w.program.built_in w.program.classes ≡ classes)
+files_are classes p (Ok w) same found =
+    subst (λ (v : World). drop v.program.built_in v.program.classes ≡ classes) (sym (found ∙ ap world_of same)) (drop-append_seam built_in classes)
+files_are classes p (Err error) same found = tt
+
+-- a program that is refused, of the files
+pub not_typed : (classes : List ClassFile) (p : Program) (r : Result World AcceptError) → p ≡ program_of classes → Links p → IfErr r (NotTyped p) → IfErr r (NotAccepted classes)
+not_typed classes p (Ok w) same links refused = tt
+not_typed classes p (Err accept.NoMemory) same links refused = tt
+not_typed classes p (Err (accept.LinkFault class why)) same links refused = absurd refused
+not_typed classes p (Err (accept.VerifyFault class method pc why)) same links refused =
+    (subst Links same links, subst (λ (q : Program). NotTyped q (accept.VerifyFault class method pc why)) same refused)
+
+pub not_linked : (library classes : List ClassFile) (error : LinkError) → library ≡ built_in
+    → ((class : List ℕ) (why : LinkWhy) → error ≡ Fault class why → link_fault (program library classes) ≡ Some (record { class = class; why = why })) → NotAccepted classes (unlinked error)
+not_linked library classes NoMemory same bad = tt
+not_linked library classes (Fault class why) same bad =
     subst (λ (l : List ClassFile). link_fault (program l classes) ≡ Some (record { class = class; why = why })) same (bad class why refl)

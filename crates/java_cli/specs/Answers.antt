@@ -8,10 +8,12 @@ use Rattle.class_grammar.specs.declared.class_why.ClassWhy.{ClassWhy}
 use Rattle.class_grammar.specs.declared.class_why.ClassWhy.TheVariants as class_whys
 use Rattle.linkage.specs.declared.why.LinkWhy.{LinkWhy}
 use Rattle.linkage.specs.declared.why.LinkWhy.TheVariants as link_whys
+use Rattle.verify_types.specs.declared.why.VerifyWhy.{VerifyWhy}
+use Rattle.verify_types.specs.declared.why.VerifyWhy.TheVariants as verify_whys
 use Rattle.java_cli.specs.declared.report.Which.{Which}
 use Rattle.java_cli.specs.declared.report.Which.TheVariants.{Files, FileSize}
 use Rattle.java_cli.specs.declared.report.Why.{Why}
-use Rattle.java_cli.specs.declared.report.Why.TheVariants.{Ended, Usage, Limit, Missing, SourceFault, BadClass, NoMain, LinkFault, SinkFault, NoMemory}
+use Rattle.java_cli.specs.declared.report.Why.TheVariants.{Ended, Usage, Limit, Missing, SourceFault, BadClass, NoMain, LinkFault, VerifyFault, SinkFault, NoMemory}
 use Rattle.java_cli.specs.Words.{Command}
 
 -- This table and those of names and lines list every case, so that a new answer is refused until it has a row.
@@ -22,6 +24,7 @@ status_of (BadClass file at why) = 65
 status_of (Missing file) = 66
 status_of (SourceFault file) = 67
 status_of (LinkFault class why) = 68
+status_of (VerifyFault class method pc why) = 69
 status_of NoMain = 70
 status_of (Limit which number) = 71
 status_of (SinkFault which written) = 74
@@ -58,6 +61,18 @@ link_why_name link_whys.MissingField = codes "MissingField"
 link_why_name link_whys.MissingMethod = codes "MissingMethod"
 link_why_name link_whys.Unsupported = codes "Unsupported"
 
+abbrev pub verify_why_name : VerifyWhy → List ℕ
+verify_why_name verify_whys.Map = codes "Map"
+verify_why_name verify_whys.Target = codes "Target"
+verify_why_name verify_whys.Frame = codes "Frame"
+verify_why_name verify_whys.Kind = codes "Kind"
+verify_why_name verify_whys.Depth = codes "Depth"
+verify_why_name verify_whys.Locals = codes "Locals"
+verify_why_name verify_whys.Handler = codes "Handler"
+verify_why_name verify_whys.Return = codes "Return"
+verify_why_name verify_whys.Init = codes "Init"
+verify_why_name verify_whys.End = codes "End"
+
 abbrev pub which_name : Which → List ℕ
 which_name Files = codes "Files"
 which_name FileSize = codes "FileSize"
@@ -83,6 +98,10 @@ bad_class_line file at why = codes "jvt: bad class " ++ file ++ codes " at " ++ 
 abbrev pub link_line : List ℕ → LinkWhy → List ℕ
 link_line class why = codes "jvt: link " ++ utf8_of class ++ codes ": " ++ link_why_name why ++ 10 ∷ []
 
+abbrev pub verify_line : List ℕ → List ℕ → ℕ → VerifyWhy → List ℕ
+verify_line class method pc why =
+    codes "jvt: verify " ++ utf8_of class ++ codes "." ++ utf8_of method ++ codes " at " ++ decimal pc ++ codes ": " ++ verify_why_name why ++ 10 ∷ []
+
 abbrev pub usage_line : List ℕ
 usage_line = codes "jvt: usage\n"
 
@@ -99,6 +118,7 @@ line_of c (SourceFault file) = line_with (codes "jvt: cannot read ") (file_word 
 line_of c (BadClass file at why) = bad_class_line (file_word c file) at why
 line_of c NoMain = line_with (codes "jvt: no main in ") c.main
 line_of c (LinkFault class why) = link_line class why
+line_of c (VerifyFault class method pc why) = verify_line class method pc why
 line_of c (SinkFault which written) = codes "jvt: cannot write\n"
 line_of c NoMemory = memory_line
 
@@ -115,4 +135,5 @@ NamesSomething (SourceFault file) = Unit {0}
 NamesSomething (BadClass file at why) = Unit {0}
 NamesSomething NoMain = Unit {0}
 NamesSomething (LinkFault class why) = Unit {0}
+NamesSomething (VerifyFault class method pc why) = Unit {0}
 NamesSomething why = ⊥

@@ -17,12 +17,12 @@ use Rattle.java_cli.specs.declared.errors.LoadError.{LoadError}
 use Rattle.java_cli.specs.declared.errors.LoadError.TheVariants as load
 use Rattle.java_cli.specs.declared.report.Which.TheVariants.{Files}
 use Rattle.java_cli.specs.declared.report.Why.{Why}
-use Rattle.java_cli.specs.declared.report.Why.TheVariants.{Ended, Usage, Limit, Missing, SourceFault, BadClass, NoMain, LinkFault, SinkFault, NoMemory}
+use Rattle.java_cli.specs.declared.report.Why.TheVariants.{Ended, Usage, Limit, Missing, SourceFault, BadClass, NoMain, LinkFault, VerifyFault, SinkFault, NoMemory}
 use Rattle.java_cli.specs.Limits.{most_files, most_bytes}
 use Rattle.java_cli.specs.Errors.{load_answer}
 use Rattle.java_cli.specs.Words.{Command}
 use Rattle.java_cli.specs.MainClass.{class_named, has_main}
-use Rattle.java_cli.specs.Linking.{IsLinkFault, AreAccepted}
+use Rattle.java_cli.specs.Linking.{IsLinkFault, IsVerifyFault, AreAccepted}
 use Rattle.java_cli.specs.Programs.{IsProgram}
 
 -- ---- the contents of a file: `None` where there is no such file
@@ -80,12 +80,13 @@ pub record CannotRun (name : List ℕ) (classes : List ClassFile) (class : List 
   pub none : (m : Method) → IsPlainProgram classes m → ⊥
   pub first : IsFirstName classes class
 
--- The answer to classes, where main is to be in the one of this name: the first fault of linking; then, of classes that are
--- accepted, no main; then what can't run yet; then the end of the run. No other answer is one.
+-- The answer to classes, where main is to be in the one of this name: the first fault of linking; then the first fault of
+-- typing; then, of classes that are accepted, no main; then what can't run yet; then the end of the run. No other answer is one.
 abbrev pub IsProgramAnswer : List ℕ → List ClassFile → Why → Type 0
 IsProgramAnswer name classes NoMain = AreAccepted classes × (has_main name classes ≡ false)
 IsProgramAnswer name classes (LinkFault class reason) =
     IsLinkFault classes class reason ⊎ ((reason ≡ Unsupported) × AreAccepted classes × CannotRun name classes class)
+IsProgramAnswer name classes (VerifyFault class method pc reason) = IsVerifyFault classes class method pc reason
 IsProgramAnswer name classes Ended = (p : Program) × IsProgram name classes p
 IsProgramAnswer name classes why = ⊥
 
@@ -145,6 +146,7 @@ IsRefusal (SourceFault file) = Unit {0}
 IsRefusal (BadClass file at reason) = Unit {0}
 IsRefusal NoMain = Unit {0}
 IsRefusal (LinkFault class reason) = Unit {0}
+IsRefusal (VerifyFault class method pc reason) = Unit {0}
 IsRefusal NoMemory = Unit {0}
 IsRefusal why = ⊥
 

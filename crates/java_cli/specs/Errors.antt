@@ -1,16 +1,21 @@
--- The answers to the errors of loading, of linking and of the start.
+-- The answers to the errors of loading, of linking and typing, and of the start.
 use Rattle.std.specs.Prelude.{Result, Ok, Err}
 use Rattle.java_cli.specs.declared.errors.LoadError.{LoadError}
 use Rattle.java_cli.specs.declared.errors.LoadError.TheVariants as load
 use Rattle.class_world.specs.declared.error.LinkError.{LinkError}
 use Rattle.class_world.specs.declared.error.LinkError.TheVariants as link
 use Rattle.linkage.specs.declared.why.LinkWhy.TheVariants.{Unsupported}
+use Rattle.java_cli.specs.declared.errors.AcceptError.{AcceptError}
+use Rattle.java_cli.specs.declared.errors.AcceptError.TheVariants as accept
 use Rattle.java_cli.specs.declared.errors.StartError.{StartError}
 use Rattle.java_cli.specs.declared.errors.StartError.TheVariants as start
 use Rattle.java_cli.specs.declared.report.Which.TheVariants.{FileSize}
 use Rattle.java_cli.specs.declared.report.Why.{Why}
-use Rattle.java_cli.specs.declared.report.Why.TheVariants.{Ended, Limit, Missing, SourceFault, BadClass, NoMain, LinkFault, NoMemory}
+use Rattle.java_cli.specs.declared.report.Why.TheVariants.{Ended, Limit, Missing, SourceFault, BadClass, NoMain, LinkFault, VerifyFault, NoMemory}
 use Rattle.java_cli.specs.Limits.{most_bytes}
+use Rattle.linkage.specs.Program.{Program}
+use Rattle.verify_types.specs.declared.fault.VerifyFault as faults
+use Rattle.java_cli.specs.Linking.{class_text, method_text}
 
 abbrev pub load_answer : LoadError → Why
 load_answer (load.Missing file) = Missing file
@@ -19,9 +24,19 @@ load_answer load.TooLarge = Limit FileSize most_bytes
 load_answer (load.BadClass file at why) = BadClass file at why
 load_answer load.NoMemory = NoMemory
 
-abbrev pub link_answer : LinkError → Why
-link_answer (link.Fault class why) = LinkFault class why
-link_answer link.NoMemory = NoMemory
+-- what an error of linking says of files that are not accepted
+abbrev pub unlinked : LinkError → AcceptError
+unlinked (link.Fault class why) = accept.LinkFault class why
+unlinked link.NoMemory = accept.NoMemory
+
+-- a fault of typing, by the names of its class and its method
+abbrev pub verify_fault : Program → faults.VerifyFault → AcceptError
+verify_fault p f = accept.VerifyFault (class_text p f.class) (method_text p.classes f.method) f.pc f.why
+
+abbrev pub accept_answer : AcceptError → Why
+accept_answer (accept.LinkFault class why) = LinkFault class why
+accept_answer (accept.VerifyFault class method pc why) = VerifyFault class method pc why
+accept_answer accept.NoMemory = NoMemory
 
 abbrev pub start_answer : StartError → Why
 start_answer start.NoMain = NoMain

@@ -5,7 +5,7 @@ ghost use Rattle.java_cli.specs.Causes.{IsExact, answer_of, IsRefusal, StoreFaul
 ghost use Rattle.java_cli.specs.Runs.{RanCommand};
 
 use crate::class_files::read_files;
-use crate::program::{link_files, start};
+use crate::program::{accept_files, start};
 use crate::report::{Which, Why};
 use crate::words::Command;
 use jvm_edges::{Gate, Store};
@@ -36,7 +36,7 @@ pub fn run_command<S: Store, G: Gate>(
         });
     }
     let classes = read_files(alloc, command.files, store)?;
-    let world = link_files(alloc, classes)?;
-    let method = start(alloc, command.main, world.files())?;
+    let checked = accept_files(alloc, classes)?;
+    let method = start(alloc, command.main, checked.world().files())?;
     Ok(run(alloc, &method, gate)?)
 }

@@ -1,4 +1,4 @@
-//! The errors of loading, of linking and of the start, and the answers to them.
+//! The errors of loading, of linking and typing, and of the start, and the answers to them.
 
 ghost use Rattle.std.specs.Prelude.{◌≡◌};
 
@@ -6,9 +6,10 @@ use crate::class_files::MOST_BYTES;
 use crate::report::{Which, Why};
 use class_file::ClassWhy;
 use class_world::LinkError;
-use items::Items;
+use items::{Items, NoMemory};
 use linkage::LinkWhy;
 use std::alloc::{AllocError, AllocFailed};
+use verify_types::VerifyWhy;
 
 /// Why a file was not read as a class file. `file` is its index among the FILE words, from 0.
 #[derive(Clone, Copy, Debug, PartialEq, Eq)]
@@ -21,6 +22,26 @@ pub enum LoadError {
     TooLarge,
     /// The file is no class file. `at` is the offset in it of the first check that fails, in bytes.
     BadClass { file: u32, at: u32, why: ClassWhy },
+    /// Memory ran out.
+    NoMemory,
+}
+
+/// Why class files are not accepted as a program.
+#[derive(Debug, Drop, PartialEq, Eq)]
+pub enum AcceptError {
+    /// What is wrong first with linking them, and the name of the class where it is (JVMS 5.3, 5.4).
+    LinkFault {
+        class: Items<u16>,
+        why: LinkWhy,
+    },
+    /// The first instruction or frame of a stack map that breaks a rule of typing (JVMS 4.10.1): the name of the class, the name and
+    /// descriptor of the method, the pc and the rule.
+    VerifyFault {
+        class: Items<u16>,
+        method: Items<u16>,
+        pc: u32,
+        why: VerifyWhy,
+    },
     /// Memory ran out.
     NoMemory,
 }
@@ -75,15 +96,59 @@ impl From<LoadError> for Why {
     }
 }
 
-impl From<LinkError> for Why {
-    ghost use Rattle.java_cli.specs.Errors.{link_answer};
+impl From<AllocError> for AcceptError {
+    ghost use Rattle.java_cli.specs.declared.errors.AcceptError.TheVariants as errors;
 
-    ghost from_gives = { λ error why. why ≡ link_answer error };
+    ghost from_gives = { λ _ e. e ≡ errors.NoMemory };
+
+    fn from(_: AllocError) -> Self {
+        AcceptError::NoMemory
+    }
+}
+
+impl From<NoMemory> for AcceptError {
+    ghost use Rattle.java_cli.specs.declared.errors.AcceptError.TheVariants as errors;
+
+    ghost from_gives = { λ _ e. e ≡ errors.NoMemory };
+
+    fn from(_: NoMemory) -> Self {
+        AcceptError::NoMemory
+    }
+}
+
+impl From<LinkError> for AcceptError {
+    ghost use Rattle.java_cli.specs.Errors.{unlinked};
+
+    ghost from_gives = { λ error e. e ≡ unlinked error };
 
     fn from(error: LinkError) -> Self {
         match error {
-            LinkError::Fault { class, why } => Why::LinkFault { class, why },
-            LinkError::NoMemory => Why::NoMemory,
+            LinkError::Fault { class, why } => AcceptError::LinkFault { class, why },
+            LinkError::NoMemory => AcceptError::NoMemory,
+        }
+    }
+}
+
+impl From<AcceptError> for Why {
+    ghost use Rattle.java_cli.specs.Errors.{accept_answer};
+
+    ghost from_gives = { λ error why. why ≡ accept_answer error };
+
+    fn from(error: AcceptError) -> Self {
+        match error {
+            AcceptError::LinkFault { class, why } => Why::LinkFault { class, why },
+            AcceptError::VerifyFault {
+                class,
+                method,
+                pc,
+                why,
+            } => Why::VerifyFault {
+                class,
+                method,
+                pc,
+                why,
+            },
+            AcceptError::NoMemory => Why::NoMemory,
         }
     }
 }

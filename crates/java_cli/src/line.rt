@@ -1,5 +1,5 @@
 ghost use Rattle.std.specs.Prelude.{◌≡◌, IfOk, OnErr};
-ghost use Rattle.java_cli.specs.Answers.{line_of, line_with, limit_line, bad_class_line, link_line, NamesSomething, class_why_name as class_why_name_of, link_why_name as link_why_name_of, which_name as which_name_of, file_word as file_word_of};
+ghost use Rattle.java_cli.specs.Answers.{line_of, line_with, limit_line, bad_class_line, link_line, verify_line, NamesSomething, class_why_name as class_why_name_of, link_why_name as link_why_name_of, verify_why_name as verify_why_name_of, which_name as which_name_of, file_word as file_word_of};
 ghost use Rattle.java_cli.specs.Commands.{command_texts};
 ghost use Rattle.java_cli.specs.Lines.{bytes_of};
 
@@ -10,6 +10,7 @@ use class_file::ClassWhy;
 use itoa::Buffer;
 use linkage::LinkWhy;
 use std::alloc::{AllocError, Global};
+use verify_types::VerifyWhy;
 
 /// The line of `Why::Usage`.
 pub const USAGE: &[u8] = b"jvt: usage\n";
@@ -60,6 +61,12 @@ pub fn make_line(alloc: Global, why: &Why, command: &Command) -> Result<Line, Al
         Why::BadClass { file, at, why } => bad_class(alloc, file_word(command, *file), *at, *why)?,
         Why::NoMain => line_with_name(alloc, b"jvt: no main in ", command.main)?,
         Why::LinkFault { class, why } => link(alloc, class.as_slice(), *why)?,
+        Why::VerifyFault {
+            class,
+            method,
+            pc,
+            why,
+        } => verify(alloc, class.as_slice(), method.as_slice(), *pc, *why)?,
     };
     Ok(Line::Made(bytes))
 }
@@ -121,6 +128,30 @@ fn link(alloc: Global, class: &[u16], why: LinkWhy) -> Result<Vec<u8>, AllocErro
     Ok(line)
 }
 
+fn verify(
+    alloc: Global,
+    class: &[u16],
+    method: &[u16],
+    pc: u32,
+    why: VerifyWhy,
+) -> Result<Vec<u8>, AllocError>
+    ensures { IfOk result (λ line. line.items ≡ verify_line class.now method.now pc why) }
+{
+    let class = utf8(alloc, class)?;
+    let method = utf8(alloc, method)?;
+    let mut buffer = Buffer::new();
+    let mut line = Vec::from_slice(alloc, b"jvt: verify ")?;
+    line.extend_from_slice(class.as_bytes())?;
+    line.extend_from_slice(b".")?;
+    line.extend_from_slice(method.as_bytes())?;
+    line.extend_from_slice(b" at ")?;
+    line.extend_from_slice(buffer.format(pc).as_bytes())?;
+    line.extend_from_slice(b": ")?;
+    line.extend_from_slice(verify_why_name(why))?;
+    line.push(b'\n')?;
+    Ok(line)
+}
+
 fn which_name(which: Which) -> &'static [u8]
     ensures { result.now ≡ which_name_of which }
 {
@@ -144,6 +175,23 @@ fn link_why_name(why: LinkWhy) -> &'static [u8]
         LinkWhy::MissingField => b"MissingField",
         LinkWhy::MissingMethod => b"MissingMethod",
         LinkWhy::Unsupported => b"Unsupported",
+    }
+}
+
+fn verify_why_name(why: VerifyWhy) -> &'static [u8]
+    ensures { result.now ≡ verify_why_name_of why }
+{
+    match why {
+        VerifyWhy::Map => b"Map",
+        VerifyWhy::Target => b"Target",
+        VerifyWhy::Frame => b"Frame",
+        VerifyWhy::Kind => b"Kind",
+        VerifyWhy::Depth => b"Depth",
+        VerifyWhy::Locals => b"Locals",
+        VerifyWhy::Handler => b"Handler",
+        VerifyWhy::Return => b"Return",
+        VerifyWhy::Init => b"Init",
+        VerifyWhy::End => b"End",
     }
 }
 

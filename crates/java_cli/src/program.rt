@@ -4,29 +4,64 @@ ghost use Rattle.std.specs.Prelude.{◌≡◌, true, drop, IfOk, IfErr};
 ghost use Rattle.std.specs.List.{AllByRecursion};
 ghost use Rattle.plain_program.specs.Methods.{method_of};
 ghost use Rattle.plain_program.specs.Programs.{IsSpelled, IsPlainProgram};
+ghost use Rattle.world_model.specs.Worlds.{world_of};
+ghost use Rattle.verify_types.specs.Faults.{IsWellTyped};
 ghost use Rattle.java_cli.specs.Linking.{built_in, AreAccepted};
+ghost use Rattle.java_cli.specs.Errors.{verify_fault};
 ghost use Rattle.java_cli.specs.MainClass.{class_named as class_named_by, has_main as has_main_in};
-ghost use Rattle.java_cli.specs.LinkCauses.{NotLinked, NotStarted, first_name as first_name_of};
+ghost use Rattle.java_cli.specs.LinkCauses.{NotAccepted, NotStarted, NotTyped, first_name as first_name_of};
 ghost use Rattle.java_cli.specs.declared.errors.StartError.TheVariants as errors;
 
-use crate::errors::StartError;
+use crate::errors::{AcceptError, StartError};
+use crate::fault_names::{class_text, method_text};
 use crate::main_class::{class_named, main_method};
 use class_grammar::class_name_at;
 use class_model::ClassFile;
-use class_world::{LinkError, World, link};
+use class_world::{World, link};
 use items::{Items, NoMemory};
 use lib_table::classes;
 use plain_program::{PlainMethod, prepare};
 use std::alloc::{AllocError, Global};
+use verify_code::{Checked, VerifyError, accept};
+use verify_types::VerifyFault;
 
-/// Links the classes of files with the built-in classes (JVMS 5.3, 5.4).
-pub fn link_files(alloc: Global, files: Vec<ClassFile>) -> Result<World, LinkError>
-    ensures accepted { IfOk result (λ world. AreAccepted files.items) }
-    ensures files { IfOk result (λ world. drop world.built_in world.classes ≡ files.items) }
-    ensures refused { IfErr result (NotLinked files.items) }
+/// Links the classes of files with the built-in classes, and types their code (JVMS 5.3, 5.4, 4.10.1).
+pub fn accept_files(alloc: Global, files: Vec<ClassFile>) -> Result<Checked<World>, AcceptError>
+    ensures accepted { IfOk result (λ checked. AreAccepted files.items) }
+    ensures files { IfOk result (λ checked.
+        drop checked.program.built_in checked.program.classes ≡ files.items) }
+    ensures refused { IfErr result (NotAccepted files.items) }
 {
     let library = built_in_classes(alloc)?;
-    link(alloc, library, files)
+    let world = link(alloc, library, files)?;
+    accept_world(alloc, world)
+}
+
+// Types the code of a world.
+fn accept_world(alloc: Global, world: World) -> Result<Checked<World>, AcceptError>
+    ensures found { IfOk result (λ checked. checked ≡ world_of world) }
+    ensures typed { IfOk result IsWellTyped }
+    ensures refused { IfErr result (NotTyped world) }
+{
+    match accept(alloc, world) {
+        Ok(checked) => Ok(checked),
+        Err(VerifyError::Fault { fault, world }) => Err(named(alloc, &world, fault)?),
+        Err(VerifyError::NoMemory) => Err(AcceptError::NoMemory),
+    }
+}
+
+// A fault of typing, with the names of the class and of the method.
+fn named(alloc: Global, world: &World, fault: VerifyFault) -> Result<AcceptError, AllocError>
+    ensures { IfOk result (λ error. error ≡ verify_fault world.now fault) }
+{
+    let class = Items::from(class_text(alloc, world, fault.class)?);
+    let method = Items::from(method_text(alloc, world.classes(), fault.method)?);
+    Ok(AcceptError::VerifyFault {
+        class,
+        method,
+        pc: fault.pc,
+        why: fault.why,
+    })
 }
 
 // The built-in classes.

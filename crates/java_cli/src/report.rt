@@ -5,6 +5,7 @@ use history::Entry;
 use items::Items;
 use linkage::LinkWhy;
 use std::alloc::AllocError;
+use verify_types::VerifyWhy;
 
 /// Which sink.
 #[derive(Clone, Copy, Debug, PartialEq, Eq)]
@@ -30,19 +31,43 @@ pub enum Why {
     /// The words are no command.
     Usage,
     /// A limit is passed. `number` is the limit.
-    Limit { which: Which, number: u32 },
+    Limit {
+        which: Which,
+        number: u32,
+    },
     /// There is no such file.
-    Missing { file: u32 },
+    Missing {
+        file: u32,
+    },
     /// The store failed.
-    SourceFault { file: u32 },
+    SourceFault {
+        file: u32,
+    },
     /// The file is no class file. `at` is the offset in it of the first check that fails, in bytes.
-    BadClass { file: u32, at: u32, why: ClassWhy },
+    BadClass {
+        file: u32,
+        at: u32,
+        why: ClassWhy,
+    },
     /// No file's class is the main class with a `main` (JLS 12.1.4).
     NoMain,
     /// The class of this name does not link (JVMS 5.3, 5.4), or the program can't run yet (own).
-    LinkFault { class: Items<u16>, why: LinkWhy },
+    LinkFault {
+        class: Items<u16>,
+        why: LinkWhy,
+    },
+    /// The code isn't well typed (JVMS 4.10.1), first at this pc of the method of this name and descriptor, in the class of this name.
+    VerifyFault {
+        class: Items<u16>,
+        method: Items<u16>,
+        pc: u32,
+        why: VerifyWhy,
+    },
     /// The sink failed after it had taken so many bytes of what was to be written.
-    SinkFault { which: SinkName, written: u64 },
+    SinkFault {
+        which: SinkName,
+        written: u64,
+    },
     /// Memory ran out.
     NoMemory,
 }
@@ -61,6 +86,7 @@ impl Why {
             Why::Missing { .. } => 66,
             Why::SourceFault { .. } => 67,
             Why::LinkFault { .. } => 68,
+            Why::VerifyFault { .. } => 69,
             Why::NoMain => 70,
             Why::Limit { .. } => 71,
             Why::SinkFault { .. } => 74,

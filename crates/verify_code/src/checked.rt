@@ -10,22 +10,19 @@ use crate::method_fault::world_fault;
 use items::NoMemory;
 use std::alloc::Global;
 use std::marker::Model;
-use thiserror::Error;
 use verify_types::VerifyFault;
 use world_model::Lookups;
 
 /// Why a world was not accepted.
-#[derive(Clone, Copy, Debug, PartialEq, Eq, Error)]
-pub enum VerifyError {
-    /// Where it is not well typed first, and why.
-    #[error("a method is not well typed: {}", .0.why)]
-    Fault(VerifyFault),
+#[derive(Drop)]
+pub enum VerifyError<L> {
+    /// Where it is not well typed first, and why; and the world itself, which has the names.
+    Fault { fault: VerifyFault, world: L },
     /// Memory ran out.
-    #[error("out of memory")]
     NoMemory,
 }
 
-impl From<NoMemory> for VerifyError {
+impl<L> From<NoMemory> for VerifyError<L> {
     ghost use Rattle.verify_code.specs.declared.checked.VerifyError.TheVariants as errors;
 
     ghost from_gives = { λ _ e. e ≡ errors.NoMemory };
@@ -53,20 +50,20 @@ impl<L: Lookups> Model for Checked<L> {
 }
 
 /// Accepts a world whose methods are all well typed (JVMS 4.10.1). Else the error names the first place where one isn't.
-pub fn accept<L: Lookups + Drop>(alloc: Global, world: L) -> Result<Checked<L>, VerifyError>
+pub fn accept<L: Lookups + Drop>(alloc: Global, world: L) -> Result<Checked<L>, VerifyError<L>>
     // The world that is answered is this one, and it is well typed.
     ensures found { IfOk result (λ checked. checked ≡ L.world world) }
     ensures typed { IfOk result IsWellTyped }
     // A well typed world is answered, unless memory ran out.
     ensures only { IsWellTyped (L.world world)
         → OkUnless result VerifyError.NoMemory (λ checked. checked ≡ L.world world) }
-    // A refusal names the first fault.
-    ensures bad { (fault : Fault) → result ≡ Err (VerifyError.Fault fault)
-        → first_fault (L.world world) ≡ Some fault }
+    // A refusal names the first fault, and gives the world back.
+    ensures bad { (fault : Fault) (back : L) → result ≡ Err (VerifyError.Fault fault back)
+        → (first_fault (L.world world) ≡ Some fault) × (back ≡ world) }
 {
     match world_fault(alloc, &world)? {
         None => Ok(Checked { world }),
-        Some(fault) => Err(VerifyError::Fault(fault)),
+        Some(fault) => Err(VerifyError::Fault { fault, world }),
     }
 }
 

@@ -5,13 +5,13 @@ use Rattle.std.proofs.lemmas.List.{length-map}
 use Rattle.class_model.specs.declared.class_file.ClassFile.{ClassFile}
 use Rattle.jvm_edges.specs.Causes.{Rose}
 use Rattle.java_cli.specs.Commands.{command_texts}
-use Rattle.java_cli.specs.Errors.{load_answer, link_answer, start_answer}
+use Rattle.java_cli.specs.Errors.{load_answer, accept_answer, start_answer}
 use Rattle.java_cli.specs.Causes.{IsExact, StoreFaults}
 use Rattle.plain_program.specs.Programs.{IsSpelled}
 use Rattle.java_cli.specs.Words.{texts}
 use Rattle.plain_program.specs.Methods.{method_of}
 use Rattle.java_cli.proofs.LoadLaws.{answer_is, refusal_is}
-use Rattle.java_cli.proofs.AnswerLaws.{too_many_exact, stopped_exact, load_refusal, unlinked_exact, link_refusal, link_faults, unstarted_exact, start_refusal, start_faults, ended_exact, ran_command, all_spelled}
+use Rattle.java_cli.proofs.AnswerLaws.{too_many_exact, stopped_exact, load_refusal, unaccepted_exact, accept_refusal, accept_faults, unstarted_exact, start_refusal, start_faults, ended_exact, ran_command, all_spelled}
 use Rattle.java_cli.proofs.command_run.run_command.Goals as goal
 
 size : (names : List (String Global)) → length (texts names) ≡ length names
@@ -42,27 +42,27 @@ returns-in_err-classes-clause-faults g c =
     let after = g.S.Store.faults c.read_files.new.store in
     answer_is c.from_residual.result (load_answer c.in_err-classes.field-0.0) (λ why. StoreFaults why before after) c.from_residual.ensures.1 c.in_err-classes.ensures.faults
 
-pub returns-in_err-world-clause-exact : goal.returns-in_err-world-clause-exact
-returns-in_err-world-clause-exact g c =
+pub returns-in_err-checked-clause-exact : goal.returns-in_err-checked-clause-exact
+returns-in_err-checked-clause-exact g c =
     let known = g.S.Store.files c.args.store.now in
     let faulty = Rose (g.S.Store.faults c.args.store.now) (g.S.Store.faults c.read_files.new.store) in
-    answer_is c.from_residual-in_err-world.result (link_answer c.in_err-world.field-0.0) (IsExact known faulty (command_texts c.args.command.now)) c.from_residual-in_err-world.ensures.1
-    (unlinked_exact known faulty (command_texts c.args.command.now) c.in_ok-classes.classes.items c.in_err-world.field-0.0 (few_texts c.args.command.now.files.now c.if-command.false) c.in_ok-classes.ensures.found c.in_err-world.ensures.refused)
+    answer_is c.from_residual-in_err-checked.result (accept_answer c.in_err-checked.field-0.0) (IsExact known faulty (command_texts c.args.command.now)) c.from_residual-in_err-checked.ensures.1
+    (unaccepted_exact known faulty (command_texts c.args.command.now) c.in_ok-classes.classes.items c.in_err-checked.field-0.0 (few_texts c.args.command.now.files.now c.if-command.false) c.in_ok-classes.ensures.found c.in_err-checked.ensures.refused)
 
-pub returns-in_err-world-clause-refusal : goal.returns-in_err-world-clause-refusal
-returns-in_err-world-clause-refusal g c =
-    refusal_is c.from_residual-in_err-world.result (link_answer c.in_err-world.field-0.0) c.from_residual-in_err-world.ensures.1 (link_refusal c.in_err-world.field-0.0)
+pub returns-in_err-checked-clause-refusal : goal.returns-in_err-checked-clause-refusal
+returns-in_err-checked-clause-refusal g c =
+    refusal_is c.from_residual-in_err-checked.result (accept_answer c.in_err-checked.field-0.0) c.from_residual-in_err-checked.ensures.1 (accept_refusal c.in_err-checked.field-0.0)
 
-pub returns-in_err-world-clause-faults : goal.returns-in_err-world-clause-faults
-returns-in_err-world-clause-faults g c =
+pub returns-in_err-checked-clause-faults : goal.returns-in_err-checked-clause-faults
+returns-in_err-checked-clause-faults g c =
     let before = g.S.Store.faults c.args.store.now in
     let after = g.S.Store.faults c.read_files.new.store in
-    answer_is c.from_residual-in_err-world.result (link_answer c.in_err-world.field-0.0) (λ why. StoreFaults why before after) c.from_residual-in_err-world.ensures.1
-    (link_faults c.in_err-world.field-0.0 before after c.in_ok-classes.ensures.faults)
+    answer_is c.from_residual-in_err-checked.result (accept_answer c.in_err-checked.field-0.0) (λ why. StoreFaults why before after) c.from_residual-in_err-checked.ensures.1
+    (accept_faults c.in_err-checked.field-0.0 before after c.in_ok-classes.ensures.faults)
 
 pub start-requires : goal.start-requires
 start-requires g c =
-    subst (λ (fs : List ClassFile). AllByRecursion IsSpelled fs) (sym (c.files.ensures ∙ c.in_ok-world.ensures.files)) (all_spelled _ _ c.in_ok-classes.classes.items c.in_ok-classes.ensures.found)
+    subst (λ (fs : List ClassFile). AllByRecursion IsSpelled fs) (sym (c.files.ensures ∙ c.in_ok-checked.ensures.files)) (all_spelled _ _ c.in_ok-classes.classes.items c.in_ok-classes.ensures.found)
 
 pub returns-in_err-method-clause-exact : goal.returns-in_err-method-clause-exact
 returns-in_err-method-clause-exact g c =
@@ -70,7 +70,7 @@ returns-in_err-method-clause-exact g c =
     let faulty = Rose (g.S.Store.faults c.args.store.now) (g.S.Store.faults c.read_files.new.store) in
     answer_is c.from_residual-in_err-method.result (start_answer c.in_err-method.field-0.0) (IsExact known faulty (command_texts c.args.command.now)) c.from_residual-in_err-method.ensures.1
     (unstarted_exact known faulty (command_texts c.args.command.now) c.in_ok-classes.classes.items c.in_err-method.field-0.0 (few_texts c.args.command.now.files.now c.if-command.false) c.in_ok-classes.ensures.found
-    c.in_ok-world.ensures.accepted (rw (c.files.ensures ∙ c.in_ok-world.ensures.files) at c.in_err-method.ensures.refused))
+    c.in_ok-checked.ensures.accepted (rw (c.files.ensures ∙ c.in_ok-checked.ensures.files) at c.in_err-method.ensures.refused))
 
 pub returns-in_err-method-clause-refusal : goal.returns-in_err-method-clause-refusal
 returns-in_err-method-clause-refusal g c =
@@ -85,12 +85,12 @@ returns-in_err-method-clause-faults g c =
 
 pub returns-clause-ran : goal.returns-clause-ran
 returns-clause-ran g c =
-    let same = c.files.ensures ∙ c.in_ok-world.ensures.files in
-    ran_command _ (command_texts c.args.command.now) c.in_ok-classes.classes.items (method_of c.in_ok-method.method) _ _ c.in_ok-classes.ensures.found c.in_ok-world.ensures.accepted
+    let same = c.files.ensures ∙ c.in_ok-checked.ensures.files in
+    ran_command _ (command_texts c.args.command.now) c.in_ok-classes.classes.items (method_of c.in_ok-method.method) _ _ c.in_ok-classes.ensures.found c.in_ok-checked.ensures.accepted
     (rw same at c.in_ok-method.ensures.main) (rw same at c.in_ok-method.ensures.plain) c.in_ok-run.ensures
 
 pub returns-clause-exact : goal.returns-clause-exact
 returns-clause-exact g c =
-    let same = c.files.ensures ∙ c.in_ok-world.ensures.files in
-    ended_exact _ _ (command_texts c.args.command.now) c.in_ok-classes.classes.items (method_of c.in_ok-method.method) (few_texts c.args.command.now.files.now c.if-command.false) c.in_ok-classes.ensures.found c.in_ok-world.ensures.accepted
+    let same = c.files.ensures ∙ c.in_ok-checked.ensures.files in
+    ended_exact _ _ (command_texts c.args.command.now) c.in_ok-classes.classes.items (method_of c.in_ok-method.method) (few_texts c.args.command.now.files.now c.if-command.false) c.in_ok-classes.ensures.found c.in_ok-checked.ensures.accepted
     (rw same at c.in_ok-method.ensures.main) (rw same at c.in_ok-method.ensures.plain)
