@@ -48,15 +48,15 @@ pub fn dimensions_of(name: &[u16]) -> usize
     name.iter().take_while(|unit| **unit == BRACKET).count()
 }
 
-// The descriptor of the last elements of an array class.
-fn last_element(name: &[u16]) -> &[u16]
+/// The descriptor of the last elements of an array class.
+pub fn last_element(name: &[u16]) -> &[u16]
     ensures { result.now ≡ spec.last_element name.now }
 {
     &name[dimensions_of(name)..]
 }
 
-// The name in the descriptor of a class.
-fn name_in(descriptor: &[u16]) -> &[u16]
+/// The name in the descriptor of a class.
+pub fn name_in(descriptor: &[u16]) -> &[u16]
     ensures { result.now ≡ spec.name_in descriptor.now }
 {
     if descriptor.len() < 2 {

@@ -12,7 +12,7 @@ mod selection;
 pub use classes::{Classes, own_name};
 pub use constants::{
     argument_slots, dimensions_of, home_of, is_array_name, is_floating, is_floating_array,
-    is_known, key_at, name_at, names_internal,
+    is_known, key_at, last_element, name_at, name_in, names_internal,
 };
 pub use hierarchy::Hierarchy;
 pub use members::{

@@ -1,8 +1,8 @@
 //! What is wrong with the code of a method: its instructions from the first on, and then its exception table (JVMS 4.7.3).
 
-ghost use Rattle.std.specs.Prelude.{◌≡◌, ◌<◌, ◌^◌, length, IfOk};
+ghost use Rattle.std.specs.Prelude.{◌≡◌, ◌<◌, ◌^◌, false, length, true, IfOk};
 ghost use Rattle.std.specs.List.{flat_map};
-ghost use Rattle.opcodes.specs.Code.{IsFirstBad};
+ghost use Rattle.opcodes.specs.Code.{IsCode, IsFirstBad};
 ghost use Rattle.opcodes.specs.declared.error.CodeWhy.{CodeWhy};
 ghost use Rattle.linkage.specs.Instructions.{instr_faults};
 ghost use Rattle.items.specs.First.{first_in, first_some};
@@ -27,8 +27,10 @@ pub struct Front {
 
 /// Decodes code as far as it goes. Code of 2^32 bytes or more counts as memory run out.
 pub fn front_of(alloc: Global, code: &[u8]) -> Result<Front, NoMemory>
-    ensures { IfOk result (λ front.
+    ensures front { IfOk result (λ front.
         spec.decoded code.now ≡ record { instrs = front.instrs.items; is_bad = front.is_bad }) }
+    ensures whole { IfOk result (λ front.
+        front.is_bad ≡ false → IsCode code.now front.instrs.items) }
 {
     if code.len() > u32::MAX as usize {
         return Err(NoMemory);
@@ -47,8 +49,9 @@ pub fn front_of(alloc: Global, code: &[u8]) -> Result<Front, NoMemory>
 fn front_before(alloc: Global, code: &[u8], pc: u32) -> Result<Front, NoMemory>
     requires small { length code.now < 2 ^ 32 }
     requires bad { (why : CodeWhy) × IsFirstBad code.now pc why }
-    ensures { IfOk result (λ front.
+    ensures front { IfOk result (λ front.
         spec.decoded code.now ≡ record { instrs = front.instrs.items; is_bad = front.is_bad }) }
+    ensures bad { IfOk result (λ front. front.is_bad ≡ true) }
 {
     match decode(alloc, &code[..pc as usize]) {
         Ok(instrs) => Ok(Front {

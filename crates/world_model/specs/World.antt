@@ -1,8 +1,8 @@
 -- A linked world: the classes of a program, and tables by number. Classes have the numbers of their places in the program; behind
 -- them come the other names of classes that a pool or a descriptor has, and behind these the array types. Fields and methods are
 -- numbered in the order of the classes, and in a class in the order of its file. (own)
-use Rattle.std.specs.Prelude.{ℕ, ◌-◌, List, [], ◌∷◌, Option, Some, None, length, position, slice_get, nat_lt, ◌==◌, if◌then◌else◌}
-use Rattle.std.specs.Option.{option_map, option_map_or}
+use Rattle.std.specs.Prelude.{ℕ, ◌-◌, List, [], ◌∷◌, Option, Some, None, length, position, slice_get, nat_lt, nat_le, ◌==◌, if◌then◌else◌}
+use Rattle.std.specs.Option.{option_and_then, option_map, option_map_or}
 use Rattle.stack_maps.specs.declared.types.Base.{Base}
 use Rattle.stack_maps.specs.declared.types.Base.TheVariants as bases
 use Rattle.stack_maps.specs.declared.types.VType.{VType}
@@ -65,8 +65,16 @@ base_of w (u ∷ us) =
     else if u == 90 then Some bases.Bool  -- Z
     else option_map bases.Class (name_number w (name_in (u ∷ us)))
 
+-- the array of so many dimensions of these elements, which has 255 dimensions at most (JVMS 4.4.1)
+abbrev pub array_of : ℕ → Base → Option VType
+array_of dimensions base = if nat_le dimensions 255 then Some (Named dimensions base) else None
+
+-- the type that the name of an array class means
+abbrev pub array_named : World → List ℕ → Option VType
+array_named w name = option_and_then (array_of (dimensions_of name)) (base_of w (last_element name))
+
 -- the type that the name of a class or of an array class means
 abbrev pub named_type : World → List ℕ → Option VType
 named_type w name =
-    if is_array_name name then option_map (Named (dimensions_of name)) (base_of w (last_element name))
+    if is_array_name name then array_named w name
     else option_map (λ n. Named 0 (bases.Class n)) (name_number w name)

@@ -2,3 +2,4 @@ pub mod NameLaws
 pub mod FoldLaws
 pub mod StartLaws
 pub mod TableLaws
+pub mod CodeLaws

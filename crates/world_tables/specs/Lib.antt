@@ -3,3 +3,4 @@ pub mod Starts
 pub mod MemberNumbers
 pub mod Linkings
 pub mod Tables
+pub mod Codes

@@ -9,7 +9,7 @@ world_in a = record {
   arrays = a.arrays.items;
   fields = a.fields.items;
   methods = a.methods.items;
-  codes = a.codes.items;
+  codes = a.codes;
   namings = a.namings.items;
   catches = a.catches.items;
 }

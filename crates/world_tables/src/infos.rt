@@ -3,13 +3,13 @@
 ghost use Rattle.std.specs.Prelude.{◌≡◌, ◌++◌, length, map, OnOk, IfOk};
 ghost use Rattle.world_model.specs.Infos as spec;
 
-use crate::codes::code_of;
+use crate::codes::Codes;
 use crate::kinds::{kind_of, signature_of};
 use class_model::{ClassFile, Const, Member};
 use class_resolution::{Hierarchy, key_in};
 use items::{Items, NoMemory};
 use std::alloc::Global;
-use world_model::{FieldInfo, MethodCode, MethodInfo};
+use world_model::{FieldInfo, MethodInfo};
 
 fn field_info(
     alloc: Global,
@@ -78,12 +78,12 @@ fn add_methods(
 fn add_codes(
     alloc: Global,
     file: &ClassFile,
-    codes: &mut Vec<Option<MethodCode>>,
+    codes: &mut Codes,
 ) -> Result<(), NoMemory>
-    ensures { OnOk result (codes.new.items ≡ codes.old.items ++ spec.codes_in file.now) }
+    ensures { OnOk result (codes.new ≡ codes.old ++ spec.codes_in file.now) }
 {
     for method in file.methods.iter() {
-        codes.push(code_of(alloc, method)?)?;
+        codes.add(alloc, method)?;
     }
     Ok(())
 }
@@ -111,10 +111,10 @@ pub fn all_methods(alloc: Global, world: &Hierarchy) -> Result<Vec<MethodInfo>, 
 }
 
 /// The code of each method, by the method's number.
-pub fn all_codes(alloc: Global, world: &Hierarchy) -> Result<Vec<Option<MethodCode>>, NoMemory>
-    ensures { IfOk result (λ v. v.items ≡ spec.codes_of world.now) }
+pub fn all_codes(alloc: Global, world: &Hierarchy) -> Result<Codes, NoMemory>
+    ensures { IfOk result (λ codes. codes ≡ spec.codes_of world.now) }
 {
-    let mut codes = Vec::new(alloc);
+    let mut codes = Codes::new(alloc);
     for file in world.classes().files() {
         add_codes(alloc, file, &mut codes)?;
     }

@@ -15,7 +15,7 @@ mod strings;
 mod tables;
 
 pub use array_numbers::{ArrayNumbers, all_arrays};
-pub use codes::{code_of, instructions_of};
+pub use codes::{Codes, instructions_of};
 pub use infos::{all_codes, all_fields, all_methods};
 pub use kinds::{kind_named, kind_of, signature_of};
 pub use member_numbers::MemberNumbers;

@@ -1,20 +1,23 @@
 //! All tables of a world, and the look-ups in them.
 
-ghost use Rattle.std.specs.Prelude.{◌≡◌, length, get_or, slice_get, codes, [], IfOk};
+ghost use Rattle.std.specs.Prelude.{◌≡◌, length, get_or, slice_get, codes, [], IfOk, IfSome};
 ghost use Rattle.std.specs.Option.{option_copied};
 ghost use Rattle.class_grammar.specs.Names.{object_class};
 ghost use Rattle.world_model.specs.World as spec;
+ghost use Rattle.world_model.specs.Pools as pools;
 ghost use Rattle.world_model.specs.Worlds.{world_of};
-ghost use Rattle.world_model.specs.Decoded.{code_at};
+ghost use Rattle.world_model.specs.Decoded.{IsDecoded, code_at};
 
 use crate::array_numbers::{ArrayNumbers, all_arrays};
+use crate::codes::Codes;
 use crate::infos::{all_codes, all_fields, all_methods};
 use crate::member_numbers::MemberNumbers;
 use crate::namings::{all_catches, all_namings};
 use crate::numbering::Numbering;
 use crate::sites::Linker;
 use crate::strings::all_strings;
-use class_resolution::Hierarchy;
+use class_grammar::class_name_at;
+use class_resolution::{Hierarchy, dimensions_of, is_array_name, last_element, name_in};
 use items::{Items, NoMemory};
 use stack_maps::{Base, VType};
 use std::alloc::Global;
@@ -29,7 +32,7 @@ pub struct Tables {
     arrays: Vec<ArrayType>,
     fields: Vec<FieldInfo>,
     methods: Vec<MethodInfo>,
-    codes: Vec<Option<MethodCode>>,
+    codes: Codes,
     namings: Vec<Items<Naming>>,
     catches: Vec<Items<Option<u32>>>,
 }
@@ -120,12 +123,10 @@ impl Tables {
 
     /// The code of a method. `None`: it has none, or there is no method of this number.
     pub fn code(&self, method: u32) -> Option<&MethodCode>
-        ensures { option_copied result ≡ code_at self.now method }
+        ensures code { option_copied result ≡ code_at self.now method }
+        ensures decoded { IfSome result (λ code. IsDecoded code.now) }
     {
-        match self.codes.get(method as usize) {
-            Some(code) => code.as_ref(),
-            None => None,
-        }
+        self.codes.get(method)
     }
 
     /// What the constants of a method's instructions mean, by instruction.
@@ -167,5 +168,50 @@ impl Tables {
             Some(array) => VType::Named(array.dimensions, array.base),
             None => VType::Named(0, Base::Class(class)),
         }
+    }
+    // The type that the descriptor of the last elements of an array has.
+    fn base_of(&self, element: &[u16]) -> Option<Base>
+        ensures { result ≡ spec.base_of self.now element.now }
+    {
+        let [first, ..] = element else {
+            return None;
+        };
+        match *first {
+            66 => Some(Base::Byte),
+            67 => Some(Base::Char),
+            68 => Some(Base::Double),
+            70 => Some(Base::Float),
+            73 => Some(Base::Int),
+            74 => Some(Base::Long),
+            83 => Some(Base::Short),
+            90 => Some(Base::Bool),
+            _ => Some(Base::Class(self.name_number(name_in(element))?)),
+        }
+    }
+
+    fn array_named(&self, name: &[u16]) -> Option<VType>
+        ensures { result ≡ spec.array_named self.now name.now }
+    {
+        let base = self.base_of(last_element(name))?;
+        let dimensions = u8::try_from(dimensions_of(name)).ok()?;
+        Some(VType::Named(dimensions, base))
+    }
+
+    fn named_type(&self, name: &[u16]) -> Option<VType>
+        ensures { result ≡ spec.named_type self.now name.now }
+    {
+        if is_array_name(name) {
+            return self.array_named(name);
+        }
+        let number = self.name_number(name)?;
+        Some(VType::Named(0, Base::Class(number)))
+    }
+
+    /// The type that a constant of a class's pool means. `None`: it is no class.
+    pub fn pool_type(&self, class: u32, index: u16) -> Option<VType>
+        ensures { result ≡ pools.pool_type self.now class index }
+    {
+        let file = self.hierarchy().classes().file(class)?;
+        self.named_type(class_name_at(&file.pool, index)?)
     }
 }

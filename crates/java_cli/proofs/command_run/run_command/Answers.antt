@@ -5,13 +5,14 @@ use Rattle.std.proofs.lemmas.List.{length-map}
 use Rattle.class_model.specs.declared.class_file.ClassFile.{ClassFile}
 use Rattle.jvm_edges.specs.Causes.{Rose}
 use Rattle.java_cli.specs.Commands.{command_texts}
+use Rattle.java_cli.specs.declared.report.Why.TheVariants.{NoMemory}
 use Rattle.java_cli.specs.Errors.{load_answer, accept_answer, start_answer}
 use Rattle.java_cli.specs.Causes.{IsExact, StoreFaults}
 use Rattle.plain_program.specs.Programs.{IsSpelled}
 use Rattle.java_cli.specs.Words.{texts}
 use Rattle.plain_program.specs.Methods.{method_of}
 use Rattle.java_cli.proofs.LoadLaws.{answer_is, refusal_is}
-use Rattle.java_cli.proofs.AnswerLaws.{too_many_exact, stopped_exact, load_refusal, unaccepted_exact, accept_refusal, accept_faults, unstarted_exact, start_refusal, start_faults, ended_exact, ran_command, all_spelled}
+use Rattle.java_cli.proofs.AnswerLaws.{too_many_exact, stopped_exact, load_refusal, unaccepted_exact, accept_refusal, accept_faults, unstarted_exact, start_refusal, start_faults, memory_exact, ended_exact, ran_command, all_spelled}
 use Rattle.java_cli.proofs.command_run.run_command.Goals as goal
 
 size : (names : List (String Global)) → length (texts names) ≡ length names
@@ -82,6 +83,13 @@ returns-in_err-method-clause-faults g c =
     let after = g.S.Store.faults c.read_files.new.store in
     answer_is c.from_residual-in_err-method.result (start_answer c.in_err-method.field-0.0) (λ why. StoreFaults why before after) c.from_residual-in_err-method.ensures.1
     (start_faults c.in_err-method.field-0.0 before after c.in_ok-classes.ensures.faults)
+
+pub returns-in_err-run-clause-exact : goal.returns-in_err-run-clause-exact
+returns-in_err-run-clause-exact g c =
+    let known = g.S.Store.files c.args.store.now in
+    let faulty = Rose (g.S.Store.faults c.args.store.now) (g.S.Store.faults c.read_files.new.store) in
+    answer_is c.from_residual-in_err-run.result NoMemory (IsExact known faulty (command_texts c.args.command.now)) c.from_residual-in_err-run.ensures.1
+    (memory_exact known faulty (command_texts c.args.command.now))
 
 pub returns-clause-ran : goal.returns-clause-ran
 returns-clause-ran g c =
