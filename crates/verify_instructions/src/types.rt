@@ -252,8 +252,7 @@ impl Types {
         ensures { result ≡ (all_assignable (L.world w.now) self.now.locals other.now.locals
             && all_assignable (L.world w.now) (item ∷ []) other.now.stack) }
     {
-        all_assignable(w, &self.locals, &other.locals)
-            && all_assignable(w, &[item], &other.stack)
+        all_assignable(w, &self.locals, &other.locals) && all_assignable(w, &[item], &other.stack)
     }
 
     /// How many slots are on the operand stack.
