@@ -2,6 +2,7 @@
 #![tactic(auto)]
 
 mod error;
+mod lookups;
 mod world;
 
 pub use error::LinkError;

@@ -120,6 +120,7 @@ impl World {
     {
         select(alloc, self.tables.hierarchy(), class, method)
     }
+
     /// The tables of the world: the numbers of names, array types, fields and methods, and what the constants of instructions mean.
     pub fn tables(&self) -> &Tables
         ensures { result.now ≡ world_of self.now }

@@ -4,3 +4,4 @@ pub mod MemberNumbers
 pub mod Linkings
 pub mod Tables
 pub mod Codes
+pub mod KnownClasses

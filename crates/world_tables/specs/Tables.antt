@@ -1,6 +1,13 @@
 -- The world that tables are.
+use Rattle.std.specs.Prelude.{◌≡◌, ◌<◌, ◌^◌, length}
 use Rattle.world_model.specs.World.{World}
+use Rattle.world_tables.specs.KnownClasses.{known_in}
 use Rattle.world_tables.specs.declared.tables.Tables.TheInside.{Inside}
+
+-- the known classes are those of the names, and each method has a number
+pub record AreNumbered (a : Inside) : Type 0 where
+  pub known : a.known ≡ known_in a.numbers.names
+  pub few : length a.methods.items < 2 ^ 32
 
 abbrev pub world_in : Inside → World
 world_in a = record {

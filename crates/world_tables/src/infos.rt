@@ -75,11 +75,7 @@ fn add_methods(
     Ok(())
 }
 
-fn add_codes(
-    alloc: Global,
-    file: &ClassFile,
-    codes: &mut Codes,
-) -> Result<(), NoMemory>
+fn add_codes(alloc: Global, file: &ClassFile, codes: &mut Codes) -> Result<(), NoMemory>
     ensures { OnOk result (codes.new ≡ codes.old ++ spec.codes_in file.now) }
 {
     for method in file.methods.iter() {

@@ -11,6 +11,7 @@ ghost use Rattle.world_model.specs.Decoded.{IsDecoded, code_at};
 use crate::array_numbers::{ArrayNumbers, all_arrays};
 use crate::codes::Codes;
 use crate::infos::{all_codes, all_fields, all_methods};
+use crate::known_classes::KnownClasses;
 use crate::member_numbers::MemberNumbers;
 use crate::namings::{all_catches, all_namings};
 use crate::numbering::Numbering;
@@ -35,6 +36,7 @@ pub struct Tables {
     codes: Codes,
     namings: Vec<Items<Naming>>,
     catches: Vec<Items<Option<u32>>>,
+    known: KnownClasses,
 }
 
 impl Model for Tables {
@@ -42,9 +44,11 @@ impl Model for Tables {
 
     ghost Value = { World };
 
-    ghost use Rattle.world_tables.specs.Tables.{world_in};
+    ghost use Rattle.world_tables.specs.Tables.{AreNumbered, world_in};
 
     ghost view = { world_in };
+
+    ghost invariant = { AreNumbered };
 }
 
 impl Tables {
@@ -55,10 +59,14 @@ impl Tables {
         let members = MemberNumbers::new(alloc, hierarchy)?;
         let world = members.hierarchy();
         let numbers = ArrayNumbers::new(alloc, Numbering::new(alloc, world)?)?;
+        let known = KnownClasses::new(alloc, numbers.names())?;
         let strings = all_strings(alloc, world)?;
         let arrays = all_arrays(alloc, numbers.depths())?;
         let fields = all_fields(alloc, world)?;
         let methods = all_methods(alloc, world)?;
+        if u32::try_from(methods.len()).is_err() {
+            return Err(NoMemory);
+        }
         let codes = all_codes(alloc, world)?;
         let l = Linker {
             members: &members,
@@ -76,6 +84,7 @@ impl Tables {
             codes,
             namings,
             catches,
+            known,
         })
     }
 
@@ -107,11 +116,46 @@ impl Tables {
         self.fields.get(n as usize)
     }
 
+    /// The number of java/lang/Object.
+    pub fn object(&self) -> Option<u32>
+        ensures { result ≡ spec.name_number self.now object_class }
+    {
+        self.known.object
+    }
+
+    /// The number of java/lang/Cloneable.
+    pub fn cloneable(&self) -> Option<u32>
+        ensures { result ≡ spec.name_number self.now (codes "java/lang/Cloneable") }
+    {
+        self.known.cloneable
+    }
+
+    /// The number of java/io/Serializable.
+    pub fn serializable(&self) -> Option<u32>
+        ensures { result ≡ spec.name_number self.now (codes "java/io/Serializable") }
+    {
+        self.known.serializable
+    }
+
+    /// The number of java/lang/String.
+    pub fn string(&self) -> Option<u32>
+        ensures { result ≡ spec.name_number self.now (codes "java/lang/String") }
+    {
+        self.known.string
+    }
+
+    /// The number of java/lang/Throwable.
+    pub fn throwable(&self) -> Option<u32>
+        ensures { result ≡ spec.name_number self.now (codes "java/lang/Throwable") }
+    {
+        self.known.throwable
+    }
+
     /// How many methods there are.
-    pub fn method_count(&self) -> usize
+    pub fn method_count(&self) -> u32
         ensures { result ≡ length self.now.methods }
     {
-        self.methods.len()
+        self.methods.len() as u32
     }
 
     /// A method. `None`: there is no method of this number.
