@@ -64,7 +64,7 @@ impl Tables {
         let arrays = all_arrays(alloc, numbers.depths())?;
         let fields = all_fields(alloc, world)?;
         let methods = all_methods(alloc, world)?;
-        if u32::try_from(methods.len()).is_err() {
+        if methods.len() > u32::MAX as usize {
             return Err(NoMemory);
         }
         let codes = all_codes(alloc, world)?;
