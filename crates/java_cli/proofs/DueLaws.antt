@@ -25,7 +25,7 @@ use Rattle.java_cli.specs.Limits.{most_files, most_bytes}
 use Rattle.java_cli.specs.Errors.{load_answer}
 use Rattle.java_cli.specs.Words.{Command}
 use Rattle.java_cli.specs.MainClass.{class_named, has_main}
-use Rattle.java_cli.specs.Linking.{program_of, class_text, method_text, AreAccepted}
+use Rattle.java_cli.specs.Linking.{program_of, class_text, method_text, IsTypingFault, AreAccepted}
 use Rattle.java_cli.specs.Causes.{Contents, IsClass, AreClasses, IsWrong, FirstWrong, IsProgramAnswer, IsDue, too_many, wrong, by_linking, AreBytes, OneIsDue}
 use Rattle.java_cli.specs.LinkCauses.{first_name}
 use Rattle.java_cli.proofs.NameLaws.{first_is}
@@ -116,7 +116,7 @@ by_typing : (name : List ℕ) (classes : List ClassFile) → AllByRecursion IsSp
 by_typing name classes spelled links None e = by_main name classes spelled (record { links = links; typed = e }) (has_main name classes) refl
 by_typing name classes spelled links (Some f) e =
     let p = program_of classes in
-    let named = record { fault = f; first = e; class_is = refl; method_is = refl; pc_is = refl; reason_is = refl } in
+    let named : IsTypingFault p (class_text p f.class) (method_text p.classes f.method) f.pc f.why = record { fault = f; first = e; class_is = refl; method_is = refl; pc_is = refl; reason_is = refl } in
     (VerifyFault (class_text p f.class) (method_text p.classes f.method) f.pc f.why, (links, named))
 
 by_fault : (name : List ℕ) (classes : List ClassFile) → AllByRecursion IsSpelled classes → (o : Option faults.LinkFault) → link_fault (program_of classes) ≡ o → (a : Why) × IsProgramAnswer name classes a
