@@ -303,11 +303,17 @@ fn classes_that_make_no_program_are_refused(rt: HostRuntime) -> Result<(), Fail>
     let child = child_of_b(rt.alloc())?;
     let class_b = replaced(rt.alloc(), &A_CLASS, 241, &[(13, b'B')])?;
     let private_main = replaced(rt.alloc(), &A_CLASS, 241, &[(205, 0x0a)])?;
-    let member_main = replaced(rt.alloc(), &A_CLASS, 241, &[(205, 0x01)])?;
+    // a main of instances has a local variable more
+    let member_main = replaced(rt.alloc(), &A_CLASS, 241, &[(205, 0x01), (221, 2)])?;
+    let no_local_for_this = replaced(rt.alloc(), &A_CLASS, 241, &[(205, 0x01)])?;
+    // null, and an instruction that does nothing, in place of the int that is printed
+    let null_for_int = replaced(rt.alloc(), &A_CLASS, 241, &[(229, 0x01), (230, 0x00)])?;
     let files = [
         ("A.class", A_CLASS.as_slice()),
         ("B.class", class_b.as_slice()),
         ("C.class", child.as_slice()),
+        ("N.class", null_for_int.as_slice()),
+        ("T.class", no_local_for_this.as_slice()),
         ("V.class", private_main.as_slice()),
         ("M.class", member_main.as_slice()),
     ];
@@ -324,6 +330,16 @@ fn classes_that_make_no_program_are_refused(rt: HostRuntime) -> Result<(), Fail>
         ("run B C.class", 68, "jvt: link A: MissingClass\n"),
         ("run A A.class A.class", 68, "jvt: link A: Duplicate\n"),
         ("run C B.class B.class", 68, "jvt: link B: Duplicate\n"),
+        (
+            "run A N.class",
+            69,
+            "jvt: verify A.main([Ljava/lang/String;)V at 5: Kind\n",
+        ),
+        (
+            "run B T.class",
+            69,
+            "jvt: verify A.main([Ljava/lang/String;)V at 0: Locals\n",
+        ),
     ];
     for (words, status, line) in table {
         let case = Case {
