@@ -11,6 +11,10 @@ mod built_in_classes;
 #[cfg(test)]
 mod class_files;
 #[cfg(test)]
+mod class_sketch;
+#[cfg(test)]
+mod code_sketch;
+#[cfg(test)]
 mod edges;
 #[cfg(test)]
 mod instructions;
@@ -20,6 +24,8 @@ mod linking;
 mod member_types;
 #[cfg(test)]
 mod memory;
+#[cfg(test)]
+mod mnemonics;
 #[cfg(test)]
 mod permits;
 #[cfg(test)]
@@ -32,5 +38,7 @@ mod texts;
 mod thread_states;
 #[cfg(test)]
 mod traces;
+#[cfg(test)]
+mod typing;
 #[cfg(test)]
 mod waiting_threads;
