@@ -1,0 +1,294 @@
+#!/usr/bin/env python3
+"""Makes programs for the benchmark of linking and typing.
+
+usage: programs.py SOURCES OUT
+
+The Java sources of the folder SOURCES whose first line says that they link are compiled with the javac of this machine. In OUT it writes files of class
+files, each behind its length in four bytes, the highest first:
+
+  classes-N     N of the classes that javac wrote, for 10, 50, 250 and 1,250: they stand there again and again under other names
+  KIND          a class file or more that are meant to be slow or to want much memory, for each kind below
+"""
+
+import re
+import struct
+import subprocess
+import sys
+import tempfile
+from pathlib import Path
+
+from extract import Reader
+
+
+def u1(number):
+    return struct.pack(">B", number)
+
+
+def u2(number):
+    return struct.pack(">H", number)
+
+
+def u4(number):
+    return struct.pack(">I", number)
+
+
+# ---- the classes that javac writes, under other names
+
+SIZES = {3: 4, 4: 4, 5: 8, 6: 8, 7: 2, 8: 2, 15: 3, 16: 2, 19: 2, 20: 2}
+
+
+def renamed(data, names, mark):
+    """A class file with these classes' names followed by a mark, in names and in descriptors."""
+    pattern = re.compile(b"|".join(re.escape(name) for name in sorted(names, key=len, reverse=True)))
+    whole = re.compile(rb"\[*(?:L?)(" + pattern.pattern + rb")(;?)")
+    inside = re.compile(rb"L(" + pattern.pattern + rb");")
+
+    def changed(text):
+        if whole.fullmatch(text):
+            return pattern.sub(lambda found: found.group(0) + mark, text, count=1)
+        return inside.sub(lambda found: b"L" + found.group(1) + mark + b";", text)
+
+    reader = Reader(data)
+    head = reader.bytes(8)
+    count = reader.number(2)
+    pool, index = [], 1
+    while index < count:
+        tag = reader.number(1)
+        if tag == 1:
+            text = changed(reader.bytes(reader.number(2)))
+            pool.append(u1(1) + u2(len(text)) + text)
+        else:
+            pool.append(u1(tag) + reader.bytes(SIZES.get(tag, 4)))
+        index += 2 if tag in (5, 6) else 1
+    return head + u2(count) + b"".join(pool) + data[reader.at:]
+
+
+def javac_classes(sources):
+    """The class files of the sources that link, by the names of their classes."""
+    with tempfile.TemporaryDirectory() as folder:
+        for source in sorted(sources.glob("*.java")):
+            if source.read_text().startswith("// links"):
+                subprocess.run(["javac", "--release", "17", "-XDstringConcat=inline", "-nowarn", "-Xlint:-options", "-d", folder, source],
+                               check=True, stderr=subprocess.DEVNULL)
+        return {path.stem.encode(): path.read_bytes() for path in sorted(Path(folder).glob("*.class"))}
+
+
+def copies(classes):
+    """The classes again and again, each time under other names."""
+    mark = 0
+    while True:
+        for data in classes.values():
+            yield renamed(data, classes, b"$%d" % mark) if mark else data
+        mark += 1
+
+
+# ---- class files that are meant to be slow or to want much memory
+
+class Pool:
+    """A constant pool that keeps each constant once."""
+
+    def __init__(self):
+        self.indexes, self.bytes, self.next = {}, [], 1
+
+    def add(self, constant):
+        if constant not in self.indexes:
+            self.indexes[constant] = self.next
+            self.bytes.append(constant)
+            self.next += 2 if constant[0] in (5, 6) else 1
+        return self.indexes[constant]
+
+    def text(self, text):
+        return self.add(u1(1) + u2(len(text)) + text)
+
+    def of_class(self, name):
+        return self.add(u1(7) + u2(self.text(name)))
+
+    def member(self, tag, holder, name, descriptor):
+        key = self.add(u1(12) + u2(self.text(name)) + u2(self.text(descriptor)))
+        return self.add(u1(tag) + u2(self.of_class(holder)) + u2(key))
+
+
+STATIC = 9
+LOCALS = 65535
+TOP, INTEGER = 0, 1
+
+
+class ClassFile:
+    def __init__(self, name, parent=b"java/lang/Object", flags=0x21):
+        self.pool, self.name, self.parent, self.flags = Pool(), name, parent, flags
+        self.interfaces, self.fields, self.methods = [], [], []
+
+    def method(self, code, frames=(), rows=(), stack=10, locals=LOCALS, descriptor=b"()V"):
+        """A static method with a number for its name, a code, frames of its stack map, and rows of its exception table."""
+        attributes = b""
+        if frames:
+            body = u2(len(frames)) + b"".join(frames)
+            attributes = u2(self.pool.text(b"StackMapTable")) + u4(len(body)) + body
+        table = b"".join(b"".join(u2(number) for number in row) for row in rows)
+        body = u2(stack) + u2(locals) + u4(len(code)) + code + u2(len(rows)) + table + u2(1 if frames else 0) + attributes
+        name = self.pool.text(b"m%d" % len(self.methods))
+        self.methods.append(
+            u2(STATIC) + u2(name) + u2(self.pool.text(descriptor)) + u2(1) + u2(self.pool.text(b"Code")) + u4(len(body)) + body)
+
+    def field(self, name, descriptor=b"I"):
+        self.fields.append(u2(STATIC) + u2(self.pool.text(name)) + u2(self.pool.text(descriptor)) + u2(0))
+
+    def whole(self):
+        own, parent = self.pool.of_class(self.name), self.pool.of_class(self.parent)
+        interfaces = b"".join(u2(self.pool.of_class(name)) for name in self.interfaces)
+        parts = [(self.interfaces, interfaces), (self.fields, b"".join(self.fields)), (self.methods, b"".join(self.methods)), ([], b"")]
+        return (b"\xca\xfe\xba\xbe\0\0\0\x3d" + u2(self.pool.next) + b"".join(self.pool.bytes) + u2(self.flags) + u2(own) + u2(parent)
+                + b"".join(u2(len(things)) + data for things, data in parts))
+
+
+def full_frame(delta, tags):
+    return u1(255) + u2(delta) + u2(len(tags)) + bytes(tags) + u2(0)
+
+
+NOP, RETURN, GOTO_NEXT, ICONST_0, ISTORE_0, ACONST_NULL = b"\0", b"\xb1", b"\xa7\0\3", b"\3", b"\x3b", b"\1"
+SAME, SAME_FAR = u1(0), u1(251)
+
+
+def same(delta):
+    return u1(delta) if delta < 64 else SAME_FAR + u2(delta)
+
+
+def methods_of(add, count):
+    """A class of so many methods, each made by the function."""
+    made = ClassFile(b"Hostile")
+    for _ in range(count):
+        add(made)
+    return [made.whole()]
+
+
+def many_frames(c):
+    """A frame of 65,535 local variables, and 65,532 frames of one byte behind it, each like the one before."""
+    c.method(RETURN + NOP * 65533 + RETURN, [full_frame(1, [INTEGER] * LOCALS)] + [SAME] * 65533)
+
+
+def many_jumps(c):
+    """21,844 jumps, each to a frame of 65,535 local variables that is like the one before."""
+    c.method(RETURN + GOTO_NEXT * 21844 + RETURN, [full_frame(1, [INTEGER] * LOCALS)] + [same(2)] * 21844)
+
+
+def many_stores(c):
+    """13,106 times a store into a local variable and a jump to a frame of 65,535 local variables."""
+    step = ICONST_0 + ISTORE_0 + GOTO_NEXT
+    c.method(RETURN + step * 13106 + RETURN, [full_frame(1, [INTEGER] * LOCALS)] + [same(4)] * 13106)
+
+
+def other_frames(c):
+    """60 jumps, each to a frame of 65,535 local variables that is written out."""
+    c.method(RETURN + GOTO_NEXT * 60 + RETURN, [full_frame(1, [INTEGER] * LOCALS)] + [full_frame(2, [INTEGER] * LOCALS)] * 60)
+
+
+def many_rows(c):
+    """65,535 rows of an exception table, each of which covers a code of 65,000 instructions."""
+    throwable = c.pool.of_class(b"java/lang/Throwable")
+    frame = u1(247) + u2(65001) + u1(7) + u2(throwable)
+    c.method(NOP * 65000 + RETURN + b"\xbf", [frame], [(0, 65001, 65001, 0)] * 65535, locals=1)
+
+
+def rows_and_stores(c):
+    """65,535 rows of an exception table, each of which covers 32,000 stores into a local variable."""
+    throwable = c.pool.of_class(b"java/lang/Throwable")
+    frame = u1(247) + u2(64001) + u1(7) + u2(throwable)
+    c.method((ICONST_0 + ISTORE_0) * 32000 + RETURN + b"\xbf", [frame], [(0, 64001, 64001, 0)] * 65535, locals=1)
+
+
+def many_targets(c):
+    """A switch of 16,000 targets, each with a frame of 65,535 local variables."""
+    first = 4 + 12 + 4 * 16000
+    room = 65535 - first - 1
+    targets = [first + i % room for i in range(16000)]
+    offsets = b"".join(u4(target - 1) for target in targets)
+    switch = b"\xaa\0\0" + u4(first - 1) + u4(0) + u4(len(targets) - 1) + offsets
+    c.method(ICONST_0 + switch + NOP * room + RETURN, [full_frame(first, [TOP] * LOCALS)] + [SAME] * room)
+
+
+def deep_casts(c):
+    """21,000 casts between arrays of 255 dimensions."""
+    names = [b"[" * 255 + b"Ljava/lang/%s;" % name for name in (b"Object", b"String", b"Thread")]
+    casts = b"".join(b"\xc0" + u2(c.pool.of_class(names[i % 3])) for i in range(21000))
+    c.method(ACONST_NULL + casts + b"\x57" + RETURN, locals=0)
+
+
+def one_constant():
+    """65,535 uses of one constant."""
+    c = ClassFile(b"Hostile")
+    c.field(b"f")
+    step = b"\xb2" + u2(c.pool.member(9, b"Hostile", b"f", b"I")) + b"\x57"
+    for _ in range(4):
+        c.method(step * 16383 + RETURN, locals=0)
+    return [c.whole()]
+
+
+def own_members(number=b"0"):
+    """A class with 30,000 fields, each of which it names."""
+    c = ClassFile(b"Hostile" + number)
+    members = [b"f%d" % i for i in range(16000)]
+    for name in members:
+        c.field(name)
+    steps = [b"\xb2" + u2(c.pool.member(9, c.name, name, b"I")) + b"\x57" for name in members]
+    for start in range(0, len(steps), 8000):
+        c.method(b"".join(steps[start:start + 8000]) + RETURN, locals=0)
+    return c.whole()
+
+
+def chain():
+    """256 classes, each the superclass of the next; the last names a field of the first 16,000 times."""
+    made = []
+    for i in range(256):
+        c = ClassFile(b"Hostile%d" % i, b"Hostile%d" % (i - 1) if i else b"java/lang/Object")
+        if i == 0:
+            c.field(b"f")
+        if i == 255:
+            c.method((b"\xb2" + u2(c.pool.member(9, c.name, b"f", b"I")) + b"\x57") * 16000 + RETURN, locals=0)
+        made.append(c.whole())
+    return made
+
+
+def interfaces():
+    """255 interfaces, each of which extends all that are before it."""
+    made = []
+    for i in range(255):
+        c = ClassFile(b"Hostile%d" % i, flags=0x601)
+        c.interfaces = [b"Hostile%d" % other for other in range(i)]
+        made.append(c.whole())
+    return made
+
+
+KINDS = {
+    "many-frames": lambda: methods_of(many_frames, 20),
+    "many-jumps": lambda: methods_of(many_jumps, 26),
+    "many-stores": lambda: methods_of(many_stores, 28),
+    "other-frames": lambda: methods_of(other_frames, 1),
+    "many-rows": lambda: methods_of(many_rows, 6),
+    "rows-and-stores": lambda: methods_of(rows_and_stores, 6),
+    "many-targets": lambda: methods_of(many_targets, 29),
+    "deep-casts": lambda: methods_of(deep_casts, 60),
+    "one-constant": one_constant,
+    "own-members": lambda: [own_members()],
+    "own-members-8": lambda: [own_members(b"%d" % i) for i in range(8)],
+    "chain": chain,
+    "interfaces": interfaces,
+}
+
+
+def write(path, classes):
+    path.write_bytes(b"".join(u4(len(data)) + data for data in classes))
+
+
+def main():
+    sources, out = Path(sys.argv[1]), Path(sys.argv[2])
+    out.mkdir(parents=True, exist_ok=True)
+    classes = javac_classes(sources)
+    for count in (10, 50, 250, 1250):
+        made = copies(classes)
+        write(out / f"classes-{count}", [next(made) for _ in range(count)])
+    for kind, made in KINDS.items():
+        write(out / kind, made())
+
+
+if __name__ == "__main__":
+    main()
