@@ -44,7 +44,7 @@ wide_takes locals kind bytes fits low high enough = first (kind ∷ []) bytes _ 
 not_chopped : (kind n : ℕ) → (is_in_range 248 250 kind && ltb n (251 - kind)) ≡ false → 247 < kind → kind < 251 → 251 - kind ≤ n
 not_chopped kind n e low high = grind (arith, nat_tests)
 
-frame_takes : (locals : List VType) (bytes : List ℕ) → IsBytes bytes → TakesBehind frame (IsFrame locals) [] bytes (frame_at locals bytes)
+frame_takes : (locals : List VType) (bytes : List ℕ) → IsBytes bytes → TakesBehind frame (IsFrame locals) [] bytes (frame_at (length locals) bytes)
 unfolding frame_at
 frame_takes locals bytes fits = first [] bytes _ u1_reads fits (λ kind lt more.
     row (ltb kind.0 64) (λ x. Same kind.0) nothing_reads more (λ h x a. (refl, ltb-true kind.0 64 h)) (λ h.
@@ -58,7 +58,7 @@ frame_takes locals bytes fits = first [] bytes _ u1_reads fits (λ kind lt more.
 
 -- ---- what is allowed is read
 
-frame_again : (locals : List VType) (f : Frame) (rest : List ℕ) → IsFrame locals f → frame_at locals (frame f ++ rest) ≡ Ok (f, rest)
+frame_again : (locals : List VType) (f : Frame) (rest : List ℕ) → IsFrame locals f → frame_at (length locals) (frame f ++ rest) ≡ Ok (f, rest)
 unfolding frame_at wide_frame_at
 frame_again locals (Same delta) rest h = rw (u1_reads.again delta rest (omega (arith, h)), lt-ltb delta 64 h) refl
 frame_again locals (SameLocals1StackItem delta item) rest h =
@@ -94,8 +94,8 @@ frame_again locals (Append delta (a ∷ b ∷ c ∷ [])) rest h =
 frame_again locals (Append delta (a ∷ b ∷ c ∷ d ∷ added)) rest h = let many : length (a ∷ b ∷ c ∷ d ∷ added) ≤ 3 = h.2 in absurd (omega arith)
 frame_again locals (Full delta ls st) rest h =
     let tail = (u2 (length ls) ++ vtypes ls) ++ (u2 (length st) ++ vtypes st) in
-    ap (λ (t : List ℕ). frame_at locals (t ++ rest)) (sym (full_text delta ls st))
+    ap (λ (t : List ℕ). frame_at (length locals) (t ++ rest)) (sym (full_text delta ls st))
     ∙ rw (u1_reads.again 255 (u2 delta ++ (tail ++ rest)) (omega arith), u2_reads.again delta (tail ++ rest) h.0, (both_reads types_read types_read).again (ls, st) rest ((h.1, h.2), (h.3, h.4))) refl
 
-pub frame_reads : (locals : List VType) → IsReader (frame_at locals) frame (IsFrame locals)
+pub frame_reads : (locals : List VType) → IsReader (frame_at (length locals)) frame (IsFrame locals)
 frame_reads locals = record { takes = λ bytes p fits e. (frame_takes locals bytes fits).takes p e; again = frame_again locals }

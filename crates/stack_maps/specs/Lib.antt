@@ -1,3 +1,4 @@
 pub mod Encoding
+pub mod Changes
 pub mod Readers
 pub mod Expansion

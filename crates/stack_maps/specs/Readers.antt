@@ -4,12 +4,14 @@ use Rattle.std.specs.Int.{is_in_range}
 use Rattle.byte_reader.specs.declared.fault.Fault.{Fault}
 use Rattle.byte_reader.specs.Reader.{◌>>=◌, Reader, fault_at, number_at, both, map_value, count_then, list_by, many}
 use Rattle.stack_maps.specs.declared.types.FrameTypes.{FrameTypes}
+use Rattle.stack_maps.specs.declared.types.FrameChange.{FrameChange}
 use Rattle.stack_maps.specs.declared.types.VType.{VType}
 use Rattle.stack_maps.specs.declared.types.VType.TheVariants.{Top, Int, Float, Double, Long, Null, UninitThis, Object, Uninit}
 use Rattle.stack_maps.specs.declared.frames.DeltaFrame.{DeltaFrame}
 use Rattle.stack_maps.specs.declared.error.MapWhy.{MapWhy}
 use Rattle.stack_maps.specs.declared.error.MapWhy.TheVariants as whys
-use Rattle.stack_maps.specs.Encoding.{Frame, Same, SameLocals1StackItem, SameLocals1StackItemExtended, Chop, SameExtended, Append, Full, delta_of, types_of}
+use Rattle.stack_maps.specs.Encoding.{Frame, Same, SameLocals1StackItem, SameLocals1StackItemExtended, Chop, SameExtended, Append, Full, delta_of}
+use Rattle.stack_maps.specs.Changes.{change_of, locals_after, made_whole}
 
 -- a number in one byte, and one in two
 abbrev pub u1_at : Reader MapWhy ℕ
@@ -47,49 +49,49 @@ wide_frame_at kind bytes = do
       else if nat_lt kind 255 then map_value (Append delta.0) (many type_at (kind - 251)) delta.1
       else map_value (λ (x : List VType × List VType). Full delta.0 x.0 x.1) (both types_at types_at) delta.1
 
--- a frame behind one with these locals
-unfoldable pub frame_at : List VType → Reader MapWhy Frame
+-- a frame behind one with that many locals
+unfoldable pub frame_at : ℕ → Reader MapWhy Frame
 frame_at locals bytes = do
   kind ← u1_at bytes
   if nat_lt kind.0 64 then Ok (Same kind.0, kind.1)
       else if nat_lt kind.0 128 then map_value (SameLocals1StackItem (kind.0 - 64)) type_at kind.1
       else if nat_lt kind.0 247 then Err (fault_at bytes whys.Reserved)
-      else if is_in_range 248 250 kind.0 && nat_lt (length locals) (251 - kind.0) then Err (fault_at bytes whys.Chop)
+      else if is_in_range 248 250 kind.0 && nat_lt locals (251 - kind.0) then Err (fault_at bytes whys.Chop)
       else wide_frame_at kind.0 kind.1
 
--- the delta and the types of a frame behind one with these locals
-abbrev pub delta_frame : List VType → Frame → DeltaFrame
-delta_frame locals f = record { delta = delta_of f; types = types_of locals f }
+-- the delta of a frame, and what it changes
+abbrev pub delta_frame : Frame → DeltaFrame
+delta_frame f = record { delta = delta_of f; change = change_of f }
 
--- What a frame is read behind: its pc is `next` if its delta is 0, and `types` are those of the
+-- What a frame is read behind: its pc is `next` if its delta is 0, and `locals` are those of the
 -- frame before.
 pub record Before : Type 0 where
   pub next : ℕ
-  pub types : FrameTypes
+  pub locals : List VType
 
--- the pc and the types of the frame
-abbrev pub whole_frame_at : Before → ℕ → Reader MapWhy (ℕ × FrameTypes)
-whole_frame_at before more bytes =
-    let locals = before.types.locals in
-    map_value (λ (d : DeltaFrame). (before.next + d.delta, d.types))
-    (map_value (delta_frame locals) (frame_at locals)) bytes
+-- the pc of the frame, and what it changes
+abbrev pub change_at : Before → ℕ → Reader MapWhy (ℕ × FrameChange)
+change_at before more bytes =
+    map_value (λ (d : DeltaFrame). (before.next + d.delta, d.change))
+    (map_value delta_frame (frame_at (length before.locals))) bytes
 
 -- what the frame behind that one is read behind
-abbrev pub behind : Before → ℕ × FrameTypes → Before
-behind before whole = record { next = whole.0 + 1; types = whole.1 }
-
--- the types at the last of these frames, or the first types of all
-abbrev pub types_before : FrameTypes → List (ℕ × FrameTypes) → FrameTypes
-types_before first [] = first
-types_before first (frame ∷ frames) = types_before frame.1 frames
+abbrev pub behind : Before → ℕ × FrameChange → Before
+behind before c = record { next = c.0 + 1; locals = locals_after before.locals c.1.locals }
 
 -- that many frames, each with its pc
-unfoldable pub frames_at : FrameTypes → ℕ → Reader MapWhy (List (ℕ × FrameTypes))
-frames_at first count bytes = list_by whole_frame_at behind (record { next = 0; types = first }) count bytes
+unfoldable pub changes_at : FrameTypes → ℕ → Reader MapWhy (List (ℕ × FrameChange))
+changes_at first count bytes = list_by change_at behind (record { next = 0; locals = first.locals }) count bytes
 
 -- a count, that many frames, and no byte more
+unfoldable pub changes_of : FrameTypes → List ℕ → Result (List (ℕ × FrameChange)) (Fault MapWhy)
+changes_of first bytes = do
+  count ← u2_at bytes
+  changes ← changes_at first count.0 count.1
+  if length changes.1 == 0 then Ok changes.0 else Err (fault_at changes.1 whys.Trailing)
+
+-- the frames of these, whole
 unfoldable pub table_of : FrameTypes → List ℕ → Result (List (ℕ × FrameTypes)) (Fault MapWhy)
 table_of first bytes = do
-  count ← u2_at bytes
-  frames ← frames_at first count.0 count.1
-  if length frames.1 == 0 then Ok frames.0 else Err (fault_at frames.1 whys.Trailing)
+  changes ← changes_of first bytes
+  Ok (made_whole first.locals changes)

@@ -2,6 +2,7 @@ ghost use Rattle.std.specs.Prelude.{◌≡◌};
 ghost use Rattle.stack_maps.specs.declared.error.MapWhy.TheVariants as whys;
 
 use byte_reader::Reason;
+use std::alloc::AllocError;
 use thiserror::Error;
 
 /// What is wrong with a map (JVMS 4.7.4).
@@ -34,6 +35,16 @@ pub enum MapError {
     /// Memory ran out.
     #[error("out of memory")]
     NoMemory,
+}
+
+impl From<AllocError> for MapError {
+    ghost use Rattle.stack_maps.specs.declared.error.MapError.TheVariants as errors;
+
+    ghost from_gives = { λ _ e. e ≡ errors.NoMemory };
+
+    fn from(_: AllocError) -> Self {
+        MapError::NoMemory
+    }
 }
 
 impl Reason for MapWhy {

@@ -1,118 +1,126 @@
 //! Frames, each by what it changes of the one before (JVMS 4.7.4).
 
-ghost use Rattle.std.specs.Prelude.{◌≡◌, ◌≤◌, ◌<◌, ◌-◌, [], ◌∷◌, length, IfOk};
+ghost use Rattle.std.specs.Prelude.{◌≡◌, ◌≤◌, ◌<◌, ◌-◌, List, [], ◌∷◌, length, IfOk, IfSome};
 ghost use Rattle.byte_reader.specs.Reader.{Reads, map_value};
+ghost use Rattle.stack_maps.specs.declared.types.LocalsChange.TheVariants as changes;
+ghost use Rattle.stack_maps.specs.declared.types.VType.{VType as OneType};
+ghost use Rattle.stack_maps.specs.Changes.{locals_after};
 ghost use Rattle.stack_maps.specs.Readers.{delta_frame, frame_at, wide_frame_at};
 
 use crate::error::MapWhy;
-use crate::types::{FrameTypes, VType};
+use crate::types::{FrameChange, LocalsChange, VType};
 use crate::verification_types::{more_types, type_of, types_of};
 use byte_reader::{Stop, u1_of, u2_of};
 use items::Items;
 use std::alloc::{AllocError, Global};
 
-/// A frame behind another: its delta, from which its pc follows, and its types.
+/// A frame behind another: its delta, from which its pc follows, and what it changes.
 #[derive(Drop)]
 pub struct DeltaFrame {
     pub delta: u16,
-    pub types: FrameTypes,
+    pub change: FrameChange,
 }
 
-// These locals, and an empty stack.
-fn with_locals(alloc: Global, locals: &[VType]) -> Result<FrameTypes, AllocError>
-    ensures { IfOk result (λ f. f ≡ record { locals = locals.now; stack = [] }) }
+// A frame that changes the locals so, and has an empty stack.
+fn with_locals(alloc: Global, delta: u16, locals: LocalsChange) -> DeltaFrame
+    ensures { result ≡ record {
+      delta = delta;
+      change = record { locals = locals; stack = [] };
+    } }
 {
-    Ok(FrameTypes {
-        locals: Items::from(Vec::from_slice(alloc, locals)?),
-        stack: Items::new(alloc),
-    })
+    let stack = Items::new(alloc);
+    let change = FrameChange { locals, stack };
+    DeltaFrame { delta, change }
 }
 
-// These locals, and one item on the stack.
-fn with_item(alloc: Global, locals: &[VType], item: VType) -> Result<FrameTypes, AllocError>
-    ensures { IfOk result (λ f. f ≡ record { locals = locals.now; stack = item ∷ [] }) }
+// A frame with the same locals, and one item on the stack.
+fn with_item(alloc: Global, delta: u16, item: VType) -> Result<DeltaFrame, AllocError>
+    ensures { IfOk result (λ f. f ≡ record {
+      delta = delta;
+      change = record { locals = changes.Same; stack = item ∷ [] };
+    }) }
 {
-    Ok(FrameTypes {
-        locals: Items::from(Vec::from_slice(alloc, locals)?),
-        stack: Items::from(vec![in alloc; item]?),
-    })
+    let stack = Items::from(vec![in alloc; item]?);
+    let locals = LocalsChange::Same;
+    let change = FrameChange { locals, stack };
+    Ok(DeltaFrame { delta, change })
 }
 
-// A frame of a type from 247 on, behind its delta.
+// A frame of a type from 247 on, behind its type.
 #[tactic(auto, unfolding(crate::specs::Readers::wide_frame_at))]
-fn wide_frame<'a>(
-    alloc: Global,
-    locals: &[VType],
-    kind: u8,
-    bytes: &'a [u8],
-) -> Result<(DeltaFrame, &'a [u8]), Stop<MapWhy>>
+fn wide_frame(alloc: Global, kind: u8, bytes: &[u8]) -> Result<(DeltaFrame, &[u8]), Stop<MapWhy>>
     requires wide { 247 ≤ kind }
-    requires enough { 247 < kind → 251 - kind ≤ length locals.now }
-    ensures { Reads result (map_value (delta_frame locals.now) (wide_frame_at kind) bytes.now) }
+    ensures { Reads result (map_value delta_frame (wide_frame_at kind) bytes.now) }
 {
     let (delta, rest) = u2_of(bytes)?;
     match kind {
         // same_locals_1_stack_item_frame_extended
         ..=247 => {
             let (item, rest) = type_of(rest)?;
-            let types = with_item(alloc, locals, item)?;
-            Ok((DeltaFrame { delta, types }, rest))
+            Ok((with_item(alloc, delta, item)?, rest))
         }
         // chop_frame
         248..=250 => {
-            let kept = locals.len() - usize::from(251 - kind);
-            let types = with_locals(alloc, &locals[..kept])?;
-            Ok((DeltaFrame { delta, types }, rest))
+            let locals = LocalsChange::Chop(251 - kind);
+            Ok((with_locals(alloc, delta, locals), rest))
         }
         // same_frame_extended
-        251 => {
-            let types = with_locals(alloc, locals)?;
-            Ok((DeltaFrame { delta, types }, rest))
-        }
+        251 => Ok((with_locals(alloc, delta, LocalsChange::Same), rest)),
         // append_frame
         252..=254 => {
-            let before = Items::from(Vec::from_slice(alloc, locals)?);
-            let (locals, rest) = more_types(before, u16::from(kind - 251), rest)?;
-            let stack = Items::new(alloc);
-            let types = FrameTypes { locals, stack };
-            Ok((DeltaFrame { delta, types }, rest))
+            let (added, rest) = more_types(Items::new(alloc), u16::from(kind - 251), rest)?;
+            Ok((with_locals(alloc, delta, LocalsChange::Append(added)), rest))
         }
         // full_frame
         255 => {
             let (locals, rest) = types_of(alloc, rest)?;
             let (stack, rest) = types_of(alloc, rest)?;
-            let types = FrameTypes { locals, stack };
-            Ok((DeltaFrame { delta, types }, rest))
+            let locals = LocalsChange::Full(locals);
+            let change = FrameChange { locals, stack };
+            Ok((DeltaFrame { delta, change }, rest))
         }
     }
 }
 
-/// A frame behind one with these locals.
+/// A frame behind one with that many locals.
 #[tactic(auto, unfolding(crate::specs::Readers::frame_at))]
-pub fn frame_of<'a>(
+pub fn frame_of(
     alloc: Global,
-    locals: &[VType],
-    bytes: &'a [u8],
-) -> Result<(DeltaFrame, &'a [u8]), Stop<MapWhy>>
-    ensures { Reads result (map_value (delta_frame locals.now) (frame_at locals.now) bytes.now) }
+    locals: usize,
+    bytes: &[u8],
+) -> Result<(DeltaFrame, &[u8]), Stop<MapWhy>>
+    ensures { Reads result (map_value delta_frame (frame_at locals) bytes.now) }
 {
     let (kind, rest) = u1_of(bytes)?;
     match kind {
         // same_frame
         0..=63 => {
             let delta = u16::from(kind);
-            let types = with_locals(alloc, locals)?;
-            Ok((DeltaFrame { delta, types }, rest))
+            Ok((with_locals(alloc, delta, LocalsChange::Same), rest))
         }
         // same_locals_1_stack_item_frame
         64..=127 => {
             let delta = u16::from(kind - 64);
             let (item, rest) = type_of(rest)?;
-            let types = with_item(alloc, locals, item)?;
-            Ok((DeltaFrame { delta, types }, rest))
+            Ok((with_item(alloc, delta, item)?, rest))
         }
         128..=246 => Err(Stop::at(bytes, MapWhy::Reserved)),
-        248..=250 if locals.len() < usize::from(251 - kind) => Err(Stop::at(bytes, MapWhy::Chop)),
-        _ => wide_frame(alloc, locals, kind, rest),
+        248..=250 if locals < usize::from(251 - kind) => Err(Stop::at(bytes, MapWhy::Chop)),
+        _ => wide_frame(alloc, kind, rest),
+    }
+}
+
+impl LocalsChange {
+    /// How many locals there are where there were that many before. `None`: more than a `usize` counts.
+    pub fn count(&self, before: usize) -> Option<usize>
+        ensures { IfSome result (λ n. (locals : List OneType) → before ≡ length locals
+            → n ≡ length (locals_after locals self.now)) }
+    {
+        match self {
+            LocalsChange::Same => Some(before),
+            LocalsChange::Chop(dropped) => Some(before.saturating_sub(usize::from(*dropped))),
+            LocalsChange::Append(added) => before.checked_add(added.len()),
+            LocalsChange::Full(locals) => Some(locals.len()),
+        }
     }
 }

@@ -6,7 +6,8 @@ mod frames;
 mod map;
 mod types;
 mod verification_types;
+mod whole;
 
 pub use error::{MapError, MapWhy};
-pub use map::{expand, expansion_is_exact};
-pub use types::{Base, FrameTypes, VType};
+pub use map::{changes, expand, expansion_is_exact};
+pub use types::{Base, FrameChange, FrameTypes, LocalsChange, VType};

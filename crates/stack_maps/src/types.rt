@@ -8,6 +8,26 @@ pub struct FrameTypes {
     pub stack: Items<VType>,
 }
 
+/// What a frame changes of the one before it (JVMS 4.7.4). Its operand stack is always named whole, the bottom first.
+#[derive(Debug, Drop)]
+pub struct FrameChange {
+    pub locals: LocalsChange,
+    pub stack: Items<VType>,
+}
+
+/// What a frame changes of the locals of the one before it (JVMS 4.7.4).
+#[derive(Debug, Drop)]
+pub enum LocalsChange {
+    /// They are the same.
+    Same,
+    /// The last so many are dropped.
+    Chop(u8),
+    /// Behind them come these.
+    Append(Items<VType>),
+    /// There are these alone.
+    Full(Items<VType>),
+}
+
 /// A verification type (JVMS 4.7.4, 4.10.1.2).
 #[derive(Clone, Copy, Debug, PartialEq, Eq)]
 pub enum VType {

@@ -1,79 +1,129 @@
--- Frames by rising pc, and those behind a pc.
-use Rattle.std.proofs.Common.{◌≡◌, ℕ, zero, suc, ◌+◌, ◌<◌, ◌≤◌, true, false, Bool, cond, ltb, leb, eqb, List, [], ◌∷◌, ◌++◌, length, get_or, Option, Some, None, refl, ap, sym, subst, ◌∙◌, arith}
-use Rattle.std.specs.Prelude.{map, drop, find, nat_le, nat_lt, ◌==◌, ◌&&◌, ◌||◌}
-use Rattle.std.specs.List.{prefix_len}
-use Rattle.std.proofs.lemmas.Bool.{ltb-true, ltb-false, leb-true, leb-false, lt-ltb, le-ltb, eqb-false, ne_eqb, and_right}
-use Rattle.std.proofs.lemmas.Bool.Decides.{nat_tests}
-use Rattle.std.proofs.lemmas.List.{drop-map, append-nil}
+-- The frames of a map as they are kept.
+use Rattle.std.proofs.Common.{◌≡◌, ℕ, ◌+◌, true, false, Bool, cond, List, [], ◌∷◌, ◌++◌, length, Option, Some, None, refl, ap, sym, subst, ◌∙◌, append_assoc, arith}
+use Rattle.std.specs.Prelude.{map, nat_lt, ◌==◌, ◌&&◌, ◌||◌}
+use Rattle.std.specs.List.{AllZip}
+use Rattle.std.specs.Option.{option_map}
+use Rattle.std.proofs.lemmas.List.{append-nil, nil_from_length}
+use Rattle.stack_maps.specs.declared.types.VType.{VType}
 use Rattle.stack_maps.specs.declared.types.FrameTypes.{FrameTypes}
+use Rattle.stack_maps.specs.declared.types.FrameChange.{FrameChange}
+use Rattle.stack_maps.specs.Changes.{locals_after, made_whole, types_after}
+use Rattle.type_paths.specs.Paths.{Path, IsPath}
 use Rattle.world_model.specs.declared.members.MethodInfo.{MethodInfo}
 use Rattle.world_model.specs.World.{World}
-use Rattle.verify_types.specs.Environment.{MapFrame, map_frame}
-use Rattle.verify_code.specs.StackMaps.{pc_of}
-use Rattle.verify_code.proofs.StackMapLaws.{list_rises}
-use Rattle.verify_code.proofs.Prefixes.{one_more}
-use Rattle.verify_code.specs.declared.frames.Frame.{Frame}
-use Rattle.verify_code.specs.Frames.{Rises, frame_in, frames_behind, stray_frame, first_stray}
+use Rattle.verify_types.specs.Environment.{MapFrame, map_frame, is_constructor}
+use Rattle.verify_code.specs.declared.frame_paths.Entry.{Entry}
+use Rattle.verify_code.specs.Entries.{AreRising, Rises, entry_at, stray_entry, pc_of}
+use Rattle.verify_code.specs.StackMaps as maps
+use Rattle.verify_code.specs.FramePaths.{Grows, IsEntry, entry_in, path_of}
+use Rattle.verify_code.specs.Frames.{frame_at, stray_frame}
+use Rattle.verify_code.proofs.FramePathLaws.{entry_is, grows_not, kept}
 
-pub rises_map : (low : ℕ) (fs : List Frame) → Rises (λ (f : Frame). f.pc) low fs → Rises (λ (f : MapFrame). f.pc) low (map frame_in fs)
-rises_map low [] h = tt
-rises_map low (f ∷ fs) h = (h.0, rises_map (f.pc + 1) fs h.1)
+-- ---- frames that are found
 
-pub prefix_map : (p : ℕ → Bool) (fs : List Frame) → prefix_len (λ (f : MapFrame). p f.pc) (map frame_in fs) ≡ prefix_len (λ (f : Frame). p f.pc) fs
-prefix_map p [] = refl
-prefix_map p (f ∷ fs) = ap (λ n. cond (p f.pc) (1 + n) 0) (prefix_map p fs)
+found : {A B : Type 0} (f : A → B) (b : Bool) (x : A) (o : Option A) → cond b (Some (f x)) (option_map f o) ≡ option_map f (cond b (Some x) o)
+found f true x o = refl
+found f false x o = refl
 
--- ---- the first frame behind a pc
+pub frame_found : (ps : List Path) (constructor : Bool) (max pc : ℕ) (es : List Entry)
+    → frame_at pc (map (entry_in ps constructor max) es) ≡ option_map (entry_in ps constructor max) (entry_at pc es)
+frame_found ps constructor max pc [] = refl
+frame_found ps constructor max pc (e ∷ es) =
+    ap (λ o. cond (e.pc == pc) (Some (entry_in ps constructor max e)) o) (frame_found ps constructor max pc es)
+    ∙ found (entry_in ps constructor max) (e.pc == pc) e (entry_at pc es)
 
-abbrev Pc : MapFrame → ℕ
-Pc f = f.pc
+stray_found : (ps : List Path) (constructor : Bool) (max pc next : ℕ) (is_last : Bool) (es : List Entry)
+    → stray_frame pc next is_last (map (entry_in ps constructor max) es) ≡ option_map (entry_in ps constructor max) (stray_entry pc next is_last es)
+stray_found ps constructor max pc next is_last [] = refl
+stray_found ps constructor max pc next is_last (e ∷ es) =
+    let test = nat_lt pc e.pc && (is_last || nat_lt e.pc next) in
+    ap (λ o. cond test (Some (entry_in ps constructor max e)) o) (stray_found ps constructor max pc next is_last es)
+    ∙ found (entry_in ps constructor max) test e (stray_entry pc next is_last es)
 
-past : (pc next m n : ℕ) (is_last : Bool) → (is_last || ltb m next) ≡ false → m < n → (ltb pc n && (is_last || ltb n next)) ≡ false
-past pc next m n true h up = absurd cc
-past pc next m n false h up =
-    let over = ltb-false m next h in
-    and_right (ltb pc n) (ltb n next) (le-ltb n next (omega arith))
+pc_kept : (ps : List Path) (constructor : Bool) (max : ℕ) (o : Option Entry) → option_map pc_of o ≡ option_map (λ (f : MapFrame). f.pc) (option_map (entry_in ps constructor max) o)
+pc_kept ps constructor max None = refl
+pc_kept ps constructor max (Some e) = refl
 
-none_past : (pc next m low : ℕ) (is_last : Bool) (fs : List MapFrame) → Rises Pc low fs → (is_last || ltb m next) ≡ false → m < low → stray_frame pc next is_last fs ≡ None
-none_past pc next m low is_last [] h test up = refl
-none_past pc next m low is_last (f ∷ fs) h test up =
-    ap (λ t. cond t (Some f) (stray_frame pc next is_last fs)) (past pc next m f.pc is_last test (omega (arith, h.0)))
-    ∙ none_past pc next m (f.pc + 1) is_last fs h.1 test (omega (arith, h.0))
+pub stray_pc : (ps : List Path) (constructor : Bool) (max pc next : ℕ) (is_last : Bool) (es : List Entry)
+    → option_map pc_of (stray_entry pc next is_last es) ≡ option_map (λ (f : MapFrame). f.pc) (stray_frame pc next is_last (map (entry_in ps constructor max) es))
+stray_pc ps constructor max pc next is_last es =
+    pc_kept ps constructor max (stray_entry pc next is_last es) ∙ ap (λ o. option_map (λ (f : MapFrame). f.pc) o) (sym (stray_found ps constructor max pc next is_last es))
 
-head_behind : (pc next : ℕ) (is_last : Bool) (f : MapFrame) (fs : List MapFrame) (b : Bool) → (b ≡ false → stray_frame pc next is_last fs ≡ None)
-    → cond b (Some f) (stray_frame pc next is_last fs) ≡ cond b (Some f) None
-head_behind pc next is_last f fs true none = refl
-head_behind pc next is_last f fs false none = none refl
+-- ---- frames that are kept one after the other
 
-step_behind : (pc next : ℕ) (is_last : Bool) (f : MapFrame) (fs : List MapFrame) → Rises Pc (f.pc + 1) fs → (b : Bool) → leb f.pc pc ≡ b
-    → stray_frame pc next is_last fs ≡ first_stray next is_last (frames_behind pc fs)
-    → stray_frame pc next is_last (f ∷ fs) ≡ first_stray next is_last (drop (cond b (1 + prefix_len (λ (f : MapFrame). nat_le f.pc pc) fs) 0) (f ∷ fs))
-step_behind pc next is_last f fs h true low again =
-    let under = leb-true f.pc pc low in
-    ap (λ t. cond (t && (is_last || nat_lt f.pc next)) (Some f) (stray_frame pc next is_last fs)) (le-ltb pc f.pc (omega arith)) ∙ again
-    ∙ ap (λ n. first_stray next is_last (drop n (f ∷ fs))) (one_more (prefix_len (λ (f : MapFrame). nat_le f.pc pc) fs))
-step_behind pc next is_last f fs h false low again =
-    let over = leb-false f.pc pc low in
-    ap (λ t. cond (t && (is_last || nat_lt f.pc next)) (Some f) (stray_frame pc next is_last fs)) (lt-ltb pc f.pc (omega arith))
-    ∙ head_behind pc next is_last f fs (is_last || nat_lt f.pc next) (λ test. none_past pc next f.pc (f.pc + 1) is_last fs h test (omega arith))
+-- these are kept of the frames of a map, and the rest of its changes comes behind local variables of these paths
+pub record Built (w : World) (class : ℕ) (first : List VType) (changes : List (ℕ × FrameChange)) (paths : List Path) (entries : List Entry) (locals : ℕ) (rest : List (ℕ × FrameChange)) : Type 0 where
+  pub before : List VType
+  pub whole : List (ℕ × FrameTypes)
+  pub at : IsPath paths locals (path_of w class before)
+  pub are : AllZip (IsEntry w class paths) entries whole
+  pub is : whole ++ made_whole before rest ≡ made_whole first changes
 
-pub stray_behind : (pc next : ℕ) (is_last : Bool) (low : ℕ) (fs : List MapFrame) → Rises Pc low fs → stray_frame pc next is_last fs ≡ first_stray next is_last (frames_behind pc fs)
-stray_behind pc next is_last low [] h = refl
-stray_behind pc next is_last low (f ∷ fs) h = step_behind pc next is_last f fs h.1 (leb f.pc pc) refl (stray_behind pc next is_last (f.pc + 1) fs h.1)
+pub built_none : (w : World) (class : ℕ) (first : List VType) (changes : List (ℕ × FrameChange)) (paths : List Path) (locals : ℕ) → IsPath paths locals (path_of w class first)
+    → Built w class first changes paths [] locals changes
+built_none w class first changes paths locals at = record { before = first; whole = []; at = at; are = tt; is = refl }
 
--- ---- frames cut in two
+entry_kept : (w : World) (class : ℕ) (a b : List Path) (e : Entry) (f : ℕ × FrameTypes) → Grows a b → IsEntry w class a e f → IsEntry w class b e f
+entry_kept w class a b e f g h = record { pc = h.pc; locals = kept a b e.locals _ g h.locals; stack = kept a b e.stack _ g h.stack }
 
-pub cut : (p : ℕ → Bool) (n : ℕ) (fs : List Frame) → n ≡ prefix_len (λ (f : Frame). p f.pc) fs
-    → map frame_in (drop n fs) ≡ drop (prefix_len (λ (f : MapFrame). p f.pc) (map frame_in fs)) (map frame_in fs)
-cut p n fs e = sym (drop-map frame_in n fs) ∙ ap (λ k. drop k (map frame_in fs)) (e ∙ sym (prefix_map p fs))
+all_kept : (w : World) (class : ℕ) (a b : List Path) (es : List Entry) (fs : List (ℕ × FrameTypes)) → Grows a b → AllZip (IsEntry w class a) es fs → AllZip (IsEntry w class b) es fs
+all_kept w class a b [] [] g h = tt
+all_kept w class a b [] (f ∷ fs) g h = absurd h
+all_kept w class a b (e ∷ es) [] g h = absurd h
+all_kept w class a b (e ∷ es) (f ∷ fs) g h = (entry_kept w class a b e f g h.0, all_kept w class a b es fs g h.1)
 
-pub rises_unmapped : (low : ℕ) (fs : List Frame) → Rises (λ (f : MapFrame). f.pc) low (map frame_in fs) → Rises (λ (f : Frame). f.pc) low fs
-rises_unmapped low [] h = tt
-rises_unmapped low (f ∷ fs) h = (h.0, rises_unmapped (f.pc + 1) fs h.1)
+one_kept : (w : World) (class : ℕ) (ps : List Path) (es : List Entry) (fs : List (ℕ × FrameTypes)) (e : Entry) (f : ℕ × FrameTypes) → AllZip (IsEntry w class ps) es fs → IsEntry w class ps e f
+    → AllZip (IsEntry w class ps) (es ++ e ∷ []) (fs ++ f ∷ [])
+one_kept w class ps [] [] e f h is = (is, tt)
+one_kept w class ps [] (g ∷ fs) e f h is = absurd h
+one_kept w class ps (d ∷ es) [] e f h is = absurd h
+one_kept w class ps (d ∷ es) (g ∷ fs) e f h is = (h.0, one_kept w class ps es fs e f h.1 is)
 
--- the frames that are kept rise, where none is left
-pub kept_rises : (w : World) (m : MethodInfo) (max : ℕ) (frames : List Frame) (rest list : List (ℕ × FrameTypes)) → length rest ≡ 0
-    → map frame_in frames ++ map (map_frame w m max) rest ≡ map (map_frame w m max) list → Rises pc_of 0 list → Rises (λ (f : Frame). f.pc) 0 frames
-kept_rises w m max frames [] list none e h =
-    rises_unmapped 0 frames (subst (Rises (λ (f : MapFrame). f.pc) 0) (sym e ∙ append-nil (map frame_in frames)) (list_rises w m max 0 list h))
-kept_rises w m max frames (f ∷ rest) list none e h = absurd (omega arith)
+pub built_one : (w : World) (class : ℕ) (first : List VType) (changes : List (ℕ × FrameChange)) (paths new : List Path) (entries : List Entry) (locals : ℕ) (e : Entry) (change : ℕ × FrameChange) (left rest : List (ℕ × FrameChange))
+    → Built w class first changes paths entries locals left → left ≡ change ∷ rest → Grows paths new
+    → ((ls : List VType) → IsPath paths locals (path_of w class ls) → IsEntry w class new e (change.0, types_after ls change.1))
+    → Built w class first changes new (entries ++ e ∷ []) e.locals rest
+built_one w class first changes paths new entries locals e change left rest so_far parted g is =
+    let f : ℕ × FrameTypes = (change.0, types_after so_far.before change.1) in
+    let entry = is so_far.before so_far.at in
+    record {
+      before = locals_after so_far.before change.1.locals;
+      whole = so_far.whole ++ f ∷ [];
+      at = entry.locals;
+      are = one_kept w class new entries so_far.whole e f (all_kept w class paths new entries so_far.whole g so_far.are) entry;
+      is = append_assoc so_far.whole (f ∷ []) (made_whole (locals_after so_far.before change.1.locals) rest) ∙ ap (λ cs. so_far.whole ++ made_whole so_far.before cs) (sym parted) ∙ so_far.is;
+    }
+
+all_are : (w : World) (m : MethodInfo) (max : ℕ) (ps : List Path) (es : List Entry) (fs : List (ℕ × FrameTypes)) → AllZip (IsEntry w m.class ps) es fs
+    → map (entry_in ps (is_constructor m) max) es ≡ map (map_frame w m max) fs
+all_are w m max ps [] [] h = refl
+all_are w m max ps [] (f ∷ fs) h = absurd h
+all_are w m max ps (e ∷ es) [] h = absurd h
+all_are w m max ps (e ∷ es) (f ∷ fs) h =
+    ap (λ x. x ∷ map (entry_in ps (is_constructor m) max) es) (entry_is w m max ps ps e f (grows_not ps) h.0)
+    ∙ ap (λ xs. map_frame w m max f ∷ xs) (all_are w m max ps es fs h.1)
+
+all_whole : (w : World) (class : ℕ) (first : List VType) (changes : List (ℕ × FrameChange)) (paths : List Path) (entries : List Entry) (locals : ℕ) (rest : List (ℕ × FrameChange)) → (h : Built w class first changes paths entries locals rest)
+    → length rest ≡ 0 → h.whole ≡ made_whole first changes
+all_whole w class first changes paths entries locals rest h none =
+    sym (append-nil h.whole) ∙ ap (λ cs. h.whole ++ made_whole h.before cs) (sym (nil_from_length rest none)) ∙ h.is
+
+pub built_all : (w : World) (m : MethodInfo) (max : ℕ) (first : List VType) (changes : List (ℕ × FrameChange)) (paths : List Path) (entries : List Entry) (locals : ℕ) (rest : List (ℕ × FrameChange))
+    → Built w m.class first changes paths entries locals rest → length rest ≡ 0
+    → map (entry_in paths (is_constructor m) max) entries ≡ map (map_frame w m max) (made_whole first changes)
+built_all w m max first changes paths entries locals rest h none =
+    all_are w m max paths entries h.whole h.are ∙ ap (λ fs. map (map_frame w m max) fs) (all_whole w m.class first changes paths entries locals rest h none)
+
+-- ---- and rise
+
+entries_rise : (w : World) (class low : ℕ) (ps : List Path) (es : List Entry) (fs : List (ℕ × FrameTypes)) → AllZip (IsEntry w class ps) es fs → Rises maps.pc_of low fs → Rises pc_of low es
+entries_rise w class low ps [] [] h rises = tt
+entries_rise w class low ps [] (f ∷ fs) h rises = absurd h
+entries_rise w class low ps (e ∷ es) [] h rises = absurd h
+entries_rise w class low ps (e ∷ es) (f ∷ fs) h rises =
+    (omega (arith, rises.0, h.0.pc), entries_rise w class (e.pc + 1) ps es fs h.1 (subst (λ (n : ℕ). Rises maps.pc_of (n + 1) fs) (sym h.0.pc) rises.1))
+
+pub built_rise : (w : World) (class : ℕ) (first : List VType) (changes : List (ℕ × FrameChange)) (paths : List Path) (entries : List Entry) (locals : ℕ) (rest : List (ℕ × FrameChange))
+    → Built w class first changes paths entries locals rest → length rest ≡ 0 → Rises maps.pc_of 0 (made_whole first changes) → AreRising entries
+built_rise w class first changes paths entries locals rest h none rises =
+    entries_rise w class 0 paths entries h.whole h.are (subst (Rises maps.pc_of 0) (sym (all_whole w class first changes paths entries locals rest h none)) rises)

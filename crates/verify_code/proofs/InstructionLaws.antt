@@ -6,7 +6,7 @@ use Rattle.std.specs.List.{list_all}
 use Rattle.std.proofs.lemmas.List.Folds.{list_all-map}
 use Rattle.opcodes.specs.declared.op.Instr.{Instr}
 use Rattle.opcodes.specs.declared.switch.Match.{Match}
-use Rattle.opcodes.specs.Code.{BeginsWith, BeginsWithAll}
+use Rattle.opcodes.specs.Code.{BeginsWithAll}
 use Rattle.opcodes.proofs.CodeLaws.{some_bytes}
 use Rattle.world_model.specs.declared.members.MethodCode.{MethodCode}
 use Rattle.world_model.specs.Decoded.{IsDecoded}
@@ -14,7 +14,7 @@ use Rattle.instruction_rows.specs.Switches.{match_target}
 use Rattle.world_model.specs.declared.sites.Naming.{Naming}
 use Rattle.verify_types.specs.Environment.{Instruction, with_namings}
 use Rattle.verify_code.specs.Environments.{AreInOrder}
-use Rattle.verify_code.specs.Frames.{Rises}
+use Rattle.verify_code.specs.Entries.{Rises}
 
 pub rises_below : {A : Type 0} (pc : A → ℕ) (low high : ℕ) (xs : List A) → low ≤ high → Rises pc high xs → Rises pc low xs
 rises_below pc low high [] up h = tt

@@ -1,5 +1,8 @@
 pub mod Prefixes
+pub mod PathFitLaws
+pub mod FramePathLaws
 pub mod Rising
+pub mod FrameFitLaws
 pub mod FrameLaws
 pub mod InstructionLaws
 pub mod StackMapLaws

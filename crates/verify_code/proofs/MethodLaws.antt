@@ -1,12 +1,11 @@
 -- The first fault of a method and of a world, number by number.
-use Rattle.std.proofs.Common.{◌≡◌, ℕ, zero, suc, ◌+◌, ◌<◌, true, false, List, [], ◌∷◌, ◌++◌, length, Option, Some, None, refl, ap, sym, subst, ◌∙◌, arith}
-use Rattle.std.specs.Prelude.{drop, map}
+use Rattle.std.proofs.Common.{◌≡◌, ℕ, zero, suc, ◌+◌, ◌<◌, List, [], ◌∷◌, length, Option, Some, None, refl, ap, sym, ◌∙◌, arith}
+use Rattle.std.specs.Prelude.{drop}
 use Rattle.std.specs.Option.{option_map, option_map_or}
 use Rattle.std.specs.List.{flat_map, enumerate_from}
 use Rattle.items.specs.Options.{◌>>=◌}
 use Rattle.world_model.specs.declared.members.MethodInfo.{MethodInfo}
 use Rattle.world_model.specs.World.{World}
-use Rattle.verify_types.specs.declared.fault.PcFault.{PcFault}
 use Rattle.verify_types.specs.declared.fault.VerifyFault.{VerifyFault}
 use Rattle.verify_types.specs.Environment.{Environment, environment}
 use Rattle.items.specs.First.{first_some}

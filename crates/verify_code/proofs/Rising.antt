@@ -1,12 +1,13 @@
 -- What is found among things that lie at rising pcs, from a pc on.
-use Rattle.std.proofs.Common.{◌≡◌, ℕ, zero, suc, ◌+◌, ◌<◌, ◌≤◌, true, false, Bool, cond, ltb, eqb, List, [], ◌∷◌, length, get_or, Option, Some, None, refl, ap, ◌∙◌, arith}
-use Rattle.std.specs.Prelude.{drop, find, nat_lt, ◌==◌}
+use Rattle.std.proofs.Common.{◌≡◌, ℕ, zero, suc, ◌+◌, ◌<◌, ◌≤◌, true, false, Bool, cond, ltb, leb, eqb, List, [], ◌∷◌, length, get_or, Option, Some, None, refl, ap, ◌∙◌, arith}
+use Rattle.std.specs.Prelude.{drop, find, nat_le, nat_lt, ◌==◌, ◌&&◌, ◌||◌}
 use Rattle.std.specs.List.{prefix_len}
 use Rattle.std.specs.List.Sorted.{IsNonDecreasingBy}
-use Rattle.std.proofs.lemmas.Bool.{ltb-true, ltb-false, eqb-false, ne_eqb}
+use Rattle.std.proofs.lemmas.Bool.{ltb-true, ltb-false, leb-true, leb-false, lt-ltb, le-ltb, eqb-false, ne_eqb, and_right}
 use Rattle.std.proofs.lemmas.Bool.Decides.{nat_tests}
 use Rattle.verify_code.proofs.Prefixes.{one_more}
-use Rattle.verify_code.specs.Frames.{Rises, first_at}
+use Rattle.verify_code.specs.declared.frame_paths.Entry.{Entry}
+use Rattle.verify_code.specs.Entries.{Rises, first_at, first_stray, entries_behind, pc_of, stray_entry}
 
 low_first : {A : Type 0} (pc : A → ℕ) (low : ℕ) (xs : List A) → Rises pc low xs → (k : ℕ) (d : A) → k < length xs → low ≤ pc (get_or xs k d)
 low_first pc low [] h k d below = absurd (omega arith)
@@ -47,3 +48,39 @@ pub found_from : {A : Type 0} (pc : A → ℕ) (n low : ℕ) (xs : List A) → R
     → find (λ x. pc x == n) xs ≡ first_at pc n (drop (prefix_len (λ x. nat_lt (pc x) n) xs) xs)
 found_from pc n low [] h = refl
 found_from pc n low (x ∷ xs) h = step_from pc n x xs h.1 (ltb (pc x) n) refl (found_from pc n (pc x + 1) xs h.1)
+
+-- ---- the first behind a pc
+
+past : (pc next m n : ℕ) (is_last : Bool) → (is_last || ltb m next) ≡ false → m < n → (ltb pc n && (is_last || ltb n next)) ≡ false
+past pc next m n true h up = absurd cc
+past pc next m n false h up =
+    let over = ltb-false m next h in
+    and_right (ltb pc n) (ltb n next) (le-ltb n next (omega arith))
+
+none_past : (pc next m low : ℕ) (is_last : Bool) (es : List Entry) → Rises pc_of low es → (is_last || ltb m next) ≡ false → m < low → stray_entry pc next is_last es ≡ None
+none_past pc next m low is_last [] h test up = refl
+none_past pc next m low is_last (e ∷ es) h test up =
+    ap (λ t. cond t (Some e) (stray_entry pc next is_last es)) (past pc next m e.pc is_last test (omega (arith, h.0)))
+    ∙ none_past pc next m (e.pc + 1) is_last es h.1 test (omega (arith, h.0))
+
+head_behind : (pc next : ℕ) (is_last : Bool) (e : Entry) (es : List Entry) (b : Bool) → (b ≡ false → stray_entry pc next is_last es ≡ None)
+    → cond b (Some e) (stray_entry pc next is_last es) ≡ cond b (Some e) None
+head_behind pc next is_last e es true none = refl
+head_behind pc next is_last e es false none = none refl
+
+step_behind : (pc next : ℕ) (is_last : Bool) (e : Entry) (es : List Entry) → Rises pc_of (e.pc + 1) es → (b : Bool) → leb e.pc pc ≡ b
+    → stray_entry pc next is_last es ≡ first_stray next is_last (entries_behind pc es)
+    → stray_entry pc next is_last (e ∷ es) ≡ first_stray next is_last (drop (cond b (1 + prefix_len (λ (e : Entry). nat_le e.pc pc) es) 0) (e ∷ es))
+step_behind pc next is_last e es h true low again =
+    let under = leb-true e.pc pc low in
+    ap (λ t. cond (t && (is_last || nat_lt e.pc next)) (Some e) (stray_entry pc next is_last es)) (le-ltb pc e.pc (omega arith)) ∙ again
+    ∙ ap (λ n. first_stray next is_last (drop n (e ∷ es))) (one_more (prefix_len (λ (e : Entry). nat_le e.pc pc) es))
+step_behind pc next is_last e es h false low again =
+    let over = leb-false e.pc pc low in
+    ap (λ t. cond (t && (is_last || nat_lt e.pc next)) (Some e) (stray_entry pc next is_last es)) (lt-ltb pc e.pc (omega arith))
+    ∙ head_behind pc next is_last e es (is_last || nat_lt e.pc next) (λ test. none_past pc next e.pc (e.pc + 1) is_last es h test (omega arith))
+
+-- the first that lies behind a pc, and before the next instruction, is the first of those behind the pc
+pub stray_behind : (pc next : ℕ) (is_last : Bool) (low : ℕ) (es : List Entry) → Rises pc_of low es → stray_entry pc next is_last es ≡ first_stray next is_last (entries_behind pc es)
+stray_behind pc next is_last low [] h = refl
+stray_behind pc next is_last low (e ∷ es) h = step_behind pc next is_last e es h.1 (leb e.pc pc) refl (stray_behind pc next is_last (e.pc + 1) es h.1)

@@ -1,5 +1,5 @@
 -- The frames of a map rise.
-use Rattle.std.proofs.Common.{◌≡◌, ℕ, ◌+◌, ◌≤◌, List, [], ◌∷◌, ◌++◌, Some, ap, sym, arith}
+use Rattle.std.proofs.Common.{◌≡◌, ℕ, ◌+◌, List, [], ◌∷◌, Some, ap, sym, arith}
 use Rattle.std.specs.Prelude.{map}
 use Rattle.std.specs.Result.{result_ok}
 use Rattle.stack_maps.specs.declared.types.VType.{VType}
@@ -10,7 +10,7 @@ use Rattle.stack_maps.proofs.MapLaws.{table_again}
 use Rattle.world_model.specs.declared.members.MethodInfo.{MethodInfo}
 use Rattle.world_model.specs.World.{World}
 use Rattle.verify_types.specs.Environment.{MapFrame, map_frame}
-use Rattle.verify_code.specs.Frames.{Rises, frame_in}
+use Rattle.verify_code.specs.Entries.{Rises}
 use Rattle.verify_code.specs.StackMaps.{pc_of}
 
 whole_rises : (next : ℕ) (before : List VType) (fs : List Frame) → Rises pc_of next (whole_frames next before fs)

@@ -1,7 +1,7 @@
 -- One step of the walk, and the first fault at the instructions from there on.
-use Rattle.std.proofs.Common.{◌≡◌, ℕ, Bool, true, false, cond, List, [], ◌∷◌, ◌++◌, length, Option, Some, None, Result, Ok, Err, refl, ap, sym, subst, ◌∙◌, arith}
+use Rattle.std.proofs.Common.{◌≡◌, Bool, true, false, cond, List, [], ◌∷◌, ◌++◌, length, Option, Some, None, Result, Ok, Err, refl, ap, sym, subst, ◌∙◌, arith}
 use Rattle.std.specs.Prelude.{map, filter, find, not, is_some, is_none, nat_eq, get_or, drop}
-use Rattle.std.specs.Option.{option_map, option_map_or}
+use Rattle.std.specs.Option.{option_map}
 use Rattle.std.specs.List.{flat_map}
 use Rattle.std.proofs.lemmas.Bool.{ne_eqb}
 use Rattle.opcodes.specs.declared.op.Instr.{Instr}
@@ -13,7 +13,7 @@ use Rattle.verify_types.specs.declared.why.VerifyWhy.{VerifyWhy}
 use Rattle.verify_types.specs.declared.why.VerifyWhy.TheVariants as whys
 use Rattle.verify_types.specs.declared.fault.PcFault.{PcFault}
 use Rattle.verify_types.specs.TypeStates.{TypeState}
-use Rattle.verify_types.specs.Environment.{Instruction, MapFrame, Environment, map_at, with_namings}
+use Rattle.verify_types.specs.Environment.{MapFrame, Environment, map_at, with_namings}
 use Rattle.verify_types.specs.Effects.{state_after}
 use Rattle.verify_types.specs.Walk.{Placed, is_end, placed, behind, standing}
 use Rattle.items.specs.First.{unless, first_some}

@@ -1,6 +1,5 @@
 -- What is kept beside the tables of a method.
 use Rattle.std.specs.Prelude.{◌≡◌, ℕ, ◌<◌, ◌^◌, true, List, [], ◌∷◌}
-use Rattle.opcodes.specs.declared.op.Instr.{Instr}
 use Rattle.verify_types.specs.Environment.{MapFrame, Instruction, Environment}
 
 -- the instructions stand one behind the other, the first at this pc, in fewer than 65,536 bytes (JVMS 4.7.3)

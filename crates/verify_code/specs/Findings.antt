@@ -1,11 +1,10 @@
 -- What is found at one instruction, and the first rule that is broken there.
-use Rattle.std.specs.Prelude.{Bool, true, not, List, [], ◌∷◌, Option, Some, None, nat_le, length, ◌&&◌}
+use Rattle.std.specs.Prelude.{Bool, not, List, [], ◌∷◌, Option, ◌&&◌}
 use Rattle.std.specs.List.{list_all}
 use Rattle.opcodes.specs.declared.op.Instr.{Instr}
 use Rattle.instruction_rows.specs.declared.row_why.RowWhy.{RowWhy}
 use Rattle.instruction_rows.specs.declared.row_why.RowWhy.TheVariants as row_whys
 use Rattle.instruction_rows.specs.Rows.{targets_of_row, row_goes_on}
-use Rattle.instruction_rows.specs.Table.{row}
 use Rattle.world_model.specs.declared.sites.Naming.{Naming}
 use Rattle.verify_types.specs.declared.why.VerifyWhy.{VerifyWhy}
 use Rattle.verify_types.specs.declared.why.VerifyWhy.TheVariants as whys

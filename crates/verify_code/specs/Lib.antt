@@ -1,3 +1,6 @@
+pub mod PathFits
+pub mod FramePaths
+pub mod Entries
 pub mod Frames
 pub mod Environments
 pub mod Findings

@@ -1,6 +1,6 @@
 -- The first fault of the method of a number.
-use Rattle.std.specs.Prelude.{ℕ, [], Option}
-use Rattle.std.specs.Option.{option_map, option_map_or}
+use Rattle.std.specs.Prelude.{ℕ, Option}
+use Rattle.std.specs.Option.{option_map}
 use Rattle.items.specs.Options.{◌>>=◌}
 use Rattle.world_model.specs.World.{World}
 use Rattle.verify_types.specs.declared.fault.VerifyFault.{VerifyFault}

@@ -2,15 +2,13 @@
 
 ghost use Rattle.std.specs.Prelude.{◌≡◌, ◌++◌, IfOk, OnOk, map};
 ghost use Rattle.std.specs.List.{list_any};
-ghost use Rattle.std.specs.Option.{option_map};
 ghost use Rattle.instruction_rows.specs.Contents.{slot_types, types_of};
 ghost use Rattle.verify_types.specs.ClassTypes as types;
 ghost use Rattle.verify_types.specs.Environment as spec;
 ghost use Rattle.verify_types.specs.TypeStates.{is_this, padded};
 ghost use Rattle.verify_instructions.specs.Views.{state_in};
-ghost use Rattle.verify_code.specs.Frames.{frame_in};
+ghost use Rattle.verify_code.specs.FramePaths.{state_where};
 
-use crate::frames::Frame;
 use class_model::ACC_STATIC;
 use descriptors::Kind;
 use instruction_rows::is_wide;
@@ -18,7 +16,7 @@ use items::{Items, NoMemory};
 use stack_maps::{FrameTypes, VType};
 use std::alloc::{AllocError, Global};
 use verify_instructions::{State, Types, is_constructor};
-use verify_types::{resolve, type_of_kind};
+use verify_types::type_of_kind;
 use world_model::{Lookups, MethodInfo};
 
 // The receiver of a method of instances.
@@ -105,6 +103,24 @@ fn has_this(types: &[VType]) -> bool
     types.iter().any(|t| matches!(*t, VType::UninitThis))
 }
 
+/// The state that the types of a frame mean, in a constructor or not.
+pub fn state_where(
+    alloc: Global,
+    is_constructor: bool,
+    max_locals: u16,
+    frame: &FrameTypes,
+) -> Result<State, NoMemory>
+    ensures { IfOk result (λ s. state_in s ≡
+        state_where is_constructor max_locals frame.now) }
+{
+    let locals = local_slots(alloc, max_locals, &frame.locals)?;
+    let stack = slots(alloc, &frame.stack)?;
+    Ok(State {
+        types: Types::new(locals, stack),
+        this_uninit: is_constructor && has_this(&frame.locals),
+    })
+}
+
 /// The state that the types of a frame mean in the code of a method.
 pub fn state_of(
     alloc: Global,
@@ -114,68 +130,5 @@ pub fn state_of(
 ) -> Result<State, NoMemory>
     ensures { IfOk result (λ s. state_in s ≡ spec.state_of m.now max_locals frame.now) }
 {
-    let locals = local_slots(alloc, max_locals, &frame.locals)?;
-    let stack = slots(alloc, &frame.stack)?;
-    Ok(State {
-        types: Types::new(locals, stack),
-        this_uninit: is_constructor(m) && has_this(&frame.locals),
-    })
-}
-
-// The types with their constants resolved. `None`: one of these is no class.
-fn all_resolved<L: Lookups>(
-    alloc: Global,
-    w: &L,
-    class: u32,
-    types: &[VType],
-) -> Result<Option<Items<VType>>, NoMemory>
-    ensures { IfOk result (λ ts. ts ≡ spec.all_resolved (L.world w.now) class types.now) }
-{
-    let mut resolved = Vec::with_capacity(alloc, types.len())?;
-    let mut rest = types;
-    while let Some((t, behind)) = rest.split_first() {
-        let Some(u) = resolve(w, class, *t) else {
-            return Ok(None);
-        };
-        resolved.push(u)?;
-        rest = behind;
-    }
-    Ok(Some(Items::from(resolved)))
-}
-
-// The frame with its constants resolved. `None`: one of these is no class.
-fn resolved_frame<L: Lookups>(
-    alloc: Global,
-    w: &L,
-    class: u32,
-    frame: &FrameTypes,
-) -> Result<Option<FrameTypes>, NoMemory>
-    ensures { IfOk result (λ f. f ≡ spec.resolved_frame (L.world w.now) class frame.now) }
-{
-    let Some(locals) = all_resolved(alloc, w, class, &frame.locals)? else {
-        return Ok(None);
-    };
-    let Some(stack) = all_resolved(alloc, w, class, &frame.stack)? else {
-        return Ok(None);
-    };
-    Ok(Some(FrameTypes { locals, stack }))
-}
-
-/// The frame of a stack map that has these types.
-pub fn map_frame<L: Lookups>(
-    alloc: Global,
-    w: &L,
-    m: &MethodInfo,
-    max_locals: u16,
-    pc: u32,
-    types: &FrameTypes,
-) -> Result<Frame, NoMemory>
-    ensures { IfOk result (λ f. frame_in f ≡
-        spec.map_frame (L.world w.now) m.now max_locals (pc, types.now)) }
-{
-    let state = match resolved_frame(alloc, w, m.class, types)? {
-        Some(types) => Some(state_of(alloc, m, max_locals, &types)?),
-        None => None,
-    };
-    Ok(Frame { pc, state })
+    state_where(alloc, is_constructor(m), max_locals, frame)
 }

@@ -54,10 +54,7 @@ impl<'a, L: Lookups> Environment<'a, L> {
         let Some(frame) = self.frames.at(pc) else {
             return false;
         };
-        match &frame.state {
-            Some(other) => s.fits_caught(self.world, caught, other),
-            None => true,
-        }
+        frame.fits_caught(self.world, s, caught)
     }
 
     // Whether a handler catches exceptions, and the state at it fits a frame of the stack map.

@@ -2,13 +2,17 @@
 #![tactic(auto)]
 
 mod checked;
+mod entries;
 mod environment;
 mod findings;
+mod frame;
+mod frame_paths;
 mod frame_state;
 mod frames;
 mod handlers;
 mod instructions;
 mod method_fault;
+mod path_fits;
 mod stack_map;
 mod targets;
 mod walk;

@@ -14,7 +14,7 @@ ghost use Rattle.verify_instructions.specs.Views.{state_in};
 ghost use Rattle.verify_code.specs.Frames.{frame_in};
 
 use crate::environment::Environment;
-use crate::frames::Frame;
+use crate::frame::Frame;
 use crate::instructions::has_instruction;
 use opcodes::{Instr, LookupSwitch, Match, Op, TableSwitch};
 use verify_instructions::{State, goes_on};
@@ -100,13 +100,10 @@ impl<'a, L: Lookups> Environment<'a, L> {
     }
 
     /// Whether a state fits a frame of the stack map. One that names a constant that is no class isn't judged here.
-    pub fn fits_frame(&self, s: &State, frame: &Frame) -> bool
+    pub fn fits_frame(&self, s: &State, frame: &Frame<'_>) -> bool
         ensures { result ≡ handlers.fits_frame self.now (state_in s.now) (frame_in frame.now) }
     {
-        match &frame.state {
-            Some(other) => s.fits(self.world, other),
-            None => true,
-        }
+        frame.fits(self.world, s)
     }
 
     /// Whether a state fits the frame of the stack map at a pc, if there is one.
@@ -115,7 +112,7 @@ impl<'a, L: Lookups> Environment<'a, L> {
             option_map_or (handlers.fits_frame self.now (state_in s.now)) (map_at self.now pc) true }
     {
         match self.frames.at(pc) {
-            Some(frame) => self.fits_frame(s, frame),
+            Some(frame) => self.fits_frame(s, &frame),
             None => true,
         }
     }

@@ -87,13 +87,10 @@ impl<'a, L: Lookups> Environment<'a, L> {
             });
         };
         let fits = match &before {
-            Some(s) => !is_entry || self.fits_frame(s, frame),
+            Some(s) => !is_entry || self.fits_frame(s, &frame),
             None => true,
         };
-        let state = match &frame.state {
-            Some(s) => Some(s.copy(alloc)?),
-            None => None,
-        };
+        let state = frame.state(alloc)?;
         Ok(Arrival { state, fits })
     }
 
@@ -230,8 +227,8 @@ impl<'a, L: Lookups> Environment<'a, L> {
         match self.pass(alloc, arrival, i, naming, is_last)? {
             Passage::Broken(why) => Ok(Step::Fault(PcFault { pc: i.pc, why })),
             Passage::On(after) => match self.frames.stray(i.pc, i.next, is_last) {
-                Some(frame) => Ok(Step::Fault(PcFault {
-                    pc: frame.pc,
+                Some(pc) => Ok(Step::Fault(PcFault {
+                    pc,
                     why: VerifyWhy::Map,
                 })),
                 None => Ok(Step::On(after)),

@@ -34,7 +34,7 @@ swapped true false c = refl
 swapped false true c = refl
 swapped false false c = refl
 
-none_to_more : {A : Type 0} (E : A → A → Bool) (xs : List A) (x : A) → pointwise E [] (xs ++ x ∷ []) ≡ false
+pub none_to_more : {A : Type 0} (E : A → A → Bool) (xs : List A) (x : A) → pointwise E [] (xs ++ x ∷ []) ≡ false
 none_to_more E [] x = refl
 none_to_more E (y ∷ xs) x = refl
 
@@ -42,7 +42,7 @@ more_to_none : {A : Type 0} (E : A → A → Bool) (xs : List A) (x : A) → poi
 more_to_none E [] x = refl
 more_to_none E (y ∷ xs) x = refl
 
-last_pair : {A : Type 0} (E : A → A → Bool) (xs ys : List A) (x y : A) → pointwise E (xs ++ x ∷ []) (ys ++ y ∷ []) ≡ (E x y && pointwise E xs ys)
+pub last_pair : {A : Type 0} (E : A → A → Bool) (xs ys : List A) (x y : A) → pointwise E (xs ++ x ∷ []) (ys ++ y ∷ []) ≡ (E x y && pointwise E xs ys)
 last_pair E [] [] x y = refl
 last_pair E [] (b ∷ ys) x y = ap (λ r. E x b && r) (none_to_more E ys y) ∙ and_false (E x b) ∙ sym (and_false (E x y))
 last_pair E (a ∷ xs) [] x y = ap (λ r. E a y && r) (more_to_none E xs x) ∙ and_false (E a y) ∙ sym (and_false (E x y))

@@ -57,6 +57,20 @@ impl Types {
         })
     }
 
+    /// The types of the local variables.
+    pub fn locals(&self) -> &[VType]
+        ensures { result.now ≡ self.now.locals }
+    {
+        &self.locals
+    }
+
+    /// The types of the operand stack, its top last.
+    pub fn stack(&self) -> &[VType]
+        ensures { reverse result.now ≡ self.now.stack }
+    {
+        &self.stack
+    }
+
     // Takes a long.
     fn pop_long(&mut self) -> Result<VType, Stop>
         ensures popped { Takes result self.new.stack (spec.type_popped Kind.Long self.old.stack) }

@@ -11,7 +11,7 @@ use Rattle.opcodes.specs.declared.op.Kind.TheVariants as kinds
 use Rattle.stack_maps.specs.declared.types.Base.TheVariants as bases
 use Rattle.stack_maps.specs.declared.types.VType.{VType}
 use Rattle.stack_maps.specs.declared.types.VType.TheVariants as types
-use Rattle.stack_maps.specs.Readers.{type_at, wide_frame_at, frame_at, frames_at, table_of}
+use Rattle.stack_maps.specs.Readers.{type_at, wide_frame_at, frame_at, changes_at, changes_of, table_of}
 use Rattle.world_model.specs.declared.members.MethodInfo.{MethodInfo}
 use Rattle.world_model.specs.declared.members.MethodCode.{MethodCode}
 use Rattle.descriptors.specs.declared.kind.ElementType.TheVariants as elements
@@ -120,60 +120,60 @@ frame_of type = 0 ∷ 1 ∷ 255 ∷ 0 ∷ 5 ∷ 0 ∷ 1 ∷ type ∷ 0 ∷ 0 ∷
 
 -- a long in the first local variable isn't an int
 wrong_frame : IsRefused (method static_method with_goto [] (frame_of 1)) 2 whys.Frame
-unfolding type_at wide_frame_at frame_at frames_at table_of
+unfolding type_at wide_frame_at frame_at changes_at changes_of table_of
 wrong_frame = refl
 
 right_frame : IsWell (method static_method with_goto [] (frame_of 4))
-unfolding type_at wide_frame_at frame_at frames_at table_of
+unfolding type_at wide_frame_at frame_at changes_at changes_of table_of
 right_frame = refl
 
 -- Top takes either half
 top_frame : IsWell (method static_method with_goto [] (frame_of 0))
-unfolding type_at wide_frame_at frame_at frames_at table_of
+unfolding type_at wide_frame_at frame_at changes_at changes_of table_of
 top_frame = refl
 
 -- without a frame the goto has no target
 no_frame : IsRefused (method static_method with_goto [] (0 ∷ 0 ∷ [])) 2 whys.Target
-unfolding type_at wide_frame_at frame_at frames_at table_of
+unfolding type_at wide_frame_at frame_at changes_at changes_of table_of
 no_frame = refl
 
 -- the map ends in a field
 short_map : IsRefused (method static_method with_goto [] (0 ∷ 1 ∷ [])) 0 whys.Map
-unfolding type_at wide_frame_at frame_at frames_at table_of
+unfolding type_at wide_frame_at frame_at changes_at changes_of table_of
 short_map = refl
 
 -- a frame between instructions: same locals, at 4
 stray_frame : IsRefused (method static_method (at 0 1 (ops.PushLong (pos 0)) ∷ at 1 2 (ops.Store kinds.Long 0) ∷ at 2 5 (ops.Store kinds.Int 0) ∷ []) [] (0 ∷ 1 ∷ 4 ∷ [])) 2 whys.Depth
-unfolding type_at wide_frame_at frame_at frames_at table_of
+unfolding type_at wide_frame_at frame_at changes_at changes_of table_of
 stray_frame = refl
 
 stray_after : IsRefused (method static_method (at 0 3 (ops.PushInt (pos 0)) ∷ at 3 4 return ∷ []) [] (0 ∷ 1 ∷ 2 ∷ [])) 2 whys.Map
-unfolding type_at wide_frame_at frame_at frames_at table_of
+unfolding type_at wide_frame_at frame_at changes_at changes_of table_of
 stray_after = refl
 
 -- code that runs past its end
 no_return : IsRefused (method static_method (at 0 1 (ops.PushInt (pos 0)) ∷ []) [] (0 ∷ 0 ∷ [])) 0 whys.End
-unfolding type_at wide_frame_at frame_at frames_at table_of
+unfolding type_at wide_frame_at frame_at changes_at changes_of table_of
 no_return = refl
 
 -- three operands where there may be two
 too_deep : IsRefused (method static_method (at 0 1 (ops.PushInt (pos 0)) ∷ at 1 2 (ops.PushLong (pos 0)) ∷ at 2 3 return ∷ []) [] (0 ∷ 0 ∷ [])) 1 whys.Depth
-unfolding type_at wide_frame_at frame_at frames_at table_of
+unfolding type_at wide_frame_at frame_at changes_at changes_of table_of
 too_deep = refl
 
 -- a return behind which nothing stands
 wrong_return : IsRefused (method static_method (at 0 1 (ops.PushInt (pos 0)) ∷ at 1 2 (ops.Simple (simples.ReturnValue kinds.Int)) ∷ []) [] (0 ∷ 0 ∷ [])) 1 whys.Return
-unfolding type_at wide_frame_at frame_at frames_at table_of
+unfolding type_at wide_frame_at frame_at changes_at changes_of table_of
 wrong_return = refl
 
 -- a constructor that calls no other
 unfinished : IsRefused (method constructor (at 0 1 return ∷ []) [] (0 ∷ 0 ∷ [])) 0 whys.Init
-unfolding type_at wide_frame_at frame_at frames_at table_of
+unfolding type_at wide_frame_at frame_at changes_at changes_of table_of
 unfinished = refl
 
 -- a handler without a frame; the exception is of a class that isn't there
 no_handler : IsRefused (method static_method (at 0 1 return ∷ at 1 2 return ∷ []) (record { start = 0; end = 1; handler = 1; catch_type = 0 } ∷ []) (0 ∷ 0 ∷ [])) 0 whys.Frame
-unfolding type_at wide_frame_at frame_at frames_at table_of
+unfolding type_at wide_frame_at frame_at changes_at changes_of table_of
 no_handler = refl
 
 -- ---- objects that are created
@@ -205,22 +205,22 @@ abbrev new_dup_init : Op → List Instr
 new_dup_init op = at 0 3 (ops.New 1) ∷ at 3 4 (ops.Simple simples.Dup) ∷ at 4 7 (ops.InvokeSpecial 2) ∷ at 7 8 op ∷ at 8 9 return ∷ []
 
 made_and_initialized : IsWell (created static_method (new_dup_init (ops.Store kinds.Reference 0)) [] (class_a ∷ plain ∷ constructor_a ∷ []))
-unfolding type_at wide_frame_at frame_at frames_at table_of
+unfolding type_at wide_frame_at frame_at changes_at changes_of table_of
 made_and_initialized = refl
 
 -- `<init>` of the same object twice
 initialized_twice : IsRefused (created static_method (new_dup_init (ops.InvokeSpecial 2)) [] (class_a ∷ plain ∷ constructor_a ∷ constructor_a ∷ [])) 7 whys.Init
-unfolding type_at wide_frame_at frame_at frames_at table_of
+unfolding type_at wide_frame_at frame_at changes_at changes_of table_of
 initialized_twice = refl
 
 -- the constructor of another class than that of the object
 of_another_class : IsRefused (created static_method (new_dup_init (ops.Store kinds.Reference 0)) [] (class_a ∷ plain ∷ constructor_of_object ∷ [])) 4 whys.Init
-unfolding type_at wide_frame_at frame_at frames_at table_of
+unfolding type_at wide_frame_at frame_at changes_at changes_of table_of
 of_another_class = refl
 
 -- an object that isn't initialized is no array
 length_of_new : IsRefused (created static_method (at 0 3 (ops.New 1) ∷ at 3 4 (ops.Simple simples.ArrayLength) ∷ at 4 5 return ∷ []) [] (class_a ∷ [])) 3 whys.Kind
-unfolding type_at wide_frame_at frame_at frames_at table_of
+unfolding type_at wide_frame_at frame_at changes_at changes_of table_of
 length_of_new = refl
 
 -- aload_0, invokespecial A.<init>, return
@@ -228,7 +228,7 @@ abbrev calls_this : List Instr
 calls_this = at 0 1 aload_0 ∷ at 1 4 (ops.InvokeSpecial 2) ∷ at 4 5 return ∷ []
 
 this_initialized : IsWell (created constructor calls_this [] (plain ∷ constructor_a ∷ []))
-unfolding type_at wide_frame_at frame_at frames_at table_of
+unfolding type_at wide_frame_at frame_at changes_at changes_of table_of
 this_initialized = refl
 
 -- the same in the range of a row of the exception table
@@ -236,16 +236,16 @@ abbrev all_covered : Row
 all_covered = record { start = 0; end = 4; handler = 4; catch_type = 0 }
 
 this_in_range : IsRefused (environment_of names constructor (code_of calls_this (all_covered ∷ []) (0 ∷ 1 ∷ 68 ∷ 0 ∷ [])) (plain ∷ constructor_a ∷ []) []) 1 whys.Init
-unfolding type_at wide_frame_at frame_at frames_at table_of
+unfolding type_at wide_frame_at frame_at changes_at changes_of table_of
 this_in_range = refl
 
 -- a field of the class may be set before another constructor is called, and not be got
 field_set_early : IsWell (created constructor (at 0 1 aload_0 ∷ at 1 2 (ops.PushInt (pos 0)) ∷ at 2 5 (ops.PutField 3) ∷ at 5 6 aload_0 ∷ at 6 9 (ops.InvokeSpecial 2) ∷ at 9 10 return ∷ []) [] (plain ∷ plain ∷ field_a ∷ plain ∷ constructor_a ∷ []))
-unfolding type_at wide_frame_at frame_at frames_at table_of
+unfolding type_at wide_frame_at frame_at changes_at changes_of table_of
 field_set_early = refl
 
 field_gotten_early : IsRefused (created constructor (at 0 1 aload_0 ∷ at 1 4 (ops.GetField 3) ∷ at 4 5 return ∷ []) [] (plain ∷ field_a ∷ [])) 1 whys.Kind
-unfolding type_at wide_frame_at frame_at frames_at table_of
+unfolding type_at wide_frame_at frame_at changes_at changes_of table_of
 field_gotten_early = refl
 
 -- ---- exception handlers
@@ -256,10 +256,10 @@ handled map = method static_method (at 0 1 (ops.Simple simples.Nop) ∷ at 1 2 r
 
 -- a frame at 2 with one item on the stack, Top
 with_handler : IsWell (handled (0 ∷ 1 ∷ 66 ∷ 0 ∷ []))
-unfolding type_at wide_frame_at frame_at frames_at table_of
+unfolding type_at wide_frame_at frame_at changes_at changes_of table_of
 with_handler = refl
 
 -- a frame with an empty stack can't take the exception
 stackless_handler : IsRefused (handled (0 ∷ 1 ∷ 2 ∷ [])) 0 whys.Handler
-unfolding type_at wide_frame_at frame_at frames_at table_of
+unfolding type_at wide_frame_at frame_at changes_at changes_of table_of
 stackless_handler = refl

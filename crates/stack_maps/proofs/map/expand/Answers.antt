@@ -1,15 +1,12 @@
-use Rattle.std.proofs.Common.{arith}
-use Rattle.stack_maps.proofs.MapLaws.{table_takes, table_again}
+use Rattle.std.proofs.Common.{ap, sym, ◌∙◌}
+use Rattle.std.proofs.lemmas.Result.{err_from_is_err_and}
+use Rattle.stack_maps.specs.Changes.{made_whole}
 use Rattle.stack_maps.proofs.map.expand.Goals as goal
 
-pub returns-in-Ok-clause-found : goal.returns-in-Ok-clause-found
-returns-in-Ok-clause-found c = table_takes c.args.first.now c.args.bytes.now _ (λ i. omega (arith, c.type_inv.bytes i)) c.in-Ok.ensures
+pub returns-in_err-changes-clause-only : goal.returns-in_err-changes-clause-only
+returns-in_err-changes-clause-only c = λ frames m.
+    let p = err_from_is_err_and c.from_residual.result c.from_residual.ensures.1 in
+    rw (p.1, p.2) (c.in_err-changes.ensures.only frames m)
 
-pub returns-in-Ok-clause-only : goal.returns-in-Ok-clause-only
-returns-in-Ok-clause-only c = λ frames m. let again = table_again c.args.first.now c.args.bytes.now frames m in cc (c.in-Ok.ensures)
-
-pub returns-in-Err-Fault-clause-only : goal.returns-in-Err-Fault-clause-only
-returns-in-Err-Fault-clause-only c = λ frames m.
-    let again = table_again c.args.first.now c.args.bytes.now frames m in
-    let fault = rw c.in-Err-Fault.field-0-is at c.in-Err-Fault.ensures in
-    absurd cc
+pub returns-clause-only : goal.returns-clause-only
+returns-clause-only c = λ frames m. c.in_ok-made_whole.ensures ∙ ap (λ ls. made_whole ls c.deref-2.result.now) c.deref.ensures ∙ ap (made_whole c.args.first.now.locals) c.deref-2.ensures.value ∙ c.in_ok-changes.ensures.only frames m

@@ -1,6 +1,5 @@
-use Rattle.std.proofs.Common.{◌≡◌, List, Option, None, Some, ap, subst, sym, ◌∙◌}
+use Rattle.std.proofs.Common.{◌≡◌, ℕ, List, Option, None, Some, refl, ap, subst, sym, ◌∙◌}
 use Rattle.std.specs.Option.{option_map}
-use Rattle.std.specs.Option.{option_copied}
 use Rattle.verify_types.specs.declared.why.VerifyWhy.TheVariants as whys
 use Rattle.verify_types.specs.TypeStates.{TypeState}
 use Rattle.verify_types.specs.Environment.{MapFrame, Environment}
@@ -8,10 +7,15 @@ use Rattle.verify_types.specs.Walk.{standing}
 use Rattle.verify_types.specs.Faults.{pc_fault}
 use Rattle.verify_instructions.specs.Views.{state_in}
 use Rattle.verify_code.specs.declared.walk.Passage.{Passage}
-use Rattle.verify_code.specs.Frames.{frame_in, stray_frame}
+use Rattle.verify_code.specs.Frames.{stray_frame}
 use Rattle.verify_code.specs.Walks.{IsPassage, entry_of, place}
 use Rattle.verify_code.proofs.WalkLaws.{broken_there, stray_there}
 use Rattle.verify_code.proofs.environment.Environment.step.Goals as goal
+
+-- the fault of a frame by its pc alone
+fault_at : (o : Option MapFrame) → option_map (λ (f : MapFrame). pc_fault f.pc whys.Map) o ≡ option_map (λ pc. pc_fault pc whys.Map) (option_map (λ (f : MapFrame). f.pc) o)
+fault_at None = refl
+fault_at (Some f) = refl
 
 pub returns-in-Broken : goal.returns-in-Broken
 returns-in-Broken g c =
@@ -38,7 +42,8 @@ returns-in-Some g c =
     stray_there env p on.none
     ∙ ap (λ (fs : List MapFrame). option_map (λ (f : MapFrame). pc_fault f.pc whys.Map) (stray_frame c.args.i.now.pc c.args.i.now.next c.args.is_last fs))
     (sym (c.self.invariant.are ∙ ap (λ (e : Environment). e.map) c.self.view_is))
-    ∙ ap (λ (o : Option MapFrame). option_map (λ (f : MapFrame). pc_fault f.pc whys.Map) o) (sym c.stray.ensures ∙ ap (λ r. option_map frame_in (option_copied r)) c.in-Some.is)
+    ∙ fault_at (stray_frame c.args.i.now.pc c.args.i.now.next c.args.is_last c.self.inside.frames)
+    ∙ ap (λ (o : Option ℕ). option_map (λ pc. pc_fault pc whys.Map) o) (sym c.stray.ensures ∙ c.in-Some.is)
 
 pub returns-in-None : goal.returns-in-None
 returns-in-None g c =
@@ -56,6 +61,7 @@ returns-in-None g c =
           stray_there env p on.none
           ∙ ap (λ (fs : List MapFrame). option_map (λ (f : MapFrame). pc_fault f.pc whys.Map) (stray_frame c.args.i.now.pc c.args.i.now.next c.args.is_last fs))
           (sym (c.self.invariant.are ∙ ap (λ (e : Environment). e.map) c.self.view_is))
-          ∙ ap (λ (o : Option MapFrame). option_map (λ (f : MapFrame). pc_fault f.pc whys.Map) o) (sym c.stray.ensures ∙ ap (λ r. option_map frame_in (option_copied r)) c.in-None.is);
+          ∙ fault_at (stray_frame c.args.i.now.pc c.args.i.now.next c.args.is_last c.self.inside.frames)
+          ∙ ap (λ (o : Option ℕ). option_map (λ pc. pc_fault pc whys.Map) o) (sym c.stray.ensures ∙ c.in-None.is);
       is = on.is;
     }

@@ -1,10 +1,21 @@
 use Rattle.std.proofs.Common.{ap, sym, ◌∙◌}
-use Rattle.verify_types.specs.Environment.{MapFrame}
-use Rattle.verify_code.specs.Frames.{first_frame_at}
-use Rattle.verify_code.proofs.Rising.{found_from}
+use Rattle.std.specs.Option.{option_map}
+use Rattle.verify_code.specs.FramePaths.{entry_in}
+use Rattle.verify_code.specs.Entries.{entry_at}
+use Rattle.verify_code.specs.Frames.{frame_at}
+use Rattle.verify_code.proofs.FrameLaws.{frame_found}
 use Rattle.verify_code.proofs.frames.Frames.at.Goals as goal
 
-pub returns : goal.returns
-returns c =
-    c.first_at.ensures ∙ ap (first_frame_at c.args.pc) c.from.ensures.frames
-    ∙ sym (found_from (λ (f : MapFrame). f.pc) c.args.pc 0 c.args.self.now c.from.ensures.rising)
+pub returns-in-Some : goal.returns-in-Some
+returns-in-Some c =
+    let x = c.self.inside in
+    ap (λ o. option_map (entry_in x.paths x.is_constructor x.max_locals) o) (sym c.in-Some.is ∙ c.entry_at.ensures ∙ ap (entry_at c.args.pc) c.deref.ensures.value)
+    ∙ sym (frame_found x.paths x.is_constructor x.max_locals c.args.pc x.entries.items)
+    ∙ ap (frame_at c.args.pc) c.self.view_is
+
+pub returns-in-None : goal.returns-in-None
+returns-in-None c =
+    let x = c.self.inside in
+    ap (λ o. option_map (entry_in x.paths x.is_constructor x.max_locals) o) (sym c.in-None.is ∙ c.entry_at.ensures ∙ ap (entry_at c.args.pc) c.deref.ensures.value)
+    ∙ sym (frame_found x.paths x.is_constructor x.max_locals c.args.pc x.entries.items)
+    ∙ ap (frame_at c.args.pc) c.self.view_is

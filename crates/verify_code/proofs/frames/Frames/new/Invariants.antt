@@ -1,12 +1,9 @@
-use Rattle.std.proofs.Common.{◌≡◌, ◌++◌, length}
-use Rattle.std.specs.Prelude.{map}
-use Rattle.verify_types.specs.Environment.{map_frame}
-use Rattle.verify_code.specs.Frames.{frame_in}
+use Rattle.std.proofs.Common.{length}
+use Rattle.verify_code.proofs.FrameLaws.{Built}
 use Rattle.verify_code.proofs.frames.Frames.new.Given as goal
 
-abbrev pub invariant-loop-pc : goal.invariant-loop-pc
-invariant-loop-pc g l =
-    map frame_in l.frames.items ++ map (map_frame (g.L.Lookups.world l.w) l.m l.max_locals) l.rest ≡ map (map_frame (g.L.Lookups.world l.w) l.m l.max_locals) l.list
+abbrev pub invariant-loop-change : goal.invariant-loop-change
+invariant-loop-change g l = Built (g.L.Lookups.world l.w) l.m.class l.first l.changes l.paths l.entries.items l.locals l.rest
 
-abbrev pub decreases-loop-pc : goal.decreases-loop-pc
-decreases-loop-pc g l = length l.rest
+abbrev pub decreases-loop-change : goal.decreases-loop-change
+decreases-loop-change g l = length l.rest

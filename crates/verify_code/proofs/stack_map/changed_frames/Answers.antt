@@ -1,5 +1,5 @@
 use Rattle.verify_code.proofs.StackMapLaws.{expansion_is, expansion_rises}
-use Rattle.verify_code.proofs.stack_map.expanded.Goals as goal
+use Rattle.verify_code.proofs.stack_map.changed_frames.Goals as goal
 
 pub returns-in-Ok-clause-frames : goal.returns-in-Ok-clause-frames
 returns-in-Ok-clause-frames c = expansion_is c.args.first.now c.args.bytes.now _ c.in-Ok.ensures.found

@@ -1,0 +1,106 @@
+//! A frame of the stack map, and states that fit it (JVMS 4.10.1.4).
+
+ghost use Rattle.std.specs.Prelude.{◌≡◌, ◌&&◌, [], ◌∷◌, ◌||◌, IfOk, is_some, not, true};
+ghost use Rattle.std.specs.List.{list_any};
+ghost use Rattle.std.specs.Option.{option_map, option_map_or};
+ghost use Rattle.type_paths.specs.Paths.{path};
+ghost use Rattle.verify_types.specs.TypeStates.{fits, with_stack};
+ghost use Rattle.verify_instructions.specs.Views.{state_in};
+ghost use Rattle.verify_code.specs.FramePaths.{frame_types};
+ghost use Rattle.verify_code.specs.Frames.{frame_in};
+ghost use Rattle.verify_code.specs.PathFits.{is_this_item, state_of_slots};
+
+use crate::frame_paths::Entry;
+use crate::frame_state::state_where;
+use crate::path_fits::{fit_locals, fit_path, has_this};
+use items::NoMemory;
+use stack_maps::{FrameTypes, VType};
+use std::alloc::Global;
+use type_paths::Paths;
+use verify_instructions::State;
+use world_model::Lookups;
+
+/// A frame of the stack map, whose types are paths that it shares with the other frames.
+#[derive(Clone, Copy)]
+pub struct Frame<'a> {
+    pub paths: &'a Paths,
+    pub is_constructor: bool,
+    pub max_locals: u16,
+    pub entry: Entry,
+}
+
+impl<'a> Frame<'a> {
+    // Whether none of its types is a constant that is no class.
+    fn is_known(&self) -> bool
+        ensures { result ≡ is_some (frame_types (path self.now.paths.now self.now.entry.locals)
+            (path self.now.paths.now self.now.entry.stack)) }
+    {
+        self.paths.slot_count(self.entry.locals).is_some()
+            && self.paths.slot_count(self.entry.stack).is_some()
+    }
+
+    // Whether it lies in a constructor that has still to call another one, if the state does.
+    fn takes_flag(&self, this_uninit: bool) -> bool
+        ensures { result ≡ (not this_uninit || (self.now.is_constructor
+            && list_any is_this_item (path self.now.paths.now self.now.entry.locals))) }
+    {
+        !this_uninit || (self.is_constructor && has_this(self.paths, self.entry.locals))
+    }
+
+    // Whether the state of these slots, the top of the operand stack last, fits the frame. One that names a constant that is no
+    // class isn't judged.
+    fn fits_slots<L: Lookups>(
+        &self,
+        w: &L,
+        locals: &[VType],
+        stack: &[VType],
+        this_uninit: bool,
+    ) -> bool
+        ensures { result ≡ option_map_or
+            (fits (L.world w.now) (state_of_slots locals.now stack.now this_uninit))
+            (frame_in self.now).state true }
+    {
+        if !self.is_known() {
+            return true;
+        }
+        if !fit_locals(w, self.paths, self.entry.locals, self.max_locals, locals) {
+            return false;
+        }
+        if !fit_path(w, self.paths, self.entry.stack, stack) {
+            return false;
+        }
+        self.takes_flag(this_uninit)
+    }
+
+    /// Whether a state fits the frame. One that names a constant that is no class isn't judged here.
+    pub fn fits<L: Lookups>(&self, w: &L, s: &State) -> bool
+        ensures { result ≡
+            option_map_or (fits (L.world w.now) (state_in s.now)) (frame_in self.now).state true }
+    {
+        self.fits_slots(w, s.types.locals(), s.types.stack(), s.this_uninit)
+    }
+
+    /// Whether a state fits the frame of a handler, with what is caught alone on the operand stack. A frame that names a constant
+    /// that is no class isn't judged here.
+    pub fn fits_caught<L: Lookups>(&self, w: &L, s: &State, caught: VType) -> bool
+        ensures { result ≡ option_map_or
+            (fits (L.world w.now) (with_stack (state_in s.now) (caught ∷ [])))
+            (frame_in self.now).state true }
+    {
+        self.fits_slots(w, s.types.locals(), &[caught], s.this_uninit)
+    }
+
+    /// The state that its types mean. `None`: it names a constant that is no class.
+    pub fn state(&self, alloc: Global) -> Result<Option<State>, NoMemory>
+        ensures { IfOk result (λ s. option_map state_in s ≡ (frame_in self.now).state) }
+    {
+        let Some(locals) = self.paths.types(alloc, self.entry.locals)? else {
+            return Ok(None);
+        };
+        let Some(stack) = self.paths.types(alloc, self.entry.stack)? else {
+            return Ok(None);
+        };
+        let types = FrameTypes { locals, stack };
+        Ok(Some(state_where(alloc, self.is_constructor, self.max_locals, &types)?))
+    }
+}
