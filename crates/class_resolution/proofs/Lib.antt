@@ -4,3 +4,4 @@ pub mod NameLaws
 pub mod Visits
 pub mod TableLaws
 pub mod HierarchyLaws
+pub mod SetLaws

@@ -3,3 +3,4 @@ pub mod Classes
 pub mod Tables
 pub mod Hierarchy
 pub mod Keys
+pub mod Sets

@@ -6,6 +6,7 @@ ghost use Rattle.linkage.specs.Hierarchy as spec;
 ghost use Rattle.class_resolution.specs.Tables as tables;
 ghost use Rattle.class_resolution.specs.Tables.{above, row_at, tabulate};
 
+use crate::class_set::ClassSet;
 use crate::classes::Classes;
 use class_grammar::class_name_at;
 use class_model::ClassFile;
@@ -18,7 +19,7 @@ use std::marker::Model;
 pub struct Hierarchy {
     classes: Classes,
     parents: Vec<Option<u32>>,
-    supers: Vec<Items<u32>>,
+    supers: Vec<ClassSet>,
     superclasses: Vec<Items<u32>>,
 }
 
@@ -97,47 +98,61 @@ fn row_at(rows: &[Items<u32>], c: u32) -> &[u32]
     }
 }
 
+// The classes of a set in a table.
+fn above_in(sets: &[ClassSet], c: u32) -> &[u32]
+    ensures { result.now ≡ row_at sets.now c }
+{
+    match sets.get(c as usize) {
+        Some(set) => set.as_slice(),
+        None => &[],
+    }
+}
+
+// Whether the set of a class in a table has another class.
+fn is_above_in(sets: &[ClassSet], c: u32, other: u32) -> bool
+    ensures { result ≡ spec.is_among (row_at sets.now c) other }
+{
+    match sets.get(c as usize) {
+        Some(set) => set.has(other),
+        None => false,
+    }
+}
+
 // Meets a class: unless it has been met before, what is above it is to do next.
 fn meet(
     stacked: &[Items<u32>],
     class: u32,
     todo: &mut Vec<u32>,
-    seen: &mut Vec<u32>,
+    seen: &mut ClassSet,
 ) -> Result<(), NoMemory>
     ensures todo { OnOk result (reverse todo.new.items ≡
-        (if spec.is_among seen.old.items class then reverse todo.old.items
+        (if spec.is_among seen.old class then reverse todo.old.items
         else reverse (row_at stacked.now class) ++ reverse todo.old.items)) }
-    ensures seen { OnOk result (seen.new.items ≡
-        (if spec.is_among seen.old.items class then seen.old.items
-        else seen.old.items ++ class ∷ [])) }
+    ensures seen { OnOk result (seen.new ≡
+        (if spec.is_among seen.old class then seen.old else seen.old ++ class ∷ [])) }
 {
-    if seen.contains(&class) {
+    if seen.has(class) {
         return Ok(());
     }
-    seen.push(class)?;
+    seen.add(class)?;
     todo.extend_from_slice(row_at(stacked, class))?;
     Ok(())
 }
 
 // The classes that are met from one on, each once.
-fn visit(
-    alloc: Global,
-    stacked: &[Items<u32>],
-    start: u32,
-    most: u64,
-) -> Result<Items<u32>, NoMemory>
+fn visit(alloc: Global, stacked: &[Items<u32>], start: u32, most: u64) -> Result<ClassSet, NoMemory>
     ensures { IfOk result (λ v. v ≡ spec.visit (above stacked.now) most (start ∷ []) []) }
 {
     let mut todo = Vec::new(alloc);
     todo.push(start)?;
-    let mut seen = Vec::new(alloc);
+    let mut seen = ClassSet::new(alloc);
     for _ in 0..most {
         let Some(class) = todo.pop() else {
-            return Ok(Items::from(seen));
+            return Ok(seen);
         };
         meet(stacked, class, &mut todo, &mut seen)?;
     }
-    Ok(Items::from(seen))
+    Ok(seen)
 }
 
 // The superclass of a class by the table.
@@ -205,7 +220,7 @@ fn all_parents(alloc: Global, classes: &Classes) -> Result<Vec<Option<u32>>, NoM
     Ok(parents)
 }
 
-fn all_supers(alloc: Global, classes: &Classes) -> Result<Vec<Items<u32>>, NoMemory>
+fn all_supers(alloc: Global, classes: &Classes) -> Result<Vec<ClassSet>, NoMemory>
     ensures { IfOk result (λ v. v.items ≡
         tabulate (spec.supers classes.now) (length classes.now.classes)) }
 {
@@ -267,7 +282,7 @@ impl Hierarchy {
     pub fn supers(&self, class: u32) -> &[u32]
         ensures { result.now ≡ spec.supers self.now class }
     {
-        row_at(&self.supers, class)
+        above_in(&self.supers, class)
     }
 
     /// The class and its superclasses, from the class up.
@@ -277,10 +292,10 @@ impl Hierarchy {
         row_at(&self.superclasses, class)
     }
 
-    /// Whether a class is the other or below it.
+    /// Whether a class is the other or below it, in constant time.
     pub fn is_below(&self, class: u32, other: u32) -> bool
         ensures { result ≡ spec.is_below self.now class other }
     {
-        self.supers(class).contains(&other)
+        is_above_in(&self.supers, class, other)
     }
 }
