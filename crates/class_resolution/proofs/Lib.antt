@@ -5,3 +5,5 @@ pub mod Visits
 pub mod TableLaws
 pub mod HierarchyLaws
 pub mod SetLaws
+pub mod KeyTextLaws
+pub mod MemberTableLaws

@@ -4,3 +4,5 @@ pub mod Tables
 pub mod Hierarchy
 pub mod Keys
 pub mod Sets
+pub mod KeyTexts
+pub mod MemberTables

@@ -1,13 +1,18 @@
 //! The superclasses and superinterfaces of each class (JVMS 5.3.5), found once for all.
 
-ghost use Rattle.std.specs.Prelude.{◌≡◌, ◌+◌, ◌++◌, [], ◌∷◌, reverse, length, if◌then◌else◌, IfOk, OnOk};
+ghost use Rattle.std.specs.Prelude.{◌≡◌, ◌+◌, ◌++◌, [], ◌∷◌, reverse, length, if◌then◌else◌, IfOk, OnOk, Some, slice_get};
 ghost use Rattle.std.specs.Option.{option_to_list};
 ghost use Rattle.linkage.specs.Hierarchy as spec;
+ghost use Rattle.linkage.specs.Members as members;
+ghost use Rattle.class_resolution.specs.Keys.{key_of};
+ghost use Rattle.class_resolution.specs.MemberTables.{AllTell};
 ghost use Rattle.class_resolution.specs.Tables as tables;
 ghost use Rattle.class_resolution.specs.Tables.{above, row_at, tabulate};
 
 use crate::class_set::ClassSet;
 use crate::classes::Classes;
+use crate::member_index::{MemberIndex, index_of_many, told_by};
+use crate::members::{MemberKey, index_of};
 use class_grammar::class_name_at;
 use class_model::ClassFile;
 use items::{Items, NoMemory};
@@ -17,10 +22,13 @@ use std::marker::Model;
 /// The classes of a program with what is above each of them.
 #[derive(Drop)]
 pub struct Hierarchy {
+    alloc: Global,
     classes: Classes,
     parents: Vec<Option<u32>>,
     supers: Vec<ClassSet>,
     superclasses: Vec<Items<u32>>,
+    fields: Vec<Option<MemberIndex>>,
+    methods: Vec<Option<MemberIndex>>,
 }
 
 impl Model for Hierarchy {
@@ -248,6 +256,26 @@ fn all_superclasses(
     Ok(superclasses)
 }
 
+fn field_indexes(alloc: Global, files: &[ClassFile]) -> Result<Vec<Option<MemberIndex>>, NoMemory>
+    ensures { IfOk result (λ v. AllTell (λ f. f.fields) files.now v.items) }
+{
+    let mut indexes = Vec::new(alloc);
+    for file in files {
+        indexes.push(index_of_many(alloc, &file.pool, &file.fields)?)?;
+    }
+    Ok(indexes)
+}
+
+fn method_indexes(alloc: Global, files: &[ClassFile]) -> Result<Vec<Option<MemberIndex>>, NoMemory>
+    ensures { IfOk result (λ v. AllTell (λ f. f.methods) files.now v.items) }
+{
+    let mut indexes = Vec::new(alloc);
+    for file in files {
+        indexes.push(index_of_many(alloc, &file.pool, &file.methods)?)?;
+    }
+    Ok(indexes)
+}
+
 impl Hierarchy {
     /// What is above each class of the program.
     pub fn new(alloc: Global, classes: Classes) -> Result<Self, NoMemory>
@@ -256,11 +284,16 @@ impl Hierarchy {
         let parents = all_parents(alloc, &classes)?;
         let supers = all_supers(alloc, &classes)?;
         let superclasses = all_superclasses(alloc, &classes, &parents)?;
+        let fields = field_indexes(alloc, classes.files())?;
+        let methods = method_indexes(alloc, classes.files())?;
         Ok(Hierarchy {
+            alloc,
             classes,
             parents,
             supers,
             superclasses,
+            fields,
+            methods,
         })
     }
 
@@ -290,6 +323,28 @@ impl Hierarchy {
         ensures { result.now ≡ spec.superclasses self.now class }
     {
         row_at(&self.superclasses, class)
+    }
+
+    /// The index of the field of this key in the file of a class, the first if there are several.
+    pub fn field_index(&self, class: u32, file: &ClassFile, key: MemberKey) -> Option<usize>
+        requires { slice_get self.now.classes class ≡ Some file.now }
+        ensures { result ≡ members.index_of file.now.pool (key_of key.entry) file.now.fields }
+    {
+        match told_by(self.alloc, &self.fields, class, key) {
+            Some(found) => found,
+            None => index_of(&file.pool, key, &file.fields),
+        }
+    }
+
+    /// The index of the method of this key in the file of a class, the first if there are several.
+    pub fn method_index(&self, class: u32, file: &ClassFile, key: MemberKey) -> Option<usize>
+        requires { slice_get self.now.classes class ≡ Some file.now }
+        ensures { result ≡ members.index_of file.now.pool (key_of key.entry) file.now.methods }
+    {
+        match told_by(self.alloc, &self.methods, class, key) {
+            Some(found) => found,
+            None => index_of(&file.pool, key, &file.methods),
+        }
     }
 
     /// Whether a class is the other or below it, in constant time.

@@ -6,6 +6,7 @@ mod class_set;
 mod classes;
 mod constants;
 mod hierarchy;
+mod member_index;
 mod members;
 mod resolution;
 mod selection;
