@@ -4,3 +4,6 @@ pub mod NameLaws
 pub mod Visits
 pub mod TableLaws
 pub mod HierarchyLaws
+pub mod SetLaws
+pub mod KeyTextLaws
+pub mod MemberTableLaws

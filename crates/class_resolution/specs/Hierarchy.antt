@@ -3,6 +3,7 @@ use Rattle.std.specs.Prelude.{◌≡◌, ℕ, List, length}
 use Rattle.linkage.specs.Program.{Program}
 use Rattle.linkage.specs.Hierarchy.{parent_of, supers, superclasses}
 use Rattle.class_resolution.specs.Tables.{tabulate}
+use Rattle.class_resolution.specs.MemberTables.{AllTell}
 use Rattle.class_resolution.specs.declared.hierarchy.Hierarchy.TheInside.{Inside}
 
 abbrev pub program_of : Inside → Program
@@ -11,4 +12,6 @@ program_of a = a.classes
 pub record IsOrdered (a : Inside) : Type 0 where
   pub parents : a.parents.items ≡ tabulate (parent_of a.classes) (length a.classes.classes)
   pub supers : a.supers.items ≡ tabulate (supers a.classes) (length a.classes.classes)
+  pub fields : AllTell (λ f. f.fields) a.classes.classes a.fields.items
+  pub methods : AllTell (λ f. f.methods) a.classes.classes a.methods.items
   pub superclasses : a.superclasses.items ≡ tabulate (superclasses a.classes) (length a.classes.classes)

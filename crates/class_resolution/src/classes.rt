@@ -73,8 +73,8 @@ fn joined(front: Vec<ClassFile>, back: Vec<ClassFile>) -> Result<Vec<ClassFile>,
     Ok(all)
 }
 
-// Adds a name, unless the map has it already.
-fn add_name(
+/// Adds a name, unless the map has it already.
+pub fn add_name(
     alloc: Global,
     map: &mut BTreeMap<Vec<u16>, u32>,
     name: &[u16],

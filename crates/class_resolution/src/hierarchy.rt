@@ -1,12 +1,18 @@
 //! The superclasses and superinterfaces of each class (JVMS 5.3.5), found once for all.
 
-ghost use Rattle.std.specs.Prelude.{◌≡◌, ◌+◌, ◌++◌, [], ◌∷◌, reverse, length, if◌then◌else◌, IfOk, OnOk};
+ghost use Rattle.std.specs.Prelude.{◌≡◌, ◌+◌, ◌++◌, [], ◌∷◌, reverse, length, if◌then◌else◌, IfOk, OnOk, Some, slice_get};
 ghost use Rattle.std.specs.Option.{option_to_list};
 ghost use Rattle.linkage.specs.Hierarchy as spec;
+ghost use Rattle.linkage.specs.Members as members;
+ghost use Rattle.class_resolution.specs.Keys.{key_of};
+ghost use Rattle.class_resolution.specs.MemberTables.{AllTell};
 ghost use Rattle.class_resolution.specs.Tables as tables;
 ghost use Rattle.class_resolution.specs.Tables.{above, row_at, tabulate};
 
+use crate::class_set::ClassSet;
 use crate::classes::Classes;
+use crate::member_index::{MemberIndex, index_of_many, told_by};
+use crate::members::{MemberKey, index_of};
 use class_grammar::class_name_at;
 use class_model::ClassFile;
 use items::{Items, NoMemory};
@@ -16,10 +22,13 @@ use std::marker::Model;
 /// The classes of a program with what is above each of them.
 #[derive(Drop)]
 pub struct Hierarchy {
+    alloc: Global,
     classes: Classes,
     parents: Vec<Option<u32>>,
-    supers: Vec<Items<u32>>,
+    supers: Vec<ClassSet>,
     superclasses: Vec<Items<u32>>,
+    fields: Vec<Option<MemberIndex>>,
+    methods: Vec<Option<MemberIndex>>,
 }
 
 impl Model for Hierarchy {
@@ -97,47 +106,61 @@ fn row_at(rows: &[Items<u32>], c: u32) -> &[u32]
     }
 }
 
+// The classes of a set in a table.
+fn above_in(sets: &[ClassSet], c: u32) -> &[u32]
+    ensures { result.now ≡ row_at sets.now c }
+{
+    match sets.get(c as usize) {
+        Some(set) => set.as_slice(),
+        None => &[],
+    }
+}
+
+// Whether the set of a class in a table has another class.
+fn is_above_in(sets: &[ClassSet], c: u32, other: u32) -> bool
+    ensures { result ≡ spec.is_among (row_at sets.now c) other }
+{
+    match sets.get(c as usize) {
+        Some(set) => set.has(other),
+        None => false,
+    }
+}
+
 // Meets a class: unless it has been met before, what is above it is to do next.
 fn meet(
     stacked: &[Items<u32>],
     class: u32,
     todo: &mut Vec<u32>,
-    seen: &mut Vec<u32>,
+    seen: &mut ClassSet,
 ) -> Result<(), NoMemory>
     ensures todo { OnOk result (reverse todo.new.items ≡
-        (if spec.is_among seen.old.items class then reverse todo.old.items
+        (if spec.is_among seen.old class then reverse todo.old.items
         else reverse (row_at stacked.now class) ++ reverse todo.old.items)) }
-    ensures seen { OnOk result (seen.new.items ≡
-        (if spec.is_among seen.old.items class then seen.old.items
-        else seen.old.items ++ class ∷ [])) }
+    ensures seen { OnOk result (seen.new ≡
+        (if spec.is_among seen.old class then seen.old else seen.old ++ class ∷ [])) }
 {
-    if seen.contains(&class) {
+    if seen.has(class) {
         return Ok(());
     }
-    seen.push(class)?;
+    seen.add(class)?;
     todo.extend_from_slice(row_at(stacked, class))?;
     Ok(())
 }
 
 // The classes that are met from one on, each once.
-fn visit(
-    alloc: Global,
-    stacked: &[Items<u32>],
-    start: u32,
-    most: u64,
-) -> Result<Items<u32>, NoMemory>
+fn visit(alloc: Global, stacked: &[Items<u32>], start: u32, most: u64) -> Result<ClassSet, NoMemory>
     ensures { IfOk result (λ v. v ≡ spec.visit (above stacked.now) most (start ∷ []) []) }
 {
     let mut todo = Vec::new(alloc);
     todo.push(start)?;
-    let mut seen = Vec::new(alloc);
+    let mut seen = ClassSet::new(alloc);
     for _ in 0..most {
         let Some(class) = todo.pop() else {
-            return Ok(Items::from(seen));
+            return Ok(seen);
         };
         meet(stacked, class, &mut todo, &mut seen)?;
     }
-    Ok(Items::from(seen))
+    Ok(seen)
 }
 
 // The superclass of a class by the table.
@@ -205,7 +228,7 @@ fn all_parents(alloc: Global, classes: &Classes) -> Result<Vec<Option<u32>>, NoM
     Ok(parents)
 }
 
-fn all_supers(alloc: Global, classes: &Classes) -> Result<Vec<Items<u32>>, NoMemory>
+fn all_supers(alloc: Global, classes: &Classes) -> Result<Vec<ClassSet>, NoMemory>
     ensures { IfOk result (λ v. v.items ≡
         tabulate (spec.supers classes.now) (length classes.now.classes)) }
 {
@@ -233,6 +256,26 @@ fn all_superclasses(
     Ok(superclasses)
 }
 
+fn field_indexes(alloc: Global, files: &[ClassFile]) -> Result<Vec<Option<MemberIndex>>, NoMemory>
+    ensures { IfOk result (λ v. AllTell (λ f. f.fields) files.now v.items) }
+{
+    let mut indexes = Vec::new(alloc);
+    for file in files {
+        indexes.push(index_of_many(alloc, &file.pool, &file.fields)?)?;
+    }
+    Ok(indexes)
+}
+
+fn method_indexes(alloc: Global, files: &[ClassFile]) -> Result<Vec<Option<MemberIndex>>, NoMemory>
+    ensures { IfOk result (λ v. AllTell (λ f. f.methods) files.now v.items) }
+{
+    let mut indexes = Vec::new(alloc);
+    for file in files {
+        indexes.push(index_of_many(alloc, &file.pool, &file.methods)?)?;
+    }
+    Ok(indexes)
+}
+
 impl Hierarchy {
     /// What is above each class of the program.
     pub fn new(alloc: Global, classes: Classes) -> Result<Self, NoMemory>
@@ -241,11 +284,16 @@ impl Hierarchy {
         let parents = all_parents(alloc, &classes)?;
         let supers = all_supers(alloc, &classes)?;
         let superclasses = all_superclasses(alloc, &classes, &parents)?;
+        let fields = field_indexes(alloc, classes.files())?;
+        let methods = method_indexes(alloc, classes.files())?;
         Ok(Hierarchy {
+            alloc,
             classes,
             parents,
             supers,
             superclasses,
+            fields,
+            methods,
         })
     }
 
@@ -267,7 +315,7 @@ impl Hierarchy {
     pub fn supers(&self, class: u32) -> &[u32]
         ensures { result.now ≡ spec.supers self.now class }
     {
-        row_at(&self.supers, class)
+        above_in(&self.supers, class)
     }
 
     /// The class and its superclasses, from the class up.
@@ -277,10 +325,32 @@ impl Hierarchy {
         row_at(&self.superclasses, class)
     }
 
-    /// Whether a class is the other or below it.
+    /// The index of the field of this key in the file of a class, the first if there are several.
+    pub fn field_index(&self, class: u32, file: &ClassFile, key: MemberKey) -> Option<usize>
+        requires { slice_get self.now.classes class ≡ Some file.now }
+        ensures { result ≡ members.index_of file.now.pool (key_of key.entry) file.now.fields }
+    {
+        match told_by(self.alloc, &self.fields, class, key) {
+            Some(found) => found,
+            None => index_of(&file.pool, key, &file.fields),
+        }
+    }
+
+    /// The index of the method of this key in the file of a class, the first if there are several.
+    pub fn method_index(&self, class: u32, file: &ClassFile, key: MemberKey) -> Option<usize>
+        requires { slice_get self.now.classes class ≡ Some file.now }
+        ensures { result ≡ members.index_of file.now.pool (key_of key.entry) file.now.methods }
+    {
+        match told_by(self.alloc, &self.methods, class, key) {
+            Some(found) => found,
+            None => index_of(&file.pool, key, &file.methods),
+        }
+    }
+
+    /// Whether a class is the other or below it, in constant time.
     pub fn is_below(&self, class: u32, other: u32) -> bool
         ensures { result ≡ spec.is_below self.now class other }
     {
-        self.supers(class).contains(&other)
+        is_above_in(&self.supers, class, other)
     }
 }

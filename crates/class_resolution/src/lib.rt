@@ -2,13 +2,16 @@
 //! resolution and selection. Nothing is asked of the program: it may lack classes, and a class may be above itself.
 #![tactic(auto)]
 
+mod class_set;
 mod classes;
 mod constants;
 mod hierarchy;
+mod member_index;
 mod members;
 mod resolution;
 mod selection;
 
+pub use class_set::ClassSet;
 pub use classes::{Classes, own_name};
 pub use constants::{
     argument_slots, dimensions_of, home_of, is_array_name, is_floating, is_floating_array,

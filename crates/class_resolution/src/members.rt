@@ -106,7 +106,7 @@ impl Hierarchy {
         ensures { result ≡ spec.declared_field self.now (key_of key.entry) class }
     {
         let file = self.classes().file(class)?;
-        let index = index_of(&file.pool, key, &file.fields)?;
+        let index = self.field_index(class, file, key)?;
         Some(Place { class, index })
     }
 
@@ -115,7 +115,7 @@ impl Hierarchy {
         ensures { result ≡ spec.declared_method self.now (key_of key.entry) class }
     {
         let file = self.classes().file(class)?;
-        let index = index_of(&file.pool, key, &file.methods)?;
+        let index = self.method_index(class, file, key)?;
         Some(Place { class, index })
     }
 

@@ -8,6 +8,6 @@ use Rattle.class_resolution.proofs.hierarchy.Hierarchy.supers.Goals as goal
 
 pub returns : goal.returns
 returns c =
-    c.row_at.ensures ∙ ap (λ rows. row_at rows c.args.class) (c.deref.ensures.value ∙ c.self.invariant.supers)
+    c.above_in.ensures ∙ ap (λ rows. row_at rows c.args.class) (c.deref.ensures.value ∙ c.self.invariant.supers)
     ∙ row-tabulate (supers c.self.inside.classes) (length c.self.inside.classes.classes) (no_supers c.self.inside.classes) c.args.class
     ∙ ap (λ (p : Program). supers p c.args.class) c.self.view_is
