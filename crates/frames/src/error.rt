@@ -2,6 +2,7 @@ ghost use Rattle.std.specs.Prelude.{◌≡◌};
 ghost use Rattle.frames.specs.declared.error.StackError.TheVariants as errors;
 
 use items::NoMemory;
+use std::alloc::AllocError;
 use thiserror::Error;
 
 /// Why a frame wasn't pushed.
@@ -13,6 +14,14 @@ pub enum StackError {
     /// Memory ran out.
     #[error("out of memory")]
     NoMemory,
+}
+
+impl From<AllocError> for StackError {
+    ghost from_gives = { λ _ e. e ≡ errors.NoMemory };
+
+    fn from(_: AllocError) -> Self {
+        StackError::NoMemory
+    }
 }
 
 impl From<NoMemory> for StackError {

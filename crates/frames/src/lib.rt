@@ -8,4 +8,4 @@ mod row;
 mod stack;
 
 pub use error::StackError;
-pub use stack::{FrameView, Stack};
+pub use stack::{FrameView, MOST_FRAMES, Stack};
