@@ -1,0 +1,2 @@
+pub mod Continuation
+pub mod Lending

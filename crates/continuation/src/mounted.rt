@@ -1,0 +1,338 @@
+ghost use Rattle.std.specs.Prelude.{◌≡◌, ◌↔◌, ◌+◌, ◌-◌, ◌<◌, ◌≤◌, Err, IfErr, IfOk, IsOk, IsTrue, OnErr, OnOk, Some, [], drop, length, slice_get, reverse, vec_len};
+ghost use Rattle.std.specs.Vec.{vec_capacity};
+ghost use Rattle.std.specs.Borrow.{sem};
+ghost use Rattle.frames.specs.Frames.{HasRoom, at_pc, called, cleared, entered, left, popped, pushed, returned, room_left, row_of, settled, size_of, top_locals, top_method, top_pc, top_room, top_stack, with_frames, with_local};
+ghost use Rattle.continuation.specs.Continuation.{with_pin, without_pin};
+
+use frames::{FrameView, MOST_FRAMES, Stack, StackError};
+use instruction_rows::Slot;
+use items::NoMemory;
+use slot_block::Cell;
+use std::alloc::Global;
+use std::marker::Model;
+
+/// The continuation of a thread that a carrier runs. It has the calls of a `Stack`.
+#[derive(Drop)]
+pub struct Mounted {
+    thread: u32,
+    stack: Stack,
+    pinned: Vec<u32>,
+}
+
+impl Model for Mounted {
+    ghost use Rattle.std.specs.Prelude.{length, reverse};
+    ghost use Rattle.continuation.specs.Continuation.{ArePinned, Continuation};
+
+    ghost Value = { Continuation };
+
+    ghost view = { λ a. record { thread = a.thread; stack = a.stack; pinned = reverse a.pinned.items } };
+
+    ghost invariant = { λ a. ArePinned (length a.stack.frames) (reverse a.pinned.items) };
+}
+
+/// The continuation of a thread that no carrier runs.
+#[derive(Drop)]
+pub struct Frozen {
+    mounted: Mounted,
+}
+
+impl Model for Frozen {
+    ghost use Rattle.continuation.specs.Continuation.{Continuation};
+
+    ghost Value = { Continuation };
+
+    ghost view = { λ a. a.mounted };
+}
+
+impl Frozen {
+    /// The continuation as a carrier runs it. Want of memory hands it back.
+    pub fn mount(self) -> Result<Mounted, Frozen>
+        ensures ok { IfOk result (λ mounted. mounted ≡ self) }
+        ensures err { IfErr result (λ frozen. frozen ≡ self) }
+    {
+        let Frozen { mounted } = self;
+        Ok(mounted)
+    }
+
+    /// The number of its thread.
+    pub fn thread(&self) -> u32
+        ensures { result ≡ self.now.thread }
+    {
+        self.mounted.thread()
+    }
+}
+
+impl Mounted {
+    ghost use Rattle.continuation.specs.Lending.{LendsCells};
+
+    /// The continuation of a thread without a frame. This takes no memory.
+    pub fn new(alloc: Global, thread: u32) -> Self
+        ensures thread { result.thread ≡ thread }
+        ensures frames { result.stack.frames ≡ [] }
+        ensures pinned { result.pinned ≡ [] }
+    {
+        Mounted {
+            thread,
+            stack: Stack::new(alloc),
+            pinned: Vec::new(alloc),
+        }
+    }
+
+    /// The continuation as no carrier runs it. Want of memory hands it back.
+    pub fn freeze(self) -> Result<Frozen, Mounted>
+        ensures ok { IfOk result (λ frozen. frozen ≡ self) }
+        ensures err { IfErr result (λ mounted. mounted ≡ self) }
+    {
+        Ok(Frozen { mounted: self })
+    }
+
+    /// Makes ready the frames below those that are at hand. All are, so nothing changes.
+    pub fn refill(&mut self) -> Result<(), NoMemory>
+        ensures { self.new ≡ self.old }
+    {
+        Ok(())
+    }
+
+    /// The number of its thread.
+    #[inline(always)]
+    pub fn thread(&self) -> u32
+        ensures { result ≡ self.now.thread }
+    {
+        self.thread
+    }
+
+    /// How many of its frames were pushed with a pin.
+    pub fn pins(&self) -> u32
+        ensures pins { result ≡ length self.now.pinned }
+        ensures most { result ≤ length self.now.stack.frames }
+    {
+        self.stack.frame_count();
+        self.pinned.len() as u32
+    }
+
+    /// How many frames it has, at most 2,048.
+    #[inline(always)]
+    pub fn depth(&self) -> u32
+        ensures depth { result ≡ length self.now.stack.frames }
+        ensures most { result ≤ 2048 }
+    {
+        self.stack.frame_count()
+    }
+
+    /// What the top frame is.
+    #[inline(always)]
+    pub fn top(&self) -> FrameView
+        requires { 0 < length self.now.stack.frames }
+        ensures method { result.method ≡ top_method self.now.stack.frames }
+        ensures pc { result.pc ≡ top_pc self.now.stack.frames }
+        ensures locals { result.locals ≡ length (top_locals self.now.stack.frames) }
+        ensures operands { result.operands ≡ length (top_stack self.now.stack.frames) }
+    {
+        self.stack.top()
+    }
+
+    /// The top frame's local variable with this index.
+    #[inline(always)]
+    pub fn local(&self, i: u16) -> Slot
+        requires { i < length (top_locals self.now.stack.frames) }
+        ensures { slice_get (top_locals self.now.stack.frames) i ≡ Some result }
+    {
+        self.stack.local(i)
+    }
+
+    /// The top frame's operand at this depth; that at depth 0 is the top.
+    #[inline(always)]
+    pub fn operand(&self, i: u16) -> Slot
+        requires { i < length (top_stack self.now.stack.frames) }
+        ensures { slice_get (top_stack self.now.stack.frames) i ≡ Some result }
+    {
+        self.stack.operand(i)
+    }
+
+    /// How many more operands the top frame may have.
+    #[inline(always)]
+    pub fn operand_room(&self) -> u16
+        ensures { result ≡ room_left self.now.stack.frames }
+    {
+        self.stack.operand_room()
+    }
+
+    /// Whether a frame of this size can be pushed without new memory.
+    #[inline(always)]
+    pub fn fits(&self, locals: u32, operands: u16) -> bool
+        ensures { IsTrue result ↔ HasRoom self.now.stack locals operands }
+    {
+        self.stack.fits(locals, operands)
+    }
+
+    /// Sets the top frame's pc.
+    #[inline(always)]
+    pub fn set_pc(&mut self, pc: u32)
+        ensures { self.new ≡ record self.old {
+          stack = with_frames (at_pc pc self.old.stack.frames) self.old.stack;
+        } }
+    {
+        self.stack.set_pc(pc);
+    }
+
+    /// Sets a local variable of the top frame.
+    #[inline(always)]
+    pub fn set_local(&mut self, i: u16, slot: Slot)
+        requires { i < length (top_locals self.old.stack.frames) }
+        ensures { self.new ≡ record self.old {
+          stack = with_frames (with_local i slot self.old.stack.frames) self.old.stack;
+        } }
+    {
+        self.stack.set_local(i, slot);
+    }
+
+    /// Pushes an operand on the top frame.
+    #[inline(always)]
+    pub fn push(&mut self, slot: Slot)
+        requires { 0 < room_left self.old.stack.frames }
+        ensures { self.new ≡ record self.old { stack = pushed slot self.old.stack } }
+    {
+        self.stack.push(slot);
+    }
+
+    /// Pops the top frame's top operand.
+    #[inline(always)]
+    pub fn pop(&mut self) -> Slot
+        requires { 0 < length (top_stack self.old.stack.frames) }
+        ensures value { slice_get (top_stack self.old.stack.frames) 0 ≡ Some result }
+        ensures popped { self.new ≡ record self.old { stack = popped self.old.stack } }
+    {
+        self.stack.pop()
+    }
+
+    /// Drops the top frame's operands.
+    pub fn clear(&mut self)
+        ensures { self.new ≡ record self.old { stack = cleared self.old.stack } }
+    {
+        self.stack.clear();
+    }
+
+    /// Pushes the frame of a method, with a pin or without: the top frame's last `args` operands are its first local variables, the others
+    /// are unset, and its pc is 0. `Deep` comes exactly where there are 2,048 frames. After an error there is no less room than before.
+    pub fn push_frame(
+        &mut self,
+        method: u32,
+        locals: u32,
+        operands: u16,
+        args: u16,
+        pin: bool,
+    ) -> Result<(), StackError>
+        requires given { args ≤ length (top_stack self.old.stack.frames) }
+        requires taken { args ≤ locals }
+        ensures thread { self.new.thread ≡ self.old.thread }
+        ensures deep { (result ≡ Err StackError.Deep) ↔ (2048 ≤ length self.old.stack.frames) }
+        ensures ok { OnOk result (self.new.stack.frames
+            ≡ entered method locals operands args self.old.stack.frames) }
+        ensures pinned { OnOk result (self.new.pinned
+            ≡ with_pin pin (length self.old.stack.frames) self.old.pinned) }
+        ensures err { OnErr result (self.new.stack.frames ≡ self.old.stack.frames) }
+        ensures spare { OnErr result (self.new.stack.spare ≡ self.old.stack.spare) }
+        ensures unpinned { OnErr result (self.new.pinned ≡ self.old.pinned) }
+    {
+        let depth = self.stack.frame_count();
+        if depth >= MOST_FRAMES {
+            return Err(StackError::Deep);
+        }
+        self.pinned.reserve(1)?;
+        self.stack.push_frame(method, locals, operands, args)?;
+        mark(&mut self.pinned, pin, depth);
+        Ok(())
+    }
+
+    /// Pushes the frame of a method without a pin, where there is room for it.
+    #[inline(always)]
+    pub fn enter(&mut self, method: u32, locals: u32, operands: u16, args: u16)
+        requires room { HasRoom self.old.stack locals operands }
+        requires few { length self.old.stack.frames < 2048 }
+        requires given { args ≤ length (top_stack self.old.stack.frames) }
+        requires taken { args ≤ locals }
+        ensures { self.new ≡ record self.old {
+          stack = called method locals operands args self.old.stack;
+        } }
+    {
+        self.stack.enter(method, locals, operands, args);
+    }
+
+    /// Drops the top frame.
+    #[inline(always)]
+    pub fn pop_frame(&mut self)
+        requires { 0 < length self.old.stack.frames }
+        ensures { self.new ≡ record self.old {
+          stack = left self.old.stack;
+          pinned = without_pin (length self.old.stack.frames - 1) self.old.pinned;
+        } }
+    {
+        self.stack.pop_frame();
+        unmark(&mut self.pinned, self.stack.frame_count());
+    }
+
+    /// Drops the top frame, and pushes its top operands on the frame below: none, or the one or two of a value.
+    #[inline(always)]
+    pub fn return_top(&mut self, slots: u16)
+        requires frame { 0 < length self.old.stack.frames }
+        requires few { slots ≤ 2 }
+        requires given { slots ≤ length (top_stack self.old.stack.frames) }
+        requires room { slots ≤ room_left (drop 1 self.old.stack.frames) }
+        ensures thread { self.new.thread ≡ self.old.thread }
+        ensures frames { self.new.stack.frames ≡ returned slots self.old.stack.frames }
+        ensures pinned { self.new.pinned
+            ≡ without_pin (length self.old.stack.frames - 1) self.old.pinned }
+    {
+        self.stack.return_top(slots);
+        unmark(&mut self.pinned, self.stack.frame_count());
+    }
+
+    /// Lends the row in which the slots of all frames lie, from the lowest on, and behind them the spare ones.
+    #[inline(always)]
+    pub fn cells(&mut self) -> &mut [Cell]
+        ensures* writes_back { sem 𝓛 (LendsCells self.entry result) }
+        ensures value { result.now ≡ row_of self.old.stack }
+    {
+        self.stack.cells()
+    }
+
+    /// The index in that row at which the top frame's local variables begin.
+    #[inline(always)]
+    pub fn base(&self) -> usize
+        ensures value { result ≡ size_of (drop 1 self.now.stack.frames) }
+        ensures room { result + length (top_locals self.now.stack.frames)
+            + top_room self.now.stack.frames ≤ length (row_of self.now.stack) }
+    {
+        self.stack.base()
+    }
+
+    /// Sets the top frame's pc and how many operands it has: those that lie in the row behind its local variables.
+    #[inline(always)]
+    pub fn settle(&mut self, pc: u32, operands: u16)
+        requires { operands ≤ top_room self.old.stack.frames }
+        ensures { self.new ≡ record self.old { stack = settled pc operands self.old.stack } }
+    {
+        self.stack.settle(pc, operands);
+    }
+}
+
+// Marks the frame over so many as pinned, where it is.
+#[inline(always)]
+fn mark(pinned: &mut Vec<u32>, pin: bool, depth: u32)
+    requires { vec_len pinned.old < vec_capacity pinned.old }
+    ensures { reverse pinned.new.items ≡ with_pin pin depth (reverse pinned.old.items) }
+{
+    if pin {
+        pinned.push_reserved(depth);
+    }
+}
+
+// Takes away the mark of the frame over so many, if it has one.
+#[inline(always)]
+fn unmark(pinned: &mut Vec<u32>, depth: u32)
+    ensures { reverse pinned.new.items ≡ without_pin depth (reverse pinned.old.items) }
+{
+    if pinned.last().copied() == Some(depth) {
+        let _ = pinned.pop();
+    }
+}

@@ -1,0 +1,4 @@
+pub mod Rows
+pub mod Frames
+pub mod Layout
+pub mod Lending

@@ -1,0 +1,11 @@
+//! The frames of a thread (JVMS 2.5.2, 2.6), one behind the other in one row of slots: an invoked method's first local variables are
+//! its caller's last operands, where they lie.
+#![tactic(auto)]
+
+mod error;
+mod record;
+mod row;
+mod stack;
+
+pub use error::StackError;
+pub use stack::{FrameView, MOST_FRAMES, Stack};
