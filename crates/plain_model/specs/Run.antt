@@ -5,9 +5,9 @@ use Rattle.history.specs.declared.entry.Entry.{Entry}
 use Rattle.history.specs.declared.entry.What.{What}
 use Rattle.history.specs.declared.entry.What.TheVariants.{Mount, Unmount, Step, Clock}
 use Rattle.items.specs.Options.{◌>>=◌}
-use Rattle.ref_model.specs.Program.{Program}
-use Rattle.ref_model.specs.State.{State, opening}
-use Rattle.ref_model.specs.Step.{step}
+use Rattle.plain_model.specs.Program.{Program}
+use Rattle.plain_model.specs.State.{State, opening}
+use Rattle.plain_model.specs.Step.{step}
 
 -- the machine after a history
 pub record World : Type 0 where

@@ -1,8 +1,8 @@
 ghost use Rattle.std.specs.Prelude.{◌≡◌, ◌++◌, List, Some};
 ghost use Rattle.history.specs.declared.entry.Entry.{Entry};
-ghost use Rattle.ref_model.specs.Program.{Program};
-ghost use Rattle.ref_model.specs.Run.{run};
-ghost use Rattle.ref_model.specs.State.{State};
+ghost use Rattle.plain_model.specs.Program.{Program};
+ghost use Rattle.plain_model.specs.Run.{run};
+ghost use Rattle.plain_model.specs.State.{State};
 
 /// A history that runs has run up to each of its entries.
 pub fn prefixes_run()

@@ -3,10 +3,10 @@ use Rattle.std.proofs.Common.{◌≡◌, ℕ, suc, List, [], ◌∷◌, ◌++◌
 use Rattle.history.specs.declared.entry.Entry.{Entry}
 use Rattle.history.specs.declared.entry.What.TheVariants.{Step}
 use Rattle.items.specs.Options.{◌>>=◌}
-use Rattle.ref_model.specs.Program.{Program}
-use Rattle.ref_model.specs.State.{State, opening}
-use Rattle.ref_model.specs.Step.{step}
-use Rattle.ref_model.specs.Run.{World, steps, after_steps, world_after, replay, run, with_state}
+use Rattle.plain_model.specs.Program.{Program}
+use Rattle.plain_model.specs.State.{State, opening}
+use Rattle.plain_model.specs.Step.{step}
+use Rattle.plain_model.specs.Run.{World, steps, after_steps, world_after, replay, run, with_state}
 use Rattle.items.proofs.Binds.{some_is, bind_is}
 
 -- one more entry at the end of the fold

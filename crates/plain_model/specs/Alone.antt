@@ -3,8 +3,8 @@ use Rattle.std.specs.Prelude.{ℕ, ◌-◌, List, [], ◌∷◌, replicate}
 use Rattle.instruction_rows.specs.declared.value.Value.TheVariants.{Ref}
 use Rattle.instruction_rows.specs.declared.value.Slot.{Slot}
 use Rattle.instruction_rows.specs.declared.value.Slot.TheVariants.{One, Second}
-use Rattle.ref_model.specs.Program.{Program, Method}
-use Rattle.ref_model.specs.State.{State, Run, Live, Done, main_words}
+use Rattle.plain_model.specs.Program.{Program, Method}
+use Rattle.plain_model.specs.State.{State, Run, Live, Done, main_words}
 
 -- a program of one method
 abbrev pub alone : Method → Program

@@ -4,10 +4,10 @@ use Rattle.std.specs.List.{list_all}
 use Rattle.instruction_rows.specs.declared.value.Value.TheVariants.{Ref}
 use Rattle.instruction_rows.specs.declared.value.Slot.{Slot}
 use Rattle.instruction_rows.specs.declared.value.Slot.TheVariants.{One, Second}
-use Rattle.ref_model.specs.declared.ending.Ending.{Ending}
-use Rattle.ref_model.specs.declared.ending.Ending.TheVariants.{Ended}
+use Rattle.plain_model.specs.declared.ending.Ending.{Ending}
+use Rattle.plain_model.specs.declared.ending.Ending.TheVariants.{Ended}
 use Rattle.items.specs.Options.{◌>>=◌}
-use Rattle.ref_model.specs.Program.{Program, Method}
+use Rattle.plain_model.specs.Program.{Program, Method}
 
 -- A method's frame (JVMS 2.6): the pc of its instruction, its local variables by index, and its
 -- operand stack with the top first.

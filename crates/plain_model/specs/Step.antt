@@ -2,19 +2,19 @@
 -- thread is enabled.
 use Rattle.std.specs.Prelude.{ℕ, ℤ, Bool, true, false, List, [], ◌∷◌, ◌++◌, Option, Some, None, slice_get, slice_set, is_none, ◌&&◌, ◌==◌, if◌then◌else◌}
 use Rattle.std.specs.Fmt.{signed_decimal}
-use Rattle.ref_model.specs.declared.instruction.Op.{Op}
-use Rattle.ref_model.specs.declared.instruction.Op.TheVariants.{Bipush, Getstatic, Invokevirtual, Return}
-use Rattle.ref_model.specs.declared.instruction.Instr.{Instr}
+use Rattle.plain_model.specs.declared.instruction.Op.{Op}
+use Rattle.plain_model.specs.declared.instruction.Op.TheVariants.{Bipush, Getstatic, Invokevirtual, Return}
+use Rattle.plain_model.specs.declared.instruction.Instr.{Instr}
 use Rattle.instruction_rows.specs.declared.value.Value.{Value}
 use Rattle.instruction_rows.specs.declared.value.Value.TheVariants.{Int, Ref}
 use Rattle.instruction_rows.specs.declared.value.Slot.{Slot}
 use Rattle.instruction_rows.specs.declared.value.Slot.TheVariants.{One}
 use Rattle.class_grammar.specs.Pool.{MemberName}
 use Rattle.items.specs.Options.{◌>>=◌}
-use Rattle.ref_model.specs.Program.{Program, Method}
-use Rattle.ref_model.specs.State.{Frame, Run, Status, Live, Done, Thread, State, out_stream, ending}
-use Rattle.ref_model.specs.Names.{field_at, method_at, is_out, is_print_int}
-use Rattle.ref_model.specs.Rows.{stack_with, fetch_of, frame_after, row}
+use Rattle.plain_model.specs.Program.{Program, Method}
+use Rattle.plain_model.specs.State.{Frame, Run, Status, Live, Done, Thread, State, out_stream, ending}
+use Rattle.plain_model.specs.Names.{field_at, method_at, is_out, is_print_int}
+use Rattle.plain_model.specs.Rows.{stack_with, fetch_of, frame_after, row}
 
 abbrev pub is_running : Status → Bool
 is_running (Live Run) = true
