@@ -1,0 +1,4 @@
+mod StateLaws
+mod RowLaws
+mod StepLaws
+mod ReplayLaws
