@@ -2,7 +2,7 @@
 use Rattle.std.specs.Prelude.{ℕ, ◌+◌, ◌*◌, ◌-◌, ℤ, pos, ◌+ℤ◌, ◌*ℤ◌, Bool, false, List, [], ◌∷◌, ◌++◌, Option, Some, None, codes, encode_utf8, fold, nat_le, ◌&&◌, if◌then◌else◌}
 use Rattle.std.specs.Fmt.{signed_decimal, radix_digits}
 use Rattle.std.specs.Int.{w32, cast_unsigned, int_wrap}
-use Rattle.jvm_words.specs.Words.{is_zero}
+use Rattle.jvm_words.specs.Words.{is_zero, low_bits}
 
 -- ---- UTF-8 (Unicode 3.9, D92). Two surrogates, a high one and a low one behind it, are one character.
 
@@ -44,12 +44,13 @@ text_bytes units = bytes_behind None units
 abbrev pub decimal_text : ℤ → List ℕ
 decimal_text n = signed_decimal n
 
+-- a boolean: 0 is false, and every other int true
 abbrev pub boolean_text : ℤ → List ℕ
 boolean_text n = if is_zero n then codes "false" else codes "true"
 
--- a char
+-- a char, of which the low 16 bits count: an argument isn't narrowed by a call (own)
 abbrev pub char_text : ℤ → List ℕ
-char_text n = cast_unsigned w32 n ∷ []
+char_text n = low_bits 16 n ∷ []
 
 -- an int as an unsigned number in lower-case hexadecimal (Integer.toHexString)
 abbrev pub hex_text : ℤ → List ℕ
