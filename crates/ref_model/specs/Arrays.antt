@@ -1,13 +1,11 @@
 -- Arrays (JVMS 6.5): new ones, their lengths and their elements. Tests come in this order: null, the kind of the elements, index or
 -- length, class of a stored object, room.
-use Rattle.std.specs.Prelude.{ℕ, zero, suc, ◌+◌, ◌*◌, ℤ, pos, negsuc, Bool, true, false, List, [], ◌∷◌, ◌++◌, Option, Some, None, flat_map, int_lt, length, map, nat_le, replicate, slice_get, unsigned_abs, ◌==◌, if◌then◌else◌}
+use Rattle.std.specs.Prelude.{ℕ, zero, suc, ◌+◌, ◌*◌, ℤ, pos, negsuc, Bool, true, false, List, [], ◌∷◌, ◌++◌, Option, Some, None, flat_map, int_lt, length, map, nat_le, replicate, slice_get, unsigned_abs, if◌then◌else◌}
 use Rattle.std.specs.List.{list_any, range_with_len}
 use Rattle.items.specs.Options.{◌>>=◌}
 use Rattle.opcodes.specs.declared.op.Kind.TheVariants as kinds
 use Rattle.opcodes.specs.declared.op.Element.{Element}
-use Rattle.opcodes.specs.declared.op.Element.TheVariants as elements
-use Rattle.stack_maps.specs.declared.types.Base.{Base}
-use Rattle.stack_maps.specs.declared.types.Base.TheVariants as bases
+use Rattle.stack_maps.specs.declared.types.VType.TheVariants as types
 use Rattle.instruction_rows.specs.declared.value.Value.{Value}
 use Rattle.instruction_rows.specs.declared.value.Value.TheVariants as values
 use Rattle.instruction_rows.specs.declared.value.Slot.{Slot}
@@ -16,6 +14,7 @@ use Rattle.instruction_rows.specs.SlotEffect.{popped}
 use Rattle.world_model.specs.declared.sites.ArrayType.{ArrayType}
 use Rattle.world_model.specs.declared.sites.Naming.{Naming}
 use Rattle.world_model.specs.World.{World, array_type}
+use Rattle.verify_types.specs.Operands.{serves}
 use Rattle.state_model.specs.Objects.{Object, instance}
 use Rattle.ref_model.specs.declared.exception.Exception.TheVariants as exceptions
 use Rattle.ref_model.specs.Classes.{element_of, array_class, is_element}
@@ -27,30 +26,6 @@ use Rattle.ref_model.specs.Effects.{Effect, done, gives, gives_new, throws, not_
 
 -- ---- the array of an instruction
 
--- the elements that are loaded and stored by one instruction; baload and bastore serve boolean too
-abbrev pub element_of_base : Base → Element
-element_of_base bases.Bool = elements.Byte
-element_of_base bases.Byte = elements.Byte
-element_of_base bases.Char = elements.Char
-element_of_base bases.Short = elements.Short
-element_of_base bases.Int = elements.Int
-element_of_base bases.Long = elements.Long
-element_of_base bases.Float = elements.Reference
-element_of_base bases.Double = elements.Reference
-element_of_base (bases.Class class) = elements.Reference
-
-abbrev pub element_of_array : ArrayType → Element
-element_of_array t = if t.dimensions == 1 then element_of_base t.base else elements.Reference
-
-abbrev pub same_element : Element → Element → Bool
-same_element elements.Int elements.Int = true
-same_element elements.Long elements.Long = true
-same_element elements.Reference elements.Reference = true
-same_element elements.Byte elements.Byte = true
-same_element elements.Char elements.Char = true
-same_element elements.Short elements.Short = true
-same_element a b = false
-
 -- Null throws NullPointerException, and what is no array VerifyError. (own: a typed program has an array there)
 abbrev pub on_found : Option Array → (Array → Option Effect) → Option Effect
 on_found None act = Some (throws exceptions.VerifyError)
@@ -59,10 +34,10 @@ on_found (Some a) act = act a
 abbrev pub on_array : World → State → Option ℕ → (ℕ → Array → Option Effect) → Option Effect
 on_array w r reference act = not_null reference (λ o. on_found (array_at w r o) (act o))
 
--- the same of an array with such elements
+-- the same of an array with such elements; baload and bastore serve boolean too
 abbrev pub on_array_of : World → State → Element → Option ℕ → (ℕ → Array → Option Effect) → Option Effect
 on_array_of w r element reference act = on_array w r reference (λ o a.
-    if same_element (element_of_array a.type) element then act o a else Some (throws exceptions.VerifyError))
+    if serves element (types.Named a.type.dimensions a.type.base) then act o a else Some (throws exceptions.VerifyError))
 
 -- the place that an index names
 abbrev pub place_in : ℤ → Array → Option ℕ
