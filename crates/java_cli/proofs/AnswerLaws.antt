@@ -12,8 +12,8 @@ use Rattle.jvm_edges.specs.Causes.{Rose}
 use Rattle.jvm_edges.specs.Files.{file_named}
 use Rattle.jvm_edges.specs.Files as store
 use Rattle.history.specs.declared.entry.Entry.{Entry}
-use Rattle.ref_model.specs.Program.{Method}
-use Rattle.ref_model.specs.Alone.{alone}
+use Rattle.plain_model.specs.Program.{Method}
+use Rattle.plain_model.specs.Alone.{alone}
 use Rattle.jvm_edges.specs.declared.output.PartWritten.{PartWritten}
 use Rattle.java_cli.specs.declared.errors.LoadError.{LoadError}
 use Rattle.java_cli.specs.declared.errors.LoadError.TheVariants as load

@@ -6,8 +6,8 @@ use Rattle.class_model.specs.declared.class_file.ClassFile.{ClassFile}
 use Rattle.class_grammar.specs.declared.class_why.ClassWhy.{ClassWhy}
 use Rattle.class_file.specs.File.{first_bad}
 use Rattle.class_file.proofs.OutcomeLaws.{one_value, none_bad, some_spelled}
-use Rattle.ref_model.specs.Program.{Method}
-use Rattle.ref_model.specs.Alone.{alone}
+use Rattle.plain_model.specs.Program.{Method}
+use Rattle.plain_model.specs.Alone.{alone}
 use Rattle.linkage.specs.declared.fault.LinkFault as faults
 use Rattle.linkage.specs.declared.why.LinkWhy.TheVariants.{Unsupported}
 use Rattle.linkage.specs.Faults.{Links, link_fault}

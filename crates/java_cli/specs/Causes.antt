@@ -11,7 +11,7 @@ use Rattle.class_grammar.specs.Pool.{class_name_at}
 use Rattle.class_grammar.specs.Grammar.{Spells}
 use Rattle.class_file.specs.File.{first_bad}
 use Rattle.linkage.specs.declared.why.LinkWhy.TheVariants.{Unsupported}
-use Rattle.ref_model.specs.Program.{Method, Program}
+use Rattle.plain_model.specs.Program.{Method, Program}
 use Rattle.plain_program.specs.Programs.{IsPlainProgram}
 use Rattle.java_cli.specs.declared.errors.LoadError.{LoadError}
 use Rattle.java_cli.specs.declared.errors.LoadError.TheVariants as load

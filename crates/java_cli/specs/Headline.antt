@@ -4,11 +4,11 @@ use Rattle.std.specs.List.{AllByRecursion}
 use Rattle.jvm_edges.specs.Bytes.{Appends}
 use Rattle.jvm_edges.specs.Causes.{Rose}
 use Rattle.jvm_edges.specs.Files.{Files}
-use Rattle.ref_model.specs.declared.ending.Ending.TheVariants as endings
-use Rattle.ref_model.specs.Program.{Program}
-use Rattle.ref_model.specs.State.{State, ending}
+use Rattle.plain_model.specs.declared.ending.Ending.TheVariants as endings
+use Rattle.plain_model.specs.Program.{Program}
+use Rattle.plain_model.specs.State.{State, ending}
 use Rattle.history.specs.Java.{java}
-use Rattle.ref_model.specs.Run.{run}
+use Rattle.plain_model.specs.Run.{run}
 use Rattle.java_cli.specs.declared.report.Report.{Report}
 use Rattle.java_cli.specs.declared.report.SinkName.TheVariants.{Out}
 use Rattle.java_cli.specs.declared.report.Why.{Why}

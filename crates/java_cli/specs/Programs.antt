@@ -1,8 +1,8 @@
 -- Which program class files are.
 use Rattle.std.specs.Prelude.{◌≡◌, ℕ, true, List}
 use Rattle.class_model.specs.declared.class_file.ClassFile.{ClassFile}
-use Rattle.ref_model.specs.Program.{Method, Program}
-use Rattle.ref_model.specs.Alone.{alone}
+use Rattle.plain_model.specs.Program.{Method, Program}
+use Rattle.plain_model.specs.Alone.{alone}
 use Rattle.plain_program.specs.Programs.{IsPlainProgram}
 use Rattle.java_cli.specs.Linking.{AreAccepted}
 use Rattle.java_cli.specs.MainClass.{has_main}

@@ -2,7 +2,7 @@
 use Rattle.std.specs.Prelude.{ℕ, List, Option}
 use Rattle.history.specs.declared.entry.Entry.{Entry}
 use Rattle.class_model.specs.declared.class_file.ClassFile.{ClassFile}
-use Rattle.ref_model.specs.Program.{Program}
+use Rattle.plain_model.specs.Program.{Program}
 use Rattle.jvm_edges.specs.Files.{Files}
 use Rattle.plain_program.specs.Runs.{IsRun}
 use Rattle.java_cli.specs.Words.{Command}

@@ -6,10 +6,10 @@ use Rattle.std.proofs.lemmas.List.Concat.{flat_map-cons}
 use Rattle.std.proofs.lemmas.Option.{same_Some}
 use Rattle.class_model.specs.declared.class_file.ClassFile.{ClassFile}
 use Rattle.class_model.specs.declared.attribute.CodeBody.{CodeBody}
-use Rattle.ref_model.specs.declared.instruction.Op.{Op}
-use Rattle.ref_model.specs.Instructions.{encoding, instrs_from, IsOp}
-use Rattle.ref_model.specs.Program.{Method}
-use Rattle.ref_model.proofs.Pcs.{encoded}
+use Rattle.plain_model.specs.declared.instruction.Op.{Op}
+use Rattle.plain_model.specs.Instructions.{encoding, instrs_from, IsOp}
+use Rattle.plain_model.specs.Program.{Method}
+use Rattle.plain_model.proofs.Pcs.{encoded}
 use Rattle.plain_program.specs.Decoding.{op_at}
 use Rattle.plain_program.specs.Methods.{only_code}
 use Rattle.plain_program.specs.PlainForm.{is_plain}

@@ -9,11 +9,11 @@ use Rattle.std.proofs.lemmas.Bool.{eqb-true}
 use Rattle.std.proofs.lemmas.List.Concat.{flat_map-cons, flat_map-append}
 use Rattle.std.proofs.lemmas.List.{append-nil, length-append}
 use Rattle.std.proofs.lemmas.Option.{same_Some}
-use Rattle.ref_model.specs.declared.instruction.Op.{Op}
-use Rattle.ref_model.specs.declared.instruction.Op.TheVariants.{Bipush, Getstatic, Invokevirtual, Return}
-use Rattle.ref_model.specs.declared.instruction.Instr.{Instr}
-use Rattle.ref_model.specs.Instructions.{encoding, instrs_from, behind, IsOp}
-use Rattle.ref_model.proofs.Pcs.{instrs_from_more, behind_more}
+use Rattle.plain_model.specs.declared.instruction.Op.{Op}
+use Rattle.plain_model.specs.declared.instruction.Op.TheVariants.{Bipush, Getstatic, Invokevirtual, Return}
+use Rattle.plain_model.specs.declared.instruction.Instr.{Instr}
+use Rattle.plain_model.specs.Instructions.{encoding, instrs_from, behind, IsOp}
+use Rattle.plain_model.proofs.Pcs.{instrs_from_more, behind_more}
 use Rattle.plain_program.specs.Decoding.{op_at, byte_operand, place_at, with_place}
 
 abbrev pub IsBytes : List ℕ → Type 0

@@ -1,9 +1,9 @@
 -- What a local run keeps.
 use Rattle.std.proofs.Common.{◌≡◌, ◌+◌, ◌≤◌, List, ℕ, reverse, length}
-use Rattle.ref_model.specs.declared.instruction.Instr.{Instr}
+use Rattle.plain_model.specs.declared.instruction.Instr.{Instr}
 use Rattle.instruction_rows.specs.declared.value.Value.{Value}
 use Rattle.history.specs.declared.entry.Entry.{Entry}
-use Rattle.ref_model.specs.Program.{Method}
+use Rattle.plain_model.specs.Program.{Method}
 use Rattle.plain_program.specs.Standing.{Stands}
 
 -- from this code and these operands, so many steps have led to those

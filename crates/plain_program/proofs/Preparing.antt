@@ -11,10 +11,10 @@ use Rattle.class_model.specs.declared.attribute.Body.TheVariants.{Code, Constant
 use Rattle.class_model.specs.declared.attribute.CodeBody.{CodeBody}
 use Rattle.class_model.specs.declared.member.Member.{Member}
 use Rattle.class_grammar.specs.Ranges.{IsU1, IsAttribute, IsMember, IsBody}
-use Rattle.ref_model.specs.declared.instruction.Op.{Op}
-use Rattle.ref_model.specs.declared.instruction.Instr.{Instr}
-use Rattle.ref_model.specs.Instructions.{encoding, instrs_from, IsOp}
-use Rattle.ref_model.specs.Program.{Method}
+use Rattle.plain_model.specs.declared.instruction.Op.{Op}
+use Rattle.plain_model.specs.declared.instruction.Instr.{Instr}
+use Rattle.plain_model.specs.Instructions.{encoding, instrs_from, IsOp}
+use Rattle.plain_model.specs.Program.{Method}
 use Rattle.plain_program.specs.Methods.{code_of, code_in, only_code}
 use Rattle.plain_program.specs.Typing.{is_typed}
 use Rattle.plain_program.specs.Programs.{IsSpelled}

@@ -4,26 +4,26 @@ use Rattle.std.specs.Prelude.{map, ◌&&◌}
 use Rattle.std.specs.List.{list_all, AllByRecursion}
 use Rattle.std.specs.Option.{option_map_or}
 use Rattle.std.proofs.lemmas.Bool.{ltb-true, eqb-true}
-use Rattle.ref_model.specs.declared.instruction.Op.{Op}
-use Rattle.ref_model.specs.declared.instruction.Op.TheVariants.{Bipush, Getstatic, Invokevirtual, Return}
-use Rattle.ref_model.specs.declared.instruction.Instr.{Instr}
+use Rattle.plain_model.specs.declared.instruction.Op.{Op}
+use Rattle.plain_model.specs.declared.instruction.Op.TheVariants.{Bipush, Getstatic, Invokevirtual, Return}
+use Rattle.plain_model.specs.declared.instruction.Instr.{Instr}
 use Rattle.instruction_rows.specs.declared.value.Value.{Value}
 use Rattle.instruction_rows.specs.declared.value.Value.TheVariants as values
 use Rattle.history.specs.declared.entry.Entry.{Entry}
 use Rattle.history.specs.declared.entry.What.{What}
 use Rattle.history.specs.declared.entry.What.TheVariants.{Mount, Unmount, Step, Clock}
 use Rattle.class_grammar.specs.Pool.{MemberName}
-use Rattle.ref_model.specs.Instructions.{encoding, instr, instrs_from, behind}
-use Rattle.ref_model.specs.Program.{Method, instruction_at}
-use Rattle.ref_model.specs.State.{out_stream}
-use Rattle.ref_model.specs.Alone.{alone, at, over}
-use Rattle.ref_model.specs.Names.{field_at, method_at, is_out, is_print_int}
-use Rattle.ref_model.specs.Step.{step}
+use Rattle.plain_model.specs.Instructions.{encoding, instr, instrs_from, behind}
+use Rattle.plain_model.specs.Program.{Method, instruction_at}
+use Rattle.plain_model.specs.State.{out_stream}
+use Rattle.plain_model.specs.Alone.{alone, at, over}
+use Rattle.plain_model.specs.Names.{field_at, method_at, is_out, is_print_int}
+use Rattle.plain_model.specs.Step.{step}
 use Rattle.history.specs.Java.{java, is_java}
-use Rattle.ref_model.specs.Run.{steps}
-use Rattle.ref_model.proofs.Pcs.{behind_more, found_at}
-use Rattle.ref_model.proofs.ReplayLaws.{run_more}
-use Rattle.ref_model.proofs.Straight.{bipush_steps, getstatic_steps, print_steps, return_steps}
+use Rattle.plain_model.specs.Run.{steps}
+use Rattle.plain_model.proofs.Pcs.{behind_more, found_at}
+use Rattle.plain_model.proofs.ReplayLaws.{run_more}
+use Rattle.plain_model.proofs.Straight.{bipush_steps, getstatic_steps, print_steps, return_steps}
 use Rattle.plain_program.specs.declared.typing.Kind.{Kind}
 use Rattle.plain_program.specs.declared.typing.Kind.TheVariants as kinds
 use Rattle.plain_program.specs.Typing.{names_out, names_print, grown, without_printed, is_return, is_typed}

@@ -6,7 +6,7 @@ use Rattle.class_model.specs.declared.attribute.Body.{Body}
 use Rattle.class_model.specs.declared.attribute.Body.TheVariants.{Code, Constant, Other}
 use Rattle.class_model.specs.declared.attribute.CodeBody.{CodeBody}
 use Rattle.class_model.specs.declared.member.Member.{Member}
-use Rattle.ref_model.specs.Program.{Method}
+use Rattle.plain_model.specs.Program.{Method}
 use Rattle.plain_program.specs.declared.plain_method.PlainMethod.{PlainMethod}
 
 -- a method as the machine knows it

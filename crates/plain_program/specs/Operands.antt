@@ -2,10 +2,10 @@
 use Rattle.std.specs.Prelude.{◌≡◌, ℕ, Bool, true, false, List, ◌∷◌, ◌++◌, ◌==◌}
 use Rattle.instruction_rows.specs.declared.value.Value.{Value}
 use Rattle.instruction_rows.specs.declared.value.Value.TheVariants.{Int, Ref}
-use Rattle.ref_model.specs.declared.instruction.Op.{Op}
-use Rattle.ref_model.specs.declared.instruction.Op.TheVariants.{Bipush, Getstatic, Invokevirtual, Return}
-use Rattle.ref_model.specs.State.{out_stream}
-use Rattle.ref_model.specs.Step.{line_of_int}
+use Rattle.plain_model.specs.declared.instruction.Op.{Op}
+use Rattle.plain_model.specs.declared.instruction.Op.TheVariants.{Bipush, Getstatic, Invokevirtual, Return}
+use Rattle.plain_model.specs.State.{out_stream}
+use Rattle.plain_model.specs.Step.{line_of_int}
 
 -- whether the top is an int
 abbrev pub is_int_top : List Value → Bool

@@ -4,9 +4,9 @@ use Rattle.std.specs.List.{flat_map, AllByRecursion}
 use Rattle.class_model.specs.declared.class_file.ClassFile.{ClassFile}
 use Rattle.class_model.specs.declared.attribute.CodeBody.{CodeBody}
 use Rattle.class_grammar.specs.Grammar.{Spells}
-use Rattle.ref_model.specs.declared.instruction.Op.{Op}
-use Rattle.ref_model.specs.Instructions.{encoding, instrs_from, IsOp}
-use Rattle.ref_model.specs.Program.{Method}
+use Rattle.plain_model.specs.declared.instruction.Op.{Op}
+use Rattle.plain_model.specs.Instructions.{encoding, instrs_from, IsOp}
+use Rattle.plain_model.specs.Program.{Method}
 use Rattle.plain_program.specs.Methods.{only_code}
 use Rattle.plain_program.specs.PlainForm.{is_plain}
 use Rattle.plain_program.specs.Typing.{is_typed}

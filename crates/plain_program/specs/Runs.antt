@@ -4,11 +4,11 @@ use Rattle.std.specs.List.{AllByRecursion}
 use Rattle.history.specs.declared.entry.Entry.{Entry}
 use Rattle.history.specs.declared.entry.What.{What}
 use Rattle.history.specs.declared.entry.What.TheVariants.{Step}
-use Rattle.ref_model.specs.declared.ending.Ending.TheVariants.{Ended}
-use Rattle.ref_model.specs.Program.{Program}
-use Rattle.ref_model.specs.State.{State, ending}
+use Rattle.plain_model.specs.declared.ending.Ending.TheVariants.{Ended}
+use Rattle.plain_model.specs.Program.{Program}
+use Rattle.plain_model.specs.State.{State, ending}
 use Rattle.history.specs.Java.{java}
-use Rattle.ref_model.specs.Run.{run}
+use Rattle.plain_model.specs.Run.{run}
 
 -- steps of thread 0, none of which picks another
 abbrev pub IsMainStep : What → Type 0

@@ -1,18 +1,18 @@
 -- Where the interpreter stands in a run of the reference machine.
 use Rattle.std.specs.Prelude.{◌≡◌, ℕ, Bool, true, false, List, ◌++◌, map, ◌==◌, Some}
 use Rattle.std.specs.List.{list_all, AllByRecursion}
-use Rattle.ref_model.specs.declared.instruction.Op.{Op}
-use Rattle.ref_model.specs.declared.instruction.Instr.{Instr}
+use Rattle.plain_model.specs.declared.instruction.Op.{Op}
+use Rattle.plain_model.specs.declared.instruction.Instr.{Instr}
 use Rattle.instruction_rows.specs.declared.value.Value.{Value}
 use Rattle.instruction_rows.specs.declared.value.Value.TheVariants as values
 use Rattle.instruction_rows.specs.declared.value.Slot.{Slot}
 use Rattle.instruction_rows.specs.declared.value.Slot.TheVariants.{One}
 use Rattle.history.specs.declared.entry.Entry.{Entry}
-use Rattle.ref_model.specs.Instructions.{instrs_from, behind}
-use Rattle.ref_model.specs.Program.{Method}
-use Rattle.ref_model.specs.State.{State, out_stream}
-use Rattle.ref_model.specs.Alone.{alone, at}
-use Rattle.ref_model.specs.Run.{steps, run}
+use Rattle.plain_model.specs.Instructions.{instrs_from, behind}
+use Rattle.plain_model.specs.Program.{Method}
+use Rattle.plain_model.specs.State.{State, out_stream}
+use Rattle.plain_model.specs.Alone.{alone, at}
+use Rattle.plain_model.specs.Run.{steps, run}
 use Rattle.plain_program.specs.declared.typing.Kind.{Kind}
 use Rattle.plain_program.specs.declared.typing.Kind.TheVariants as kinds
 use Rattle.plain_program.specs.Typing.{is_typed}

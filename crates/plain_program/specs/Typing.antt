@@ -2,12 +2,12 @@
 -- instructions): each operand is an int or the stream, and the depth stays within the method's.
 use Rattle.std.specs.Prelude.{ℕ, Bool, true, false, List, [], ◌∷◌, Option, Some, None, length, nat_lt, if◌then◌else◌}
 use Rattle.std.specs.Option.{option_map_or}
-use Rattle.ref_model.specs.declared.instruction.Op.{Op}
-use Rattle.ref_model.specs.declared.instruction.Op.TheVariants.{Bipush, Getstatic, Invokevirtual, Return}
-use Rattle.ref_model.specs.declared.instruction.Instr.{Instr}
+use Rattle.plain_model.specs.declared.instruction.Op.{Op}
+use Rattle.plain_model.specs.declared.instruction.Op.TheVariants.{Bipush, Getstatic, Invokevirtual, Return}
+use Rattle.plain_model.specs.declared.instruction.Instr.{Instr}
 use Rattle.class_model.specs.declared.constant.Const.{Const}
-use Rattle.ref_model.specs.Program.{Method}
-use Rattle.ref_model.specs.Names.{field_at, method_at, is_out, is_print_int}
+use Rattle.plain_model.specs.Program.{Method}
+use Rattle.plain_model.specs.Names.{field_at, method_at, is_out, is_print_int}
 use Rattle.plain_program.specs.declared.typing.Kind.{Kind}
 use Rattle.plain_program.specs.declared.typing.Kind.TheVariants.{Int, Stream}
 

@@ -1,11 +1,11 @@
 ghost use Rattle.std.specs.Prelude.{◌≡◌, ◌<◌, ◌^◌, List, ℕ, length, IfOk, IfSome, IfNone};
 ghost use Rattle.std.specs.List.{flat_map, AllByRecursion};
 ghost use Rattle.std.specs.Option.{option_map};
-ghost use Rattle.ref_model.specs.declared.instruction.Op.{Op};
-ghost use Rattle.ref_model.specs.Instructions.{encoding, instrs_from, IsOp};
+ghost use Rattle.plain_model.specs.declared.instruction.Op.{Op};
+ghost use Rattle.plain_model.specs.Instructions.{encoding, instrs_from, IsOp};
 ghost use Rattle.plain_program.specs.Decoding.{op_at, byte_operand, place_at as place_in};
 
-use ref_model::{Instr, Op};
+use plain_model::{Instr, Op};
 use std::alloc::{AllocError, Global};
 
 const BIPUSH: u8 = 0x10;

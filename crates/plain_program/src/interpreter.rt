@@ -1,9 +1,9 @@
 ghost use Rattle.std.specs.Prelude.{◌≡◌, ◌+◌, ◌<◌, ◌++◌, [], ◌∷◌, List, ℕ, true, IfOk, OnOk, reverse, length};
-ghost use Rattle.ref_model.specs.declared.instruction.Op.{Op};
-ghost use Rattle.ref_model.specs.Instructions.{instrs_from};
-ghost use Rattle.ref_model.specs.Program.{Method};
-ghost use Rattle.ref_model.specs.Step.{line_of_int};
-ghost use Rattle.ref_model.specs.Alone.{alone};
+ghost use Rattle.plain_model.specs.declared.instruction.Op.{Op};
+ghost use Rattle.plain_model.specs.Instructions.{instrs_from};
+ghost use Rattle.plain_model.specs.Program.{Method};
+ghost use Rattle.plain_model.specs.Step.{line_of_int};
+ghost use Rattle.plain_model.specs.Alone.{alone};
 ghost use Rattle.plain_program.specs.Methods.{method_of};
 ghost use Rattle.plain_program.specs.Typing.{is_typed, is_return};
 ghost use Rattle.plain_program.specs.Runs.{IsRun};
@@ -14,7 +14,7 @@ use crate::plain_method::PlainMethod;
 use history::{Entry, What};
 use itoa::Buffer;
 use jvm_edges::Gate;
-use ref_model::{Instr, Op, Value};
+use plain_model::{Instr, Op, Value};
 use std::alloc::{AllocError, Global};
 
 /// The number of the object that java.lang.System.out holds.

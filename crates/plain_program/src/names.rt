@@ -1,6 +1,6 @@
 ghost use Rattle.std.specs.Prelude.{◌≡◌, false};
 ghost use Rattle.std.specs.Option.{option_map_or};
-ghost use Rattle.ref_model.specs.Names.{member_of, is_member as is_member_named};
+ghost use Rattle.plain_model.specs.Names.{member_of, is_member as is_member_named};
 ghost use Rattle.class_grammar.specs.Pool.{is_class_named};
 ghost use Rattle.plain_program.specs.Typing.{names_out as is_out_named, names_print as is_print_named};
 

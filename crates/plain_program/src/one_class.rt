@@ -3,7 +3,7 @@
 ghost use Rattle.std.specs.Prelude.{◌≡◌, ◌<◌, ◌^◌, Some, length, IfOk, IfSome, IfNone};
 ghost use Rattle.std.specs.List.{AllByRecursion};
 ghost use Rattle.class_model.specs.declared.attribute.CodeBody.{CodeBody};
-ghost use Rattle.ref_model.specs.Program.{Method};
+ghost use Rattle.plain_model.specs.Program.{Method};
 ghost use Rattle.plain_program.specs.Methods.{method_of, only_code as only_code_in};
 ghost use Rattle.plain_program.specs.Programs.{IsSpelled, IsMethod, IsPlainProgram};
 

@@ -1,5 +1,5 @@
 use class_model::Const;
-use ref_model::Instr;
+use plain_model::Instr;
 
 /// The method of a plain class, ready to run: the constant pool of its class, its sizes in slots, and its
 /// instructions (JVMS 4.7.3).

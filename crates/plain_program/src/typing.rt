@@ -4,7 +4,7 @@ ghost use Rattle.plain_program.specs.Typing.{grown, without_printed, effect, is_
 
 use crate::names::{names_out, names_print};
 use crate::plain_method::PlainMethod;
-use ref_model::Op;
+use plain_model::Op;
 use std::alloc::{AllocError, Global};
 
 /// What an operand of a plain method is (own).

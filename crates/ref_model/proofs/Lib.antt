@@ -1,3 +1,8 @@
-pub mod ReplayLaws
-pub mod Pcs
-pub mod Straight
+mod StateLaws
+mod RowLaws
+mod StepLaws
+mod ReplayLaws
+mod WorkedTexts
+mod WorkedWorld
+mod WorkedHeap
+mod WorkedRuns

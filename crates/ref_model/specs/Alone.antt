@@ -1,24 +1,18 @@
--- A program of one method, with its one thread going through it.
-use Rattle.std.specs.Prelude.{ℕ, ◌-◌, List, [], ◌∷◌, replicate}
-use Rattle.instruction_rows.specs.declared.value.Value.TheVariants.{Ref}
-use Rattle.instruction_rows.specs.declared.value.Slot.{Slot}
-use Rattle.instruction_rows.specs.declared.value.Slot.TheVariants.{One, Second}
-use Rattle.ref_model.specs.Program.{Program, Method}
-use Rattle.ref_model.specs.State.{State, Run, Live, Done, main_words}
+-- A program of one thread, with its steps one after the other.
+use Rattle.std.specs.Prelude.{ℕ, zero, suc, Option, Some, None, is_some, if◌then◌else◌}
+use Rattle.items.specs.Options.{◌>>=◌}
+use Rattle.ref_model.specs.Setting.{Setting}
+use Rattle.ref_model.specs.State.{State}
+use Rattle.ref_model.specs.Ending.{ending}
+use Rattle.ref_model.specs.Opening.{opening}
+use Rattle.ref_model.specs.Step.{step}
 
--- a program of one method
-abbrev pub alone : Method → Program
-alone m = record { methods = m ∷ []; main = 0 }
+-- a step of thread 0, where the program hasn't ended
+abbrev pub stepped_alone : Setting → State → Option State
+stepped_alone p r = if is_some (ending r) then Some r else step p r 0 None
 
--- its thread at a pc, with this operand stack, after this output
-abbrev pub at : Method → ℕ → List Slot → List ℕ → State
-at m pc stack out = record {
-  threads = record { status = Live Run; frames = record { method = 0; pc = pc; locals = One (Ref main_words) ∷ replicate (m.max_locals - 1) Second; stack = stack } ∷ [] } ∷ [];
-  now = 0;
-  out = out;
-  err = [];
-}
-
--- its thread at the end
-abbrev pub over : List ℕ → State
-over out = record { threads = record { status = Done; frames = [] } ∷ []; now = 0; out = out; err = [] }
+-- So many steps of thread 0 from the opening on, or fewer where the program ends. It is defined where each step is. No step starts a thread
+-- or reads the clock yet.
+abbrev pub alone : Setting → ℕ → Option State
+alone p zero = opening p
+alone p (suc n) = alone p n >>= stepped_alone p

@@ -1,71 +1,45 @@
--- The state of the reference machine (JVMS 2.5, 2.6).
-use Rattle.std.specs.Prelude.{ℕ, ◌-◌, Bool, true, false, List, [], ◌∷◌, Option, Some, None, slice_get, replicate, if◌then◌else◌}
-use Rattle.std.specs.List.{list_all}
-use Rattle.instruction_rows.specs.declared.value.Value.TheVariants.{Ref}
-use Rattle.instruction_rows.specs.declared.value.Slot.{Slot}
-use Rattle.instruction_rows.specs.declared.value.Slot.TheVariants.{One, Second}
-use Rattle.ref_model.specs.declared.ending.Ending.{Ending}
-use Rattle.ref_model.specs.declared.ending.Ending.TheVariants.{Ended}
-use Rattle.items.specs.Options.{◌>>=◌}
-use Rattle.ref_model.specs.Program.{Program, Method}
+-- The state of the reference machine (JVMS 2.5): heap, static fields, threads with their whole stacks, time and output.
+use Rattle.std.specs.Prelude.{ℕ, ℤ, Bool, List, Option, Some, None, slice_get, slice_set}
+use Rattle.std.specs.Option.{option_map_or}
+use Rattle.vthread_state.specs.declared.thread.Status.{Status}
+use Rattle.vthread_state.specs.declared.thread.Thread.{Thread}
+use Rattle.instruction_rows.specs.declared.value.Value.{Value}
+use Rattle.state_model.specs.Frames.{Frame}
+use Rattle.state_model.specs.Objects.{Object}
 
--- A method's frame (JVMS 2.6): the pc of its instruction, its local variables by index, and its
--- operand stack with the top first.
-pub record Frame : Type 0 where
-  pub method : ℕ
-  pub pc : ℕ
-  pub locals : List Slot
-  pub stack : List Slot
-
--- what a live thread is at
-pub data Phase : Type 0 where
-  -- its next step is the instruction of its top frame
-  Run : Phase
-
-pub data Status : Type 0 where
-  Live : Phase → Status
-  Done : Status
-
--- a thread, with the frames of its stack, the top first
-pub record Thread : Type 0 where
-  pub status : Status
+-- A thread as the table of threads has it, with its frames, the top first (JVMS 2.5.2). The bottom frame and each frame of a class
+-- initializer are root frames.
+pub record JavaThread : Type 0 where
+  pub thread : Thread
   pub frames : List Frame
 
 pub record State : Type 0 where
-  pub threads : List Thread
-  -- the machine's time, in nanoseconds
+  -- the objects by number, in the order in which they were made
+  pub heap : List Object
+  -- the cells that objects may still take
+  pub room : ℕ
+  -- the values of the static fields, in the order of all fields
+  pub statics : List Value
+  pub threads : List JavaThread
+  -- the time in nanoseconds
   pub now : ℕ
-  -- what the program has printed
+  -- what the program wrote to its two streams
   pub out : List ℕ
-  -- the fault output of the program
   pub err : List ℕ
+  -- whether an exception that nothing caught ended the main thread
+  pub main_threw : Bool
+  -- the status with which the program called System.exit
+  pub exited : Option ℤ
 
--- The objects that a program finds (own): 0 is the OutOfMemoryError; 1 and 2 are the streams out and err; 3 is
--- main's Thread; 4 to 9 are the states of threads; 10 to 16 are the names of main and of the states; the array
--- of main's words is the next, since the plain form has no String constants.
-abbrev pub out_stream : ℕ
-out_stream = 1
+-- a thread is changed, and all else stays
+abbrev pub with_thread : State → ℕ → (JavaThread → JavaThread) → State
+with_thread r t change =
+    option_map_or (λ thread. record r { threads = slice_set r.threads t (change thread) }) (slice_get r.threads t) r
 
-abbrev pub main_words : ℕ
-main_words = 17
+-- a thread has these frames now
+abbrev pub with_frames : State → ℕ → List Frame → State
+with_frames r t frames = with_thread r t (λ thread. record thread { frames = frames })
 
--- the first frame of main, whose one argument is the array of its words (JVMS 2.6.1; JLS 12.1.4)
-abbrev pub main_frame : ℕ → Method → Frame
-main_frame number m = record { method = number; pc = 0; locals = One (Ref main_words) ∷ replicate (m.max_locals - 1) Second; stack = [] }
-
--- the state in which a program begins: one thread, at the first instruction of main
-abbrev pub opening : Program → Option State
-opening p = slice_get p.methods p.main >>= λ m. Some (record {
-  threads = record { status = Live Run; frames = main_frame p.main m ∷ [] } ∷ [];
-  now = 0;
-  out = [];
-  err = [];
-})
-
-abbrev pub is_done : Status → Bool
-is_done Done = true
-is_done (Live phase) = false
-
--- how the program has ended, if it has: each thread is done (JLS 12.8)
-abbrev pub ending : State → Option Ending
-ending r = if list_all (λ (t : Thread). is_done t.status) r.threads then Some Ended else None
+-- a thread has this status now
+abbrev pub with_status : State → ℕ → Status → State
+with_status r t status = with_thread r t (λ thread. record thread { thread = record thread.thread { status = status } })

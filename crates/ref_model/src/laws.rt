@@ -1,11 +1,20 @@
-ghost use Rattle.std.specs.Prelude.{◌≡◌, ◌++◌, List, Some};
-ghost use Rattle.history.specs.declared.entry.Entry.{Entry};
-ghost use Rattle.ref_model.specs.Program.{Program};
-ghost use Rattle.ref_model.specs.Run.{run};
-ghost use Rattle.ref_model.specs.State.{State};
+//! What holds of the definitions in specs/, each as a call that does nothing.
+
+ghost use Rattle.ref_model.specs.StepLaws.{PrefixesRun, RowsChangeTops, LocalSteps, EntriesAreLocal};
 
 /// A history that runs has run up to each of its entries.
 pub fn prefixes_run()
-    ensures { (p : Program) (front back : List Entry) (r : State) →
-        run p (front ++ back) ≡ Some r → (q : State) × (run p front ≡ Some q) }
+    ensures { PrefixesRun }
+{}
+
+/// A local instruction changes the frames of its thread alone: the heap, the static fields, the output and all other
+/// threads stay as they are, and so do the frames below the two on top. (own)
+pub fn local_steps_stay_in_their_frames()
+    ensures tops { RowsChangeTops }
+    ensures steps { LocalSteps }
+{}
+
+/// All steps of an entry but the last are local instructions. (own)
+pub fn entries_are_local()
+    ensures { EntriesAreLocal }
 {}

@@ -1,11 +1,11 @@
 -- Instructions are found at their pcs.
 use Rattle.std.proofs.Common.{ap, ◌≡◌, ℕ, ◌+◌, ◌<◌, ◌≤◌, List, [], ◌∷◌, ◌++◌, length, eqb, false, Some, refl, arith}
 use Rattle.std.proofs.lemmas.Bool.{eq-eqb, ne_eqb}
-use Rattle.ref_model.specs.declared.instruction.Op.{Op}
-use Rattle.ref_model.specs.declared.instruction.Op.TheVariants.{Bipush, Getstatic, Invokevirtual, Return}
-use Rattle.ref_model.specs.declared.instruction.Instr.{Instr}
-use Rattle.ref_model.specs.Instructions.{encoding, instr, instrs_from, behind}
-use Rattle.ref_model.specs.Program.{instruction_at}
+use Rattle.plain_model.specs.declared.instruction.Op.{Op}
+use Rattle.plain_model.specs.declared.instruction.Op.TheVariants.{Bipush, Getstatic, Invokevirtual, Return}
+use Rattle.plain_model.specs.declared.instruction.Instr.{Instr}
+use Rattle.plain_model.specs.Instructions.{encoding, instr, instrs_from, behind}
+use Rattle.plain_model.specs.Program.{instruction_at}
 
 pub encoded : (op : Op) → 0 < length (encoding op)
 encoded (Bipush n) = omega arith

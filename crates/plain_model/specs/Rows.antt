@@ -1,15 +1,15 @@
 -- The rows of local instructions (JVMS 6.5): the frames after one, as a function of the program and the frames
 -- alone. A row is undefined where the code would be out of range, and for what is no local instruction.
 use Rattle.std.specs.Prelude.{List, [], ◌∷◌, Option, Some, None, length, slice_get, nat_lt, if◌then◌else◌}
-use Rattle.ref_model.specs.declared.instruction.Op.{Op}
-use Rattle.ref_model.specs.declared.instruction.Op.TheVariants.{Bipush}
-use Rattle.ref_model.specs.declared.instruction.Instr.{Instr}
+use Rattle.plain_model.specs.declared.instruction.Op.{Op}
+use Rattle.plain_model.specs.declared.instruction.Op.TheVariants.{Bipush}
+use Rattle.plain_model.specs.declared.instruction.Instr.{Instr}
 use Rattle.instruction_rows.specs.declared.value.Value.TheVariants.{Int}
 use Rattle.instruction_rows.specs.declared.value.Slot.{Slot}
 use Rattle.instruction_rows.specs.declared.value.Slot.TheVariants.{One}
 use Rattle.items.specs.Options.{◌>>=◌}
-use Rattle.ref_model.specs.Program.{Program, Method, instruction_at}
-use Rattle.ref_model.specs.State.{Frame}
+use Rattle.plain_model.specs.Program.{Program, Method, instruction_at}
+use Rattle.plain_model.specs.State.{Frame}
 
 -- an operand stack with one more item, where the method has room for it
 abbrev pub stack_with : Method → Slot → List Slot → Option (List Slot)

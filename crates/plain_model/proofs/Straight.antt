@@ -1,16 +1,16 @@
 -- The steps of a thread that goes straight through the one method of its program.
 use Rattle.std.proofs.Common.{◌≡◌, ℕ, ℤ, ◌<◌, List, [], ◌∷◌, ◌++◌, length, Some, None, refl, ltb, true}
 use Rattle.std.proofs.lemmas.Bool.{lt-ltb}
-use Rattle.ref_model.specs.declared.instruction.Op.TheVariants.{Bipush, Getstatic, Invokevirtual, Return}
+use Rattle.plain_model.specs.declared.instruction.Op.TheVariants.{Bipush, Getstatic, Invokevirtual, Return}
 use Rattle.instruction_rows.specs.declared.value.Value.TheVariants.{Int, Ref}
 use Rattle.instruction_rows.specs.declared.value.Slot.{Slot}
 use Rattle.instruction_rows.specs.declared.value.Slot.TheVariants.{One}
 use Rattle.class_grammar.specs.Pool.{MemberName}
-use Rattle.ref_model.specs.Program.{Method, instruction_at}
-use Rattle.ref_model.specs.State.{opening, out_stream}
-use Rattle.ref_model.specs.Alone.{alone, at, over}
-use Rattle.ref_model.specs.Names.{field_at, method_at, is_out, is_print_int}
-use Rattle.ref_model.specs.Step.{step, line_of_int}
+use Rattle.plain_model.specs.Program.{Method, instruction_at}
+use Rattle.plain_model.specs.State.{opening, out_stream}
+use Rattle.plain_model.specs.Alone.{alone, at, over}
+use Rattle.plain_model.specs.Names.{field_at, method_at, is_out, is_print_int}
+use Rattle.plain_model.specs.Step.{step, line_of_int}
 
 pub opens : (m : Method) → opening (alone m) ≡ Some (at m 0 [] [])
 opens m = refl

@@ -2,7 +2,7 @@
 use Rattle.std.specs.Prelude.{ℕ, List, Option, ◌==◌}
 use Rattle.std.specs.List.{find}
 use Rattle.class_model.specs.declared.constant.Const.{Const}
-use Rattle.ref_model.specs.declared.instruction.Instr.{Instr}
+use Rattle.plain_model.specs.declared.instruction.Instr.{Instr}
 
 -- a method with code (JVMS 4.7.3), and the constant pool of its class
 pub record Method : Type 0 where

@@ -1,0 +1,5 @@
+pub mod FetchLaws
+pub mod Arrivals
+pub mod LocalRowLaws
+pub mod ReturnLaws
+pub mod Exceptions

@@ -1,0 +1,15 @@
+use Rattle.frame_typing.proofs.LocalRowLaws.{row_goes, narrow_goes, wide_goes}
+use Rattle.frame_typing.proofs.ReturnLaws.{return_goes}
+use Rattle.frame_typing.proofs.local_instructions_go_on.Goals as goal
+
+pub returns-clause-rows : goal.returns-clause-rows
+returns-clause-rows c = λ w f below r typed t known nonzero. row_goes w f below r typed t known nonzero
+
+pub returns-clause-constants : goal.returns-clause-constants
+returns-clause-constants c = λ w f below index typed t known. narrow_goes w f below index typed t known
+
+pub returns-clause-wide_constants : goal.returns-clause-wide_constants
+returns-clause-wide_constants c = λ w f below index typed t known. wide_goes w f below index typed t known
+
+pub returns-clause-returns : goal.returns-clause-returns
+returns-clause-returns c = λ w f below kind typed t known root. return_goes w f below kind typed t known root

@@ -1,0 +1,22 @@
+//! That the frames of a thread keep to the typing of its program: laws on the definitions of `ref_model` and `verify_types`, each as a
+//! call that does nothing.
+#![tactic(auto)]
+
+ghost use Rattle.frame_typing.specs.LocalLaws.{RowsGoOn, ConstantsGoOn, WideConstantsGoOn, ReturnsGoOn};
+ghost use Rattle.frame_typing.specs.ThrowLaws.{ThrowsKeep, FramesAreLeft, HandlersGoOn};
+
+/// A local instruction of frames that keep to the typing is defined, unless it divides by 0 or returns from a root frame, and leaves
+/// frames that keep to it (JVMS 4.10.1.6).
+pub fn local_instructions_go_on()
+    ensures rows { RowsGoOn }
+    ensures constants { ConstantsGoOn }
+    ensures wide_constants { WideConstantsGoOn }
+    ensures returns { ReturnsGoOn }
+{}
+
+/// An exception that leaves frames, or is caught in one, leaves frames that keep to the typing (JVMS 2.10, 4.10.1.6).
+pub fn exceptions_go_on()
+    ensures throws { ThrowsKeep }
+    ensures left { FramesAreLeft }
+    ensures handled { HandlersGoOn }
+{}

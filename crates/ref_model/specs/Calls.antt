@@ -1,0 +1,104 @@
+-- Invocations that aren't local (JVMS 6.5: invokevirtual, invokespecial, invokestatic, invokeinterface). Tests come in this order: null, the
+-- class of the receiver, selection, the number of frames. A call is stated by the descriptor that its instruction names.
+use Rattle.std.specs.Prelude.{ℕ, suc, List, Option, Some, None, drop, length, nat_lt, slice_get, ◌||◌, if◌then◌else◌}
+use Rattle.items.specs.Options.{◌>>=◌}
+use Rattle.opcodes.specs.declared.op.Kind.TheVariants as kinds
+use Rattle.lib_table.specs.declared.native.Native.{Native}
+use Rattle.linkage.specs.declared.choice.Choice.{Choice}
+use Rattle.linkage.specs.declared.choice.Choice.TheVariants.{Method, Abstract, Several}
+use Rattle.linkage.specs.Members.{method_number}
+use Rattle.linkage.specs.Selection.{select}
+use Rattle.class_grammar.specs.Names.{object_class}
+use Rattle.instruction_rows.specs.declared.value.Slot.{Slot}
+use Rattle.instruction_rows.specs.Rows.{Invocation, virtual, special, static, interface, dynamic}
+use Rattle.instruction_rows.specs.SlotEffect.{popped}
+use Rattle.world_model.specs.declared.members.MethodInfo.{MethodInfo}
+use Rattle.world_model.specs.declared.members.MethodCode.{MethodCode}
+use Rattle.world_model.specs.declared.sites.Naming.{Naming}
+use Rattle.world_model.specs.World.{World, name_number}
+use Rattle.world_model.specs.Decoded.{code_at}
+use Rattle.ref_model.specs.declared.exception.Exception.{Exception}
+use Rattle.ref_model.specs.declared.exception.Exception.TheVariants as exceptions
+use Rattle.ref_model.specs.Classes.{is_array}
+use Rattle.ref_model.specs.Kinds.{argument_slots}
+use Rattle.ref_model.specs.Members.{method_place, native_at, is_synchronized, is_hold}
+use Rattle.ref_model.specs.State.{State}
+use Rattle.ref_model.specs.Fetch.{Named, named_method}
+use Rattle.ref_model.specs.Frames.{callee}
+use Rattle.ref_model.specs.LocalRows.{most_frames}
+use Rattle.ref_model.specs.Effects.{Effect, invokes, throws, on_instance}
+use Rattle.ref_model.specs.NativeRows.{native_acted}
+use Rattle.ref_model.specs.Natives.{native_row}
+
+-- ---- the method that was selected runs
+
+-- a method with code: a thread has at most so many frames, of which it has this many
+abbrev pub method_entered : World → ℕ → Named → MethodCode → ℕ → List Slot → Option Effect
+method_entered w depth m code slots stack =
+    if is_synchronized m.method || is_hold w m.method then None
+    else if nat_lt depth most_frames
+    then (callee m.number code slots stack >>= λ g. Some (invokes g (drop slots stack)))
+    else Some (throws exceptions.StackOverflowError)
+
+-- without code it is abstract (JVMS 4.6)
+abbrev pub code_entered : World → ℕ → Named → Option MethodCode → ℕ → List Slot → Option Effect
+code_entered w depth m None slots stack = Some (throws exceptions.AbstractMethodError)
+code_entered w depth m (Some code) slots stack = method_entered w depth m code slots stack
+
+-- a native method runs without a frame
+abbrev pub native_entered : World → State → ℕ → Named → Option Native → ℕ → List Slot → Option Effect
+native_entered w r depth m None slots stack = code_entered w depth m (code_at w m.number) slots stack
+native_entered w r depth m (Some native) slots stack = native_row w r native >>= λ row. native_acted row stack
+
+-- the method takes so many slots
+abbrev pub entered : World → State → ℕ → Named → ℕ → List Slot → Option Effect
+entered w r depth m slots stack = native_entered w r depth m (native_at w m.number) slots stack
+
+-- ---- selection (JVMS 5.4.6)
+
+-- the class in which selection begins: an array has the methods of Object (JVMS 4.4.1, 5.3.3)
+abbrev pub selecting_class : World → ℕ → Option ℕ
+selecting_class w class = if is_array w class then name_number w object_class else Some class
+
+abbrev pub choice_of : World → ℕ → ℕ → Option Choice
+choice_of w class n =
+    selecting_class w class >>= λ start. method_place w n >>= λ at. Some (select w.program start at)
+
+abbrev pub chosen : World → Choice → (ℕ → Option Effect) → Option Effect
+chosen w (Method at) act = act (method_number w.program at)
+chosen w Abstract act = Some (throws exceptions.AbstractMethodError)
+chosen w Several act = Some (throws exceptions.IncompatibleClassChangeError)
+
+-- what runs for a receiver of this class
+abbrev pub selected : World → Invocation → Named → ℕ → (ℕ → Option Effect) → Option Effect
+selected w virtual m class act = choice_of w class m.number >>= λ choice. chosen w choice act
+selected w (interface count) m class act = choice_of w class m.number >>= λ choice. chosen w choice act
+-- the constant of invokespecial means the method that is selected
+selected w special m class act = act m.number
+selected w static m class act = None
+selected w dynamic m class act = None
+
+-- ---- calls
+
+abbrev pub method_numbered : World → ℕ → Option Named
+method_numbered w n = slice_get w.methods n >>= λ m. Some (record { number = n; method = m })
+
+-- a method of an object, which lies below the arguments
+abbrev pub instance_called : World → Naming → Invocation → Named → State → ℕ → List Slot → Option Effect
+instance_called w naming invocation m r depth stack =
+    let slots = argument_slots m.method.signature in
+    popped kinds.Reference (drop slots stack) >>= λ x.
+    on_instance w naming r x.0 (λ o class. selected w invocation m class (λ n.
+    method_numbered w n >>= λ chosen. entered w r depth chosen (suc slots) stack))
+
+-- a method of a class
+abbrev pub class_called : World → Named → State → ℕ → List Slot → Option Effect
+class_called w m r depth stack = entered w r depth m (argument_slots m.method.signature) stack
+
+abbrev pub called : World → Naming → Invocation → Named → State → ℕ → List Slot → Option Effect
+called w naming static m r depth stack = class_called w m r depth stack
+called w naming dynamic m r depth stack = None
+called w naming invocation m r depth stack = instance_called w naming invocation m r depth stack
+
+abbrev pub invoked : World → Naming → Invocation → State → ℕ → List Slot → Option Effect
+invoked w naming invocation r depth stack = named_method w naming >>= λ m. called w naming invocation m r depth stack

@@ -1,0 +1,54 @@
+-- The native methods of one thread, by their names in the table of built-in classes. Those of threads, monitors and the clock have no row
+-- yet, and linking refuses what names them.
+use Rattle.std.specs.Prelude.{Option, Some, None}
+use Rattle.lib_table.specs.declared.native.Native.{Native}
+use Rattle.lib_table.specs.declared.native.Native.TheVariants as natives
+use Rattle.world_model.specs.World.{World}
+use Rattle.ref_model.specs.State.{State}
+use Rattle.ref_model.specs.NativeRows.{NativeRow}
+use Rattle.ref_model.specs.ObjectNatives.{object_init, object_equals, object_hash_code, object_to_string}
+use Rattle.ref_model.specs.StringNatives.{string_length, string_char_at, string_is_empty, string_equals, string_hash_code, string_concat, string_to_string, string_of_int, string_of_long, string_of_char, string_of_boolean}
+use Rattle.ref_model.specs.BuilderNatives.{builder_init, append_int, append_long, append_char, append_boolean, append_string, builder_length, builder_to_string}
+use Rattle.ref_model.specs.Printing.{println_nothing, println_int, println_long, println_char, println_boolean, println_string, print_int, print_long, print_char, print_boolean, print_string, exit}
+
+abbrev pub native_row : World → State → Native → Option NativeRow
+-- java.lang.Object
+native_row w r natives.ObjectInit = Some (object_init r)
+native_row w r natives.ObjectEquals = Some (object_equals r)
+native_row w r natives.ObjectHashCode = Some (object_hash_code r)
+native_row w r natives.ObjectToString = Some (object_to_string w r)
+-- java.lang.String
+native_row w r natives.StringLength = Some (string_length r)
+native_row w r natives.StringCharAt = Some (string_char_at r)
+native_row w r natives.StringIsEmpty = Some (string_is_empty r)
+native_row w r natives.StringEquals = Some (string_equals r)
+native_row w r natives.StringHashCode = Some (string_hash_code r)
+native_row w r natives.StringConcat = Some (string_concat r)
+native_row w r natives.StringToString = Some (string_to_string r)
+native_row w r natives.StringValueOfInt = Some (string_of_int r)
+native_row w r natives.StringValueOfLong = Some (string_of_long r)
+native_row w r natives.StringValueOfChar = Some (string_of_char r)
+native_row w r natives.StringValueOfBoolean = Some (string_of_boolean r)
+-- java.lang.StringBuilder
+native_row w r natives.StringBuilderInit = Some (builder_init r)
+native_row w r natives.StringBuilderAppendInt = Some (append_int r)
+native_row w r natives.StringBuilderAppendLong = Some (append_long r)
+native_row w r natives.StringBuilderAppendChar = Some (append_char r)
+native_row w r natives.StringBuilderAppendBoolean = Some (append_boolean r)
+native_row w r natives.StringBuilderAppendString = Some (append_string r)
+native_row w r natives.StringBuilderLength = Some (builder_length r)
+native_row w r natives.StringBuilderToString = Some (builder_to_string r)
+-- java.lang.System, java.io.PrintStream
+native_row w r natives.SystemExit = Some (exit r)
+native_row w r natives.PrintStreamPrintln = Some (println_nothing r)
+native_row w r natives.PrintStreamPrintlnInt = Some (println_int r)
+native_row w r natives.PrintStreamPrintlnLong = Some (println_long r)
+native_row w r natives.PrintStreamPrintlnChar = Some (println_char r)
+native_row w r natives.PrintStreamPrintlnBoolean = Some (println_boolean r)
+native_row w r natives.PrintStreamPrintlnString = Some (println_string r)
+native_row w r natives.PrintStreamPrintInt = Some (print_int r)
+native_row w r natives.PrintStreamPrintLong = Some (print_long r)
+native_row w r natives.PrintStreamPrintChar = Some (print_char r)
+native_row w r natives.PrintStreamPrintBoolean = Some (print_boolean r)
+native_row w r natives.PrintStreamPrintString = Some (print_string r)
+native_row w r native = None
