@@ -32,6 +32,10 @@ frame_found ps constructor max pc (e ∷ es) =
     ap (λ o. cond (e.pc == pc) (Some (entry_in ps constructor max e)) o) (frame_found ps constructor max pc es)
     ∙ found (entry_in ps constructor max) (e.pc == pc) e (entry_at pc es)
 
+pub one_found : (ps : List Path) (constructor : Bool) (max pc : ℕ) (es : List Entry) (o : Option Entry) (e : Entry) → o ≡ entry_at pc es → o ≡ Some e
+    → frame_at pc (map (entry_in ps constructor max) es) ≡ Some (entry_in ps constructor max e)
+one_found ps constructor max pc es o e at is = frame_found ps constructor max pc es ∙ ap (λ o. option_map (entry_in ps constructor max) o) (sym at ∙ is)
+
 stray_found : (ps : List Path) (constructor : Bool) (max pc next : ℕ) (is_last : Bool) (es : List Entry)
     → stray_frame pc next is_last (map (entry_in ps constructor max) es) ≡ option_map (entry_in ps constructor max) (stray_entry pc next is_last es)
 stray_found ps constructor max pc next is_last [] = refl

@@ -4,6 +4,9 @@ pub mod FramePathLaws
 pub mod Rising
 pub mod FrameFitLaws
 pub mod FrameLaws
+pub mod KeepLaws
+pub mod ItselfLaws
+pub mod StandingLaws
 pub mod InstructionLaws
 pub mod StackMapLaws
 pub mod EnvironmentLaws

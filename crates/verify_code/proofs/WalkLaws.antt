@@ -23,6 +23,8 @@ use Rattle.verify_instructions.specs.declared.stop.Stop.TheVariants as stops
 use Rattle.verify_instructions.specs.Answers.{Leaves}
 use Rattle.verify_code.specs.Findings.{instruction_of, findings_at, findings_whys}
 use Rattle.verify_code.specs.Frames.{stray_frame}
+use Rattle.verify_code.specs.declared.standing.Standing.{Standing}
+use Rattle.verify_code.specs.Standings.{stood}
 use Rattle.verify_code.specs.Walks.{GoesOn, arrives, place, goes_to, fault_from}
 
 -- ---- one instruction
@@ -31,6 +33,10 @@ use Rattle.verify_code.specs.Walks.{GoesOn, arrives, place, goes_to, fault_from}
 pub gives_broken : {X : Type 0} (result : Result X Stop) (left : TypeState) (wanted : Result TypeState RowWhy) (stop : Stop) (why : RowWhy)
     → Leaves result left wanted → result ≡ Err stop → stop ≡ stops.Broken why → wanted ≡ Err why
 gives_broken result left wanted stop why h is named = subst (λ r. Leaves r left wanted) (is ∙ ap (λ x. Err x) named) h
+
+-- one that names none says what is left
+pub gives_kept : {X : Type 0} (result : Result X Stop) (left : TypeState) (wanted : Result TypeState RowWhy) (x : X) → Leaves result left wanted → result ≡ Ok x → wanted ≡ Ok left
+gives_kept result left wanted x h is = subst (λ r. Leaves r left wanted) is h
 
 -- the first broken rule, where the instruction breaks one of its own
 pub broken : (env : Environment) (i : Instr) (naming : Naming) (entry : Option TypeState) (is_last fits : Bool) (s : TypeState) (why : RowWhy) (answer : VerifyWhy)
@@ -143,10 +149,10 @@ fault_at_first env entry before i is ns naming is_last fault named last h =
     (ap (λ p. first_some (placed_faults env p)) (sym (head_is env entry before i is ns naming is_last named last)) ∙ h)
 
 -- without one there, it is the first of those behind it
-pub fault_behind_first : (env : Environment) (entry before after : Option TypeState) (i : Instr) (is : List Instr) (ns : List Naming) (naming : Naming) (is_last : Bool)
+pub fault_behind_first : (env : Environment) (entry before : Option TypeState) (after : Option Standing) (i : Instr) (is : List Instr) (ns : List Naming) (naming : Naming) (is_last : Bool)
     → naming ≡ Naming_at ns → is_last ≡ nat_eq (length is) 0
     → GoesOn env (place i naming (standing env i.pc before) entry is_last) after
-    → fault_from env entry before (with_namings (i ∷ is) ns) ≡ fault_from env None after (with_namings is (drop 1 ns))
+    → fault_from env entry before (with_namings (i ∷ is) ns) ≡ fault_from env None (option_map stood after) (with_namings is (drop 1 ns))
 fault_behind_first env entry before after i is ns naming is_last named last h =
     let here = standing env i.pc before in
     let head = place i (Naming_at ns) here entry (is_end (with_namings is (drop 1 ns))) in

@@ -13,7 +13,8 @@ use Rattle.verify_types.specs.Handlers.{fits_frame}
 use Rattle.verify_types.specs.Walk.{Placed, behind, placed, walk}
 use Rattle.items.specs.First.{first_some}
 use Rattle.verify_types.specs.Faults.{fits_target, fits_next, state_whys, whys_at, placed_faults}
-use Rattle.verify_instructions.specs.Views.{state_in}
+use Rattle.verify_code.specs.declared.standing.Standing.{Standing}
+use Rattle.verify_code.specs.Standings.{AllStand, IsStanding, stood}
 use Rattle.verify_code.specs.Findings.{instruction_of}
 use Rattle.verify_code.specs.declared.walk.After.{After}
 use Rattle.verify_code.specs.declared.walk.After.TheVariants as afters
@@ -43,35 +44,38 @@ goes_to env r next is_last s = list_all (fits_target env s) (targets_of_row r) &
 
 -- the state after an instruction, or the rule of its own that it breaks
 abbrev pub IsAfter : Environment → Instruction → TypeState → After → Type 0
-IsAfter env i s (afters.Kept after) = state_after env i s ≡ Ok (state_in after)
+IsAfter env i s (afters.Kept after) = (state_after env i s ≡ Ok (stood after)) × IsStanding env after
 IsAfter env i s (afters.Broken why) = state_after env i s ≡ Err why
 
 -- no rule is broken, and this is the state after the instruction
-pub record IsKept (env : Environment) (p : Placed) (s after : TypeState) : Type 0 where
+pub record IsKept (env : Environment) (p : Placed) (s : TypeState) (after : Standing) : Type 0 where
   pub none : first_some (state_whys env p s) ≡ None
-  pub is : state_after env p.instruction s ≡ Ok after
+  pub is : state_after env p.instruction s ≡ Ok (stood after)
+  pub stands : IsStanding env after
 
 abbrev pub IsVerdict : Environment → Placed → TypeState → Verdict → Type 0
 IsVerdict env p s (verdicts.Broken why) = first_some (state_whys env p s) ≡ Some why
-IsVerdict env p s (verdicts.Kept after) = IsKept env p s (state_in after)
+IsVerdict env p s (verdicts.Kept after) = IsKept env p s after
 
 -- no rule is broken, and this state goes on
-pub record IsPassed (env : Environment) (p : Placed) (after : Option TypeState) : Type 0 where
+pub record IsPassed (env : Environment) (p : Placed) (after : Option Standing) : Type 0 where
   pub none : first_some (whys_at env p) ≡ None
-  pub is : after ≡ behind env p.instruction p.state
+  pub is : option_map stood after ≡ behind env p.instruction p.state
+  pub stands : AllStand env after
 
 abbrev pub IsPassage : Environment → Placed → Passage → Type 0
 IsPassage env p (passages.Broken why) = first_some (whys_at env p) ≡ Some why
-IsPassage env p (passages.On after) = IsPassed env p (option_map state_in after)
+IsPassage env p (passages.On after) = IsPassed env p after
 
 -- there is no fault, and this state goes on
-pub record GoesOn (env : Environment) (p : Placed) (after : Option TypeState) : Type 0 where
+pub record GoesOn (env : Environment) (p : Placed) (after : Option Standing) : Type 0 where
   pub none : first_some (placed_faults env p) ≡ None
-  pub is : after ≡ behind env p.instruction p.state
+  pub is : option_map stood after ≡ behind env p.instruction p.state
+  pub stands : AllStand env after
 
 abbrev pub IsStep : Environment → Placed → Step → Type 0
 IsStep env p (steps.Fault fault) = first_some (placed_faults env p) ≡ Some fault
-IsStep env p (steps.On after) = GoesOn env p (option_map state_in after)
+IsStep env p (steps.On after) = GoesOn env p after
 
 -- the first fault at these instructions
 abbrev pub fault_from : Environment → Option TypeState → Option TypeState → List Instruction → Option PcFault

@@ -3,15 +3,16 @@
 ghost use Rattle.std.specs.Prelude.{◌≡◌, ◌&&◌, [], ◌∷◌, ◌||◌, IfOk, is_some, not, true};
 ghost use Rattle.std.specs.List.{list_any};
 ghost use Rattle.std.specs.Option.{option_map, option_map_or};
-ghost use Rattle.type_paths.specs.Paths.{path};
-ghost use Rattle.verify_types.specs.TypeStates.{fits, with_stack};
+ghost use Rattle.instruction_rows.specs.Contents.{slot_types};
+ghost use Rattle.type_paths.specs.Paths.{path, types_on};
+ghost use Rattle.verify_types.specs.TypeStates.{all_assignable, fits, with_stack};
 ghost use Rattle.verify_instructions.specs.Views.{state_in};
 ghost use Rattle.verify_code.specs.FramePaths.{frame_types};
 ghost use Rattle.verify_code.specs.Frames.{frame_in};
 ghost use Rattle.verify_code.specs.PathFits.{is_this_item, state_of_slots};
 
 use crate::frame_paths::Entry;
-use crate::frame_state::state_where;
+use crate::frame_state::{slots, state_where};
 use crate::path_fits::{fit_locals, fit_path, has_this};
 use items::NoMemory;
 use stack_maps::{FrameTypes, VType};
@@ -88,6 +89,27 @@ impl<'a> Frame<'a> {
             (frame_in self.now).state true }
     {
         self.fits_slots(w, s.types.locals(), &[caught], s.this_uninit)
+    }
+
+    /// Whether an operand stack, its top last, fits that of the frame. One that names a constant that is no class isn't judged.
+    pub fn fits_stack<L: Lookups>(&self, w: &L, stack: &[VType]) -> bool
+        ensures { result ≡ option_map_or
+            (λ ss. all_assignable (L.world w.now) stack.now (slot_types ss))
+            (types_on (path self.now.paths.now self.now.entry.stack)) true }
+    {
+        self.paths.slot_count(self.entry.stack).is_none()
+            || fit_path(w, self.paths, self.entry.stack, stack)
+    }
+
+    /// Its operand stack slot by slot, the top last. `None`: it names a constant that is no class.
+    pub fn stack_slots(&self, alloc: Global) -> Result<Option<Vec<VType>>, NoMemory>
+        ensures { IfOk result (λ v. option_map (λ v. v.items) v ≡
+            option_map slot_types (types_on (path self.now.paths.now self.now.entry.stack))) }
+    {
+        match self.paths.types(alloc, self.entry.stack)? {
+            Some(types) => Ok(Some(slots(alloc, &types)?)),
+            None => Ok(None),
+        }
     }
 
     /// The state that its types mean. `None`: it names a constant that is no class.

@@ -72,8 +72,8 @@ fn push_slots(slots: &mut Vec<VType>, t: VType) -> Result<(), AllocError>
     Ok(())
 }
 
-// The types slot by slot.
-fn slots(alloc: Global, types: &[VType]) -> Result<Vec<VType>, AllocError>
+/// The types slot by slot.
+pub fn slots(alloc: Global, types: &[VType]) -> Result<Vec<VType>, AllocError>
     ensures { IfOk result (λ v. v.items ≡ slot_types types.now) }
 {
     let mut slots = Vec::with_capacity(alloc, types.len())?;

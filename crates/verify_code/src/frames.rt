@@ -1,12 +1,13 @@
 //! The frames of a method's stack map (JVMS 4.7.4), each at its pc.
 
-ghost use Rattle.std.specs.Prelude.{◌≡◌, IfOk, map};
+ghost use Rattle.std.specs.Prelude.{◌≡◌, IfOk, IfSome, map};
 ghost use Rattle.std.specs.Option.{option_map};
 ghost use Rattle.stack_maps.specs.Changes.{made_whole};
 ghost use Rattle.verify_types.specs.Environment.{MapFrame, map_frame};
 ghost use Rattle.verify_code.specs.Entries.{Rises};
 ghost use Rattle.verify_code.specs.StackMaps.{pc_of};
 ghost use Rattle.verify_code.specs.Frames.{frame_at, frame_in, stray_frame};
+ghost use Rattle.verify_code.specs.Standings.{IsShared};
 
 use crate::entries::{entry_at, stray_entry};
 use crate::frame::Frame;
@@ -85,6 +86,27 @@ impl Frames {
             }),
             None => None,
         }
+    }
+
+    /// The frame at a pc, where it has the local variables of the frame at another. `None`: it hasn't, or one of them isn't there.
+    pub fn shared(&self, like: u32, pc: u32) -> Option<Frame<'_>>
+        ensures { IfSome result (IsShared self.now like pc) }
+    {
+        let Some(other) = entry_at(&self.entries, like) else {
+            return None;
+        };
+        let Some(entry) = entry_at(&self.entries, pc) else {
+            return None;
+        };
+        if entry.locals != other.locals {
+            return None;
+        }
+        Some(Frame {
+            paths: &self.paths,
+            is_constructor: self.is_constructor,
+            max_locals: self.max_locals,
+            entry,
+        })
     }
 
     /// The pc of the first frame behind a pc, and before the next instruction unless that is the last. `None`: there is none.

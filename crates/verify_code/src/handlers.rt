@@ -8,8 +8,10 @@ ghost use Rattle.verify_types.specs.Handlers as spec;
 ghost use Rattle.verify_types.specs.TypeStates.{fits, with_stack};
 ghost use Rattle.verify_instructions.specs.Views.{state_in};
 ghost use Rattle.verify_code.specs.Handlers.{handler, caught_fits};
+ghost use Rattle.verify_code.specs.Standings.{IsStanding, stood};
 
 use crate::environment::Environment;
+use crate::standing::Standing;
 use class_model::Row;
 use stack_maps::VType;
 use verify_instructions::State;
@@ -48,7 +50,7 @@ impl<'a, L: Lookups> Environment<'a, L> {
     }
 
     // Whether the state at a handler, which lies at the pc, fits a frame of the stack map there.
-    fn fits_handler(&self, s: &State, caught: VType, pc: u32) -> bool
+    fn fits_handler_whole(&self, s: &State, caught: VType, pc: u32) -> bool
         ensures { result ≡ caught_fits self.now (state_in s.now) caught pc }
     {
         let Some(frame) = self.frames.at(pc) else {
@@ -57,9 +59,21 @@ impl<'a, L: Lookups> Environment<'a, L> {
         frame.fits_caught(self.world, s, caught)
     }
 
+    // Whether the state at a handler, which lies at the pc, fits a frame of the stack map there.
+    fn fits_handler(&self, s: &Standing, caught: VType, pc: u32) -> bool
+        requires { IsStanding self.now s.now }
+        ensures { result ≡ caught_fits self.now (stood s.now) caught pc }
+    {
+        match self.shared(s, pc) {
+            Some(frame) => frame.fits_stack(self.world, &[caught]),
+            None => self.fits_handler_whole(&s.state, caught, pc),
+        }
+    }
+
     // Whether a handler catches exceptions, and the state at it fits a frame of the stack map.
-    fn is_satisfied(&self, s: &State, row: &Row, catch: Option<u32>) -> bool
-        ensures { result ≡ spec.is_satisfied self.now (state_in s.now) (handler row.now catch) }
+    fn is_satisfied(&self, s: &Standing, row: &Row, catch: Option<u32>) -> bool
+        requires { IsStanding self.now s.now }
+        ensures { result ≡ spec.is_satisfied self.now (stood s.now) (handler row.now catch) }
     {
         let caught = self.caught_type(catch);
         assignable(self.world, caught, throwable_type(self.world))
@@ -67,16 +81,18 @@ impl<'a, L: Lookups> Environment<'a, L> {
     }
 
     // Whether the pc doesn't lie in the range of a row, or its handler is satisfied.
-    fn keeps_row(&self, pc: u32, s: &State, row: &Row, catch: Option<u32>) -> bool
+    fn keeps_row(&self, pc: u32, s: &Standing, row: &Row, catch: Option<u32>) -> bool
+        requires { IsStanding self.now s.now }
         ensures { result ≡ (not (covers pc (handler row.now catch))
-            || spec.is_satisfied self.now (state_in s.now) (handler row.now catch)) }
+            || spec.is_satisfied self.now (stood s.now) (handler row.now catch)) }
     {
         !(u32::from(row.start) <= pc && pc < u32::from(row.end)) || self.is_satisfied(s, row, catch)
     }
 
     /// Whether all handlers of the instruction at the pc are satisfied.
-    pub fn are_satisfied(&self, pc: u32, s: &State) -> bool
-        ensures { result ≡ spec.are_satisfied self.now pc (state_in s.now) }
+    pub fn are_satisfied(&self, pc: u32, s: &Standing) -> bool
+        requires { IsStanding self.now s.now }
+        ensures { result ≡ spec.are_satisfied self.now pc (stood s.now) }
     {
         let mut rows: &[Row] = &self.method.code.rows;
         let mut catches = self.method.catches;

@@ -14,6 +14,7 @@ mod instructions;
 mod method_fault;
 mod path_fits;
 mod stack_map;
+mod standing;
 mod targets;
 mod walk;
 

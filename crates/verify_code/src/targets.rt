@@ -1,6 +1,6 @@
 //! Where an instruction leads (JVMS 4.10.1.9): its targets, and the next instruction.
 
-ghost use Rattle.std.specs.Prelude.{◌≡◌, is_some, true};
+ghost use Rattle.std.specs.Prelude.{◌≡◌, IfSome, is_some, true};
 ghost use Rattle.std.specs.List.{list_all};
 ghost use Rattle.std.specs.Option.{option_map_or};
 ghost use Rattle.instruction_rows.specs.Pcs as pcs;
@@ -12,10 +12,12 @@ ghost use Rattle.verify_types.specs.Faults as spec;
 ghost use Rattle.verify_types.specs.Handlers as handlers;
 ghost use Rattle.verify_instructions.specs.Views.{state_in};
 ghost use Rattle.verify_code.specs.Frames.{frame_in};
+ghost use Rattle.verify_code.specs.Standings.{IsOver, IsStanding, stood};
 
 use crate::environment::Environment;
 use crate::frame::Frame;
 use crate::instructions::has_instruction;
+use crate::standing::Standing;
 use opcodes::{Instr, LookupSwitch, Match, Op, TableSwitch};
 use verify_instructions::{State, goes_on};
 use world_model::Lookups;
@@ -106,8 +108,8 @@ impl<'a, L: Lookups> Environment<'a, L> {
         frame.fits(self.world, s)
     }
 
-    /// Whether a state fits the frame of the stack map at a pc, if there is one.
-    pub fn fits_at(&self, s: &State, pc: u32) -> bool
+    // Whether a state fits the frame of the stack map at a pc, if there is one.
+    fn fits_whole(&self, s: &State, pc: u32) -> bool
         ensures { result ≡
             option_map_or (handlers.fits_frame self.now (state_in s.now)) (map_at self.now pc) true }
     {
@@ -117,9 +119,33 @@ impl<'a, L: Lookups> Environment<'a, L> {
         }
     }
 
+    /// The frame of the stack map at a pc, where it is known to have the local variables and the flag of a state.
+    pub fn shared(&self, s: &Standing, pc: u32) -> Option<Frame<'_>>
+        requires { IsStanding self.now s.now }
+        ensures { IfSome result (IsOver self.now (stood s.now) pc) }
+    {
+        match s.like {
+            Some(like) => self.frames.shared(like, pc),
+            None => None,
+        }
+    }
+
+    /// Whether a state fits the frame of the stack map at a pc, if there is one.
+    pub fn fits_at(&self, s: &Standing, pc: u32) -> bool
+        requires { IsStanding self.now s.now }
+        ensures { result ≡
+            option_map_or (handlers.fits_frame self.now (stood s.now)) (map_at self.now pc) true }
+    {
+        match self.shared(s, pc) {
+            Some(frame) => frame.fits_stack(self.world, s.state.types.stack()),
+            None => self.fits_whole(&s.state, pc),
+        }
+    }
+
     // Whether a state fits the frame of the stack map at a target, if there is one.
-    fn fits_target(&self, s: &State, target: i64) -> bool
-        ensures { result ≡ spec.fits_target self.now (state_in s.now) target }
+    fn fits_target(&self, s: &Standing, target: i64) -> bool
+        requires { IsStanding self.now s.now }
+        ensures { result ≡ spec.fits_target self.now (stood s.now) target }
     {
         match pc_of(target) {
             Some(pc) => self.fits_at(s, pc),
@@ -128,39 +154,44 @@ impl<'a, L: Lookups> Environment<'a, L> {
     }
 
     // Whether a state fits the frames at all targets of a tableswitch.
-    fn fits_table(&self, s: &State, switch: &TableSwitch) -> bool
+    fn fits_table(&self, s: &Standing, switch: &TableSwitch) -> bool
+        requires { IsStanding self.now s.now }
         ensures { result ≡
-            list_all (spec.fits_target self.now (state_in s.now)) (table_targets switch.now) }
+            list_all (spec.fits_target self.now (stood s.now)) (table_targets switch.now) }
     {
         self.fits_target(s, switch.default) && self.fits_all(s, &switch.targets)
     }
 
-    fn fits_all(&self, s: &State, targets: &[i64]) -> bool
-        ensures { result ≡ list_all (spec.fits_target self.now (state_in s.now)) targets.now }
+    fn fits_all(&self, s: &Standing, targets: &[i64]) -> bool
+        requires { IsStanding self.now s.now }
+        ensures { result ≡ list_all (spec.fits_target self.now (stood s.now)) targets.now }
     {
         targets.iter().all(|target| self.fits_target(s, *target))
     }
 
     // Whether a state fits the frames at all targets of a lookupswitch.
     #[tactic(auto, using(crate::proofs::InstructionLaws::all_matches))]
-    fn fits_lookup(&self, s: &State, switch: &LookupSwitch) -> bool
+    fn fits_lookup(&self, s: &Standing, switch: &LookupSwitch) -> bool
+        requires { IsStanding self.now s.now }
         ensures { result ≡
-            list_all (spec.fits_target self.now (state_in s.now)) (lookup_targets switch.now) }
+            list_all (spec.fits_target self.now (stood s.now)) (lookup_targets switch.now) }
     {
         self.fits_target(s, switch.default) && self.fits_matches(s, &switch.matches)
     }
 
-    fn fits_matches(&self, s: &State, matches: &[Match]) -> bool
+    fn fits_matches(&self, s: &Standing, matches: &[Match]) -> bool
+        requires { IsStanding self.now s.now }
         ensures { result ≡
-            list_all (λ m. spec.fits_target self.now (state_in s.now) (match_target m)) matches.now }
+            list_all (λ m. spec.fits_target self.now (stood s.now) (match_target m)) matches.now }
     {
         matches.iter().all(|m| self.fits_target(s, m.target))
     }
 
     /// Whether the state after an instruction fits the frames at all of its targets.
-    pub fn fits_targets(&self, s: &State, op: &Op) -> bool
+    pub fn fits_targets(&self, s: &Standing, op: &Op) -> bool
+        requires { IsStanding self.now s.now }
         ensures { result ≡
-            list_all (spec.fits_target self.now (state_in s.now)) (targets_of_row (row op.now)) }
+            list_all (spec.fits_target self.now (stood s.now)) (targets_of_row (row op.now)) }
     {
         match op {
             Op::IfZero(_, target) => self.fits_target(s, *target),
@@ -175,8 +206,9 @@ impl<'a, L: Lookups> Environment<'a, L> {
     }
 
     /// Whether the state after an instruction fits the next one.
-    pub fn fits_next(&self, s: &State, i: &Instr) -> bool
-        ensures { result ≡ spec.fits_next self.now (row i.now.op) i.now.next (state_in s.now) }
+    pub fn fits_next(&self, s: &Standing, i: &Instr) -> bool
+        requires { IsStanding self.now s.now }
+        ensures { result ≡ spec.fits_next self.now (row i.now.op) i.now.next (stood s.now) }
     {
         if goes_on(&i.op) {
             self.fits_at(s, i.next)

@@ -5,14 +5,19 @@ ghost use Rattle.std.specs.Option.{option_map};
 ghost use Rattle.instruction_rows.specs.Table.{row};
 ghost use Rattle.world_model.specs.declared.sites.Naming.{Naming as Meaning};
 ghost use Rattle.verify_types.specs.TypeStates.{TypeState};
+ghost use Rattle.verify_types.specs.Environment.{map_at};
 ghost use Rattle.verify_types.specs.Walk.{standing};
 ghost use Rattle.verify_types.specs.Faults.{is_shallow};
 ghost use Rattle.verify_instructions.specs.Views.{state_in};
 ghost use Rattle.verify_code.specs.Findings.{instruction_of, findings_at};
+ghost use Rattle.verify_code.specs.Frames.{frame_in};
+ghost use Rattle.verify_code.specs.Standings.{AllStand, IsStanding, stood};
 ghost use Rattle.verify_code.specs.Walks.{IsAfter, IsPassage, IsStep, IsVerdict, arrives, entry_of, goes_to, place, walk_fault};
 
 use crate::environment::Environment;
 use crate::findings::Findings;
+use crate::frame::Frame;
+use crate::standing::{Standing, like_behind};
 use instruction_rows::RowWhy;
 use items::NoMemory;
 use opcodes::Instr;
@@ -24,14 +29,14 @@ use world_model::{Lookups, Naming};
 /// The state before an instruction, and whether the state in which the method begins fits the frame of the map there.
 #[derive(Drop)]
 pub struct Arrival {
-    pub state: Option<State>,
+    pub standing: Option<Standing>,
     pub fits: bool,
 }
 
 /// The state after an instruction, or the rule of its own that it breaks.
 #[derive(Drop)]
 pub enum After {
-    Kept(State),
+    Kept(Standing),
     Broken(RowWhy),
 }
 
@@ -39,21 +44,21 @@ pub enum After {
 #[derive(Drop)]
 pub enum Verdict {
     Broken(VerifyWhy),
-    Kept(State),
+    Kept(Standing),
 }
 
 /// The first rule that is broken at an instruction, or else the state that goes on behind it.
 #[derive(Drop)]
 pub enum Passage {
     Broken(VerifyWhy),
-    On(Option<State>),
+    On(Option<Standing>),
 }
 
 /// The first fault at an instruction or between it and the next, or else the state that goes on behind it.
 #[derive(Drop)]
 pub enum Step {
     Fault(PcFault),
-    On(Option<State>),
+    On(Option<Standing>),
 }
 
 // The rule that was broken.
@@ -67,31 +72,68 @@ fn broken_rule(stop: Stop) -> Result<RowWhy, NoMemory>
 }
 
 impl<'a, L: Lookups> Environment<'a, L> {
+    // The state of the frame of the map at a pc, which takes over what it has in common with the one before.
+    fn state_there(
+        &self,
+        alloc: Global,
+        before: Option<Standing>,
+        frame: &Frame<'_>,
+        pc: u32,
+    ) -> Result<Option<State>, NoMemory>
+        requires stands { AllStand self.now before }
+        requires there { map_at self.now pc ≡ Some (frame_in frame.now) }
+        ensures { IfOk result (λ s. option_map state_in s ≡ (frame_in frame.now).state) }
+    {
+        let Some(s) = before else {
+            return frame.state(alloc);
+        };
+        match self.shared(&s, pc) {
+            Some(shared) => match shared.stack_slots(alloc)? {
+                Some(stack) => Ok(Some(s.state.with_stack(stack))),
+                None => Ok(None),
+            },
+            None => frame.state(alloc),
+        }
+    }
+
     // The state before the instruction at a pc: that of the frame of the map there, or else this one.
     fn arrive(
         &self,
         alloc: Global,
-        before: Option<State>,
+        before: Option<Standing>,
         is_entry: bool,
         pc: u32,
     ) -> Result<Arrival, NoMemory>
-        ensures state { IfOk result (λ a. option_map state_in a.state ≡
-            standing self.now pc (option_map state_in before)) }
+        requires { AllStand self.now before }
+        ensures state { IfOk result (λ a. option_map stood a.standing ≡
+            standing self.now pc (option_map stood before)) }
         ensures fits { IfOk result (λ a. a.fits ≡
-            arrives self.now pc (entry_of is_entry (option_map state_in before))) }
+            arrives self.now pc (entry_of is_entry (option_map stood before))) }
+        ensures stands { IfOk result (λ a. AllStand self.now a.standing) }
     {
         let Some(frame) = self.frames.at(pc) else {
             return Ok(Arrival {
-                state: before,
+                standing: before,
                 fits: true,
             });
         };
         let fits = match &before {
-            Some(s) => !is_entry || self.fits_frame(s, &frame),
+            Some(s) => !is_entry || self.fits_frame(&s.state, &frame),
             None => true,
         };
-        let state = frame.state(alloc)?;
-        Ok(Arrival { state, fits })
+        match self.state_there(alloc, before, &frame, pc)? {
+            Some(state) => Ok(Arrival {
+                standing: Some(Standing {
+                    state,
+                    like: Some(pc),
+                }),
+                fits,
+            }),
+            None => Ok(Arrival {
+                standing: None,
+                fits,
+            }),
+        }
     }
 
     // Whether the operand stack is no deeper than it may be.
@@ -102,38 +144,58 @@ impl<'a, L: Lookups> Environment<'a, L> {
     }
 
     // What is found before an instruction is typed.
-    fn findings(&self, s: &State, fits: bool, i: &Instr, naming: Naming, is_last: bool) -> Findings
+    fn findings(
+        &self,
+        s: &Standing,
+        fits: bool,
+        i: &Instr,
+        naming: Naming,
+        is_last: bool,
+    ) -> Findings
+        requires { IsStanding self.now s.now }
         ensures { result ≡
-            findings_at self.now fits (instruction_of i.now naming) is_last (state_in s.now) }
+            findings_at self.now fits (instruction_of i.now naming) is_last (stood s.now) }
     {
         Findings {
             are_targets: self.are_targets(&i.op),
             arrives: fits,
-            is_shallow: self.is_shallow(s),
-            has_locals: s.has_locals(self.method.code.max_locals),
+            is_shallow: self.is_shallow(&s.state),
+            has_locals: s.state.has_locals(self.method.code.max_locals),
             are_satisfied: self.are_satisfied(i.pc, s),
-            is_returned: s.is_returned(self.world, &self.method, &i.op),
-            is_finished: s.is_finished(&i.op),
+            is_returned: s.state.is_returned(self.world, &self.method, &i.op),
+            is_finished: s.state.is_finished(&i.op),
             passes_end: goes_on(&i.op) && is_last,
         }
     }
 
     // Types one instruction.
-    fn after(&self, alloc: Global, s: State, i: &Instr, naming: Naming) -> Result<After, NoMemory>
-        requires { i.now.pc < 2 ^ 16 }
+    fn after(
+        &self,
+        alloc: Global,
+        s: Standing,
+        i: &Instr,
+        naming: Naming,
+    ) -> Result<After, NoMemory>
+        requires low { i.now.pc < 2 ^ 16 }
+        requires stands { IsStanding self.now s }
         ensures { IfOk result
-            (IsAfter self.now (instruction_of i.now naming) (state_in s)) }
+            (IsAfter self.now (instruction_of i.now naming) (stood s)) }
     {
-        let mut s = s;
-        match s.apply(alloc, self.world, &self.method, i.pc as u16, naming, &i.op) {
-            Ok(()) => Ok(After::Kept(s)),
+        let Standing { state, like } = s;
+        let mut state = state;
+        match state.apply(alloc, self.world, &self.method, i.pc as u16, naming, &i.op) {
+            Ok(()) => Ok(After::Kept(Standing {
+                state,
+                like: like_behind(&i.op, like),
+            })),
             Err(stop) => Ok(After::Broken(broken_rule(stop)?)),
         }
     }
 
     // Whether the state after an instruction fits where it goes.
-    fn fits_on(&self, s: &State, i: &Instr, is_last: bool) -> bool
-        ensures { result ≡ goes_to self.now (row i.now.op) i.now.next is_last (state_in s.now) }
+    fn fits_on(&self, s: &Standing, i: &Instr, is_last: bool) -> bool
+        requires { IsStanding self.now s.now }
+        ensures { result ≡ goes_to self.now (row i.now.op) i.now.next is_last (stood s.now) }
     {
         self.fits_targets(s, &i.op) && (is_last || self.fits_next(s, i))
     }
@@ -142,24 +204,25 @@ impl<'a, L: Lookups> Environment<'a, L> {
     fn judge(
         &self,
         alloc: Global,
-        s: State,
+        s: Standing,
         fits: bool,
         i: &Instr,
         naming: Naming,
         is_last: bool,
     ) -> Result<Verdict, NoMemory>
-        requires { i.now.pc < 2 ^ 16 }
+        requires low { i.now.pc < 2 ^ 16 }
+        requires stands { IsStanding self.now s }
         ensures { IfOk result (λ v. (entry : Option TypeState)
             → fits ≡ arrives self.now i.now.pc entry
-            → IsVerdict self.now (place i.now naming (Some (state_in s)) entry is_last)
-            (state_in s) v) }
+            → IsVerdict self.now (place i.now naming (Some (stood s)) entry is_last)
+            (stood s) v) }
     {
         let findings = self.findings(&s, fits, i, naming, is_last);
         match self.after(alloc, s, i, naming)? {
             After::Broken(why) => Ok(Verdict::Broken(findings.why_broken(why))),
             After::Kept(after) => {
                 let fits_on = self.fits_on(&after, i, is_last);
-                let is_shallow = self.is_shallow(&after);
+                let is_shallow = self.is_shallow(&after.state);
                 match findings.why(fits_on, is_shallow) {
                     Some(why) => Ok(Verdict::Broken(why)),
                     None => Ok(Verdict::Kept(after)),
@@ -189,13 +252,14 @@ impl<'a, L: Lookups> Environment<'a, L> {
         naming: Naming,
         is_last: bool,
     ) -> Result<Passage, NoMemory>
-        requires { i.now.pc < 2 ^ 16 }
+        requires low { i.now.pc < 2 ^ 16 }
+        requires stands { AllStand self.now arrival.standing }
         ensures { IfOk result (λ x. (entry : Option TypeState)
             → arrival.fits ≡ arrives self.now i.now.pc entry → IsPassage self.now
-            (place i.now naming (option_map state_in arrival.state) entry is_last) x) }
+            (place i.now naming (option_map stood arrival.standing) entry is_last) x) }
     {
-        let Arrival { state, fits } = arrival;
-        let Some(s) = state else {
+        let Arrival { standing, fits } = arrival;
+        let Some(s) = standing else {
             return Ok(self.pass_unknown(i));
         };
         match self.judge(alloc, s, fits, i, naming, is_last)? {
@@ -212,16 +276,17 @@ impl<'a, L: Lookups> Environment<'a, L> {
     fn step(
         &self,
         alloc: Global,
-        before: Option<State>,
+        before: Option<Standing>,
         is_entry: bool,
         i: &Instr,
         naming: Naming,
         is_last: bool,
     ) -> Result<Step, NoMemory>
-        requires { i.now.pc < 2 ^ 16 }
+        requires low { i.now.pc < 2 ^ 16 }
+        requires stands { AllStand self.now before }
         ensures { IfOk result (IsStep self.now (place i.now naming
-            (standing self.now i.now.pc (option_map state_in before))
-            (entry_of is_entry (option_map state_in before)) is_last)) }
+            (standing self.now i.now.pc (option_map stood before))
+            (entry_of is_entry (option_map stood before)) is_last)) }
     {
         let arrival = self.arrive(alloc, before, is_entry, i.pc)?;
         match self.pass(alloc, arrival, i, naming, is_last)? {
@@ -241,7 +306,10 @@ impl<'a, L: Lookups> Environment<'a, L> {
         requires { state_in first ≡ self.now.first }
         ensures { IfOk result (λ fault. fault ≡ walk_fault self.now) }
     {
-        let mut before = Some(first);
+        let mut before = Some(Standing {
+            state: first,
+            like: None,
+        });
         let mut is_entry = true;
         let mut rest: &[Instr] = &self.method.code.code;
         let mut namings = self.method.namings;

@@ -1,8 +1,9 @@
 //! The state before or after an instruction (JVMS 4.10.1.4).
 
-ghost use Rattle.std.specs.Prelude.{◌≡◌, Err, IfOk, OnOk, OnErr};
+ghost use Rattle.std.specs.Prelude.{◌≡◌, Err, IfOk, OnOk, OnErr, reverse};
 ghost use Rattle.verify_types.specs.Objects as objects;
 ghost use Rattle.verify_types.specs.Calls.{initialized};
+ghost use Rattle.verify_types.specs.TypeStates.{with_stack};
 ghost use Rattle.verify_instructions.specs.Answers.{Leaves};
 ghost use Rattle.verify_instructions.specs.Views.{is_object, state_in};
 
@@ -51,6 +52,17 @@ impl State {
             types: self.types.copy(alloc)?,
             this_uninit: self.this_uninit,
         })
+    }
+
+    /// The same with another operand stack, the top of which is its last item.
+    pub fn with_stack(self, stack: Vec<VType>) -> Self
+        ensures { state_in result ≡ with_stack (state_in self) (reverse stack.items) }
+    {
+        let State { types, this_uninit } = self;
+        State {
+            types: types.with_stack(stack),
+            this_uninit,
+        }
     }
 
     /// `new` at this pc.

@@ -47,6 +47,15 @@ impl Types {
         Types { locals, stack }
     }
 
+    /// The same with another operand stack, the top of which is its last item.
+    pub fn with_stack(self, stack: Vec<VType>) -> Self
+        ensures locals { result.locals ≡ self.locals }
+        ensures stack { result.stack ≡ reverse stack.items }
+    {
+        let Types { locals, stack: _ } = self;
+        Types { locals, stack }
+    }
+
     /// The same types in memory of their own.
     pub fn copy(&self, alloc: Global) -> Result<Self, AllocError>
         ensures { IfOk result (λ types. types ≡ self.now) }

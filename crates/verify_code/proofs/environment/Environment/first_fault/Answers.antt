@@ -4,8 +4,8 @@ use Rattle.opcodes.specs.declared.op.Instr.{Instr}
 use Rattle.world_model.specs.declared.sites.Naming.{Naming}
 use Rattle.verify_types.specs.Environment.{with_namings}
 use Rattle.verify_types.specs.Walk.{standing}
-use Rattle.verify_instructions.specs.Views.{state_in}
 use Rattle.verify_code.specs.Environments.{AreInOrder}
+use Rattle.verify_code.specs.Standings.{stood}
 use Rattle.verify_code.specs.Walks.{IsStep, entry_of, fault_from, place}
 use Rattle.verify_code.proofs.WalkLaws.{fault_at_first, fault_behind_first}
 use Rattle.verify_code.proofs.environment.Environment.first_fault.Goals as goal
@@ -13,7 +13,7 @@ use Rattle.verify_code.proofs.environment.Environment.first_fault.Goals as goal
 pub returns-in-Fault : goal.returns-in-Fault
 returns-in-Fault g c =
     let env = c.args.self.now in
-    let before = option_map state_in c.loop-i.before in
+    let before = option_map stood c.loop-i.before in
     let entry = entry_of c.loop-i.is_entry before in
     let i = c.in-Some.i.now in
     let p = place i c.first_naming.result (standing env i.pc before) entry c.is_empty-is_last.result in
@@ -25,8 +25,8 @@ returns-in-Fault g c =
 pub loop-i-preserved : goal.loop-i-preserved
 loop-i-preserved g c =
     let env = c.args.self.now in
-    let before = option_map state_in c.loop-i.before in
-    let after = option_map state_in c.in-On.after in
+    let before = option_map stood c.loop-i.before in
+    let after = option_map stood c.in-On.after in
     let entry = entry_of c.loop-i.is_entry before in
     let i = c.in-Some.i.now in
     let is = c.in-Some.behind.now in
@@ -35,9 +35,10 @@ loop-i-preserved g c =
     let on = subst (λ x. IsStep env p x) c.in-On.is c.in_ok-fault.ensures in
     let order = subst (λ (is : List Instr). AreInOrder c.loop-i.invariant.1 (with_namings is ns)) c.in-Some.ensures.cases.0 c.loop-i.invariant.2 in (
       ap (λ (ms : List Naming). fault_from env None after (with_namings is ms)) c.behind_first-namings.ensures
-          ∙ sym (fault_behind_first env entry before after i is ns c.first_naming.result c.is_empty-is_last.result c.first_naming.ensures c.is_empty-is_last.ensures on)
+          ∙ sym (fault_behind_first env entry before c.in-On.after i is ns c.first_naming.result c.is_empty-is_last.result c.first_naming.ensures c.is_empty-is_last.ensures on)
           ∙ ap (λ (is : List Instr). fault_from env entry before (with_namings is ns)) (sym c.in-Some.ensures.cases.0)
           ∙ c.loop-i.invariant.0,
       i.next,
       subst (λ (ms : List Naming). AreInOrder i.next (with_namings is ms)) (sym c.behind_first-namings.ensures) order.3,
+      on.stands,
     )

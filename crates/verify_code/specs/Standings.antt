@@ -1,0 +1,57 @@
+-- States with the local variables of a frame of the map.
+use Rattle.std.specs.Prelude.{◌≡◌, ℕ, Bool, true, false, List, Option, Some, None, reverse, if◌then◌else◌}
+use Rattle.std.specs.Option.{option_map}
+use Rattle.opcodes.specs.declared.op.Op.{Op}
+use Rattle.opcodes.specs.declared.op.Op.TheVariants as ops
+use Rattle.instruction_rows.specs.Contents.{slot_types}
+use Rattle.type_paths.specs.Paths.{path, types_on}
+use Rattle.verify_types.specs.TypeStates.{TypeState, all_assignable, with_stack}
+use Rattle.verify_types.specs.Environment.{MapFrame, Environment, map_at}
+use Rattle.verify_instructions.specs.Views.{state_in}
+use Rattle.verify_code.specs.declared.frame.Frame.{Frame}
+use Rattle.verify_code.specs.declared.standing.Standing.{Standing}
+use Rattle.verify_code.specs.Frames.{frame_at, frame_in}
+
+abbrev pub stood : Standing → TypeState
+stood s = state_in s.state
+
+-- the frame of the map at this pc has a state with the same local variables and the same flag
+pub record IsLike (env : Environment) (pc : ℕ) (s : TypeState) : Type 0 where
+  pub frame : MapFrame
+  pub state : TypeState
+  pub at : map_at env pc ≡ Some frame
+  pub is : frame.state ≡ Some state
+  pub locals : state.types.locals ≡ s.types.locals
+  pub flag : state.this_uninit ≡ s.this_uninit
+
+-- so has the frame at the pc that is kept with the state, if there is one
+abbrev pub IsStanding : Environment → Standing → Type 0
+IsStanding env s = (pc : ℕ) → s.like ≡ Some pc → IsLike env pc (stood s)
+
+abbrev pub AllStand : Environment → Option Standing → Type 0
+AllStand env o = (s : Standing) → o ≡ Some s → IsStanding env s
+
+-- the state with the operand stack of a frame, where its types are known
+abbrev pub over_stack_of : Frame → TypeState → Option TypeState
+over_stack_of f s = option_map (λ ss. with_stack s (reverse (slot_types ss))) (types_on (path f.paths.now f.entry.stack))
+
+-- this frame lies at a pc, and has the local variables and the flag of the frame at another, if that is known
+pub record IsShared (fs : List MapFrame) (like pc : ℕ) (f : Frame) : Type 0 where
+  pub at : frame_at pc fs ≡ Some (frame_in f)
+  pub over : (g : MapFrame) (t : TypeState) → frame_at like fs ≡ Some g → g.state ≡ Some t → (frame_in f).state ≡ over_stack_of f t
+
+-- this frame lies at a pc, and has the local variables and the flag of a state, which fit themselves
+pub record IsOver (env : Environment) (s : TypeState) (pc : ℕ) (f : Frame) : Type 0 where
+  pub at : map_at env pc ≡ Some (frame_in f)
+  pub over : (frame_in f).state ≡ over_stack_of f s
+  pub itself : all_assignable env.world s.types.locals s.types.locals ≡ true
+
+-- whether an instruction changes the operand stack alone
+abbrev pub keeps_locals : Op → Bool
+keeps_locals (ops.Store kind n) = false
+keeps_locals (ops.InvokeSpecial index) = false
+keeps_locals (ops.New index) = false
+keeps_locals op = true
+
+abbrev pub like_behind : Op → Option ℕ → Option ℕ
+like_behind op like = if keeps_locals op then like else None
