@@ -1,6 +1,6 @@
 //! The rules on the name, the parents and the members of a class (JVMS 4.1, 4.5, 4.6, 5.3.5).
 
-ghost use Rattle.std.specs.Prelude.{◌≡◌, drop};
+ghost use Rattle.std.specs.Prelude.{◌≡◌, Some, drop, slice_get};
 ghost use Rattle.std.specs.List.{list_any};
 ghost use Rattle.items.specs.First.{first_some};
 ghost use Rattle.linkage.specs.Hierarchy.{superclasses};
@@ -10,10 +10,10 @@ ghost use Rattle.class_resolution.specs.Keys.{key_of};
 
 use crate::rules::{first_why, unless};
 use class_grammar::{class_name_at, is_same};
-use class_model::{ClassFile, Const, Member};
+use class_model::{ClassFile, Member};
 use class_resolution::{
-    Hierarchy, MemberKey, index_of, is_abstract, is_array_name, is_final, is_floating, is_known,
-    is_native, is_open, is_static, key_in, names_internal, own_name,
+    Hierarchy, MemberKey, is_abstract, is_array_name, is_final, is_floating, is_known, is_native,
+    is_open, is_static, key_in, names_internal, own_name,
 };
 use linkage::LinkWhy;
 
@@ -130,26 +130,38 @@ pub fn interface_fault(world: &Hierarchy, class: u32, name: &[u16]) -> Option<Li
     first_why(&faults)
 }
 
-// Whether the member at an index is the first of its key.
-fn is_first(pool: &[Const], members: &[Member], index: usize, member: &Member) -> bool
-    ensures { result ≡ spec.is_first pool.now members.now index member.now }
+// Whether the field at an index is the first of its key.
+fn is_first_field(
+    world: &Hierarchy,
+    class: u32,
+    file: &ClassFile,
+    index: usize,
+    field: &Member,
+) -> bool
+    requires { slice_get world.now.classes class ≡ Some file.now }
+    ensures { result ≡ spec.is_first file.now.pool file.now.fields index field.now }
 {
-    match index_of(pool, key_in(pool, member), members) {
+    match world.field_index(class, file, key_in(&file.pool, field)) {
         Some(first) => first == index,
         None => false,
     }
 }
 
-fn is_first_field(file: &ClassFile, index: usize, field: &Member) -> bool
-    ensures { result ≡ spec.is_first file.now.pool file.now.fields index field.now }
-{
-    is_first(&file.pool, &file.fields, index, field)
-}
-
-fn is_first_method(file: &ClassFile, index: usize, method: &Member) -> bool
+// Whether the method at an index is the first of its key.
+fn is_first_method(
+    world: &Hierarchy,
+    class: u32,
+    file: &ClassFile,
+    index: usize,
+    method: &Member,
+) -> bool
+    requires { slice_get world.now.classes class ≡ Some file.now }
     ensures { result ≡ spec.is_first file.now.pool file.now.methods index method.now }
 {
-    is_first(&file.pool, &file.methods, index, method)
+    match world.method_index(class, file, key_in(&file.pool, method)) {
+        Some(first) => first == index,
+        None => false,
+    }
 }
 
 fn has_floating(file: &ClassFile, member: &Member) -> bool
@@ -166,12 +178,16 @@ pub fn field_fault(
     index: usize,
     field: &Member,
 ) -> Option<LinkWhy>
+    requires { slice_get world.now.classes class ≡ Some file.now }
     ensures { result ≡
         first_some (spec.field_faults_at world.now class file.now index field.now) }
 {
     let is_kind = !world.classes().is_interface(class) || is_static(field);
     let faults = [
-        unless(is_first_field(file, index, field), LinkWhy::Duplicate),
+        unless(
+            is_first_field(world, class, file, index, field),
+            LinkWhy::Duplicate,
+        ),
         unless(is_kind, LinkWhy::WrongKind),
         unless(!has_floating(file, field), LinkWhy::Unsupported),
     ];
@@ -230,12 +246,16 @@ pub fn method_fault(
     index: usize,
     method: &Member,
 ) -> Option<LinkWhy>
+    requires { slice_get world.now.classes class ≡ Some file.now }
     ensures { result ≡
         first_some (spec.method_faults_at world.now class file.now index method.now) }
 {
     let is_from_file = world.classes().is_from_file(class);
     let faults = [
-        unless(is_first_method(file, index, method), LinkWhy::Duplicate),
+        unless(
+            is_first_method(world, class, file, index, method),
+            LinkWhy::Duplicate,
+        ),
         unless(
             !(is_abstract(method) && is_static(method)),
             LinkWhy::WrongKind,

@@ -1,6 +1,6 @@
 //! What is wrong with a class, and with a program (JVMS 5.3, 5.4).
 
-ghost use Rattle.std.specs.Prelude.{◌≡◌, IfOk};
+ghost use Rattle.std.specs.Prelude.{◌≡◌, IfOk, Some, slice_get};
 ghost use Rattle.std.specs.List.{enumerate_from};
 ghost use Rattle.items.specs.First.{first_in};
 ghost use Rattle.linkage.specs.Faults as spec;
@@ -39,6 +39,7 @@ fn interface_fault_at(
 }
 
 fn fields_fault(world: &Hierarchy, class: u32, file: &ClassFile) -> Option<LinkWhy>
+    requires { slice_get world.now.classes class ≡ Some file.now }
     ensures { result ≡ first_in (field_why world.now class file.now)
         (enumerate_from 0 file.now.fields) }
 {
@@ -51,6 +52,7 @@ fn fields_fault(world: &Hierarchy, class: u32, file: &ClassFile) -> Option<LinkW
 }
 
 fn methods_fault(world: &Hierarchy, class: u32, file: &ClassFile) -> Option<LinkWhy>
+    requires { slice_get world.now.classes class ≡ Some file.now }
     ensures { result ≡ first_in (method_why world.now class file.now)
         (enumerate_from 0 file.now.methods) }
 {
@@ -91,6 +93,7 @@ fn class_fault(
     class: u32,
     file: &ClassFile,
 ) -> Result<Option<LinkWhy>, NoMemory>
+    requires { slice_get world.now.classes class ≡ Some file.now }
     ensures { IfOk result (λ fault. fault ≡ class_why world.now class file.now) }
 {
     let name = name_fault(world, class, file);
@@ -114,6 +117,7 @@ fn fault_of_class(
     class: u32,
     file: &ClassFile,
 ) -> Result<Option<LinkFault>, NoMemory>
+    requires { slice_get world.now.classes class ≡ Some file.now }
     ensures { IfOk result (λ fault. fault ≡ firsts.fault_of_class world.now (class, file.now)) }
 {
     match class_fault(alloc, world, class, file)? {

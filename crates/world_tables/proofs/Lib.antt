@@ -3,3 +3,4 @@ pub mod FoldLaws
 pub mod StartLaws
 pub mod TableLaws
 pub mod CodeLaws
+pub mod DecodingLaws

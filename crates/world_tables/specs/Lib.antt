@@ -5,3 +5,4 @@ pub mod Linkings
 pub mod Tables
 pub mod Codes
 pub mod KnownClasses
+pub mod Decodings

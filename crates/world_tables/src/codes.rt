@@ -7,6 +7,7 @@ ghost use Rattle.opcodes.specs.Code.{IsCode};
 ghost use Rattle.linkage.specs.Faults.{decoded};
 ghost use Rattle.world_model.specs.Decoded.{IsDecoded};
 ghost use Rattle.world_model.specs.Codes as spec;
+ghost use Rattle.world_tables.specs.Decodings as decodings;
 
 use class_model::{Attribute, Body, CodeAttribute, CodeBody, CodeExtra, Member};
 use items::{Items, NoMemory};
@@ -64,22 +65,14 @@ fn map_of(body: &CodeBody) -> &[u8]
     &EMPTY_MAP
 }
 
-/// The instructions of a method, as far as they can be decoded; none where it has no code. Code of 2^32 bytes or more counts as memory
-/// run out.
-pub fn instructions_of(alloc: Global, method: &Member) -> Result<Vec<Instr>, NoMemory>
-    ensures { IfOk result (λ v. v.items ≡ spec.instructions_of method.now) }
+/// The instructions of a code; none where there is none.
+pub fn instrs_in(code: &Option<MethodCode>) -> &[Instr]
+    ensures { result.now ≡ decodings.instrs_in code.now }
 {
-    match body_of(method) {
-        Some(body) => instrs_of(alloc, body),
-        None => Ok(Vec::new(alloc)),
+    match code {
+        Some(code) => &code.code,
+        None => &[],
     }
-}
-
-fn instrs_of(alloc: Global, body: &CodeBody) -> Result<Vec<Instr>, NoMemory>
-    ensures { IfOk result (λ v. v.items ≡ (decoded body.now.code).instrs) }
-{
-    let front = front_of(alloc, &body.code)?;
-    Ok(front.instrs)
 }
 
 // All instructions. Code that isn't decoded whole, or hasn't from 1 to 65,535 bytes (JVMS 4.7.3), counts as memory run out: a program that was
@@ -157,6 +150,13 @@ impl Codes {
         let code = code_of(alloc, method)?;
         self.codes.push(code)?;
         Ok(())
+    }
+
+    /// The code of all methods in the order of their numbers.
+    pub fn as_slice(&self) -> &[Option<MethodCode>]
+        ensures { result.now ≡ self.now }
+    {
+        &self.codes
     }
 
     /// The code of the method with this number. `None`: it has none, or there is no such method.

@@ -16,7 +16,7 @@ mod strings;
 mod tables;
 
 pub use array_numbers::{ArrayNumbers, all_arrays};
-pub use codes::{Codes, instructions_of};
+pub use codes::{Codes, instrs_in};
 pub use infos::{all_codes, all_fields, all_methods};
 pub use kinds::{kind_named, kind_of, signature_of};
 pub use known_classes::KnownClasses;

@@ -1,16 +1,18 @@
 //! What the constants of all instructions mean, by method.
 
 ghost use Rattle.std.specs.Prelude.{◌≡◌, ◌++◌, map, OnOk, IfOk};
+ghost use Rattle.world_model.specs.Infos.{codes_in, codes_of};
 ghost use Rattle.world_model.specs.Sites as spec;
+ghost use Rattle.world_tables.specs.Decodings as decodings;
 ghost use Rattle.world_tables.specs.Linkings.{linking_in};
 
-use crate::codes::{body_of, instructions_of};
+use crate::codes::{body_of, instrs_in};
 use crate::sites::{Linker, catch_of, naming_of};
 use class_model::{ClassFile, Const, Member, Row};
 use items::{Items, NoMemory};
 use opcodes::Instr;
 use std::alloc::Global;
-use world_model::Naming;
+use world_model::{MethodCode, Naming};
 
 fn instr_namings(
     alloc: Global,
@@ -29,44 +31,56 @@ fn instr_namings(
     Ok(Items::from(namings))
 }
 
-fn method_namings(
+fn code_namings(
     alloc: Global,
     l: Linker,
     class: u32,
     pool: &[Const],
-    method: &Member,
-) -> Result<Items<Naming>, NoMemory>
-    ensures { IfOk result (λ v. v ≡
-        spec.method_namings (linking_in l.entry) class pool.now method.now) }
+    codes: &[Option<MethodCode>],
+    namings: &mut Vec<Items<Naming>>,
+) -> Result<(), NoMemory>
+    ensures { OnOk result (namings.new.items ≡ namings.old.items
+        ++ map (decodings.namings_in (linking_in l.entry) class pool.now) codes.now) }
 {
-    let instrs = instructions_of(alloc, method)?;
-    instr_namings(alloc, l, class, pool, &instrs)
+    for code in codes {
+        namings.push(instr_namings(alloc, l, class, pool, instrs_in(code))?)?;
+    }
+    Ok(())
 }
 
+// What the methods of a file name, which have these codes.
 fn add_namings(
     alloc: Global,
     l: Linker,
     class: u32,
     file: &ClassFile,
+    codes: &[Option<MethodCode>],
     namings: &mut Vec<Items<Naming>>,
 ) -> Result<(), NoMemory>
+    requires { codes.now ≡ codes_in file.now }
     ensures { OnOk result (namings.new.items ≡
         namings.old.items ++ spec.namings_in (linking_in l.entry) (class, file.now)) }
 {
-    for method in file.methods.iter() {
-        namings.push(method_namings(alloc, l, class, &file.pool, method)?)?;
-    }
+    code_namings(alloc, l, class, &file.pool, codes, namings)?;
     Ok(())
 }
 
-/// What the constants of instructions mean, by the method's number.
-pub fn all_namings(alloc: Global, l: Linker) -> Result<Vec<Items<Naming>>, NoMemory>
+/// What the constants of instructions mean, by the method's number. The methods have these codes.
+pub fn all_namings(
+    alloc: Global,
+    l: Linker,
+    codes: &[Option<MethodCode>],
+) -> Result<Vec<Items<Naming>>, NoMemory>
+    requires { codes.now ≡ codes_of (linking_in l).program }
     ensures { IfOk result (λ v. v.items ≡ spec.namings_of (linking_in l.entry)) }
 {
     let mut namings = Vec::new(alloc);
     let files = l.members.hierarchy().classes().files();
+    let mut rest = codes;
     for (class, file) in files.iter().enumerate() {
-        add_namings(alloc, l, class as u32, file, &mut namings)?;
+        let (here, behind) = rest.split_at(file.methods.len());
+        add_namings(alloc, l, class as u32, file, here, &mut namings)?;
+        rest = behind;
     }
     Ok(namings)
 }

@@ -5,9 +5,11 @@ ghost use Rattle.std.specs.Prelude.{◌≡◌, ◌+◌, ◌<◌, ◌^◌, length
 ghost use Rattle.std.specs.List.{flat_map, fold};
 ghost use Rattle.class_grammar.specs.Names.{is_like_method as method_like};
 ghost use Rattle.linkage.specs.Program.{own_name as name_of};
+ghost use Rattle.world_model.specs.Infos.{codes_in, codes_of};
 ghost use Rattle.world_model.specs.Numbering as spec;
+ghost use Rattle.world_tables.specs.Decodings as decodings;
 
-use crate::codes::instructions_of;
+use crate::codes::instrs_in;
 use crate::kinds::{array_of_kind, array_of_primitive, kind_named, kind_of, signature_of};
 use crate::names::Names;
 use class_grammar::text_at;
@@ -18,6 +20,7 @@ use items::NoMemory;
 use opcodes::{Instr, Op};
 use std::alloc::Global;
 use std::marker::Model;
+use world_model::MethodCode;
 
 /// The names of classes by number, and how deep the arrays of each type are.
 #[derive(Drop)]
@@ -257,26 +260,32 @@ impl Numbering {
         &mut self,
         alloc: Global,
         pool: &[Const],
-        methods: &[Member],
+        codes: &[Option<MethodCode>],
     ) -> Result<(), NoMemory>
         ensures { OnOk result (self.new ≡
-            fold spec.with_kind self.old (flat_map (spec.kinds_in_code pool.now) methods.now)) }
+            fold spec.with_kind self.old (flat_map (decodings.kinds_in pool.now) codes.now)) }
     {
-        for method in methods {
-            let instrs = instructions_of(alloc, method)?;
-            self.add_instrs(alloc, pool, &instrs)?;
+        for code in codes {
+            self.add_instrs(alloc, pool, instrs_in(code))?;
         }
         Ok(())
     }
 
-    fn add_file(&mut self, alloc: Global, file: &ClassFile) -> Result<(), NoMemory>
+    // The types of a file, whose methods have these codes.
+    fn add_file(
+        &mut self,
+        alloc: Global,
+        file: &ClassFile,
+        codes: &[Option<MethodCode>],
+    ) -> Result<(), NoMemory>
+        requires { codes.now ≡ codes_in file.now }
         ensures { OnOk result (self.new ≡
             fold spec.with_kind self.old (spec.kinds_in_file file.now)) }
     {
         self.add_constants(alloc, &file.pool)?;
         self.add_members(alloc, &file.pool, &file.fields)?;
         self.add_members(alloc, &file.pool, &file.methods)?;
-        self.add_codes(alloc, &file.pool, &file.methods)?;
+        self.add_codes(alloc, &file.pool, codes)?;
         Ok(())
     }
 
@@ -294,14 +303,22 @@ impl Numbering {
         &self.depths
     }
 
-    /// The numbers of a program.
-    pub fn new(alloc: Global, world: &Hierarchy) -> Result<Self, NoMemory>
+    /// The numbers of a program, whose methods have these codes.
+    pub fn new(
+        alloc: Global,
+        world: &Hierarchy,
+        codes: &[Option<MethodCode>],
+    ) -> Result<Self, NoMemory>
+        requires { codes.now ≡ codes_of world.now }
         ensures { IfOk result (λ n. n ≡ spec.numbering_of world.now) }
     {
         let files = world.classes().files();
         let mut numbering = first_numbers(alloc, files)?;
+        let mut rest = codes;
         for file in files {
-            numbering.add_file(alloc, file)?;
+            let (here, behind) = rest.split_at(file.methods.len());
+            numbering.add_file(alloc, file, here)?;
+            rest = behind;
         }
         Ok(numbering)
     }

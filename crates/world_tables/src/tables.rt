@@ -58,7 +58,9 @@ impl Tables {
     {
         let members = MemberNumbers::new(alloc, hierarchy)?;
         let world = members.hierarchy();
-        let numbers = ArrayNumbers::new(alloc, Numbering::new(alloc, world)?)?;
+        let codes = all_codes(alloc, world)?;
+        let numbering = Numbering::new(alloc, world, codes.as_slice())?;
+        let numbers = ArrayNumbers::new(alloc, numbering)?;
         let known = KnownClasses::new(alloc, numbers.names())?;
         let strings = all_strings(alloc, world)?;
         let arrays = all_arrays(alloc, numbers.depths())?;
@@ -67,13 +69,12 @@ impl Tables {
         if methods.len() > u32::MAX as usize {
             return Err(NoMemory);
         }
-        let codes = all_codes(alloc, world)?;
         let l = Linker {
             members: &members,
             numbers: &numbers,
             strings: &strings,
         };
-        let namings = all_namings(alloc, l)?;
+        let namings = all_namings(alloc, l, codes.as_slice())?;
         let catches = all_catches(alloc, l)?;
         Ok(Tables {
             members,

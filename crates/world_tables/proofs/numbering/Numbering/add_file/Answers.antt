@@ -2,6 +2,8 @@ use Rattle.std.proofs.Common.{◌≡◌, List, sym, ap, ◌∙◌}
 use Rattle.std.specs.List.{flat_map, fold}
 use Rattle.descriptors.specs.declared.kind.Kind.{Kind}
 use Rattle.world_model.specs.Numbering.{Numbering, with_kind, kinds_in_constant, kinds_in_member, kinds_in_code}
+use Rattle.world_tables.specs.Decodings.{kinds_in}
+use Rattle.world_tables.proofs.DecodingLaws.{kinds_are}
 use Rattle.world_tables.proofs.FoldLaws.{fold_four}
 use Rattle.world_tables.proofs.numbering.Numbering.add_file.Goals as goal
 
@@ -19,6 +21,7 @@ returns c =
     let third : c.add_members-2.new.self ≡ fold with_kind c.add_members.new.self methods =
     c.in_ok-add_members-2.ensures ∙ (λ i. fold with_kind c.add_members.new.self (flat_map (kinds_in_member (c.deref-4.ensures i)) (c.deref-5.ensures i))) in
     let last : c.add_codes.new.self ≡ fold with_kind c.add_members-2.new.self codes =
-    c.in_ok-add_codes.ensures ∙ (λ i. fold with_kind c.add_members-2.new.self (flat_map (kinds_in_code (c.deref-6.ensures i)) (c.deref-7.ensures i))) in
+    c.in_ok-add_codes.ensures ∙ (λ i. fold with_kind c.add_members-2.new.self (flat_map (kinds_in (c.deref-6.ensures i)) (c.requires i)))
+    ∙ ap (λ (kinds : List Kind). fold with_kind c.add_members-2.new.self kinds) (kinds_are f.pool f.methods) in
     last ∙ ap (λ (n : Numbering). fold with_kind n codes) (third ∙ ap (λ (n : Numbering). fold with_kind n methods) (second ∙ ap (λ (n : Numbering). fold with_kind n fields) first))
     ∙ sym (fold_four with_kind c.args.self.now constants fields methods codes)

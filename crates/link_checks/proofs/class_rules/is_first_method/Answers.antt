@@ -1,0 +1,18 @@
+use Rattle.std.proofs.Common.{◌≡◌, ℕ, Bool, false, Option, List, nat_eq, ap, ◌∙◌}
+use Rattle.std.specs.Option.{option_map_or}
+use Rattle.class_model.specs.declared.constant.Const.{Const}
+use Rattle.linkage.specs.Members.{Key, index_of}
+use Rattle.linkage.specs.Selection.{key_in}
+use Rattle.link_checks.proofs.class_rules.is_first_method.Goals as goal
+
+pub returns-in-Some : goal.returns-in-Some
+returns-in-Some c =
+    let f = c.args.file.now in
+    ap (λ (o : Option ℕ). option_map_or (λ first. nat_eq first c.args.index) o false)
+    (c.in-Some.ensures ∙ ap (λ (k : Key). index_of f.pool k f.methods) (c.key_in.ensures ∙ ap (λ (pool : List Const). key_in pool c.args.method.now) c.deref.ensures))
+
+pub returns-in-None : goal.returns-in-None
+returns-in-None c =
+    let f = c.args.file.now in
+    ap (λ (o : Option ℕ). option_map_or (λ first. nat_eq first c.args.index) o false)
+    (c.in-None.ensures ∙ ap (λ (k : Key). index_of f.pool k f.methods) (c.key_in.ensures ∙ ap (λ (pool : List Const). key_in pool c.args.method.now) c.deref.ensures))

@@ -1,0 +1,7 @@
+use Rattle.std.proofs.Common.{◌≡◌, ◌++◌, map, take}
+use Rattle.world_tables.specs.Linkings.{linking_in}
+use Rattle.world_tables.specs.Decodings.{namings_in}
+use Rattle.world_tables.proofs.namings.code_namings.Given as goal
+
+abbrev pub invariant-loop-code : goal.invariant-loop-code
+invariant-loop-code l = l.namings.items ≡ l.fn.namings.items ++ map (namings_in (linking_in l.l) l.class l.pool) (take l.code-index l.codes)
