@@ -112,7 +112,7 @@ none_is None e = refl
 none_is (Some x) e = absurd cc
 
 -- what the method gives back, by its result
-back_is : (w : World) (n : ℕ) (info : MethodInfo) (result : Option FieldType) → slice_get w.methods n ≡ Some info
+pub back_is : (w : World) (n : ℕ) (info : MethodInfo) (result : Option FieldType) → slice_get w.methods n ≡ Some info
     → info.signature.result ≡ result → back_of w n ≡ option_map (type_of_kind w) result
 back_is w n info result at has =
     bind_is (slice_get w.methods n) (result_type w) info (option_map (type_of_kind w) result) at (ap (option_map (type_of_kind w)) has)
