@@ -45,13 +45,13 @@ use Rattle.ref_model.specs.Members.{is_initializer}
 use Rattle.ref_model.specs.Fetch.{Named, named_method}
 use Rattle.ref_model.specs.Frames.{contents, first_frame, callee, caller}
 use Rattle.ref_model.specs.LocalRows.{most_frames, has_local_call, frames_called, static_called, row}
-use Rattle.frame_typing.specs.Typed.{IsAt, Stands, Waits, IsUnder, AreUnder, Typed, given_back, back_of, initializes}
-use Rattle.frame_typing.specs.LocalLaws.{Goes}
-use Rattle.frame_typing.proofs.FetchLaws.{Parts, parts, fine}
-use Rattle.frame_typing.proofs.Beginnings.{Begun, begun}
-use Rattle.frame_typing.proofs.LocalRowLaws.{row_is}
-use Rattle.frame_typing.proofs.ReturnLaws.{back_is}
-use Rattle.frame_typing.proofs.Arguments.{stacked, AllOnTop, all_on_top, reversed_of, in_order, widths}
+use Rattle.typed_frames.specs.Typed.{IsAt, Stands, Waits, IsUnder, AreUnder, Typed, given_back, back_of, initializes}
+use Rattle.typed_frames.specs.LocalLaws.{Goes}
+use Rattle.typed_frames.proofs.FetchLaws.{Parts, parts, fine}
+use Rattle.typed_frames.proofs.Beginnings.{Begun, begun}
+use Rattle.typed_frames.proofs.LocalRowLaws.{row_is}
+use Rattle.typed_frames.proofs.ReturnLaws.{back_is}
+use Rattle.typed_frames.proofs.Arguments.{stacked, AllOnTop, all_on_top, reversed_of, in_order, widths}
 
 if_true : {A : Type 0} (b : Bool) (x y : A) → b ≡ true → (if b then x else y) ≡ x
 if_true true x y e = refl

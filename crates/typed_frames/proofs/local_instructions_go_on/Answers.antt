@@ -1,7 +1,7 @@
-use Rattle.frame_typing.proofs.LocalRowLaws.{row_goes, narrow_goes, wide_goes}
-use Rattle.frame_typing.proofs.CallLaws.{static_goes}
-use Rattle.frame_typing.proofs.ReturnLaws.{return_goes}
-use Rattle.frame_typing.proofs.local_instructions_go_on.Goals as goal
+use Rattle.typed_frames.proofs.LocalRowLaws.{row_goes, narrow_goes, wide_goes}
+use Rattle.typed_frames.proofs.CallLaws.{static_goes}
+use Rattle.typed_frames.proofs.ReturnLaws.{return_goes}
+use Rattle.typed_frames.proofs.local_instructions_go_on.Goals as goal
 
 pub returns-clause-rows : goal.returns-clause-rows
 returns-clause-rows c = λ w f below r typed t known nonzero. row_goes w f below r typed t known nonzero

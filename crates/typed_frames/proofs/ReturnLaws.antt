@@ -40,11 +40,11 @@ use Rattle.ref_model.specs.Kinds.{kept}
 use Rattle.ref_model.specs.Fetch.{fetched}
 use Rattle.ref_model.specs.Frames.{contents, behind, is_root, stack_returned, returned_to, returned}
 use Rattle.ref_model.specs.LocalRows.{row}
-use Rattle.frame_typing.specs.Typed.{IsAt, Stands, Waits, IsUnder, Typed, given_back, back_of, result_type, initializes}
-use Rattle.frame_typing.specs.LocalLaws.{Goes}
-use Rattle.frame_typing.proofs.FetchLaws.{Parts, parts, fetched_is, fine}
-use Rattle.frame_typing.proofs.Arrivals.{Arrived, arrived, on_frames}
-use Rattle.frame_typing.proofs.LocalRowLaws.{row_is}
+use Rattle.typed_frames.specs.Typed.{IsAt, Stands, Waits, IsUnder, Typed, given_back, back_of, result_type, initializes}
+use Rattle.typed_frames.specs.LocalLaws.{Goes}
+use Rattle.typed_frames.proofs.FetchLaws.{Parts, parts, fetched_is, fine}
+use Rattle.typed_frames.proofs.Arrivals.{Arrived, arrived, on_frames}
+use Rattle.typed_frames.proofs.LocalRowLaws.{row_is}
 
 -- ---- the kind of a result
 

@@ -14,7 +14,7 @@ use Rattle.state_model.specs.Frames.{Frame}
 use Rattle.ref_model.specs.Frames.{contents, is_root}
 use Rattle.ref_model.specs.Fetch.{Named, named_method}
 use Rattle.ref_model.specs.LocalRows.{most_frames, has_local_call, row}
-use Rattle.frame_typing.specs.Typed.{Typed}
+use Rattle.typed_frames.specs.Typed.{Typed}
 
 -- there is a row, and it leaves such frames
 pub record Goes (w : World) (after : Option (List Frame)) : Type 0 where

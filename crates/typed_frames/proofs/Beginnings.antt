@@ -21,7 +21,7 @@ use Rattle.verify_types.specs.Environment.{Environment, environment_of, environm
 use Rattle.verify_types.specs.Typing.{AreTyped}
 use Rattle.state_model.specs.Frames.{Frame}
 use Rattle.ref_model.specs.Frames.{first_frame}
-use Rattle.frame_typing.specs.Typed.{Stands}
+use Rattle.typed_frames.specs.Typed.{Stands}
 
 unset : (n : ℕ) → AreOf (replicate n types.Top) (replicate n Second)
 unset zero = tt
