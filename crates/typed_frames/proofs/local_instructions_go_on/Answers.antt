@@ -1,6 +1,7 @@
-use Rattle.frame_typing.proofs.LocalRowLaws.{row_goes, narrow_goes, wide_goes}
-use Rattle.frame_typing.proofs.ReturnLaws.{return_goes}
-use Rattle.frame_typing.proofs.local_instructions_go_on.Goals as goal
+use Rattle.typed_frames.proofs.LocalRowLaws.{row_goes, narrow_goes, wide_goes}
+use Rattle.typed_frames.proofs.CallLaws.{static_goes}
+use Rattle.typed_frames.proofs.ReturnLaws.{return_goes}
+use Rattle.typed_frames.proofs.local_instructions_go_on.Goals as goal
 
 pub returns-clause-rows : goal.returns-clause-rows
 returns-clause-rows c = λ w f below r typed t known nonzero. row_goes w f below r typed t known nonzero
@@ -13,3 +14,7 @@ returns-clause-wide_constants c = λ w f below index typed t known. wide_goes w 
 
 pub returns-clause-returns : goal.returns-clause-returns
 returns-clause-returns c = λ w f below kind typed t known root. return_goes w f below kind typed t known root
+
+pub returns-clause-static_calls : goal.returns-clause-static_calls
+returns-clause-static_calls c = λ w f below index m code typed t known named flag code_is local few.
+    static_goes w f below index m code typed t known named flag code_is local few

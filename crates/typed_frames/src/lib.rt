@@ -2,8 +2,8 @@
 //! call that does nothing.
 #![tactic(auto)]
 
-ghost use Rattle.frame_typing.specs.LocalLaws.{RowsGoOn, ConstantsGoOn, WideConstantsGoOn, ReturnsGoOn};
-ghost use Rattle.frame_typing.specs.ThrowLaws.{ThrowsKeep, FramesAreLeft, HandlersGoOn};
+ghost use Rattle.typed_frames.specs.LocalLaws.{RowsGoOn, ConstantsGoOn, WideConstantsGoOn, ReturnsGoOn, StaticCallsGoOn};
+ghost use Rattle.typed_frames.specs.ThrowLaws.{ThrowsKeep, FramesAreLeft, HandlersGoOn};
 
 /// A local instruction of frames that keep to the typing is defined, unless it divides by 0 or returns from a root frame, and leaves
 /// frames that keep to it (JVMS 4.10.1.6).
@@ -12,6 +12,7 @@ pub fn local_instructions_go_on()
     ensures constants { ConstantsGoOn }
     ensures wide_constants { WideConstantsGoOn }
     ensures returns { ReturnsGoOn }
+    ensures static_calls { StaticCallsGoOn }
 {}
 
 /// An exception that leaves frames, or is caught in one, leaves frames that keep to the typing (JVMS 2.10, 4.10.1.6).

@@ -33,10 +33,10 @@ use Rattle.ref_model.specs.Classes.{is_sub}
 use Rattle.ref_model.specs.Fetch.{handlers_of}
 use Rattle.ref_model.specs.Frames.{contents, is_root}
 use Rattle.ref_model.specs.Throwing.{catches, handler_of, at_handler}
-use Rattle.frame_typing.specs.Typed.{IsAt, Stands, Waits, Throws, IsUnder, Typed, Thrown, back_of}
-use Rattle.frame_typing.specs.ThrowLaws.{IsHandled}
-use Rattle.frame_typing.proofs.FetchLaws.{Parts, parts, typed_method, fine}
-use Rattle.frame_typing.proofs.Arrivals.{Arrived, arrived, on_frames}
+use Rattle.typed_frames.specs.Typed.{IsAt, Stands, Waits, Throws, IsUnder, Typed, Thrown, back_of}
+use Rattle.typed_frames.specs.ThrowLaws.{IsHandled}
+use Rattle.typed_frames.proofs.FetchLaws.{Parts, parts, typed_method, fine}
+use Rattle.typed_frames.proofs.Arrivals.{Arrived, arrived, on_frames}
 
 -- ---- frames of a thread that throws
 
