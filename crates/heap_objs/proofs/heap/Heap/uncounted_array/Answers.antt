@@ -1,0 +1,39 @@
+use Rattle.std.proofs.Common.{ℕ, ◌≡◌, ◌+◌, ◌-◌, List, [], ◌∷◌, ◌++◌, length, take, replicate, Some, ap, sym, subst, ◌∙◌, arith}
+use Rattle.std.proofs.lemmas.List.{length-replicate, take_all}
+use Rattle.state_model.specs.Objects.{instance}
+use Rattle.heap_objs.specs.Heap.{Heap, with_object}
+use Rattle.heap_objs.specs.Layout.{objects_of, AreLaid}
+use Rattle.heap_objs.specs.declared.table.Entry.{Entry}
+use Rattle.heap_objs.proofs.StretchLaws.{grows_not, grows_by, added}
+use Rattle.heap_objs.proofs.HeapLaws.{length-objects_of, laid_more, objects_made, heap_is}
+use Rattle.heap_objs.proofs.heap.Heap.uncounted_array.Goals as goal
+
+pub invariant_of-self-2 : goal.invariant_of-self-2
+invariant_of-self-2 c =
+    let s = c.self.inside in
+    let e : Entry = record { class = Some c.args.class; start = c.len-start.result; len = c.args.len } in
+    let items : c.push_reserved.new.self.items ≡ s.table.items ++ e ∷ [] = c.push_reserved.ensures.items ∙ ap (λ xs. xs ++ e ∷ []) c.next_number.ensures.items in
+    let P : List Entry → Type 0 = λ xs. AreLaid 0 0 c.resize.new.self.len s.units.len xs in
+    let laid = laid_more s.table.items 0 0 s.values.len s.units.len e c.len-start.ensures c.self.invariant.laid in
+    let Q : ℕ → Type 0 = λ n. AreLaid 0 0 n s.units.len (s.table.items ++ e ∷ []) in
+    record { laid = subst P (sym items) (subst Q (sym (c.in_ok-resize.ensures.len ∙ (let at = c.len-start.ensures in omega arith))) laid); used = c.self.invariant.used }
+
+pub returns-clause-number : goal.returns-clause-number
+returns-clause-number c =
+    let s = c.self.inside in
+    c.in_ok-number.ensures.number ∙ s.table.ok.0 ∙ sym (length-objects_of s.table.items s.values.items s.units.items) ∙ ap (λ (v : Heap). length v.objects) c.self.view_is
+
+pub returns-clause-ok : goal.returns-clause-ok
+returns-clause-ok c =
+    let s = c.self.inside in
+    let e : Entry = record { class = Some c.args.class; start = c.len-start.result; len = c.args.len } in
+    let values = s.values.ok.0 in
+    let units = s.units.ok.0 in
+    let items : c.push_reserved.new.self.items ≡ s.table.items ++ e ∷ [] = c.push_reserved.ensures.items ∙ ap (λ xs. xs ++ e ∷ []) c.next_number.ensures.items in
+    let at = c.len-start.ensures in
+    let all : take (c.len-start.result + c.args.len) s.values.items ≡ s.values.items = take_all (c.len-start.result + c.args.len) s.values.items (omega arith) in
+    let count : c.len-start.result + c.args.len - s.values.len ≡ c.args.len = omega arith in
+    let grown = c.in_ok-resize.ensures.items ∙ (λ i. all i ++ replicate (count i) c.args.first) in
+    heap_is ((λ i. objects_of (grown i) s.units.items (items i))
+    ∙ objects_made s.table.items s.values.len s.units.len e (instance c.args.class (replicate c.args.len c.args.first)) s.values.items (s.values.items ++ replicate c.args.len c.args.first) s.units.items s.units.items c.self.invariant.laid (omega arith) (omega arith) (grows_by s.values.items (replicate c.args.len c.args.first)) (grows_not s.units.items) (ap (instance c.args.class) (added s.values.items (replicate c.args.len c.args.first) c.len-start.result c.args.len (let at = c.len-start.ensures in omega arith) (length-replicate c.args.len c.args.first))))
+    ∙ ap (with_object (instance c.args.class (replicate c.args.len c.args.first))) c.self.view_is
