@@ -66,7 +66,7 @@ found_at p [] x e = absurd cc
 found_at p (y ∷ xs) x e = found_by (p y) y x xs (find p xs) e (found_at p xs x)
 
 -- every class is a reference
-class_kind : (w : World) (n : ℕ) → kind_of_type (class_type w n) ≡ Some kinds.Reference
+pub class_kind : (w : World) (n : ℕ) → kind_of_type (class_type w n) ≡ Some kinds.Reference
 class_kind w n = by (array_type w n) refl
   where
     by : (o : Option ArrayType) → array_type w n ≡ o → kind_of_type (class_type w n) ≡ Some kinds.Reference

@@ -6,3 +6,6 @@ pub mod Exceptions
 pub mod Arguments
 pub mod Beginnings
 pub mod CallLaws
+pub mod KeepLaws
+pub mod ValueLaws
+pub mod FieldLaws

@@ -92,7 +92,7 @@ result_kind w a t k may has = by (kinds_kept w a (type_of_kind w t) may)
     by (inr same) = sym same ∙ has
     by (inl none) = let e = no_float w a (type_of_kind w t) (no_kind w t none) may in absurd cc
 
-kept_kind : (t : FieldType) (v : Value) → kind_of (kept t v) ≡ kind_of v
+pub kept_kind : (t : FieldType) (v : Value) → kind_of (kept t v) ≡ kind_of v
 kept_kind t (values.Int n) = refl
 kept_kind t (values.Long n) = refl
 kept_kind t values.Null = refl

@@ -1,3 +1,5 @@
 pub mod Typed
 pub mod LocalLaws
 pub mod ThrowLaws
+pub mod StateKinds
+pub mod EventLaws

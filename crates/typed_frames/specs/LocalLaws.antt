@@ -8,12 +8,13 @@ use Rattle.instruction_rows.specs.SlotEffect.{divides_by_zero}
 use Rattle.world_model.specs.declared.members.MethodCode.{MethodCode}
 use Rattle.world_model.specs.World.{World}
 use Rattle.world_model.specs.Decoded.{code_at}
+use Rattle.verify_types.specs.Environment.{Instruction}
 use Rattle.verify_types.specs.Effects.{row_of}
 use Rattle.verify_types.specs.Typing.{AreTyped}
 use Rattle.state_model.specs.Frames.{Frame}
 use Rattle.ref_model.specs.Frames.{contents, is_root}
-use Rattle.ref_model.specs.Fetch.{Named, named_method}
-use Rattle.ref_model.specs.LocalRows.{most_frames, has_local_call, row}
+use Rattle.ref_model.specs.Fetch.{fetched, Named, named_method}
+use Rattle.ref_model.specs.LocalRows.{most_frames, has_local_call, row, rows}
 use Rattle.typed_frames.specs.Typed.{Typed}
 
 -- there is a row, and it leaves such frames
@@ -48,3 +49,13 @@ StaticCallsGoOn = (w : World) (f : Frame) (below : List Frame) (index : ℕ) (m 
     named_method w t.0.at.place.instruction.naming ≡ Some m → has_flag ACC_STATIC m.method.flags ≡ true →
     code_at w m.number ≡ Some code → has_local_call w m ≡ true → nat_lt (length (f ∷ below)) most_frames ≡ true →
     Goes w (row w (f ∷ below))
+
+-- What linking gives (JVMS 6.5): an invokestatic names a static method.
+abbrev pub NamesStatic : World → Type 0
+NamesStatic w = (f : Frame) (i : Instruction) (index : ℕ) (m : Named) → fetched w f ≡ Some i → row_of i ≡ invoke static index →
+    named_method w i.naming ≡ Some m → has_flag ACC_STATIC m.method.flags ≡ true
+
+-- So many local instructions, where they are defined, keep to the typing.
+abbrev pub RowsKeep : Type 0
+RowsKeep = (w : World) (n : ℕ) (frames after : List Frame) → AreTyped w → NamesStatic w → Typed w frames →
+    rows w n frames ≡ Some after → Typed w after

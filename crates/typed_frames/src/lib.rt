@@ -2,7 +2,8 @@
 //! call that does nothing.
 #![tactic(auto)]
 
-ghost use Rattle.typed_frames.specs.LocalLaws.{RowsGoOn, ConstantsGoOn, WideConstantsGoOn, ReturnsGoOn, StaticCallsGoOn};
+ghost use Rattle.typed_frames.specs.LocalLaws.{RowsGoOn, ConstantsGoOn, WideConstantsGoOn, ReturnsGoOn, StaticCallsGoOn, RowsKeep};
+ghost use Rattle.typed_frames.specs.EventLaws.{StaticGetsKeep, StaticPutsKeep, FieldGetsKeep, FieldPutsKeep};
 ghost use Rattle.typed_frames.specs.ThrowLaws.{ThrowsKeep, FramesAreLeft, HandlersGoOn};
 
 /// A local instruction of frames that keep to the typing is defined, unless it divides by 0 or returns from a root frame, and leaves
@@ -13,6 +14,7 @@ pub fn local_instructions_go_on()
     ensures wide_constants { WideConstantsGoOn }
     ensures returns { ReturnsGoOn }
     ensures static_calls { StaticCallsGoOn }
+    ensures keep { RowsKeep }
 {}
 
 /// An exception that leaves frames, or is caught in one, leaves frames that keep to the typing (JVMS 2.10, 4.10.1.6).
@@ -20,4 +22,13 @@ pub fn exceptions_go_on()
     ensures throws { ThrowsKeep }
     ensures left { FramesAreLeft }
     ensures handled { HandlersGoOn }
+{}
+
+/// Fields keep kinds: what is got of a field has the kind of its type, and what is put keeps the state's values of their kinds (JVMS 6.5,
+/// 2.11.1).
+pub fn fields_keep_kinds()
+    ensures static_gets { StaticGetsKeep }
+    ensures static_puts { StaticPutsKeep }
+    ensures gets { FieldGetsKeep }
+    ensures puts { FieldPutsKeep }
 {}

@@ -1,0 +1,54 @@
+-- What fields do to frames and states whose values have the kinds of the typing.
+use Rattle.std.specs.Prelude.{◌≡◌, ℕ, true, List, Option, Some, None, Ok, slice_get}
+use Rattle.stack_maps.specs.declared.types.VType.{VType}
+use Rattle.instruction_rows.specs.declared.value.Slot.{Slot}
+use Rattle.instruction_rows.specs.Soundness.{AreOf}
+use Rattle.world_model.specs.declared.members.FieldInfo.{FieldInfo}
+use Rattle.world_model.specs.declared.sites.Naming.{Naming}
+use Rattle.world_model.specs.World.{World, array_type}
+use Rattle.verify_types.specs.Objects.{static_gotten as get_static_types, static_put as put_static_types, field_gotten as get_field_types, field_put as put_field_types}
+use Rattle.ref_model.specs.Classes.{is_sub}
+use Rattle.ref_model.specs.Members.{is_static_field, instance_fields, field_place}
+use Rattle.ref_model.specs.State.{State}
+use Rattle.ref_model.specs.Fetch.{field_of}
+use Rattle.ref_model.specs.Effects.{Effect, done, invokes, throws, throws_object}
+use Rattle.ref_model.specs.Fields.{static_gotten, static_put, field_gotten, field_put}
+use Rattle.typed_frames.specs.StateKinds.{HasFieldKinds, StateFits}
+
+-- What an effect leaves, where the operands behind the instruction have these types: values of their kinds, in the state and on the operand
+-- stack. An exception changes nothing.
+abbrev pub IsKept : World → List VType → Effect → Type 0
+IsKept w rest (done q stack) = StateFits w q × AreOf rest stack
+IsKept w rest (invokes g stack) = ⊥
+IsKept w rest (throws e) = Unit {0}
+IsKept w rest (throws_object o) = Unit {0}
+
+-- What linking gives: getstatic and putstatic name a static field (JVMS 6.5).
+abbrev pub IsStaticNaming : World → Naming → Type 0
+IsStaticNaming w naming = (n : ℕ) (f : FieldInfo) → field_of naming.site ≡ Some n → slice_get w.fields n ≡ Some f → is_static_field f ≡ true
+
+-- The objects of a class below the one that is named have the field at its place, and aren't arrays (JVMS 5.4.3.2, 6.5).
+abbrev pub IsInstanceNaming : World → Naming → Type 0
+IsInstanceNaming w naming = (n class named place : ℕ) → field_of naming.site ≡ Some n → naming.class ≡ Some named →
+    is_sub w class named ≡ true → field_place w n ≡ Some place →
+    (slice_get (instance_fields w class) place ≡ Some n) × (array_type w class ≡ None)
+
+abbrev pub StaticGetsKeep : Type 0
+StaticGetsKeep = (w : World) (naming : Naming) (r : State) (ts rest : List VType) (xs : List Slot) (effect : Effect) →
+    HasFieldKinds w → IsStaticNaming w naming → StateFits w r → AreOf ts xs → get_static_types w naming ts ≡ Ok rest →
+    static_gotten w naming r xs ≡ Some effect → IsKept w rest effect
+
+abbrev pub StaticPutsKeep : Type 0
+StaticPutsKeep = (w : World) (naming : Naming) (r : State) (ts rest : List VType) (xs : List Slot) (effect : Effect) →
+    HasFieldKinds w → IsStaticNaming w naming → StateFits w r → AreOf ts xs → put_static_types w naming ts ≡ Ok rest →
+    static_put w naming r xs ≡ Some effect → IsKept w rest effect
+
+abbrev pub FieldGetsKeep : Type 0
+FieldGetsKeep = (w : World) (naming : Naming) (r : State) (ts rest : List VType) (xs : List Slot) (effect : Effect) →
+    HasFieldKinds w → IsInstanceNaming w naming → StateFits w r → AreOf ts xs → get_field_types w naming ts ≡ Ok rest →
+    field_gotten w naming r xs ≡ Some effect → IsKept w rest effect
+
+abbrev pub FieldPutsKeep : Type 0
+FieldPutsKeep = (w : World) (naming : Naming) (r : State) (own : ℕ) (ts rest : List VType) (xs : List Slot) (effect : Effect) →
+    HasFieldKinds w → IsInstanceNaming w naming → StateFits w r → AreOf ts xs → put_field_types w own naming ts ≡ Ok rest →
+    field_put w naming r xs ≡ Some effect → IsKept w rest effect
