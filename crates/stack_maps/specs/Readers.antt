@@ -1,5 +1,5 @@
 -- The readers of a map, from left to right with the first fault (JVMS 4.7.4).
-use Rattle.std.specs.Prelude.{ℕ, ◌+◌, ◌-◌, List, [], ◌∷◌, length, Result, Ok, Err, nat_lt, ◌==◌, ◌&&◌, if◌then◌else◌}
+use Rattle.std.specs.Prelude.{ℕ, ◌+◌, ◌-◌, List, length, Result, Ok, Err, nat_lt, ◌==◌, ◌&&◌, if◌then◌else◌}
 use Rattle.std.specs.Int.{is_in_range}
 use Rattle.byte_reader.specs.declared.fault.Fault.{Fault}
 use Rattle.byte_reader.specs.Reader.{◌>>=◌, Reader, fault_at, number_at, both, map_value, count_then, list_by, many}

@@ -1,5 +1,5 @@
 -- Lists of types as paths in a tree.
-use Rattle.std.specs.Prelude.{◌≡◌, ℕ, ◌+◌, ◌<◌, List, [], ◌∷◌, ◌++◌, length, Option, Some, None, get_or}
+use Rattle.std.specs.Prelude.{◌≡◌, ℕ, ◌+◌, ◌<◌, List, [], ◌∷◌, ◌++◌, length, Option, Some, get_or}
 use Rattle.items.specs.Options.{◌>>=◌}
 use Rattle.stack_maps.specs.declared.types.VType.{VType}
 use Rattle.type_paths.specs.declared.paths.Node.{Node}

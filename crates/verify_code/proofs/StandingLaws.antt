@@ -15,10 +15,11 @@ use Rattle.verify_types.specs.TypeStates.{TypeState, all_assignable, fits, with_
 use Rattle.verify_instructions.proofs.Lists.{pointwise_reverse}
 use Rattle.verify_code.specs.declared.frame.Frame.{Frame}
 use Rattle.verify_code.specs.declared.frame_paths.Entry.{Entry}
+use Rattle.verify_code.specs.declared.standing.Behind.{Behind}
 use Rattle.verify_code.specs.declared.standing.Standing.{Standing}
 use Rattle.verify_code.specs.FramePaths.{entry_in, state_where}
 use Rattle.verify_code.specs.Frames.{frame_at, frame_in}
-use Rattle.verify_code.specs.Standings.{AllStand, IsLike, IsOver, IsShared, IsStanding, keeps_locals, like_behind, stood}
+use Rattle.verify_code.specs.Standings.{AllStand, BothStand, behind_one, either_of, going, IsLike, IsOver, IsShared, IsStanding, keeps_locals, like_behind, stood}
 use Rattle.verify_code.proofs.KeepLaws.{after_kept}
 use Rattle.verify_code.proofs.ItselfLaws.{LocalsThemselves}
 
@@ -143,3 +144,18 @@ one_stands env s h = λ t e. let same : s ≡ t = cc in subst (λ (x : Standing)
 
 pub new_stands : (env : Environment) (pc : ℕ) (f : MapFrame) (s : Standing) → map_at env pc ≡ Some f → f.state ≡ Some (stood s) → s.like ≡ Some pc → AllStand env (Some s)
 new_stands env pc f s at is like = one_stands env s (λ other e. let same : pc ≡ other = cc in subst (λ (n : ℕ). IsLike env n (stood s)) same (stands_at env pc f (stood s) at is))
+
+pub either_stands : (env : Environment) (b : Behind) → BothStand env b → AllStand env (either_of b)
+either_stands env b h = of_these b.going b.spare h.going h.spare
+  where
+    of_these : (o p : Option Standing) → AllStand env o → AllStand env p → AllStand env (option_map_or (λ s. Some s) o p)
+    of_these None p h k = k
+    of_these (Some s) p h k = h
+
+pub new_both : (env : Environment) (s : Standing) (goes_on : Bool) → IsStanding env s → BothStand env (behind_one s goes_on)
+new_both env s true h = record { going = one_stands env s h; spare = none_stands env }
+new_both env s false h = record { going = none_stands env; spare = one_stands env s h }
+
+pub new_going : (s : Standing) (goes_on : Bool) → going (behind_one s goes_on) ≡ cond goes_on (Some (stood s)) None
+new_going s true = refl
+new_going s false = refl

@@ -3,9 +3,11 @@ use Rattle.std.proofs.Common.{◌≡◌, Bool, true, false, cond, List, [], ◌�
 use Rattle.std.specs.Prelude.{map, filter, find, not, is_some, is_none, nat_eq, get_or, drop}
 use Rattle.std.specs.Option.{option_map}
 use Rattle.std.specs.List.{flat_map}
+use Rattle.std.specs.Result.{result_ok}
 use Rattle.std.proofs.lemmas.Bool.{ne_eqb}
 use Rattle.opcodes.specs.declared.op.Instr.{Instr}
 use Rattle.instruction_rows.specs.declared.row_why.RowWhy.{RowWhy}
+use Rattle.instruction_rows.specs.Rows.{row_goes_on}
 use Rattle.instruction_rows.specs.Table.{row}
 use Rattle.world_model.specs.declared.sites.Naming.{Naming}
 use Rattle.world_model.specs.declared.sites.Site.TheVariants.{Plain}
@@ -23,9 +25,11 @@ use Rattle.verify_instructions.specs.declared.stop.Stop.TheVariants as stops
 use Rattle.verify_instructions.specs.Answers.{Leaves}
 use Rattle.verify_code.specs.Findings.{instruction_of, findings_at, findings_whys}
 use Rattle.verify_code.specs.Frames.{stray_frame}
+use Rattle.verify_code.specs.declared.standing.Behind.{Behind}
 use Rattle.verify_code.specs.declared.standing.Standing.{Standing}
-use Rattle.verify_code.specs.Standings.{stood}
-use Rattle.verify_code.specs.Walks.{GoesOn, arrives, place, goes_to, fault_from}
+use Rattle.verify_code.specs.Standings.{behind_one, going, stood}
+use Rattle.verify_code.proofs.StandingLaws.{new_both, new_going, none_stands}
+use Rattle.verify_code.specs.Walks.{GoesOn, IsKept, IsPassed, arrives, place, goes_to, fault_from}
 
 -- ---- one instruction
 
@@ -76,6 +80,21 @@ unknown_missing env i naming entry is_last h = missing (map_at env i.pc) h
     missing : (o : Option MapFrame) → is_some o ≡ false → first_some (unless (is_none o) whys.Map ∷ []) ≡ None
     missing None h = refl
     missing (Some f) h = absurd cc
+
+-- what goes on behind it, where no rule is broken
+pub passed_unknown : (env : Environment) (p : Placed) (b : Behind) → b ≡ record { going = None; spare = None } → first_some (whys_at env p) ≡ None → behind env p.instruction p.state ≡ None → IsPassed env p b
+passed_unknown env p b e none at = subst (IsPassed env p) (sym e) (record { none = none; is = sym at; stands = record { going = none_stands env; spare = none_stands env } })
+
+pub passed_on : (env : Environment) (i : Instr) (naming : Naming) (entry : Option TypeState) (is_last : Bool) (s : TypeState) (after : Standing) (on : Bool) (b : Behind)
+    → IsKept env (place i naming (Some s) entry is_last) s after → on ≡ row_goes_on (row i.op) → b ≡ behind_one after on → IsPassed env (place i naming (Some s) entry is_last) b
+passed_on env i naming entry is_last s after on b h goes e = subst (IsPassed env (place i naming (Some s) entry is_last)) (sym e) (record {
+  none = h.none;
+  is =
+      new_going after on
+      ∙ ap (λ t. cond t (Some (stood after)) None) goes
+      ∙ ap (λ r. cond (row_goes_on (row i.op)) (result_ok r) None) (sym h.is);
+  stands = new_both env after on h.stands;
+})
 
 -- ---- faults in a list
 
@@ -149,10 +168,10 @@ fault_at_first env entry before i is ns naming is_last fault named last h =
     (ap (λ p. first_some (placed_faults env p)) (sym (head_is env entry before i is ns naming is_last named last)) ∙ h)
 
 -- without one there, it is the first of those behind it
-pub fault_behind_first : (env : Environment) (entry before : Option TypeState) (after : Option Standing) (i : Instr) (is : List Instr) (ns : List Naming) (naming : Naming) (is_last : Bool)
+pub fault_behind_first : (env : Environment) (entry before : Option TypeState) (after : Behind) (i : Instr) (is : List Instr) (ns : List Naming) (naming : Naming) (is_last : Bool)
     → naming ≡ Naming_at ns → is_last ≡ nat_eq (length is) 0
     → GoesOn env (place i naming (standing env i.pc before) entry is_last) after
-    → fault_from env entry before (with_namings (i ∷ is) ns) ≡ fault_from env None (option_map stood after) (with_namings is (drop 1 ns))
+    → fault_from env entry before (with_namings (i ∷ is) ns) ≡ fault_from env None (going after) (with_namings is (drop 1 ns))
 fault_behind_first env entry before after i is ns naming is_last named last h =
     let here = standing env i.pc before in
     let head = place i (Naming_at ns) here entry (is_end (with_namings is (drop 1 ns))) in

@@ -1,6 +1,6 @@
 -- States with the local variables of a frame of the map.
 use Rattle.std.specs.Prelude.{◌≡◌, ℕ, Bool, true, false, List, Option, Some, None, reverse, if◌then◌else◌}
-use Rattle.std.specs.Option.{option_map}
+use Rattle.std.specs.Option.{option_map, option_map_or}
 use Rattle.opcodes.specs.declared.op.Op.{Op}
 use Rattle.opcodes.specs.declared.op.Op.TheVariants as ops
 use Rattle.instruction_rows.specs.Contents.{slot_types}
@@ -9,6 +9,7 @@ use Rattle.verify_types.specs.TypeStates.{TypeState, all_assignable, with_stack}
 use Rattle.verify_types.specs.Environment.{MapFrame, Environment, map_at}
 use Rattle.verify_instructions.specs.Views.{state_in}
 use Rattle.verify_code.specs.declared.frame.Frame.{Frame}
+use Rattle.verify_code.specs.declared.standing.Behind.{Behind}
 use Rattle.verify_code.specs.declared.standing.Standing.{Standing}
 use Rattle.verify_code.specs.Frames.{frame_at, frame_in}
 
@@ -30,6 +31,20 @@ IsStanding env s = (pc : ℕ) → s.like ≡ Some pc → IsLike env pc (stood s)
 
 abbrev pub AllStand : Environment → Option Standing → Type 0
 AllStand env o = (s : Standing) → o ≡ Some s → IsStanding env s
+
+abbrev pub behind_one : Standing → Bool → Behind
+behind_one s goes_on = if goes_on then record { going = Some s; spare = None } else record { going = None; spare = Some s }
+
+abbrev pub either_of : Behind → Option Standing
+either_of b = option_map_or (λ s. Some s) b.going b.spare
+
+-- what goes on, as the definitions see it
+abbrev pub going : Behind → Option TypeState
+going b = option_map stood b.going
+
+pub record BothStand (env : Environment) (b : Behind) : Type 0 where
+  pub going : AllStand env b.going
+  pub spare : AllStand env b.spare
 
 -- the state with the operand stack of a frame, where its types are known
 abbrev pub over_stack_of : Frame → TypeState → Option TypeState

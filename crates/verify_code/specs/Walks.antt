@@ -1,6 +1,6 @@
 -- The walk over the instructions of a method, a step at a time.
 use Rattle.std.specs.Prelude.{◌≡◌, ℕ, Bool, true, List, Option, Some, None, Ok, Err, ◌&&◌, ◌||◌, if◌then◌else◌}
-use Rattle.std.specs.Option.{option_map, option_map_or}
+use Rattle.std.specs.Option.{option_map_or}
 use Rattle.std.specs.List.{flat_map, list_all}
 use Rattle.opcodes.specs.declared.op.Instr.{Instr}
 use Rattle.instruction_rows.specs.Rows.{Row, targets_of_row}
@@ -13,8 +13,9 @@ use Rattle.verify_types.specs.Handlers.{fits_frame}
 use Rattle.verify_types.specs.Walk.{Placed, behind, placed, walk}
 use Rattle.items.specs.First.{first_some}
 use Rattle.verify_types.specs.Faults.{fits_target, fits_next, state_whys, whys_at, placed_faults}
+use Rattle.verify_code.specs.declared.standing.Behind.{Behind}
 use Rattle.verify_code.specs.declared.standing.Standing.{Standing}
-use Rattle.verify_code.specs.Standings.{AllStand, IsStanding, stood}
+use Rattle.verify_code.specs.Standings.{BothStand, IsStanding, going, stood}
 use Rattle.verify_code.specs.Findings.{instruction_of}
 use Rattle.verify_code.specs.declared.walk.After.{After}
 use Rattle.verify_code.specs.declared.walk.After.TheVariants as afters
@@ -58,20 +59,20 @@ IsVerdict env p s (verdicts.Broken why) = first_some (state_whys env p s) ≡ So
 IsVerdict env p s (verdicts.Kept after) = IsKept env p s after
 
 -- no rule is broken, and this state goes on
-pub record IsPassed (env : Environment) (p : Placed) (after : Option Standing) : Type 0 where
+pub record IsPassed (env : Environment) (p : Placed) (after : Behind) : Type 0 where
   pub none : first_some (whys_at env p) ≡ None
-  pub is : option_map stood after ≡ behind env p.instruction p.state
-  pub stands : AllStand env after
+  pub is : going after ≡ behind env p.instruction p.state
+  pub stands : BothStand env after
 
 abbrev pub IsPassage : Environment → Placed → Passage → Type 0
 IsPassage env p (passages.Broken why) = first_some (whys_at env p) ≡ Some why
 IsPassage env p (passages.On after) = IsPassed env p after
 
 -- there is no fault, and this state goes on
-pub record GoesOn (env : Environment) (p : Placed) (after : Option Standing) : Type 0 where
+pub record GoesOn (env : Environment) (p : Placed) (after : Behind) : Type 0 where
   pub none : first_some (placed_faults env p) ≡ None
-  pub is : option_map stood after ≡ behind env p.instruction p.state
-  pub stands : AllStand env after
+  pub is : going after ≡ behind env p.instruction p.state
+  pub stands : BothStand env after
 
 abbrev pub IsStep : Environment → Placed → Step → Type 0
 IsStep env p (steps.Fault fault) = first_some (placed_faults env p) ≡ Some fault

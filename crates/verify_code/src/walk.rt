@@ -11,13 +11,13 @@ ghost use Rattle.verify_types.specs.Faults.{is_shallow};
 ghost use Rattle.verify_instructions.specs.Views.{state_in};
 ghost use Rattle.verify_code.specs.Findings.{instruction_of, findings_at};
 ghost use Rattle.verify_code.specs.Frames.{frame_in};
-ghost use Rattle.verify_code.specs.Standings.{AllStand, IsStanding, stood};
+ghost use Rattle.verify_code.specs.Standings.{AllStand, BothStand, IsStanding, going, stood};
 ghost use Rattle.verify_code.specs.Walks.{IsAfter, IsPassage, IsStep, IsVerdict, arrives, entry_of, goes_to, place, walk_fault};
 
 use crate::environment::Environment;
 use crate::findings::Findings;
 use crate::frame::Frame;
-use crate::standing::{Standing, like_behind};
+use crate::standing::{Behind, Standing, like_behind};
 use instruction_rows::RowWhy;
 use items::NoMemory;
 use opcodes::Instr;
@@ -51,14 +51,14 @@ pub enum Verdict {
 #[derive(Drop)]
 pub enum Passage {
     Broken(VerifyWhy),
-    On(Option<Standing>),
+    On(Behind),
 }
 
 /// The first fault at an instruction or between it and the next, or else the state that goes on behind it.
 #[derive(Drop)]
 pub enum Step {
     Fault(PcFault),
-    On(Option<Standing>),
+    On(Behind),
 }
 
 // The rule that was broken.
@@ -100,28 +100,29 @@ impl<'a, L: Lookups> Environment<'a, L> {
     fn arrive(
         &self,
         alloc: Global,
-        before: Option<Standing>,
+        before: Behind,
         is_entry: bool,
         pc: u32,
     ) -> Result<Arrival, NoMemory>
-        requires { AllStand self.now before }
+        requires { BothStand self.now before }
         ensures state { IfOk result (λ a. option_map stood a.standing ≡
-            standing self.now pc (option_map stood before)) }
+            standing self.now pc (going before)) }
         ensures fits { IfOk result (λ a. a.fits ≡
-            arrives self.now pc (entry_of is_entry (option_map stood before))) }
+            arrives self.now pc (entry_of is_entry (going before))) }
         ensures stands { IfOk result (λ a. AllStand self.now a.standing) }
     {
         let Some(frame) = self.frames.at(pc) else {
+            let Behind { going, spare: _ } = before;
             return Ok(Arrival {
-                standing: before,
+                standing: going,
                 fits: true,
             });
         };
-        let fits = match &before {
+        let fits = match &before.going {
             Some(s) => !is_entry || self.fits_frame(&s.state, &frame),
             None => true,
         };
-        match self.state_there(alloc, before, &frame, pc)? {
+        match self.state_there(alloc, before.either(), &frame, pc)? {
             Some(state) => Ok(Arrival {
                 standing: Some(Standing {
                     state,
@@ -239,7 +240,7 @@ impl<'a, L: Lookups> Environment<'a, L> {
         if self.has_frame(i.pc) {
             Passage::Broken(VerifyWhy::Map)
         } else {
-            Passage::On(None)
+            Passage::On(Behind::unknown())
         }
     }
 
@@ -264,11 +265,7 @@ impl<'a, L: Lookups> Environment<'a, L> {
         };
         match self.judge(alloc, s, fits, i, naming, is_last)? {
             Verdict::Broken(why) => Ok(Passage::Broken(why)),
-            Verdict::Kept(after) => Ok(Passage::On(if goes_on(&i.op) {
-                Some(after)
-            } else {
-                None
-            })),
+            Verdict::Kept(after) => Ok(Passage::On(Behind::new(after, goes_on(&i.op)))),
         }
     }
 
@@ -276,17 +273,17 @@ impl<'a, L: Lookups> Environment<'a, L> {
     fn step(
         &self,
         alloc: Global,
-        before: Option<Standing>,
+        before: Behind,
         is_entry: bool,
         i: &Instr,
         naming: Naming,
         is_last: bool,
     ) -> Result<Step, NoMemory>
         requires low { i.now.pc < 2 ^ 16 }
-        requires stands { AllStand self.now before }
+        requires stands { BothStand self.now before }
         ensures { IfOk result (IsStep self.now (place i.now naming
-            (standing self.now i.now.pc (option_map stood before))
-            (entry_of is_entry (option_map stood before)) is_last)) }
+            (standing self.now i.now.pc (going before))
+            (entry_of is_entry (going before)) is_last)) }
     {
         let arrival = self.arrive(alloc, before, is_entry, i.pc)?;
         match self.pass(alloc, arrival, i, naming, is_last)? {
@@ -306,10 +303,11 @@ impl<'a, L: Lookups> Environment<'a, L> {
         requires { state_in first ≡ self.now.first }
         ensures { IfOk result (λ fault. fault ≡ walk_fault self.now) }
     {
-        let mut before = Some(Standing {
+        let first = Standing {
             state: first,
             like: None,
-        });
+        };
+        let mut before = Behind::new(first, true);
         let mut is_entry = true;
         let mut rest: &[Instr] = &self.method.code.code;
         let mut namings = self.method.namings;

@@ -57,6 +57,3 @@ pointwise_reverse E (x ∷ xs) (y ∷ ys) =
     ∙ ap (λ zs. pointwise E (reverse xs ++ x ∷ []) zs) (reverse-append (y ∷ []) ys)
     ∙ last_pair E (reverse xs) (reverse ys) x y
     ∙ ap (λ r. E x y && r) (pointwise_reverse E xs ys)
-
-pub single_reverse : {A : Type 0} (E : A → A → Bool) (x : A) (ys : List A) → pointwise E (x ∷ []) (reverse ys) ≡ pointwise E (x ∷ []) ys
-single_reverse E x ys = pointwise_reverse E (x ∷ []) ys

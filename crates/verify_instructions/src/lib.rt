@@ -3,7 +3,6 @@
 
 mod calls;
 mod effect;
-mod fits;
 mod local_rows;
 mod method;
 mod objects;

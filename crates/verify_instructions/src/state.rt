@@ -44,16 +44,6 @@ pub fn is_object(object: Uninitialized, t: VType) -> bool
 }
 
 impl State {
-    /// The same state in memory of its own.
-    pub fn copy(&self, alloc: Global) -> Result<Self, AllocError>
-        ensures { IfOk result (λ s. state_in s ≡ state_in self.now) }
-    {
-        Ok(State {
-            types: self.types.copy(alloc)?,
-            this_uninit: self.this_uninit,
-        })
-    }
-
     /// The same with another operand stack, the top of which is its last item.
     pub fn with_stack(self, stack: Vec<VType>) -> Self
         ensures { state_in result ≡ with_stack (state_in self) (reverse stack.items) }

@@ -1,4 +1,4 @@
-ghost use Rattle.std.specs.Prelude.{◌≡◌, ◌&&◌, length, [], ◌∷◌, Ok, Err, IfOk, MatchOption, OnOk, OnErr, ok_or, reverse};
+ghost use Rattle.std.specs.Prelude.{◌≡◌, length, [], ◌∷◌, Ok, Err, IfOk, MatchOption, OnOk, OnErr, ok_or, reverse};
 ghost use Rattle.instruction_rows.specs.Contents.{with_item};
 ghost use Rattle.instruction_rows.specs.Kinds.{is_kind, kind_of_type};
 ghost use Rattle.instruction_rows.specs.Rows as rows;
@@ -7,11 +7,10 @@ ghost use Rattle.instruction_rows.specs.TypeEffect as spec;
 ghost use Rattle.std.specs.List.{list_any};
 ghost use Rattle.std.specs.Option.{option_map};
 ghost use Rattle.std.specs.Result.{result_ok};
-ghost use Rattle.verify_types.specs.TypeStates.{all_assignable, replaced};
+ghost use Rattle.verify_types.specs.TypeStates.{replaced};
 ghost use Rattle.verify_instructions.specs.Answers.{Gives, Leaves, Takes};
 ghost use Rattle.verify_instructions.specs.Views.{is_object};
 
-use crate::fits::all_assignable;
 use crate::state::{Uninitialized, is_object};
 use crate::stop::Stop;
 use instruction_rows::{RowWhy, is_narrow, is_wide, kind_of_type};
@@ -19,7 +18,6 @@ use opcodes::Kind;
 use stack_maps::VType;
 use std::alloc::{AllocError, Global};
 use std::marker::Model;
-use world_model::Lookups;
 
 /// The types of a frame, slot by slot (JVMS 4.10.1.4).
 #[derive(Drop)]
@@ -54,16 +52,6 @@ impl Types {
     {
         let Types { locals, stack: _ } = self;
         Types { locals, stack }
-    }
-
-    /// The same types in memory of their own.
-    pub fn copy(&self, alloc: Global) -> Result<Self, AllocError>
-        ensures { IfOk result (λ types. types ≡ self.now) }
-    {
-        Ok(Types {
-            locals: Vec::from_slice(alloc, &self.locals)?,
-            stack: Vec::from_slice(alloc, &self.stack)?,
-        })
     }
 
     /// The types of the local variables.
@@ -257,25 +245,6 @@ impl Types {
                 self.pop_kinds(others)
             }
         }
-    }
-
-    /// Whether the types are assignable to others, slot by slot.
-    #[tactic(auto, using(crate::proofs::Lists::pointwise_reverse))]
-    pub fn fits<L: Lookups>(&self, w: &L, other: &Types) -> bool
-        ensures { result ≡ (all_assignable (L.world w.now) self.now.locals other.now.locals
-            && all_assignable (L.world w.now) self.now.stack other.now.stack) }
-    {
-        all_assignable(w, &self.locals, &other.locals)
-            && all_assignable(w, &self.stack, &other.stack)
-    }
-
-    /// Whether the local variables, with this type alone on the operand stack, are assignable to others.
-    #[tactic(auto, using(crate::proofs::Lists::single_reverse))]
-    pub fn fits_with<L: Lookups>(&self, w: &L, item: VType, other: &Types) -> bool
-        ensures { result ≡ (all_assignable (L.world w.now) self.now.locals other.now.locals
-            && all_assignable (L.world w.now) (item ∷ []) other.now.stack) }
-    {
-        all_assignable(w, &self.locals, &other.locals) && all_assignable(w, &[item], &other.stack)
     }
 
     /// How many slots are on the operand stack.

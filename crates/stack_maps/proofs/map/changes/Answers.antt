@@ -1,5 +1,5 @@
 use Rattle.std.proofs.Common.{◌≡◌, arith}
-use Rattle.stack_maps.proofs.MapLaws.{changes_take, changes_again, fault_is, no_fault, bad_is}
+use Rattle.stack_maps.proofs.MapLaws.{changes_take, changes_again, no_fault, bad_is}
 use Rattle.stack_maps.proofs.map.changes.Goals as goal
 
 pub returns-in-Ok-clause-found : goal.returns-in-Ok-clause-found

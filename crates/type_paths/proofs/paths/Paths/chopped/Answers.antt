@@ -1,6 +1,6 @@
-use Rattle.std.proofs.Common.{◌≡◌, ◌+◌, ℕ, ap, subst, arith}
+use Rattle.std.proofs.Common.{◌≡◌, ℕ, subst, arith}
 use Rattle.std.specs.Prelude.{drop}
-use Rattle.type_paths.specs.Paths.{Path, IsPath}
+use Rattle.type_paths.specs.Paths.{IsPath}
 use Rattle.type_paths.proofs.PathLaws.{drop_more}
 use Rattle.type_paths.proofs.paths.Paths.chopped.Goals as goal
 

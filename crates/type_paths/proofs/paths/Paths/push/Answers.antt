@@ -1,4 +1,4 @@
-use Rattle.std.proofs.Common.{◌≡◌, ◌<◌, ◌+◌, ◌++◌, ◌∷◌, [], ℕ, List, length, rules, arith, ap, sym, subst, ◌∙◌}
+use Rattle.std.proofs.Common.{◌≡◌, ◌<◌, ◌++◌, ◌∷◌, [], List, length, rules, arith, ap, sym, subst, ◌∙◌}
 use Rattle.std.specs.Vec.{vec_len}
 use Rattle.type_paths.specs.declared.paths.Node.{Node}
 use Rattle.type_paths.specs.Paths.{Path, path, root, paths_from, AreAbove}

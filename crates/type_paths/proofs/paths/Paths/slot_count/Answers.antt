@@ -1,6 +1,6 @@
-use Rattle.std.proofs.Common.{◌≡◌, ◌+◌, ◌≤◌, ℕ, List, length, arith, ap, ◌∙◌}
+use Rattle.std.proofs.Common.{length, arith, ap, ◌∙◌}
 use Rattle.std.specs.Option.{option_map}
-use Rattle.instruction_rows.specs.Contents.{slot_types, types_of}
+use Rattle.instruction_rows.specs.Contents.{slot_types}
 use Rattle.type_paths.specs.Paths.{Path, path, types_on}
 use Rattle.type_paths.proofs.SlotLaws.{at_first, more_slots, few_slots}
 use Rattle.type_paths.proofs.paths.Paths.slot_count.Goals as goal

@@ -1,4 +1,4 @@
-use Rattle.std.proofs.Common.{◌≡◌, ◌-◌, ◌<◌, ℕ, [], List, arith, ap, sym, subst, ◌∙◌}
+use Rattle.std.proofs.Common.{◌≡◌, ◌-◌, ℕ, [], List, arith, ap, subst, ◌∙◌}
 use Rattle.std.specs.Prelude.{slice_get, MatchOption}
 use Rattle.type_paths.specs.Paths.{Path, path, paths_from, root, IsTop}
 use Rattle.type_paths.proofs.PathLaws.{got, first_is, top_or_none}

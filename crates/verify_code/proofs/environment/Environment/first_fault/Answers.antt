@@ -1,11 +1,10 @@
 use Rattle.std.proofs.Common.{List, None, ap, subst, sym, ◌∙◌}
-use Rattle.std.specs.Option.{option_map}
 use Rattle.opcodes.specs.declared.op.Instr.{Instr}
 use Rattle.world_model.specs.declared.sites.Naming.{Naming}
 use Rattle.verify_types.specs.Environment.{with_namings}
 use Rattle.verify_types.specs.Walk.{standing}
 use Rattle.verify_code.specs.Environments.{AreInOrder}
-use Rattle.verify_code.specs.Standings.{stood}
+use Rattle.verify_code.specs.Standings.{going}
 use Rattle.verify_code.specs.Walks.{IsStep, entry_of, fault_from, place}
 use Rattle.verify_code.proofs.WalkLaws.{fault_at_first, fault_behind_first}
 use Rattle.verify_code.proofs.environment.Environment.first_fault.Goals as goal
@@ -13,7 +12,7 @@ use Rattle.verify_code.proofs.environment.Environment.first_fault.Goals as goal
 pub returns-in-Fault : goal.returns-in-Fault
 returns-in-Fault g c =
     let env = c.args.self.now in
-    let before = option_map stood c.loop-i.before in
+    let before = going c.loop-i.before in
     let entry = entry_of c.loop-i.is_entry before in
     let i = c.in-Some.i.now in
     let p = place i c.first_naming.result (standing env i.pc before) entry c.is_empty-is_last.result in
@@ -25,8 +24,8 @@ returns-in-Fault g c =
 pub loop-i-preserved : goal.loop-i-preserved
 loop-i-preserved g c =
     let env = c.args.self.now in
-    let before = option_map stood c.loop-i.before in
-    let after = option_map stood c.in-On.after in
+    let before = going c.loop-i.before in
+    let after = going c.in-On.after in
     let entry = entry_of c.loop-i.is_entry before in
     let i = c.in-Some.i.now in
     let is = c.in-Some.behind.now in

@@ -1,16 +1,15 @@
 -- What is left of the instructions has the first fault of all, and stands in order.
 use Rattle.std.proofs.Common.{◌≡◌, ℕ, length}
-use Rattle.std.specs.Option.{option_map}
 use Rattle.verify_types.specs.Environment.{with_namings}
 use Rattle.verify_code.specs.Environments.{AreInOrder}
-use Rattle.verify_code.specs.Standings.{AllStand, stood}
+use Rattle.verify_code.specs.Standings.{BothStand, going}
 use Rattle.verify_code.specs.Walks.{entry_of, fault_from, walk_fault}
 use Rattle.verify_code.proofs.environment.Environment.first_fault.Given as goal
 
 abbrev pub invariant-loop-i : goal.invariant-loop-i
 invariant-loop-i g l =
-    (fault_from l.self (entry_of l.is_entry (option_map stood l.before)) (option_map stood l.before) (with_namings l.rest l.namings) ≡ walk_fault l.self)
-    × (pc : ℕ) × AreInOrder pc (with_namings l.rest l.namings) × AllStand l.self l.before
+    (fault_from l.self (entry_of l.is_entry (going l.before)) (going l.before) (with_namings l.rest l.namings) ≡ walk_fault l.self)
+    × (pc : ℕ) × AreInOrder pc (with_namings l.rest l.namings) × BothStand l.self l.before
 
 abbrev pub decreases-loop-i : goal.decreases-loop-i
 decreases-loop-i g l = length l.rest

@@ -1,11 +1,22 @@
-use Rattle.std.proofs.Common.{Option, subst, sym}
+use Rattle.std.proofs.Common.{Option, Some, subst, sym}
 use Rattle.std.specs.Option.{option_map}
 use Rattle.verify_code.specs.declared.standing.Standing.{Standing}
 use Rattle.verify_code.specs.Standings.{stood}
-use Rattle.verify_code.specs.Walks.{IsPassage, place}
+use Rattle.verify_code.specs.Walks.{IsPassage, IsPassed, IsVerdict, place}
+use Rattle.verify_code.proofs.WalkLaws.{passed_on}
 use Rattle.verify_code.proofs.environment.Environment.pass.Goals as goal
 
 pub returns-in_default : goal.returns-in_default
 returns-in_default g c = λ entry arrived.
     subst (λ (o : Option Standing). IsPassage c.args.self.now (place c.args.i.now c.args.naming (option_map stood o) entry c.args.is_last) c.pass_unknown.result)
     (sym c.in_default.is) (c.pass_unknown.ensures c.args.naming entry c.args.is_last)
+
+pub returns-in-Kept : goal.returns-in-Kept
+returns-in-Kept g c = λ entry arrived.
+    let env = c.args.self.now in
+    let i = c.args.i.now in
+    let s = stood c.in-Some.s in
+    let here = place i c.args.naming (Some s) entry c.args.is_last in
+    let kept = subst (λ v. IsVerdict env here s v) c.in-Kept.is (c.in_ok-why.ensures entry arrived) in
+    subst (λ (o : Option Standing). IsPassed env (place i c.args.naming (option_map stood o) entry c.args.is_last) c.new.result) (sym c.in-Some.is)
+    (passed_on env i c.args.naming entry c.args.is_last s c.in-Kept.after c.goes_on.result c.new.result kept c.goes_on.ensures c.new.ensures)

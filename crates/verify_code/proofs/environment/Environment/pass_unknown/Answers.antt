@@ -1,6 +1,6 @@
-use Rattle.std.proofs.Common.{refl, sym, ◌∙◌}
-use Rattle.verify_code.proofs.WalkLaws.{unknown_there, unknown_missing}
-use Rattle.verify_code.proofs.StandingLaws.{none_stands}
+use Rattle.std.proofs.Common.{None, refl, sym, ◌∙◌}
+use Rattle.verify_code.specs.Walks.{place}
+use Rattle.verify_code.proofs.WalkLaws.{passed_unknown, unknown_there, unknown_missing}
 use Rattle.verify_code.proofs.environment.Environment.pass_unknown.Goals as goal
 
 pub returns-then-has_frame : goal.returns-then-has_frame
@@ -8,8 +8,6 @@ returns-then-has_frame g c = λ naming entry is_last.
     unknown_there c.args.self.now c.args.i.now naming entry is_last (sym c.has_frame.ensures ∙ c.if-has_frame.true)
 
 pub returns-else-has_frame : goal.returns-else-has_frame
-returns-else-has_frame g c = λ naming entry is_last. record {
-  none = unknown_missing c.args.self.now c.args.i.now naming entry is_last (sym c.has_frame.ensures ∙ c.if-has_frame.false);
-  is = refl;
-  stands = none_stands c.args.self.now;
-}
+returns-else-has_frame g c = λ naming entry is_last.
+    passed_unknown c.args.self.now (place c.args.i.now naming None entry is_last) c.unknown.result c.unknown.ensures
+    (unknown_missing c.args.self.now c.args.i.now naming entry is_last (sym c.has_frame.ensures ∙ c.if-has_frame.false)) refl

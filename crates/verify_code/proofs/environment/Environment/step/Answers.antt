@@ -7,7 +7,7 @@ use Rattle.verify_types.specs.Walk.{standing}
 use Rattle.verify_types.specs.Faults.{pc_fault}
 use Rattle.verify_code.specs.declared.walk.Passage.{Passage}
 use Rattle.verify_code.specs.Frames.{stray_frame}
-use Rattle.verify_code.specs.Standings.{stood}
+use Rattle.verify_code.specs.Standings.{going}
 use Rattle.verify_code.specs.Walks.{IsPassage, entry_of, place}
 use Rattle.verify_code.proofs.WalkLaws.{broken_there, stray_there}
 use Rattle.verify_code.proofs.environment.Environment.step.Goals as goal
@@ -20,7 +20,7 @@ fault_at (Some f) = refl
 pub returns-in-Broken : goal.returns-in-Broken
 returns-in-Broken g c =
     let env = c.args.self.now in
-    let before = option_map stood c.args.before in
+    let before = going c.args.before in
     let entry = entry_of c.args.is_entry before in
     let At : Option TypeState → Passage → Type 0 = λ s x. IsPassage env (place c.args.i.now c.args.naming s entry c.args.is_last) x in
     let here = standing env c.args.i.now.pc before in
@@ -31,7 +31,7 @@ returns-in-Broken g c =
 pub returns-in-Some : goal.returns-in-Some
 returns-in-Some g c =
     let env = c.args.self.now in
-    let before = option_map stood c.args.before in
+    let before = going c.args.before in
     let entry = entry_of c.args.is_entry before in
     let At : Option TypeState → Passage → Type 0 = λ s x. IsPassage env (place c.args.i.now c.args.naming s entry c.args.is_last) x in
     let here = standing env c.args.i.now.pc before in
@@ -48,7 +48,7 @@ returns-in-Some g c =
 pub returns-in-None : goal.returns-in-None
 returns-in-None g c =
     let env = c.args.self.now in
-    let before = option_map stood c.args.before in
+    let before = going c.args.before in
     let entry = entry_of c.args.is_entry before in
     let At : Option TypeState → Passage → Type 0 = λ s x. IsPassage env (place c.args.i.now c.args.naming s entry c.args.is_last) x in
     let here = standing env c.args.i.now.pc before in
