@@ -7,3 +7,4 @@ pub mod Strings
 pub mod Sites
 pub mod Worlds
 pub mod Decoded
+pub mod LookUps

@@ -4,3 +4,4 @@ pub mod StartLaws
 pub mod TableLaws
 pub mod CodeLaws
 pub mod DecodingLaws
+pub mod PcLaws

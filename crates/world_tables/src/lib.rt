@@ -11,6 +11,7 @@ mod member_numbers;
 mod names;
 mod namings;
 mod numbering;
+mod pc_tables;
 mod sites;
 mod strings;
 mod tables;
