@@ -8,3 +8,5 @@ pub mod Sites
 pub mod Worlds
 pub mod Decoded
 pub mod LookUps
+pub mod MainMethod
+pub mod InstanceFields

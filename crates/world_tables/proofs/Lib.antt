@@ -5,3 +5,4 @@ pub mod TableLaws
 pub mod CodeLaws
 pub mod DecodingLaws
 pub mod PcLaws
+pub mod InstanceLaws

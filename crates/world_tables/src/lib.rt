@@ -5,8 +5,10 @@
 mod array_numbers;
 mod codes;
 mod infos;
+mod instance_fields;
 mod kinds;
 mod known_classes;
+mod main_method;
 mod member_numbers;
 mod names;
 mod namings;

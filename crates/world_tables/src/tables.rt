@@ -5,6 +5,8 @@ ghost use Rattle.std.specs.Option.{option_copied};
 ghost use Rattle.class_grammar.specs.Names.{object_class};
 ghost use Rattle.world_model.specs.World as spec;
 ghost use Rattle.world_model.specs.LookUps as asked;
+ghost use Rattle.world_model.specs.MainMethod.{main_of};
+ghost use Rattle.world_model.specs.InstanceFields.{instance_fields};
 ghost use Rattle.world_model.specs.Pools as pools;
 ghost use Rattle.world_model.specs.Worlds.{world_of};
 ghost use Rattle.world_model.specs.Decoded.{IsDecoded, code_at};
@@ -12,7 +14,9 @@ ghost use Rattle.world_model.specs.Decoded.{IsDecoded, code_at};
 use crate::array_numbers::{ArrayNumbers, all_arrays};
 use crate::codes::Codes;
 use crate::infos::{all_codes, all_fields, all_methods};
+use crate::instance_fields::{all_instance_fields, row_at};
 use crate::known_classes::KnownClasses;
+use crate::main_method::main_among;
 use crate::member_numbers::MemberNumbers;
 use crate::namings::{all_catches, all_namings};
 use crate::numbering::Numbering;
@@ -38,6 +42,7 @@ pub struct Tables {
     methods: Vec<MethodInfo>,
     codes: Codes,
     by_pc: Vec<Items<Option<u32>>>,
+    instance_fields: Vec<Items<u32>>,
     namings: Vec<Items<Naming>>,
     catches: Vec<Items<Option<u32>>>,
     known: KnownClasses,
@@ -87,6 +92,7 @@ impl Tables {
             return Err(NoMemory);
         }
         let by_pc = all_by_pc(alloc, codes.as_slice())?;
+        let instance_fields = all_instance_fields(alloc, &members)?;
         let l = Linker {
             members: &members,
             numbers: &numbers,
@@ -102,6 +108,7 @@ impl Tables {
             methods,
             codes,
             by_pc,
+            instance_fields,
             namings,
             catches,
             known,
@@ -239,6 +246,21 @@ impl Tables {
         ensures { result ≡ asked.element self.now class }
     {
         element_of(class, self.array_type(class)?)
+    }
+
+    /// The number of `public static void main(String[])` of the class of this name (JLS 12.1.4). `None`: there is no such class, or it declares
+    /// no such method.
+    pub fn main_of(&self, name: &[u16]) -> Option<u32>
+        ensures { result ≡ main_of self.now name.now }
+    {
+        main_among(&self.methods, self.hierarchy().classes().class_named(name)?)
+    }
+
+    /// The numbers of the fields of an object of a class, those of the superclass first, in constant time.
+    pub fn instance_fields(&self, class: u32) -> &[u32]
+        ensures { result.now ≡ instance_fields self.now.program class }
+    {
+        row_at(&self.instance_fields, class)
     }
 
     /// The number of an array class, by the type of its objects. `None`: the program has no array of such elements as deep.

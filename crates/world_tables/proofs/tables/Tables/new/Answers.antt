@@ -13,6 +13,7 @@ invariant_of-result c =
     record {
       known = c.in_ok-known.ensures ∙ ap known_in c.names.ensures;
       numbering = c.in_ok-numbers.ensures ∙ c.in_ok-numbering.ensures ∙ ap numbering_of c.hierarchy-world.ensures;
+      instance_fields = c.in_ok-instance_fields.ensures;
       by_pc = (λ method pc. c.in_ok-by_pc.ensures method pc ∙ ap (λ (codes : List (Option MethodCode)). index_in codes method pc) c.as_slice-2.ensures);
       few = omega (arith, c.if-len.false, c.len.ensures, size);
     }
