@@ -11,6 +11,8 @@ ghost use Rattle.class_resolution.specs.Keys.{key_of};
 ghost use Rattle.world_model.specs.World.{array_type};
 ghost use Rattle.world_model.specs.Worlds.{world_of};
 ghost use Rattle.world_model.specs.LookUps as asked;
+ghost use Rattle.world_model.specs.MainMethod.{main_of};
+ghost use Rattle.world_model.specs.InstanceFields.{instance_fields};
 
 use crate::error::LinkError;
 use class_model::ClassFile;
@@ -130,6 +132,21 @@ impl World {
         ensures { result ≡ asked.site (world_of self.now) method pc }
     {
         self.tables().site(method, pc)
+    }
+
+    /// The number of `public static void main(String[])` of the class of this name (JLS 12.1.4). `None`: there is no such class, or it declares
+    /// no such method.
+    pub fn main_of(&self, name: &[u16]) -> Option<u32>
+        ensures { result ≡ main_of (world_of self.now) name.now }
+    {
+        self.tables().main_of(name)
+    }
+
+    /// The numbers of the fields of an object of a class, those of the superclass first, in constant time.
+    pub fn instance_fields(&self, class: u32) -> &[u32]
+        ensures { result.now ≡ instance_fields self.now class }
+    {
+        self.tables().instance_fields(class)
     }
 
     /// The number of an array class, by the type of its objects. `None`: the program has no array of such elements as deep.
