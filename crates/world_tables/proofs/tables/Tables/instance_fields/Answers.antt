@@ -1,4 +1,4 @@
-use Rattle.std.proofs.Common.{◌≡◌, ap, ◌∙◌}
+use Rattle.std.proofs.Common.{ap, ◌∙◌}
 use Rattle.world_model.specs.World.{World}
 use Rattle.world_model.specs.InstanceFields.{instance_fields}
 use Rattle.world_tables.proofs.InstanceLaws.{fields_are}
