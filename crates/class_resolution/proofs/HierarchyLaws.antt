@@ -1,13 +1,13 @@
 -- What the tables of a hierarchy say past the end of the classes, and of what is above a class.
-use Rattle.std.proofs.Common.{◌≡◌, ℕ, zero, suc, ◌+◌, ◌-◌, ◌<◌, ◌≤◌, List, [], ◌∷◌, ◌++◌, length, reverse, get_or, Option, Some, None, unwrap_or, refl, sym, ap, subst, ◌∙◌, ◌⊎◌, ⊎_elim, append_assoc, arith}
+use Rattle.std.proofs.Common.{◌≡◌, ℕ, ◌+◌, ◌<◌, ◌≤◌, List, [], ◌∷◌, ◌++◌, length, reverse, get_or, Option, Some, None, ap, ◌∙◌, arith}
 use Rattle.std.specs.Prelude.{slice_get}
 use Rattle.std.specs.Option.{option_map_or, option_to_list}
 use Rattle.std.proofs.lemmas.Option.{slice_get_past, slice_get-get_or}
 use Rattle.std.proofs.lemmas.List.{reverse-reverse}
 use Rattle.linkage.specs.Program.{Program, class_at}
 use Rattle.linkage.specs.Hierarchy.{directs, parent_of, parent_in, interfaces_in, supers, superclasses, visit, climb, edges}
-use Rattle.class_resolution.specs.Tables.{tabulate, row_at, parent_at, above}
-use Rattle.class_resolution.proofs.TableLaws.{row-tabulate, parent-tabulate, get_tabulate}
+use Rattle.class_resolution.specs.Tables.{tabulate, parent_at, above}
+use Rattle.class_resolution.proofs.TableLaws.{row-tabulate, parent-tabulate}
 use Rattle.class_model.specs.declared.class_file.ClassFile.{ClassFile}
 
 -- nothing is said of a class that isn't there

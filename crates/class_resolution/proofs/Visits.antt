@@ -1,5 +1,5 @@
 -- One class met is one step of the definition.
-use Rattle.std.proofs.Common.{◌≡◌, ℕ, zero, suc, Bool, true, false, cond, List, [], ◌∷◌, ◌++◌, refl, sym, ap, ◌∙◌, if◌then◌else◌}
+use Rattle.std.proofs.Common.{◌≡◌, ℕ, zero, suc, Bool, true, false, cond, List, [], ◌∷◌, ◌++◌, refl, ap, ◌∙◌}
 use Rattle.linkage.specs.Hierarchy.{visit, is_among}
 
 pub visit_step : (above : ℕ → List ℕ) (n c : ℕ) (todo seen todo' seen' : List ℕ)

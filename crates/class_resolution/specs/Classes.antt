@@ -1,5 +1,5 @@
 -- What is kept of the classes of a program.
-use Rattle.std.specs.Prelude.{◌≡◌, ℕ, ◌<◌, ◌^◌, List, length}
+use Rattle.std.specs.Prelude.{◌<◌, ◌^◌, length}
 use Rattle.linkage.specs.Program.{Program}
 use Rattle.class_resolution.specs.declared.classes.Classes.TheInside.{Inside}
 use Rattle.class_resolution.specs.Names.{NamesAll}

@@ -1,5 +1,5 @@
 -- What is kept of the superclasses and superinterfaces of a program.
-use Rattle.std.specs.Prelude.{◌≡◌, ℕ, List, length}
+use Rattle.std.specs.Prelude.{◌≡◌, length}
 use Rattle.linkage.specs.Program.{Program}
 use Rattle.linkage.specs.Hierarchy.{parent_of, supers, superclasses}
 use Rattle.class_resolution.specs.Tables.{tabulate}

@@ -2,7 +2,6 @@
 use Rattle.std.specs.Prelude.{◌≡◌}
 use Rattle.linkage.specs.Program.{Program}
 use Rattle.linkage.specs.Faults.{Links}
-use Rattle.world_model.specs.World.{World}
 use Rattle.world_model.specs.Worlds.{world_of}
 use Rattle.class_world.specs.declared.world.World.TheInside.{Inside}
 

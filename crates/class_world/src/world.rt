@@ -8,16 +8,22 @@ ghost use Rattle.linkage.specs.Hierarchy as hierarchy;
 ghost use Rattle.linkage.specs.Members as members;
 ghost use Rattle.linkage.specs.Selection as selection;
 ghost use Rattle.class_resolution.specs.Keys.{key_of};
+ghost use Rattle.world_model.specs.World.{array_type};
 ghost use Rattle.world_model.specs.Worlds.{world_of};
+ghost use Rattle.world_model.specs.LookUps as asked;
+ghost use Rattle.world_model.specs.MainMethod.{main_of};
+ghost use Rattle.world_model.specs.InstanceFields.{instance_fields};
 
 use crate::error::LinkError;
 use class_model::ClassFile;
 use class_resolution::{Classes, Hierarchy, MemberKey, select};
+use descriptors::Kind;
 use items::NoMemory;
 use link_checks::link_fault;
 use linkage::{Choice, LinkFault, Place};
 use std::alloc::Global;
 use std::marker::Model;
+use world_model::{ArrayType, Site};
 use world_tables::Tables;
 
 /// The classes of a program that links, each by its number, which is its place in the list.
@@ -100,7 +106,7 @@ impl World {
         self.tables.hierarchy().parent(class)
     }
 
-    /// Whether a class is the other, or has it among its superclasses and superinterfaces.
+    /// Whether a class is the other, or has it among its superclasses and superinterfaces, in constant time.
     pub fn is_sub(&self, class: u32, other: u32) -> bool
         ensures { result ≡ hierarchy.is_below self.now class other }
     {
@@ -119,6 +125,50 @@ impl World {
         ensures { IfOk result (λ choice. choice ≡ selection.select self.now class method) }
     {
         select(alloc, self.tables.hierarchy(), class, method)
+    }
+
+    /// What the instruction at a pc of a method names, in constant time; at a pc where none begins, nothing (JVMS 6.5).
+    pub fn site(&self, method: u32, pc: u32) -> Site
+        ensures { result ≡ asked.site (world_of self.now) method pc }
+    {
+        self.tables().site(method, pc)
+    }
+
+    /// The number of `public static void main(String[])` of the class of this name (JLS 12.1.4). `None`: there is no such class, or it declares
+    /// no such method.
+    pub fn main_of(&self, name: &[u16]) -> Option<u32>
+        ensures { result ≡ main_of (world_of self.now) name.now }
+    {
+        self.tables().main_of(name)
+    }
+
+    /// The numbers of the fields of an object of a class, those of the superclass first, in constant time.
+    pub fn instance_fields(&self, class: u32) -> &[u32]
+        ensures { result.now ≡ instance_fields self.now class }
+    {
+        self.tables().instance_fields(class)
+    }
+
+    /// The number of an array class, by the type of its objects. `None`: the program has no array of such elements as deep.
+    pub fn array_of(&self, kind: &Kind) -> Option<u32>
+        ensures { result ≡ asked.array_of (world_of self.now) kind.now }
+    {
+        self.tables.array_of(kind)
+    }
+
+    /// The dimensions and the last elements of an array class, in constant time. `None`: the class is no array class.
+    pub fn array_type(&self, class: u32) -> Option<ArrayType>
+        ensures { result ≡ array_type (world_of self.now) class }
+    {
+        self.tables.array_type(class)
+    }
+
+    /// The number of the class of an array's elements, in constant time. `None`: the class is no array class, or its elements are
+    /// primitive.
+    pub fn element(&self, class: u32) -> Option<u32>
+        ensures { result ≡ asked.element (world_of self.now) class }
+    {
+        self.tables.element(class)
     }
 
     /// The tables of the world: the numbers of names, array types, fields and methods, and what the constants of instructions mean.

@@ -7,3 +7,6 @@ pub mod Strings
 pub mod Sites
 pub mod Worlds
 pub mod Decoded
+pub mod LookUps
+pub mod MainMethod
+pub mod InstanceFields

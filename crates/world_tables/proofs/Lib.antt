@@ -4,3 +4,5 @@ pub mod StartLaws
 pub mod TableLaws
 pub mod CodeLaws
 pub mod DecodingLaws
+pub mod PcLaws
+pub mod InstanceLaws

@@ -6,3 +6,4 @@ pub mod Tables
 pub mod Codes
 pub mod KnownClasses
 pub mod Decodings
+pub mod PcTables

@@ -1,12 +1,19 @@
 -- The world that tables are.
 use Rattle.std.specs.Prelude.{◌≡◌, ◌<◌, ◌^◌, length}
+use Rattle.class_resolution.specs.Tables.{tabulate}
 use Rattle.world_model.specs.World.{World}
+use Rattle.world_model.specs.InstanceFields.{instance_fields}
+use Rattle.world_model.specs.Numbering.{numbering_of}
+use Rattle.world_tables.specs.PcTables.{AreByPc}
 use Rattle.world_tables.specs.KnownClasses.{known_in}
 use Rattle.world_tables.specs.declared.tables.Tables.TheInside.{Inside}
 
--- the known classes are those of the names, and each method has a number
+-- the known classes are those of the names, each method has a number, and the tables of pcs are those of the codes
 pub record AreNumbered (a : Inside) : Type 0 where
   pub known : a.known ≡ known_in a.numbers.names
+  pub numbering : a.numbers ≡ numbering_of a.members
+  pub instance_fields : a.instance_fields.items ≡ tabulate (instance_fields a.members) (length a.members.classes)
+  pub by_pc : AreByPc a.codes a.by_pc.items
   pub few : length a.methods.items < 2 ^ 32
 
 abbrev pub world_in : Inside → World

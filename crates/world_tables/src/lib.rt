@@ -5,12 +5,15 @@
 mod array_numbers;
 mod codes;
 mod infos;
+mod instance_fields;
 mod kinds;
 mod known_classes;
+mod main_method;
 mod member_numbers;
 mod names;
 mod namings;
 mod numbering;
+mod pc_tables;
 mod sites;
 mod strings;
 mod tables;

@@ -96,6 +96,14 @@ impl MemberNumbers {
         &self.hierarchy
     }
 
+    /// The number of the first field of a class. A class that isn't there counts as memory run out.
+    pub fn first_field(&self, class: u32) -> Result<u32, NoMemory>
+        ensures { IfOk result (λ n. n ≡ spec.fields_before self.now.classes class) }
+    {
+        let first = first_at(&self.fields, class)?;
+        Ok(first)
+    }
+
     /// The number of the field at a place.
     pub fn field_number(&self, at: Place) -> Result<u32, NoMemory>
         ensures { IfOk result (λ n. n ≡ spec.field_number self.now at) }

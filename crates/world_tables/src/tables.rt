@@ -4,6 +4,9 @@ ghost use Rattle.std.specs.Prelude.{◌≡◌, length, get_or, slice_get, codes,
 ghost use Rattle.std.specs.Option.{option_copied};
 ghost use Rattle.class_grammar.specs.Names.{object_class};
 ghost use Rattle.world_model.specs.World as spec;
+ghost use Rattle.world_model.specs.LookUps as asked;
+ghost use Rattle.world_model.specs.MainMethod.{main_of};
+ghost use Rattle.world_model.specs.InstanceFields.{instance_fields};
 ghost use Rattle.world_model.specs.Pools as pools;
 ghost use Rattle.world_model.specs.Worlds.{world_of};
 ghost use Rattle.world_model.specs.Decoded.{IsDecoded, code_at};
@@ -11,19 +14,23 @@ ghost use Rattle.world_model.specs.Decoded.{IsDecoded, code_at};
 use crate::array_numbers::{ArrayNumbers, all_arrays};
 use crate::codes::Codes;
 use crate::infos::{all_codes, all_fields, all_methods};
+use crate::instance_fields::{all_instance_fields, row_at};
 use crate::known_classes::KnownClasses;
+use crate::main_method::main_among;
 use crate::member_numbers::MemberNumbers;
 use crate::namings::{all_catches, all_namings};
 use crate::numbering::Numbering;
+use crate::pc_tables::{all_by_pc, index_by};
 use crate::sites::Linker;
 use crate::strings::all_strings;
 use class_grammar::class_name_at;
 use class_resolution::{Hierarchy, dimensions_of, is_array_name, last_element, name_in};
+use descriptors::Kind;
 use items::{Items, NoMemory};
 use stack_maps::{Base, VType};
 use std::alloc::Global;
 use std::marker::Model;
-use world_model::{ArrayType, FieldInfo, MethodCode, MethodInfo, Naming};
+use world_model::{ArrayType, FieldInfo, MethodCode, MethodInfo, Naming, Site};
 
 /// A program and its tables.
 #[derive(Drop)]
@@ -34,6 +41,8 @@ pub struct Tables {
     fields: Vec<FieldInfo>,
     methods: Vec<MethodInfo>,
     codes: Codes,
+    by_pc: Vec<Items<Option<u32>>>,
+    instance_fields: Vec<Items<u32>>,
     namings: Vec<Items<Naming>>,
     catches: Vec<Items<Option<u32>>>,
     known: KnownClasses,
@@ -49,6 +58,19 @@ impl Model for Tables {
     ghost view = { world_in };
 
     ghost invariant = { AreNumbered };
+}
+
+// The class of the elements of an array type with this number.
+fn element_of(class: u32, array: ArrayType) -> Option<u32>
+    ensures { result ≡ asked.element_of class array }
+{
+    if array.dimensions != 1 {
+        return Some(class.saturating_sub(1));
+    }
+    match array.base {
+        Base::Class(element) => Some(element),
+        _ => None,
+    }
 }
 
 impl Tables {
@@ -69,6 +91,8 @@ impl Tables {
         if methods.len() > u32::MAX as usize {
             return Err(NoMemory);
         }
+        let by_pc = all_by_pc(alloc, codes.as_slice())?;
+        let instance_fields = all_instance_fields(alloc, &members)?;
         let l = Linker {
             members: &members,
             numbers: &numbers,
@@ -83,6 +107,8 @@ impl Tables {
             fields,
             methods,
             codes,
+            by_pc,
+            instance_fields,
             namings,
             catches,
             known,
@@ -194,8 +220,58 @@ impl Tables {
         }
     }
 
-    // The array type of a number.
-    fn array_type(&self, n: u32) -> Option<ArrayType>
+    // The index of the instruction that begins at a pc of a method.
+    fn index_at(&self, method: u32, pc: u32) -> Option<u32>
+        ensures { result ≡ asked.index_in self.now.codes method pc }
+    {
+        index_by(&self.by_pc, method, pc)
+    }
+
+    /// What the instruction at a pc of a method names, in constant time; at a pc where none begins, nothing.
+    pub fn site(&self, method: u32, pc: u32) -> Site
+        ensures { result ≡ asked.site self.now method pc }
+    {
+        let Some(index) = self.index_at(method, pc) else {
+            return Site::Plain;
+        };
+        match self.namings(method).get(index as usize) {
+            Some(naming) => naming.site,
+            None => Site::Plain,
+        }
+    }
+
+    /// The number of the class of an array's elements, in constant time. `None`: the class is no array class, or its elements are
+    /// primitive.
+    pub fn element(&self, class: u32) -> Option<u32>
+        ensures { result ≡ asked.element self.now class }
+    {
+        element_of(class, self.array_type(class)?)
+    }
+
+    /// The number of `public static void main(String[])` of the class of this name (JLS 12.1.4). `None`: there is no such class, or it declares
+    /// no such method.
+    pub fn main_of(&self, name: &[u16]) -> Option<u32>
+        ensures { result ≡ main_of self.now name.now }
+    {
+        main_among(&self.methods, self.hierarchy().classes().class_named(name)?)
+    }
+
+    /// The numbers of the fields of an object of a class, those of the superclass first, in constant time.
+    pub fn instance_fields(&self, class: u32) -> &[u32]
+        ensures { result.now ≡ instance_fields self.now.program class }
+    {
+        row_at(&self.instance_fields, class)
+    }
+
+    /// The number of an array class, by the type of its objects. `None`: the program has no array of such elements as deep.
+    pub fn array_of(&self, kind: &Kind) -> Option<u32>
+        ensures { result ≡ asked.array_of self.now kind.now }
+    {
+        self.numbers.array_number(kind)
+    }
+
+    /// The array type with a number, in constant time. `None`: the number isn't that of an array class.
+    pub fn array_type(&self, n: u32) -> Option<ArrayType>
         ensures { result ≡ spec.array_type self.now n }
     {
         let count = self.name_count();

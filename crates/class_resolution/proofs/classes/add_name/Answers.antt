@@ -1,5 +1,5 @@
-use Rattle.std.proofs.Common.{◌≡◌, sym, ◌∙◌}
-use Rattle.class_resolution.proofs.TextMap.{adds_new, adds_none}
+use Rattle.std.proofs.Common.{sym, ◌∙◌}
+use Rattle.class_resolution.proofs.TextMap.{adds_new}
 use Rattle.class_resolution.proofs.classes.add_name.Goals as goal
 
 pub returns : goal.returns

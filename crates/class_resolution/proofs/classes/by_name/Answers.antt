@@ -1,11 +1,10 @@
-use Rattle.std.proofs.Common.{◌≡◌, length, take, ap, sym, ◌∙◌}
+use Rattle.std.proofs.Common.{◌≡◌, take, ap, sym, ◌∙◌}
 use Rattle.std.proofs.lemmas.Grind.{common_steps}
 use Rattle.std.specs.Option.{option_or}
 use Rattle.std.specs.Bool.{if◌then◌else◌}
-use Rattle.std.proofs.Common.{Some, None, arith, ℕ, Option, List}
+use Rattle.std.proofs.Common.{Some, None, arith}
 use Rattle.class_grammar.specs.Text.{same_text}
 use Rattle.linkage.specs.Program.{own_name}
-use Rattle.class_model.specs.declared.class_file.ClassFile.{ClassFile}
 use Rattle.class_resolution.specs.Names.{at_text, first_named}
 use Rattle.class_resolution.proofs.NameLaws.{one_more}
 use Rattle.class_resolution.proofs.classes.by_name.Goals as goal

@@ -1,6 +1,6 @@
-use Rattle.std.proofs.Common.{◌≡◌, ℕ, ◌+◌, ◌<◌, ◌++◌, List, [], ◌∷◌, Option, length, refl, sym, ap, subst, ◌∙◌, arith}
+use Rattle.std.proofs.Common.{◌≡◌, ℕ, ◌++◌, [], ◌∷◌, Option, sym, ap, ◌∙◌, arith}
 use Rattle.linkage.specs.Hierarchy.{climb, parent_of, superclasses}
-use Rattle.class_resolution.specs.Tables.{parent_at, tabulate}
+use Rattle.class_resolution.specs.Tables.{tabulate}
 use Rattle.class_resolution.proofs.TableLaws.{tabulate_more}
 use Rattle.class_resolution.proofs.HierarchyLaws.{parents_are, superclasses_here}
 use Rattle.class_resolution.proofs.hierarchy.all_superclasses.Goals as goal

@@ -1,6 +1,6 @@
-use Rattle.std.proofs.Common.{◌≡◌, ℕ, ◌+◌, ◌<◌, ◌++◌, List, [], ◌∷◌, length, sym, ap, ◌∙◌, arith}
-use Rattle.linkage.specs.Hierarchy.{visit, supers, directs, edges}
-use Rattle.class_resolution.specs.Tables.{above, tabulate}
+use Rattle.std.proofs.Common.{◌≡◌, ℕ, ◌++◌, List, [], ◌∷◌, sym, ap, ◌∙◌, arith}
+use Rattle.linkage.specs.Hierarchy.{visit, supers, directs}
+use Rattle.class_resolution.specs.Tables.{tabulate}
 use Rattle.class_resolution.proofs.TableLaws.{tabulate_more}
 use Rattle.class_resolution.proofs.HierarchyLaws.{above_is, supers_here}
 use Rattle.class_resolution.proofs.hierarchy.all_supers.Goals as goal

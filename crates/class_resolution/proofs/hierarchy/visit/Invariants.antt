@@ -1,4 +1,4 @@
-use Rattle.std.proofs.Common.{◌≡◌, ◌-◌, List, [], ◌∷◌, reverse}
+use Rattle.std.proofs.Common.{◌≡◌, ◌-◌, [], ◌∷◌, reverse}
 use Rattle.linkage.specs.Hierarchy.{visit}
 use Rattle.class_resolution.specs.Tables.{above}
 use Rattle.class_resolution.proofs.hierarchy.visit.Given as goal

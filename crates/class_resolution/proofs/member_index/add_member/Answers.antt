@@ -1,4 +1,4 @@
-use Rattle.std.proofs.Common.{◌≡◌, sym, ◌∙◌}
+use Rattle.std.proofs.Common.{sym, ◌∙◌}
 use Rattle.class_resolution.proofs.KeyTextLaws.{adds_member}
 use Rattle.class_resolution.proofs.member_index.add_member.Goals as goal
 

@@ -1,4 +1,4 @@
-use Rattle.std.proofs.Common.{◌≡◌, ℕ, Bool, false, Option, List, nat_eq, ap, ◌∙◌}
+use Rattle.std.proofs.Common.{ℕ, false, Option, List, nat_eq, ap, ◌∙◌}
 use Rattle.std.specs.Option.{option_map_or}
 use Rattle.class_model.specs.declared.constant.Const.{Const}
 use Rattle.linkage.specs.Members.{Key, index_of}

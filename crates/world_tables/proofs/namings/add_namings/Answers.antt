@@ -1,5 +1,4 @@
-use Rattle.std.proofs.Common.{◌≡◌, List, ◌++◌, map, ap, ◌∙◌}
-use Rattle.class_model.specs.declared.constant.Const.{Const}
+use Rattle.std.proofs.Common.{List, ◌++◌, map, ap, ◌∙◌}
 use Rattle.world_model.specs.declared.sites.Naming.{Naming}
 use Rattle.world_tables.specs.Linkings.{linking_in}
 use Rattle.world_tables.specs.Decodings.{namings_in}

@@ -1,9 +1,9 @@
-use Rattle.std.proofs.Common.{◌≡◌, ap, sym, ◌∙◌, length, ℕ, List, Option}
+use Rattle.std.proofs.Common.{ap, ◌∙◌, length}
 use Rattle.linkage.specs.Program.{Program}
 use Rattle.linkage.specs.Hierarchy.{is_among, supers}
-use Rattle.class_resolution.specs.Tables.{row_at, parent_at}
-use Rattle.class_resolution.proofs.TableLaws.{row-tabulate, parent-tabulate}
-use Rattle.class_resolution.proofs.HierarchyLaws.{no_parent, no_supers, no_superclasses}
+use Rattle.class_resolution.specs.Tables.{row_at}
+use Rattle.class_resolution.proofs.TableLaws.{row-tabulate}
+use Rattle.class_resolution.proofs.HierarchyLaws.{no_supers}
 use Rattle.class_resolution.proofs.hierarchy.Hierarchy.is_below.Goals as goal
 
 pub returns : goal.returns

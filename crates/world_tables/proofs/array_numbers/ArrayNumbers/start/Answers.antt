@@ -1,4 +1,4 @@
-use Rattle.std.proofs.Common.{◌≡◌, ◌+◌, ◌<◌, ◌≤◌, ℕ, List, length, take, get_or, ap, subst, ◌∙◌, arith, rules}
+use Rattle.std.proofs.Common.{◌≡◌, ◌+◌, ◌<◌, ℕ, List, length, take, get_or, ap, subst, ◌∙◌, arith, rules}
 use Rattle.std.specs.List.{sum}
 use Rattle.std.specs.Vec.{vec_len}
 use Rattle.world_model.specs.Numbering.{Numbering}

@@ -1,4 +1,4 @@
-use Rattle.std.proofs.Common.{◌≡◌, ◌+◌, ◌<◌, ◌^◌, ℕ, List, [], ◌∷◌, ◌++◌, length, sym, ap, subst, ◌∙◌, arith, rules, length-append}
+use Rattle.std.proofs.Common.{◌≡◌, ◌+◌, ℕ, List, [], ◌∷◌, ◌++◌, length, sym, ap, subst, ◌∙◌, arith, rules, length-append}
 use Rattle.class_resolution.specs.Names.{Adds}
 use Rattle.class_resolution.proofs.TextMap.{adds_new}
 use Rattle.world_model.specs.Numbering.{number_of}

@@ -1,5 +1,9 @@
 use Rattle.std.proofs.Common.{◌≡◌, length, rules, ap, ◌∙◌, arith}
 use Rattle.std.specs.Prelude.{vec_len}
+use Rattle.world_model.specs.Numbering.{numbering_of}
+use Rattle.std.proofs.Common.{List, Option}
+use Rattle.world_model.specs.declared.members.MethodCode.{MethodCode}
+use Rattle.world_model.specs.LookUps.{index_in}
 use Rattle.world_tables.specs.KnownClasses.{known_in}
 use Rattle.world_tables.proofs.tables.Tables.new.Goals as goal
 
@@ -8,5 +12,8 @@ invariant_of-result c =
     let size : vec_len c.in_ok-methods.methods ≡ length c.in_ok-methods.methods.items = search rules in
     record {
       known = c.in_ok-known.ensures ∙ ap known_in c.names.ensures;
+      numbering = c.in_ok-numbers.ensures ∙ c.in_ok-numbering.ensures ∙ ap numbering_of c.hierarchy-world.ensures;
+      instance_fields = c.in_ok-instance_fields.ensures;
+      by_pc = (λ method pc. c.in_ok-by_pc.ensures method pc ∙ ap (λ (codes : List (Option MethodCode)). index_in codes method pc) c.as_slice-2.ensures);
       few = omega (arith, c.if-len.false, c.len.ensures, size);
     }
