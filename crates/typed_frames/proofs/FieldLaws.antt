@@ -47,13 +47,13 @@ use Rattle.typed_frames.proofs.ReturnLaws.{kept_kind}
 use Rattle.typed_frames.proofs.Exceptions.{class_kind}
 
 -- what is known of an effect that is known
-kept_is : (w : World) (rest : List VType) (a b : Effect) → ◌≡◌ {A = Option Effect} (Some a) (Some b) → IsKept w rest a → IsKept w rest b
+pub kept_is : (w : World) (rest : List VType) (a b : Effect) → ◌≡◌ {A = Option Effect} (Some a) (Some b) → IsKept w rest a → IsKept w rest b
 kept_is w rest a b e kept = subst (IsKept w rest) (inside a b e) kept
   where
     inside : (a b : Effect) → ◌≡◌ {A = Option Effect} (Some a) (Some b) → a ≡ b
     inside a b same = cc
 
-same_types : (a b : List VType) → ◌≡◌ {A = Result (List VType) RowWhy} (Ok a) (Ok b) → a ≡ b
+pub same_types : (a b : List VType) → ◌≡◌ {A = Result (List VType) RowWhy} (Ok a) (Ok b) → a ≡ b
 same_types a b e = cc
 
 -- the kind of a static field, at its place
@@ -130,7 +130,7 @@ static_puts_keep w naming r ts rest xs effect field_kinds is_static fits of type
 
 -- ---- fields of an object
 
-same_effect : (a b : Effect) → ◌≡◌ {A = Option Effect} (Some a) (Some b) → a ≡ b
+pub same_effect : (a b : Effect) → ◌≡◌ {A = Option Effect} (Some a) (Some b) → a ≡ b
 same_effect a b e = cc
 
 tested : (w : World) (named class : ℕ) (acted : Option Effect) (effect : Effect) (P : Effect → Type 0) → ((x : Exception) → P (throws x))
@@ -220,7 +220,7 @@ gotten w naming r o class named n f below left effect field_kinds lies fits at i
     kept_is w (type_pushed (type_of_kind w f.kind) below) (gives r v.0 left) effect v.2
     (fits, pushed_kinds (type_of_kind w f.kind) v.0 below left (field_kinds n f is ∙ ap Some (sym kind)) of)
 
-same_popped : (o : Option (Option ℕ × List Slot)) (a b : Option ℕ × List Slot) → o ≡ Some a → o ≡ Some b → a ≡ b
+pub same_popped : (o : Option (Option ℕ × List Slot)) (a b : Option ℕ × List Slot) → o ≡ Some a → o ≡ Some b → a ≡ b
 same_popped o a b x y = cc
 
 pub field_gets_keep : (w : World) (naming : Naming) (r : State) (ts rest : List VType) (xs : List Slot) (effect : Effect)
@@ -266,7 +266,7 @@ changed_fits w r o x fits of = record { heap = λ p y e. by p y (set_at r.heap o
     by p y (inl same) = subst (ObjectFits w) (sym same) of
     by p y (inr e) = fits.heap p y e
 
-same_state : (a b : State) → ◌≡◌ {A = Option State} (Some a) (Some b) → a ≡ b
+pub same_state : (a b : State) → ◌≡◌ {A = Option State} (Some a) (Some b) → a ≡ b
 same_state a b e = cc
 
 set_fits : (w : World) (r q : State) (o class place : ℕ) (v : Value) (x : Object) → StateFits w r → object_at r o ≡ Some x

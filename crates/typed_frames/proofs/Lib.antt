@@ -9,3 +9,4 @@ pub mod CallLaws
 pub mod KeepLaws
 pub mod ValueLaws
 pub mod FieldLaws
+pub mod ArrayLaws

@@ -1,18 +1,20 @@
 -- What fields do to frames and states whose values have the kinds of the typing.
 use Rattle.std.specs.Prelude.{◌≡◌, ℕ, true, List, Option, Some, None, Ok, slice_get}
+use Rattle.opcodes.specs.declared.op.Element.{Element}
 use Rattle.stack_maps.specs.declared.types.VType.{VType}
 use Rattle.instruction_rows.specs.declared.value.Slot.{Slot}
 use Rattle.instruction_rows.specs.Soundness.{AreOf}
 use Rattle.world_model.specs.declared.members.FieldInfo.{FieldInfo}
 use Rattle.world_model.specs.declared.sites.Naming.{Naming}
 use Rattle.world_model.specs.World.{World, array_type}
-use Rattle.verify_types.specs.Objects.{static_gotten as get_static_types, static_put as put_static_types, field_gotten as get_field_types, field_put as put_field_types}
+use Rattle.verify_types.specs.Objects.{static_gotten as get_static_types, static_put as put_static_types, field_gotten as get_field_types, field_put as put_field_types, array_loaded as array_load_types, array_stored as array_store_types, length_gotten as length_types}
 use Rattle.ref_model.specs.Classes.{is_sub}
 use Rattle.ref_model.specs.Members.{is_static_field, instance_fields, field_place}
 use Rattle.ref_model.specs.State.{State}
 use Rattle.ref_model.specs.Fetch.{field_of}
 use Rattle.ref_model.specs.Effects.{Effect, done, invokes, throws, throws_object}
 use Rattle.ref_model.specs.Fields.{static_gotten, static_put, field_gotten, field_put}
+use Rattle.ref_model.specs.Arrays.{array_loaded, array_stored, length_gotten}
 use Rattle.typed_frames.specs.StateKinds.{HasFieldKinds, StateFits}
 
 -- What an effect leaves, where the operands behind the instruction have these types: values of their kinds, in the state and on the operand
@@ -52,3 +54,19 @@ abbrev pub FieldPutsKeep : Type 0
 FieldPutsKeep = (w : World) (naming : Naming) (r : State) (own : ℕ) (ts rest : List VType) (xs : List Slot) (effect : Effect) →
     HasFieldKinds w → IsInstanceNaming w naming → StateFits w r → AreOf ts xs → put_field_types w own naming ts ≡ Ok rest →
     field_put w naming r xs ≡ Some effect → IsKept w rest effect
+
+-- ---- arrays
+
+abbrev pub ArrayLoadsKeep : Type 0
+ArrayLoadsKeep = (w : World) (element : Element) (r : State) (ts rest : List VType) (xs : List Slot) (effect : Effect) →
+    StateFits w r → AreOf ts xs → array_load_types element ts ≡ Ok rest → array_loaded w element r xs ≡ Some effect →
+    IsKept w rest effect
+
+abbrev pub ArrayStoresKeep : Type 0
+ArrayStoresKeep = (w : World) (element : Element) (r : State) (ts rest : List VType) (xs : List Slot) (effect : Effect) →
+    StateFits w r → AreOf ts xs → array_store_types w element ts ≡ Ok rest → array_stored w element r xs ≡ Some effect →
+    IsKept w rest effect
+
+abbrev pub LengthsKeep : Type 0
+LengthsKeep = (w : World) (r : State) (ts rest : List VType) (xs : List Slot) (effect : Effect) →
+    StateFits w r → AreOf ts xs → length_types ts ≡ Ok rest → length_gotten w r xs ≡ Some effect → IsKept w rest effect

@@ -3,7 +3,7 @@
 #![tactic(auto)]
 
 ghost use Rattle.typed_frames.specs.LocalLaws.{RowsGoOn, ConstantsGoOn, WideConstantsGoOn, ReturnsGoOn, StaticCallsGoOn, RowsKeep};
-ghost use Rattle.typed_frames.specs.EventLaws.{StaticGetsKeep, StaticPutsKeep, FieldGetsKeep, FieldPutsKeep};
+ghost use Rattle.typed_frames.specs.EventLaws.{StaticGetsKeep, StaticPutsKeep, FieldGetsKeep, FieldPutsKeep, ArrayLoadsKeep, ArrayStoresKeep, LengthsKeep};
 ghost use Rattle.typed_frames.specs.ThrowLaws.{ThrowsKeep, FramesAreLeft, HandlersGoOn};
 
 /// A local instruction of frames that keep to the typing is defined, unless it divides by 0 or returns from a root frame, and leaves
@@ -31,4 +31,12 @@ pub fn fields_keep_kinds()
     ensures static_puts { StaticPutsKeep }
     ensures gets { FieldGetsKeep }
     ensures puts { FieldPutsKeep }
+{}
+
+/// Arrays keep kinds: what is loaded has the kind of the elements, and what is stored keeps the state's values of their kinds (JVMS 6.5,
+/// 2.11.1).
+pub fn arrays_keep_kinds()
+    ensures loads { ArrayLoadsKeep }
+    ensures stores { ArrayStoresKeep }
+    ensures lengths { LengthsKeep }
 {}
