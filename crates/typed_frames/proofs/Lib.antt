@@ -10,3 +10,4 @@ pub mod KeepLaws
 pub mod ValueLaws
 pub mod FieldLaws
 pub mod ArrayLaws
+pub mod ObjectLaws

@@ -3,7 +3,7 @@
 #![tactic(auto)]
 
 ghost use Rattle.typed_frames.specs.LocalLaws.{RowsGoOn, ConstantsGoOn, WideConstantsGoOn, ReturnsGoOn, StaticCallsGoOn, RowsKeep};
-ghost use Rattle.typed_frames.specs.EventLaws.{StaticGetsKeep, StaticPutsKeep, FieldGetsKeep, FieldPutsKeep, ArrayLoadsKeep, ArrayStoresKeep, LengthsKeep};
+ghost use Rattle.typed_frames.specs.EventLaws.{StaticGetsKeep, StaticPutsKeep, FieldGetsKeep, FieldPutsKeep, ArrayLoadsKeep, ArrayStoresKeep, LengthsKeep, CastsKeep, JudgementsKeep, NewObjectsKeep, NewArraysKeep};
 ghost use Rattle.typed_frames.specs.ThrowLaws.{ThrowsKeep, FramesAreLeft, HandlersGoOn};
 
 /// A local instruction of frames that keep to the typing is defined, unless it divides by 0 or returns from a root frame, and leaves
@@ -39,4 +39,13 @@ pub fn arrays_keep_kinds()
     ensures loads { ArrayLoadsKeep }
     ensures stores { ArrayStoresKeep }
     ensures lengths { LengthsKeep }
+{}
+
+/// Objects keep kinds: a cast leaves a reference, instanceof an int, and new objects and arrays of one length have values of the kinds of
+/// their fields and elements (JVMS 6.5, 2.3, 2.4).
+pub fn objects_keep_kinds()
+    ensures casts { CastsKeep }
+    ensures judgements { JudgementsKeep }
+    ensures objects { NewObjectsKeep }
+    ensures arrays { NewArraysKeep }
 {}
