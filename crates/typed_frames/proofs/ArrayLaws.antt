@@ -100,12 +100,12 @@ served_kind element a e = by (a.dimensions == 1) refl (is_element element a.base
 
 -- ---- elements
 
-each_got : {A : Type 0} (P : A → Type 0) (xs : List A) (n : ℕ) (x : A) → Each P xs → slice_get xs n ≡ Some x → P x
+pub each_got : {A : Type 0} (P : A → Type 0) (xs : List A) (n : ℕ) (x : A) → Each P xs → slice_get xs n ≡ Some x → P x
 each_got P [] n x each e = absurd cc
 each_got P (y ∷ ys) zero x each e = let same : y ≡ x = cc in subst P same each.0
 each_got P (y ∷ ys) (suc n) x each e = each_got P ys n x each.1 e
 
-each_set : {A : Type 0} (P : A → Type 0) (xs : List A) (n : ℕ) (x : A) → Each P xs → P x → Each P (slice_set xs n x)
+pub each_set : {A : Type 0} (P : A → Type 0) (xs : List A) (n : ℕ) (x : A) → Each P xs → P x → Each P (slice_set xs n x)
 each_set P [] n x each of = tt
 each_set P (y ∷ ys) zero x each of = (of, each.1)
 each_set P (y ∷ ys) (suc n) x each of = (each.0, each_set P ys n x each.1 of)

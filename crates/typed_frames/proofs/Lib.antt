@@ -11,3 +11,4 @@ pub mod ValueLaws
 pub mod FieldLaws
 pub mod ArrayLaws
 pub mod ObjectLaws
+pub mod NativeLaws

@@ -3,3 +3,4 @@ pub mod LocalLaws
 pub mod ThrowLaws
 pub mod StateKinds
 pub mod EventLaws
+pub mod NativeLaws

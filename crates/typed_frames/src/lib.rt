@@ -4,6 +4,7 @@
 
 ghost use Rattle.typed_frames.specs.LocalLaws.{RowsGoOn, ConstantsGoOn, WideConstantsGoOn, ReturnsGoOn, StaticCallsGoOn, RowsKeep};
 ghost use Rattle.typed_frames.specs.EventLaws.{StaticGetsKeep, StaticPutsKeep, FieldGetsKeep, FieldPutsKeep, ArrayLoadsKeep, ArrayStoresKeep, LengthsKeep, CastsKeep, JudgementsKeep, NewObjectsKeep, NewArraysKeep};
+ghost use Rattle.typed_frames.specs.NativeLaws.{NativesKeep};
 ghost use Rattle.typed_frames.specs.ThrowLaws.{ThrowsKeep, FramesAreLeft, HandlersGoOn};
 
 /// A local instruction of frames that keep to the typing is defined, unless it divides by 0 or returns from a root frame, and leaves
@@ -48,4 +49,10 @@ pub fn objects_keep_kinds()
     ensures judgements { JudgementsKeep }
     ensures objects { NewObjectsKeep }
     ensures arrays { NewArraysKeep }
+{}
+
+/// Native methods keep kinds: each leaves the state's values of their kinds, and gives back a value of its descriptor's kind, or none (the
+/// API of `Object`, `String`, `StringBuilder`, `PrintStream` and `System`).
+pub fn natives_keep_kinds()
+    ensures { NativesKeep }
 {}
