@@ -1,5 +1,5 @@
 -- Static calls of frames that keep to the typing.
-use Rattle.std.proofs.Common.{◌≡◌, ℕ, ◌+◌, ◌≤◌, Bool, true, false, List, [], ◌∷◌, ◌++◌, length, take, drop, Option, Some, None, Result, Ok, Err, refl, ap, sym, subst, ◌∙◌, arith}
+use Rattle.std.proofs.Common.{◌≡◌, ℕ, ◌+◌, ◌≤◌, Bool, true, false, List, [], ◌∷◌, ◌++◌, length, take, drop, Option, Some, None, Ok, refl, ap, sym, subst, ◌∙◌, arith}
 use Rattle.std.specs.Prelude.{codes, map, not, reverse, nat_le, nat_lt, slice_get, sum_by, ◌&&◌, ◌||◌, if◌then◌else◌}
 use Rattle.std.specs.Option.{option_map, option_map_or}
 use Rattle.std.proofs.lemmas.Bool.{le-leb}
@@ -14,25 +14,23 @@ use Rattle.items.specs.Options.{◌>>=◌}
 use Rattle.items.proofs.Binds.{some_is, bind_is}
 use Rattle.linkage.specs.Program.{has_flag}
 use Rattle.stack_maps.specs.declared.types.VType.{VType}
-use Rattle.instruction_rows.specs.declared.row_why.RowWhy.{RowWhy}
 use Rattle.instruction_rows.specs.declared.row_why.RowWhy.TheVariants as whys
 use Rattle.instruction_rows.specs.declared.value.Slot.{Slot}
 use Rattle.instruction_rows.specs.Results.{◌then◌}
 use Rattle.instruction_rows.specs.Contents.{slot_types}
-use Rattle.instruction_rows.specs.Rows.{Row, invoke, static, row_goes_on}
+use Rattle.instruction_rows.specs.Rows.{invoke, static, row_goes_on}
 use Rattle.instruction_rows.specs.TypeEffect.{type_pushed}
-use Rattle.instruction_rows.specs.Soundness.{AreOf, HasKinds}
+use Rattle.instruction_rows.specs.Soundness.{AreOf}
 use Rattle.instruction_rows.proofs.ListLaws.{same_length}
 use Rattle.instruction_rows.proofs.Steps.{ok_is, found, passed}
 use Rattle.world_model.specs.declared.members.MethodInfo.{MethodInfo}
 use Rattle.world_model.specs.declared.members.MethodCode.{MethodCode}
-use Rattle.world_model.specs.declared.sites.Naming.{Naming}
 use Rattle.world_model.specs.declared.sites.Site.{Site}
 use Rattle.world_model.specs.declared.sites.Site.TheVariants as sites
 use Rattle.world_model.specs.World.{World}
 use Rattle.world_model.specs.Decoded.{code_at}
 use Rattle.verify_types.specs.ClassTypes.{type_of_kind}
-use Rattle.verify_types.specs.Operands.{only_if, all_wanted}
+use Rattle.verify_types.specs.Operands.{all_wanted}
 use Rattle.verify_types.specs.Objects.{named_class}
 use Rattle.verify_types.specs.TypeStates.{TypeState, with_stack}
 use Rattle.verify_types.specs.Environment.{Instruction, Environment, receiver_type, first_frame as first_types}
@@ -43,15 +41,15 @@ use Rattle.state_model.specs.Frames.{Frame}
 use Rattle.ref_model.specs.Kinds.{argument_slots}
 use Rattle.ref_model.specs.Members.{is_initializer}
 use Rattle.ref_model.specs.Fetch.{Named, named_method}
-use Rattle.ref_model.specs.Frames.{contents, first_frame, callee, caller}
+use Rattle.ref_model.specs.Frames.{first_frame, callee, caller}
 use Rattle.ref_model.specs.LocalRows.{most_frames, has_local_call, frames_called, static_called, row}
-use Rattle.typed_frames.specs.Typed.{IsAt, Stands, Waits, IsUnder, AreUnder, Typed, given_back, back_of, initializes}
+use Rattle.typed_frames.specs.Typed.{Waits, IsUnder, AreUnder, Typed, given_back, back_of, initializes}
 use Rattle.typed_frames.specs.LocalLaws.{Goes}
-use Rattle.typed_frames.proofs.FetchLaws.{Parts, parts, fine}
-use Rattle.typed_frames.proofs.Beginnings.{Begun, begun}
+use Rattle.typed_frames.proofs.FetchLaws.{parts, fine}
+use Rattle.typed_frames.proofs.Beginnings.{begun}
 use Rattle.typed_frames.proofs.LocalRowLaws.{row_is}
 use Rattle.typed_frames.proofs.ReturnLaws.{back_is}
-use Rattle.typed_frames.proofs.Arguments.{stacked, AllOnTop, all_on_top, reversed_of, in_order, widths}
+use Rattle.typed_frames.proofs.Arguments.{stacked, all_on_top, reversed_of, in_order, widths}
 
 if_true : {A : Type 0} (b : Bool) (x y : A) → b ≡ true → (if b then x else y) ≡ x
 if_true true x y e = refl

@@ -1,11 +1,10 @@
 -- Fields keep kinds.
-use Rattle.std.proofs.Common.{◌≡◌, ◌⊎◌, inl, inr, ℕ, zero, suc, Bool, true, false, List, [], ◌∷◌, Option, Some, None, Result, Ok, Err, refl, ap, sym, subst, ◌∙◌}
+use Rattle.std.proofs.Common.{◌≡◌, ◌⊎◌, inl, inr, ℕ, zero, suc, Bool, true, false, List, [], ◌∷◌, Option, Some, None, Result, Ok, refl, ap, sym, subst, ◌∙◌}
 use Rattle.std.specs.Prelude.{map, slice_get, slice_set, ◌||◌, if◌then◌else◌}
 use Rattle.std.specs.Option.{option_map_or}
 use Rattle.std.specs.List.{AllZip}
 use Rattle.items.specs.Options.{◌>>=◌}
 use Rattle.items.proofs.Binds.{some_is}
-use Rattle.opcodes.specs.declared.op.Kind.{Kind}
 use Rattle.opcodes.specs.declared.op.Kind.TheVariants as kinds
 use Rattle.stack_maps.specs.declared.types.VType.{VType}
 use Rattle.instruction_rows.specs.declared.row_why.RowWhy.{RowWhy}
@@ -14,15 +13,14 @@ use Rattle.instruction_rows.specs.declared.value.Value.{Value}
 use Rattle.instruction_rows.specs.declared.value.Slot.{Slot}
 use Rattle.instruction_rows.specs.Results.{◌then◌}
 use Rattle.instruction_rows.specs.Contents.{with_item}
-use Rattle.instruction_rows.specs.Kinds.{Of, kind_of, kind_of_type, value}
+use Rattle.instruction_rows.specs.Kinds.{kind_of, kind_of_type, value}
 use Rattle.instruction_rows.specs.SlotEffect.{popped, pushed}
 use Rattle.instruction_rows.specs.TypeEffect.{type_popped, type_pushed}
 use Rattle.instruction_rows.specs.Soundness.{AreOf}
 use Rattle.instruction_rows.proofs.KindLaws.{pushed_kinds, kind_of_value}
-use Rattle.instruction_rows.proofs.StackLaws.{Popped, popped_of}
+use Rattle.instruction_rows.proofs.StackLaws.{popped_of}
 use Rattle.instruction_rows.proofs.Steps.{ok_is, passed}
 use Rattle.world_model.specs.declared.members.FieldInfo.{FieldInfo}
-use Rattle.world_model.specs.declared.sites.ArrayType.{ArrayType}
 use Rattle.world_model.specs.declared.sites.Naming.{Naming}
 use Rattle.world_model.specs.World.{World, array_type, class_type}
 use Rattle.verify_types.specs.ClassTypes.{type_of_kind}
@@ -38,11 +36,11 @@ use Rattle.ref_model.specs.Members.{is_static_field, instance_fields, field_plac
 use Rattle.ref_model.specs.State.{State}
 use Rattle.ref_model.specs.Heap.{object_at, class_of, class_at, values_of, values_at, object_with, with_value}
 use Rattle.ref_model.specs.Fetch.{field_of}
-use Rattle.ref_model.specs.Effects.{Effect, done, gives, throws, not_null, late_failure, on_instance}
+use Rattle.ref_model.specs.Effects.{Effect, done, gives, throws, late_failure, on_instance}
 use Rattle.ref_model.specs.Fields.{stored, static_gotten, static_put, field_gotten, field_put}
 use Rattle.typed_frames.specs.StateKinds.{IsOfKind, kind_of_field, field_kind, instance_kinds, ValuesFit, ObjectFits, static_kinds, StateFits, HasFieldKinds}
 use Rattle.typed_frames.specs.EventLaws.{IsKept, IsStaticNaming, IsInstanceNaming}
-use Rattle.typed_frames.proofs.ValueLaws.{zip_got, zip_set, item_set, place_among, field_same, PoppedAs, wanted_popped}
+use Rattle.typed_frames.proofs.ValueLaws.{zip_got, zip_set, item_set, place_among, field_same, wanted_popped}
 use Rattle.typed_frames.proofs.ReturnLaws.{kept_kind}
 use Rattle.typed_frames.proofs.Exceptions.{class_kind}
 

@@ -1,9 +1,8 @@
 -- Native methods keep kinds.
-use Rattle.std.proofs.Common.{◌≡◌, ◌⊎◌, inl, inr, ℕ, zero, suc, ◌-◌, ℤ, pos, negsuc, Bool, true, false, List, [], ◌∷◌, ◌++◌, length, Option, Some, None, refl, ap, sym, subst, ◌∙◌}
+use Rattle.std.proofs.Common.{◌≡◌, ℕ, zero, suc, ◌-◌, Bool, true, false, List, [], ◌∷◌, ◌++◌, length, Option, Some, None, refl, ap, sym, subst, ◌∙◌}
 use Rattle.std.specs.Prelude.{codes, nat_le, slice_get, slice_set, ◌==◌, if◌then◌else◌}
 use Rattle.std.specs.Option.{option_map_or}
 use Rattle.std.specs.List.{AllZip}
-use Rattle.items.specs.First.{Each}
 use Rattle.items.specs.Options.{◌>>=◌}
 use Rattle.items.proofs.Binds.{some_is}
 use Rattle.lib_table.specs.declared.native.Native.{Native}
@@ -21,9 +20,9 @@ use Rattle.ref_model.specs.declared.exception.Exception.TheVariants.{VerifyError
 use Rattle.ref_model.specs.Kinds.{kind_of_elements}
 use Rattle.ref_model.specs.Classes.{class_name}
 use Rattle.ref_model.specs.State.{State}
-use Rattle.ref_model.specs.Heap.{object_at, class_at, units_at, values_of, values_at, object_with, with_value, cells_of_units, with_objects, with_text}
+use Rattle.ref_model.specs.Heap.{object_at, class_at, units_at, values_of, values_at, object_with, with_value, cells_of_units, with_text}
 use Rattle.ref_model.specs.Texts.{hex_text, decimal_text, boolean_text, char_text, null_text, text_bytes}
-use Rattle.ref_model.specs.NativeRows.{Answer, returns, returns_value, fails, NativeRow, native, new_text, gives_text, on_units, on_text, on_text_or, reference}
+use Rattle.ref_model.specs.NativeRows.{Answer, returns, fails, NativeRow, new_text, gives_text, on_units, on_text, on_text_or, reference}
 use Rattle.ref_model.specs.ObjectNatives.{boolean, identity_hash, described}
 use Rattle.ref_model.specs.StringNatives.{unit_at, char_given, concatenated}
 use Rattle.ref_model.specs.BuilderNatives.{text_in, builder_text, on_builder, builder_given, builder_with, appended}

@@ -1,5 +1,5 @@
 -- Objects keep kinds.
-use Rattle.std.proofs.Common.{◌≡◌, ◌⊎◌, inl, inr, ℕ, zero, suc, ◌-◌, ℤ, pos, Bool, true, false, List, [], ◌∷◌, ◌++◌, length, replicate, Option, Some, None, Result, Ok, Err, refl, ap, sym, subst, ◌∙◌}
+use Rattle.std.proofs.Common.{◌≡◌, ◌⊎◌, inl, inr, ℕ, zero, suc, ◌-◌, ℤ, pos, Bool, true, false, List, [], ◌∷◌, ◌++◌, length, replicate, Option, Some, None, Result, Ok, refl, ap, sym, subst, ◌∙◌}
 use Rattle.std.specs.Prelude.{map, int_lt, nat_le, slice_get, unsigned_abs, if◌then◌else◌}
 use Rattle.std.specs.Option.{option_map_or}
 use Rattle.std.specs.List.{AllZip}
@@ -11,28 +11,25 @@ use Rattle.opcodes.specs.declared.op.Kind.TheVariants as kinds
 use Rattle.stack_maps.specs.declared.types.VType.{VType}
 use Rattle.stack_maps.specs.declared.types.VType.TheVariants as types
 use Rattle.instruction_rows.specs.declared.row_why.RowWhy.{RowWhy}
-use Rattle.instruction_rows.specs.declared.row_why.RowWhy.TheVariants as whys
 use Rattle.instruction_rows.specs.declared.value.Value.{Value}
 use Rattle.instruction_rows.specs.declared.value.Value.TheVariants as values
 use Rattle.instruction_rows.specs.declared.value.Slot.{Slot}
-use Rattle.instruction_rows.specs.declared.value.Slot.TheVariants.{One}
 use Rattle.instruction_rows.specs.Results.{◌then◌}
-use Rattle.instruction_rows.specs.Kinds.{Of, kind_of, kind_of_type}
-use Rattle.instruction_rows.specs.SlotEffect.{popped, pushed}
+use Rattle.instruction_rows.specs.Kinds.{kind_of, kind_of_type}
+use Rattle.instruction_rows.specs.SlotEffect.{popped}
 use Rattle.instruction_rows.specs.TypeEffect.{type_popped, type_pushed}
-use Rattle.instruction_rows.specs.Soundness.{IsOf, AreOf}
+use Rattle.instruction_rows.specs.Soundness.{AreOf}
 use Rattle.instruction_rows.proofs.KindLaws.{holds, is_of, pushed_kinds}
 use Rattle.instruction_rows.proofs.ListLaws.{append_of}
-use Rattle.instruction_rows.proofs.StackLaws.{Popped, popped_of}
+use Rattle.instruction_rows.proofs.StackLaws.{popped_of}
 use Rattle.instruction_rows.proofs.Steps.{ok_is}
 use Rattle.world_model.specs.declared.members.FieldInfo.{FieldInfo}
-use Rattle.world_model.specs.declared.sites.ArrayType.{ArrayType}
 use Rattle.world_model.specs.declared.sites.Naming.{Naming}
 use Rattle.world_model.specs.World.{World, array_type, class_type}
 use Rattle.verify_types.specs.ClassTypes.{object_type}
 use Rattle.verify_types.specs.Operands.{wanted}
 use Rattle.verify_types.specs.Objects.{class_of as typed_class, object_taken}
-use Rattle.state_model.specs.Objects.{Object, instance, text}
+use Rattle.state_model.specs.Objects.{Object, instance}
 use Rattle.ref_model.specs.declared.exception.Exception.TheVariants as exceptions
 use Rattle.ref_model.specs.Classes.{is_sub}
 use Rattle.ref_model.specs.Kinds.{zero_of_kind, zero_of, value_kind, kind_of_elements}
@@ -43,11 +40,11 @@ use Rattle.ref_model.specs.Fetch.{class_of}
 use Rattle.ref_model.specs.Effects.{Effect, done, gives, gives_new, throws}
 use Rattle.ref_model.specs.Arrays.{element_zero, with_array, not_negative, array_made}
 use Rattle.ref_model.specs.Instances.{object_made, cast, object_cast, judged, object_judged}
-use Rattle.typed_frames.specs.StateKinds.{IsOfKind, kind_of_field, field_kind, instance_kinds, ValuesFit, ObjectFits, StateFits}
+use Rattle.typed_frames.specs.StateKinds.{IsOfKind, kind_of_field, field_kind, ValuesFit, ObjectFits, StateFits}
 use Rattle.typed_frames.specs.EventLaws.{IsKept, IsObjectNaming}
-use Rattle.typed_frames.proofs.Arguments.{OnTop, on_top}
+use Rattle.typed_frames.proofs.Arguments.{on_top}
 use Rattle.typed_frames.proofs.Exceptions.{class_kind}
-use Rattle.typed_frames.proofs.ValueLaws.{PoppedAs, wanted_popped}
+use Rattle.typed_frames.proofs.ValueLaws.{wanted_popped}
 use Rattle.typed_frames.proofs.FieldLaws.{kept_is, same_popped}
 
 -- ---- checkcast

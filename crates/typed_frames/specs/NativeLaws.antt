@@ -1,5 +1,5 @@
 -- What native methods do to a state whose values have the kinds of the typing, and what they give back.
-use Rattle.std.specs.Prelude.{◌≡◌, ℕ, List, [], ◌∷◌, Option, Some, None}
+use Rattle.std.specs.Prelude.{◌≡◌, List, [], ◌∷◌, Option, Some, None}
 use Rattle.lib_table.specs.declared.native.Native.{Native}
 use Rattle.lib_table.specs.declared.native.Native.TheVariants as natives
 use Rattle.opcodes.specs.declared.op.Kind.{Kind}
