@@ -137,7 +137,7 @@ static_locals : (w : World) (info : MethodInfo) → has_flag ACC_STATIC info.fla
 static_locals w info static_flag =
     ap (λ b. (if b then [] else receiver_type w info ∷ []) ++ map (type_of_kind w) info.signature.args) static_flag
 
-count_is : (w : World) (args : List FieldType) (tops : List Slot) → AreOf (stacked (reverse (map (type_of_kind w) args))) tops
+pub count_is : (w : World) (args : List FieldType) (tops : List Slot) → AreOf (stacked (reverse (map (type_of_kind w) args))) tops
     → sum_by slots args ≡ length tops
 count_is w args tops of =
     let ts = map (type_of_kind w) args in
@@ -147,7 +147,7 @@ count_is w args tops of =
 first_fits : (a b n k : ℕ) → k ≡ a → n ≡ a + b → k ≤ n
 first_fits a b n k e f = omega arith
 
-callee_is : (n : ℕ) (code : MethodCode) (k : ℕ) (stack tops left : List Slot) (g : Frame) → stack ≡ tops ++ left → k ≡ length tops
+pub callee_is : (n : ℕ) (code : MethodCode) (k : ℕ) (stack tops left : List Slot) (g : Frame) → stack ≡ tops ++ left → k ≡ length tops
     → first_frame n code (reverse tops) ≡ Some g → callee n code k stack ≡ Some g
 callee_is n code k stack tops left g lies count begins =
     let fits = first_fits (length tops) (length left) (length stack) k count (ap length lies ∙ length-append tops left) in
@@ -156,7 +156,7 @@ callee_is n code k stack tops left g lies count begins =
     if_true (nat_le k (length stack)) (first_frame n code (reverse (take k stack))) None (le-leb k (length stack) fits)
     ∙ ap (λ xs. first_frame n code (reverse xs)) taken ∙ begins
 
-left_is : (k : ℕ) (stack tops left : List Slot) → stack ≡ tops ++ left → k ≡ length tops → drop k stack ≡ left
+pub left_is : (k : ℕ) (stack tops left : List Slot) → stack ≡ tops ++ left → k ≡ length tops → drop k stack ≡ left
 left_is k stack tops left lies count =
     ap (λ j. drop j stack) count ∙ ap (λ xs. drop (length tops) xs) lies ∙ drop-append_seam tops left
 

@@ -12,3 +12,4 @@ pub mod FieldLaws
 pub mod ArrayLaws
 pub mod ObjectLaws
 pub mod NativeLaws
+pub mod InstanceCalls

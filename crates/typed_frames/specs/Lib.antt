@@ -4,3 +4,4 @@ pub mod ThrowLaws
 pub mod StateKinds
 pub mod EventLaws
 pub mod NativeLaws
+pub mod CallLaws
