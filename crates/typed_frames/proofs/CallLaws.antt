@@ -57,14 +57,14 @@ if_true false x y e = absurd cc
 
 -- ---- the method that is named
 
-record IsNamed (w : World) (info : MethodInfo) (m : Named) : Type 0 where
+pub record IsNamed (w : World) (info : MethodInfo) (m : Named) : Type 0 where
   pub info_is : info ≡ m.method
   pub at : slice_get w.methods m.number ≡ Some m.method
 
 inside : (a b : Named) → ◌≡◌ {A = Option Named} (Some a) (Some b) → a ≡ b
 inside a b same = cc
 
-is_named : (w : World) (site : Site) (class : Option ℕ) (info : MethodInfo) (m : Named)
+pub is_named : (w : World) (site : Site) (class : Option ℕ) (info : MethodInfo) (m : Named)
     → named_method w (record { site = site; class = class }) ≡ Some m → method_of w site ≡ Ok info → IsNamed w info m
 is_named w (sites.Method n) class info m named e =
     let x = some_is (slice_get w.methods n) (λ x. Some (record { number = n; method = x })) m named in
@@ -115,7 +115,7 @@ called_types w env i s after index m world known named e =
 -- ---- the frames
 
 -- what the callee gives back on top of what the caller keeps
-result_is : (w : World) (result : Option FieldType) (rest : List VType)
+pub result_is : (w : World) (result : Option FieldType) (rest : List VType)
     → option_map_or (λ kind. type_pushed (type_of_kind w kind) rest) result rest ≡ given_back (option_map (type_of_kind w) result) rest
 result_is w None rest = refl
 result_is w (Some t) rest = refl

@@ -13,3 +13,4 @@ pub mod ArrayLaws
 pub mod ObjectLaws
 pub mod NativeLaws
 pub mod InstanceCalls
+pub mod CallerLaws

@@ -4,7 +4,7 @@
 
 ghost use Rattle.typed_frames.specs.LocalLaws.{RowsGoOn, ConstantsGoOn, WideConstantsGoOn, ReturnsGoOn, StaticCallsGoOn, RowsKeep};
 ghost use Rattle.typed_frames.specs.EventLaws.{StaticGetsKeep, StaticPutsKeep, FieldGetsKeep, FieldPutsKeep, ArrayLoadsKeep, ArrayStoresKeep, LengthsKeep, CastsKeep, JudgementsKeep, NewObjectsKeep, NewArraysKeep};
-ghost use Rattle.typed_frames.specs.CallLaws.{CalleesBegin};
+ghost use Rattle.typed_frames.specs.CallLaws.{CalleesBegin, CallersWait};
 ghost use Rattle.typed_frames.specs.NativeLaws.{NativesKeep};
 ghost use Rattle.typed_frames.specs.ThrowLaws.{ThrowsKeep, FramesAreLeft, HandlersGoOn};
 
@@ -58,8 +58,9 @@ pub fn natives_keep_kinds()
     ensures { NativesKeep }
 {}
 
-/// The frame of a method of an object keeps to the typing when it begins, and what its caller keeps has the types below the receiver
-/// (JVMS 2.6.1, 4.10.1.6).
+/// The frame of a method of an object keeps to the typing when it begins, and its caller waits for what the method gives back (JVMS 2.6.1,
+/// 4.10.1.6).
 pub fn callees_begin()
-    ensures { CalleesBegin }
+    ensures begin { CalleesBegin }
+    ensures wait { CallersWait }
 {}
