@@ -14,3 +14,4 @@ pub mod ObjectLaws
 pub mod NativeLaws
 pub mod InstanceCalls
 pub mod CallerLaws
+pub mod ArrayTrees

@@ -187,7 +187,7 @@ replicated : (k : Kind) (n : ℕ) (v : Value) → kind_of v ≡ k → Each (IsOf
 replicated k zero v is = tt
 replicated k (suc n) v is = (is, replicated k n v is)
 
-array_fits : (w : World) (class n : ℕ) (v : Value) → element_zero w class ≡ Some v → ObjectFits w (instance class (replicate n v))
+pub array_fits : (w : World) (class n : ℕ) (v : Value) → element_zero w class ≡ Some v → ObjectFits w (instance class (replicate n v))
 array_fits w class n v e =
     let t = some_is (array_type w class) (λ t. Some (zero_of_kind (kind_of_elements t))) v e in
     let same : zero_of_kind (kind_of_elements t.0) ≡ v = inside (zero_of_kind (kind_of_elements t.0)) v t.2 in

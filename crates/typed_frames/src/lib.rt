@@ -3,7 +3,7 @@
 #![tactic(auto)]
 
 ghost use Rattle.typed_frames.specs.LocalLaws.{RowsGoOn, ConstantsGoOn, WideConstantsGoOn, ReturnsGoOn, StaticCallsGoOn, RowsKeep};
-ghost use Rattle.typed_frames.specs.EventLaws.{StaticGetsKeep, StaticPutsKeep, FieldGetsKeep, FieldPutsKeep, ArrayLoadsKeep, ArrayStoresKeep, LengthsKeep, CastsKeep, JudgementsKeep, NewObjectsKeep, NewArraysKeep};
+ghost use Rattle.typed_frames.specs.EventLaws.{StaticGetsKeep, StaticPutsKeep, FieldGetsKeep, FieldPutsKeep, ArrayLoadsKeep, ArrayStoresKeep, LengthsKeep, CastsKeep, JudgementsKeep, NewObjectsKeep, NewArraysKeep, NewArraysOfArraysKeep};
 ghost use Rattle.typed_frames.specs.CallLaws.{CalleesBegin, CallersWait};
 ghost use Rattle.typed_frames.specs.NativeLaws.{NativesKeep};
 ghost use Rattle.typed_frames.specs.ThrowLaws.{ThrowsKeep, FramesAreLeft, HandlersGoOn};
@@ -43,13 +43,14 @@ pub fn arrays_keep_kinds()
     ensures lengths { LengthsKeep }
 {}
 
-/// Objects keep kinds: a cast leaves a reference, instanceof an int, and new objects and arrays of one length have values of the kinds of
-/// their fields and elements (JVMS 6.5, 2.3, 2.4).
+/// Objects keep kinds: a cast leaves a reference, instanceof an int, and new objects and arrays have values of the kinds of their fields and
+/// elements (JVMS 6.5, 2.3, 2.4).
 pub fn objects_keep_kinds()
     ensures casts { CastsKeep }
     ensures judgements { JudgementsKeep }
     ensures objects { NewObjectsKeep }
     ensures arrays { NewArraysKeep }
+    ensures arrays_of_arrays { NewArraysOfArraysKeep }
 {}
 
 /// Native methods keep kinds: each leaves the state's values of their kinds, and gives back a value of its descriptor's kind, or none (the
