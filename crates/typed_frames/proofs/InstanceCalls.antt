@@ -37,7 +37,7 @@ use Rattle.typed_frames.proofs.CallLaws.{count_is, callee_is, left_is}
 
 -- ---- the receiver
 
-class_narrow : (w : World) (n : ℕ) → is_wide (class_type w n) ≡ false
+pub class_narrow : (w : World) (n : ℕ) → is_wide (class_type w n) ≡ false
 class_narrow w n = by (array_type w n) refl
   where
     by : (o : Option ArrayType) → array_type w n ≡ o → is_wide (class_type w n) ≡ false

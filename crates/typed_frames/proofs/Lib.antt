@@ -15,3 +15,4 @@ pub mod NativeLaws
 pub mod InstanceCalls
 pub mod CallerLaws
 pub mod ArrayTrees
+pub mod EventProofs

@@ -5,3 +5,4 @@ pub mod StateKinds
 pub mod EventLaws
 pub mod NativeLaws
 pub mod CallLaws
+pub mod StepKinds

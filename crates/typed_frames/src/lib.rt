@@ -6,6 +6,7 @@ ghost use Rattle.typed_frames.specs.LocalLaws.{RowsGoOn, ConstantsGoOn, WideCons
 ghost use Rattle.typed_frames.specs.EventLaws.{StaticGetsKeep, StaticPutsKeep, FieldGetsKeep, FieldPutsKeep, ArrayLoadsKeep, ArrayStoresKeep, LengthsKeep, CastsKeep, JudgementsKeep, NewObjectsKeep, NewArraysKeep, NewArraysOfArraysKeep};
 ghost use Rattle.typed_frames.specs.CallLaws.{CalleesBegin, CallersWait};
 ghost use Rattle.typed_frames.specs.NativeLaws.{NativesKeep};
+ghost use Rattle.typed_frames.specs.StepKinds.{EventsGoOn};
 ghost use Rattle.typed_frames.specs.ThrowLaws.{ThrowsKeep, FramesAreLeft, HandlersGoOn};
 
 /// A local instruction of frames that keep to the typing is defined, unless it divides by 0 or returns from a root frame, and leaves
@@ -64,4 +65,10 @@ pub fn natives_keep_kinds()
 pub fn callees_begin()
     ensures begin { CalleesBegin }
     ensures wait { CallersWait }
+{}
+
+/// An instruction on fields, arrays or objects that is done leaves frames that keep to the typing, and a state whose values have the kinds
+/// of their fields and elements; where it throws, nothing else changes (JVMS 6.5, 4.10.1.6).
+pub fn events_go_on()
+    ensures { EventsGoOn }
 {}
