@@ -16,3 +16,4 @@ pub mod InstanceCalls
 pub mod CallerLaws
 pub mod ArrayTrees
 pub mod EventProofs
+pub mod Raises

@@ -7,7 +7,7 @@ ghost use Rattle.typed_frames.specs.EventLaws.{StaticGetsKeep, StaticPutsKeep, F
 ghost use Rattle.typed_frames.specs.CallLaws.{CalleesBegin, CallersWait};
 ghost use Rattle.typed_frames.specs.NativeLaws.{NativesKeep};
 ghost use Rattle.typed_frames.specs.StepKinds.{EventsGoOn};
-ghost use Rattle.typed_frames.specs.ThrowLaws.{ThrowsKeep, FramesAreLeft, HandlersGoOn};
+ghost use Rattle.typed_frames.specs.ThrowLaws.{ThrowsKeep, FramesAreLeft, HandlersGoOn, RaisesKeep};
 
 /// A local instruction of frames that keep to the typing is defined, unless it divides by 0 or returns from a root frame, and leaves
 /// frames that keep to it (JVMS 4.10.1.6).
@@ -25,6 +25,7 @@ pub fn exceptions_go_on()
     ensures throws { ThrowsKeep }
     ensures left { FramesAreLeft }
     ensures handled { HandlersGoOn }
+    ensures raises { RaisesKeep }
 {}
 
 /// Fields keep kinds: what is got of a field has the kind of its type, and what is put keeps the state's values of their kinds (JVMS 6.5,
