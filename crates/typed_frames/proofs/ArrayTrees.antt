@@ -1,6 +1,6 @@
 -- The arrays that multianewarray makes have elements of their kinds.
-use Rattle.std.proofs.Common.{◌≡◌, ◌≢◌, ◌≤◌, ◌<◌, ℕ, zero, suc, ◌+◌, ◌-◌, ℤ, pos, Bool, true, false, List, [], ◌∷◌, ◌++◌, length, get_or, replicate, Option, Some, None, Result, Ok, Err, refl, ap, sym, subst, ◌∙◌, arith}
-use Rattle.std.specs.Prelude.{map, int_lt, nat_le, position, unsigned_abs, ◌==◌, ◌&&◌, if◌then◌else◌}
+use Rattle.std.proofs.Common.{◌≡◌, ◌≢◌, ◌≤◌, ◌<◌, ℕ, zero, suc, ◌+◌, ◌-◌, ℤ, pos, Bool, true, false, List, [], ◌∷◌, ◌++◌, length, get_or, replicate, Option, Some, None, Ok, refl, ap, sym, subst, ◌∙◌, arith}
+use Rattle.std.specs.Prelude.{map, int_lt, nat_le, position, unsigned_abs, ◌==◌, if◌then◌else◌}
 use Rattle.std.specs.Option.{option_map}
 use Rattle.std.specs.List.{list_any, range_with_len}
 use Rattle.std.proofs.lemmas.Bool.{eqb-true}
@@ -12,16 +12,13 @@ use Rattle.opcodes.specs.declared.op.Kind.{Kind}
 use Rattle.opcodes.specs.declared.op.Kind.TheVariants as kinds
 use Rattle.stack_maps.specs.declared.types.Base.TheVariants as bases
 use Rattle.stack_maps.specs.declared.types.VType.{VType}
-use Rattle.instruction_rows.specs.declared.row_why.RowWhy.{RowWhy}
-use Rattle.instruction_rows.specs.declared.value.Value.{Value}
 use Rattle.instruction_rows.specs.declared.value.Value.TheVariants as values
 use Rattle.instruction_rows.specs.declared.value.Slot.{Slot}
 use Rattle.instruction_rows.specs.Results.{◌then◌}
-use Rattle.instruction_rows.specs.Kinds.{kind_of, kind_of_type}
-use Rattle.instruction_rows.specs.SlotEffect.{popped}
+use Rattle.instruction_rows.specs.Kinds.{kind_of_type}
 use Rattle.instruction_rows.specs.TypeEffect.{type_popped, types_popped, type_pushed}
 use Rattle.instruction_rows.specs.Soundness.{AreOf}
-use Rattle.instruction_rows.proofs.StackLaws.{Popped, popped_of}
+use Rattle.instruction_rows.proofs.StackLaws.{popped_of}
 use Rattle.instruction_rows.proofs.Steps.{ok_is}
 use Rattle.world_model.specs.declared.sites.ArrayType.{ArrayType}
 use Rattle.world_model.specs.declared.sites.Naming.{Naming}

@@ -1,9 +1,7 @@
 -- Frames that invoke a method of an object wait for what it gives back.
-use Rattle.std.proofs.Common.{◌≡◌, ℕ, suc, Bool, true, false, cond, List, [], ◌∷◌, drop, Option, Some, None, Result, Ok, Err, refl, ap, sym, subst, ◌∙◌}
-use Rattle.std.specs.Prelude.{map, not, slice_get, ◌==◌, ◌&&◌, ◌||◌, if◌then◌else◌}
-use Rattle.std.specs.Option.{option_map, option_map_or}
+use Rattle.std.proofs.Common.{◌≡◌, ℕ, suc, Bool, true, false, List, [], ◌∷◌, drop, Some, Result, Ok, refl, ap, sym, subst, ◌∙◌}
+use Rattle.std.specs.Prelude.{not, ◌==◌, if◌then◌else◌}
 use Rattle.class_grammar.specs.Names.{is_initializer as has_initializer_name}
-use Rattle.descriptors.specs.declared.kind.Kind.{Kind as FieldType}
 use Rattle.opcodes.specs.declared.op.Kind.TheVariants as kinds
 use Rattle.stack_maps.specs.declared.types.VType.{VType}
 use Rattle.stack_maps.specs.declared.types.VType.TheVariants as types
@@ -12,16 +10,14 @@ use Rattle.instruction_rows.specs.declared.row_why.RowWhy.TheVariants as whys
 use Rattle.instruction_rows.specs.declared.value.Slot.{Slot}
 use Rattle.instruction_rows.specs.Results.{◌then◌}
 use Rattle.instruction_rows.specs.Kinds.{kind_of_type}
-use Rattle.instruction_rows.specs.Rows.{Row, Invocation, virtual, special, static, interface, dynamic, invoke, row_goes_on}
-use Rattle.instruction_rows.specs.TypeEffect.{type_popped, type_pushed}
-use Rattle.instruction_rows.specs.Soundness.{IsOf, AreOf, HasKinds}
+use Rattle.instruction_rows.specs.Rows.{Invocation, virtual, special, static, interface, dynamic, invoke, row_goes_on}
+use Rattle.instruction_rows.specs.TypeEffect.{type_popped}
+use Rattle.instruction_rows.specs.Soundness.{IsOf, AreOf}
 use Rattle.instruction_rows.proofs.KindLaws.{holds, is_of}
 use Rattle.instruction_rows.proofs.Steps.{ok_is, passed}
 use Rattle.world_model.specs.declared.members.MethodInfo.{MethodInfo}
-use Rattle.world_model.specs.declared.sites.Naming.{Naming}
 use Rattle.world_model.specs.World.{World, class_type}
 use Rattle.verify_types.specs.Assignability.{assignable}
-use Rattle.verify_types.specs.ClassTypes.{type_of_kind}
 use Rattle.verify_types.specs.Operands.{only_if, popped_as, wanted, all_wanted}
 use Rattle.verify_types.specs.Objects.{named_class}
 use Rattle.verify_types.specs.TypeStates.{TypeState, with_stack, is_this, is_new, replaced}
@@ -32,13 +28,12 @@ use Rattle.verify_types.specs.Typing.{AreTyped}
 use Rattle.state_model.specs.Frames.{Frame}
 use Rattle.ref_model.specs.Kinds.{argument_slots}
 use Rattle.ref_model.specs.Fetch.{Named, named_method}
-use Rattle.ref_model.specs.Frames.{contents, caller}
-use Rattle.typed_frames.specs.Typed.{IsAt, Stands, Waits, given_back, back_of}
+use Rattle.typed_frames.specs.Typed.{Stands, given_back}
 use Rattle.typed_frames.specs.CallLaws.{CallerWaits, takes_receiver}
-use Rattle.typed_frames.proofs.FetchLaws.{Parts, parts, fine}
+use Rattle.typed_frames.proofs.FetchLaws.{parts, fine}
 use Rattle.typed_frames.proofs.ReturnLaws.{back_is}
 use Rattle.typed_frames.proofs.Exceptions.{class_kind}
-use Rattle.typed_frames.proofs.CallLaws.{IsNamed, is_named, result_is}
+use Rattle.typed_frames.proofs.CallLaws.{is_named, result_is}
 
 -- what the typing says, apart from frames
 record Took (w : World) (s after : TypeState) (m : Named) : Type 0 where

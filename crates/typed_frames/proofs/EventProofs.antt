@@ -1,5 +1,5 @@
 -- Events of frames that keep to the typing.
-use Rattle.std.proofs.Common.{◌≡◌, ◌≢◌, ℕ, Bool, true, false, List, [], ◌∷◌, Option, Some, None, Result, Ok, Err, refl, ap, sym, subst, ◌∙◌}
+use Rattle.std.proofs.Common.{◌≡◌, ◌≢◌, ℕ, Bool, true, false, List, [], ◌∷◌, Option, Some, None, Result, Ok, refl, ap, sym, subst, ◌∙◌}
 use Rattle.std.specs.Prelude.{not, replicate, if◌then◌else◌}
 use Rattle.std.specs.List.{list_any}
 use Rattle.items.proofs.Binds.{some_is}
@@ -14,29 +14,27 @@ use Rattle.instruction_rows.specs.Contents.{Contents}
 use Rattle.instruction_rows.specs.Rows.{Event, event, get_static, put_static, get_field, put_field, new, new_array, new_array_of, new_arrays, array_length, array_load, array_store, check_cast, instance_of, throw, monitor_enter, monitor_exit, row_goes_on}
 use Rattle.instruction_rows.specs.SlotEffect.{popped}
 use Rattle.instruction_rows.specs.TypeEffect.{type_popped, types_popped, type_pushed}
-use Rattle.instruction_rows.specs.Soundness.{IsOf, AreOf, HasKinds}
+use Rattle.instruction_rows.specs.Soundness.{IsOf, AreOf}
 use Rattle.instruction_rows.proofs.Steps.{ok_is, passed}
 use Rattle.world_model.specs.declared.sites.Naming.{Naming}
 use Rattle.world_model.specs.World.{World, class_type}
 use Rattle.verify_types.specs.ClassTypes.{base_of_primitive}
-use Rattle.verify_types.specs.Operands.{only_if}
-use Rattle.verify_types.specs.Objects.{class_of as typed_class, array_made as array_types, object_taken, stack_after, made_anew, event_state}
+use Rattle.verify_types.specs.Objects.{class_of as typed_class, object_taken, stack_after, made_anew, event_state}
 use Rattle.verify_types.specs.TypeStates.{TypeState, with_stack, with_types, is_new, replaced}
-use Rattle.verify_types.specs.Environment.{Instruction, Environment}
-use Rattle.verify_types.specs.Effects.{row_of, row_state, state_after}
+use Rattle.verify_types.specs.Environment.{Environment}
+use Rattle.verify_types.specs.Effects.{row_of, row_state}
 use Rattle.state_model.specs.Frames.{Frame}
 use Rattle.ref_model.specs.declared.exception.Exception.TheVariants.{NullPointerException}
 use Rattle.ref_model.specs.State.{State}
 use Rattle.ref_model.specs.Effects.{Effect, done, invokes, throws, throws_object, not_null}
-use Rattle.ref_model.specs.Frames.{behind}
 use Rattle.ref_model.specs.Instances.{object_thrown}
 use Rattle.ref_model.specs.Step.{event_effect}
-use Rattle.typed_frames.specs.Typed.{Stands, Typed}
+use Rattle.typed_frames.specs.Typed.{Typed}
 use Rattle.typed_frames.specs.StateKinds.{StateFits}
 use Rattle.typed_frames.specs.EventLaws.{IsKept}
-use Rattle.typed_frames.specs.StepKinds.{IsLinkedWorld, IsEventNaming, GoesOnBehind, IsResult}
-use Rattle.typed_frames.proofs.FetchLaws.{Parts, parts, fine}
-use Rattle.typed_frames.proofs.Arrivals.{Arrived, arrived, on_frames}
+use Rattle.typed_frames.specs.StepKinds.{IsLinkedWorld, IsEventNaming, IsResult}
+use Rattle.typed_frames.proofs.FetchLaws.{parts, fine}
+use Rattle.typed_frames.proofs.Arrivals.{arrived, on_frames}
 use Rattle.typed_frames.proofs.Exceptions.{class_kind}
 use Rattle.typed_frames.proofs.FieldLaws.{kept_is, same_types, static_gets_keep, static_puts_keep, field_gets_keep, field_puts_keep}
 use Rattle.typed_frames.proofs.ArrayLaws.{array_loads_keep, array_stores_keep, lengths_keep}

@@ -1,5 +1,5 @@
 -- Calls of methods of an object, by frames that keep to the typing.
-use Rattle.std.proofs.Common.{◌≡◌, ℕ, suc, ◌+◌, Bool, true, false, List, [], ◌∷◌, ◌++◌, length, drop, Option, Some, None, Result, Ok, Err, refl, ap, sym, subst, ◌∙◌, arith}
+use Rattle.std.proofs.Common.{◌≡◌, ℕ, suc, ◌+◌, Bool, true, false, List, [], ◌∷◌, ◌++◌, length, Option, Some, None, Ok, refl, ap, sym, subst, ◌∙◌, arith}
 use Rattle.std.specs.Prelude.{map, reverse, slice_get, if◌then◌else◌}
 use Rattle.std.proofs.lemmas.List.{append_assoc, length-append, reverse-append}
 use Rattle.class_model.specs.declared.access_flags.TheConstants.{ACC_STATIC}
@@ -9,8 +9,8 @@ use Rattle.stack_maps.specs.declared.types.VType.{VType}
 use Rattle.stack_maps.specs.declared.types.VType.TheVariants as types
 use Rattle.instruction_rows.specs.declared.value.Slot.{Slot}
 use Rattle.instruction_rows.specs.Kinds.{kind_of_type}
-use Rattle.instruction_rows.specs.Contents.{is_wide, types_of, slot_types}
-use Rattle.instruction_rows.specs.TypeEffect.{only_of, type_popped}
+use Rattle.instruction_rows.specs.Contents.{is_wide, slot_types}
+use Rattle.instruction_rows.specs.TypeEffect.{type_popped}
 use Rattle.instruction_rows.specs.Soundness.{IsOf, AreOf}
 use Rattle.instruction_rows.proofs.KindLaws.{only_is, holds, is_of}
 use Rattle.world_model.specs.declared.members.MethodInfo.{MethodInfo}
@@ -30,9 +30,9 @@ use Rattle.ref_model.specs.Fetch.{Named}
 use Rattle.ref_model.specs.Frames.{first_frame, callee}
 use Rattle.typed_frames.specs.Typed.{Stands}
 use Rattle.typed_frames.specs.CallLaws.{Begins}
-use Rattle.typed_frames.proofs.Beginnings.{Begun, begun}
+use Rattle.typed_frames.proofs.Beginnings.{begun}
 use Rattle.typed_frames.proofs.Exceptions.{class_kind}
-use Rattle.typed_frames.proofs.Arguments.{stacked, AllOnTop, all_on_top, reversed_of, in_order}
+use Rattle.typed_frames.proofs.Arguments.{stacked, all_on_top, reversed_of, in_order}
 use Rattle.typed_frames.proofs.CallLaws.{count_is, callee_is, left_is}
 
 -- ---- the receiver

@@ -17,3 +17,4 @@ pub mod CallerLaws
 pub mod ArrayTrees
 pub mod EventProofs
 pub mod Raises
+pub mod NativeCalls

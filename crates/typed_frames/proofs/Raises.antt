@@ -1,6 +1,6 @@
 -- What the machine throws.
-use Rattle.std.proofs.Common.{◌≡◌, ◌<◌, ℕ, ◌+◌, ◌-◌, Bool, true, false, List, [], ◌∷◌, ◌++◌, length, Option, Some, None, refl, ap, sym, subst, ◌∙◌}
-use Rattle.std.specs.Prelude.{nat_le, nat_lt, position, slice_get, slice_set, if◌then◌else◌}
+use Rattle.std.proofs.Common.{◌≡◌, ℕ, ◌-◌, Bool, true, false, List, [], ◌∷◌, ◌++◌, length, Option, Some, None, refl, subst}
+use Rattle.std.specs.Prelude.{nat_le, nat_lt, slice_get, slice_set, if◌then◌else◌}
 use Rattle.std.specs.Option.{option_map_or}
 use Rattle.std.proofs.lemmas.Bool.{lt-ltb}
 use Rattle.std.proofs.lemmas.List.Quantifiers.{position-Some}
@@ -13,7 +13,7 @@ use Rattle.ref_model.specs.declared.exception.Exception.{Exception}
 use Rattle.ref_model.specs.Members.{new_values}
 use Rattle.ref_model.specs.State.{JavaThread, State, with_status}
 use Rattle.ref_model.specs.Heap.{cells_of_values, with_instance}
-use Rattle.ref_model.specs.Throwing.{exception_name, throwing, throwing_new, raised}
+use Rattle.ref_model.specs.Throwing.{exception_name, throwing_new, raised}
 use Rattle.typed_frames.specs.StateKinds.{StateFits}
 use Rattle.typed_frames.proofs.ObjectLaws.{more_fits, new_fits}
 

@@ -1,5 +1,5 @@
 -- What an instruction that is an event does to frames that keep to the typing, and to a state whose values have their kinds.
-use Rattle.std.specs.Prelude.{◌≡◌, ℕ, List, ◌∷◌, Option, Some}
+use Rattle.std.specs.Prelude.{◌≡◌, ℕ, List, ◌∷◌, Some}
 use Rattle.instruction_rows.specs.declared.value.Slot.{Slot}
 use Rattle.instruction_rows.specs.Rows.{Event, event, get_static, put_static, get_field, put_field, new}
 use Rattle.world_model.specs.declared.sites.Naming.{Naming}

@@ -5,7 +5,7 @@
 ghost use Rattle.typed_frames.specs.LocalLaws.{RowsGoOn, ConstantsGoOn, WideConstantsGoOn, ReturnsGoOn, StaticCallsGoOn, RowsKeep};
 ghost use Rattle.typed_frames.specs.EventLaws.{StaticGetsKeep, StaticPutsKeep, FieldGetsKeep, FieldPutsKeep, ArrayLoadsKeep, ArrayStoresKeep, LengthsKeep, CastsKeep, JudgementsKeep, NewObjectsKeep, NewArraysKeep, NewArraysOfArraysKeep};
 ghost use Rattle.typed_frames.specs.CallLaws.{CalleesBegin, CallersWait};
-ghost use Rattle.typed_frames.specs.NativeLaws.{NativesKeep};
+ghost use Rattle.typed_frames.specs.NativeLaws.{NativesKeep, NativesGoOn};
 ghost use Rattle.typed_frames.specs.StepKinds.{EventsGoOn};
 ghost use Rattle.typed_frames.specs.ThrowLaws.{ThrowsKeep, FramesAreLeft, HandlersGoOn, RaisesKeep};
 
@@ -58,7 +58,8 @@ pub fn objects_keep_kinds()
 /// Native methods keep kinds: each leaves the state's values of their kinds, and gives back a value of its descriptor's kind, or none (the
 /// API of `Object`, `String`, `StringBuilder`, `PrintStream` and `System`).
 pub fn natives_keep_kinds()
-    ensures { NativesKeep }
+    ensures answers { NativesKeep }
+    ensures operands { NativesGoOn }
 {}
 
 /// The frame of a method of an object keeps to the typing when it begins, and its caller waits for what the method gives back (JVMS 2.6.1,
