@@ -36,7 +36,7 @@ use Rattle.typed_frames.proofs.Exceptions.{class_kind}
 use Rattle.typed_frames.proofs.CallLaws.{is_named, result_is}
 
 -- what the typing says, apart from frames
-record Took (w : World) (s after : TypeState) (m : Named) : Type 0 where
+pub record Took (w : World) (s after : TypeState) (m : Named) : Type 0 where
   pub rest : List VType
   pub taken : all_wanted w (argument_types w m.method.signature) s.types.stack ≡ Ok rest
   pub receiver : VType × List VType
@@ -171,7 +171,7 @@ took env s after pc class m special receiver e = special_took env s after pc cla
 took env s after pc class m static receiver e = absurd cc
 took env s after pc class m dynamic receiver e = absurd cc
 
-invocation_took : (w : World) (env : Environment) (i : Instruction) (s after : TypeState) (invocation : Invocation) (index : ℕ) (m : Named)
+pub invocation_took : (w : World) (env : Environment) (i : Instruction) (s after : TypeState) (invocation : Invocation) (index : ℕ) (m : Named)
     → w ≡ env.world → row_of i ≡ invoke invocation index → takes_receiver invocation ≡ true → named_method w i.naming ≡ Some m
     → state_after env i s ≡ Ok after → Took w s after m
 invocation_took w env i s after invocation index m world known receiver named e =

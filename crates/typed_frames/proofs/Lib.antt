@@ -18,3 +18,4 @@ pub mod ArrayTrees
 pub mod EventProofs
 pub mod Raises
 pub mod NativeCalls
+pub mod EnterProofs

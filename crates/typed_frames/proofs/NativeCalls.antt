@@ -24,7 +24,7 @@ use Rattle.typed_frames.proofs.FieldLaws.{kept_is}
 use Rattle.typed_frames.proofs.NativeLaws.{natives_keep}
 
 -- what always holds, holds of the values that are taken
-always_applied : (P : Answer → Type 0) (takes : List Kind) (f : Function takes Answer) (xs : List Slot) (x : Answer × List Slot)
+pub always_applied : (P : Answer → Type 0) (takes : List Kind) (f : Function takes Answer) (xs : List Slot) (x : Answer × List Slot)
     → Always P takes f → applied Answer takes f xs ≡ Some x → P x.0
 always_applied P [] f xs x always e = subst (λ (y : Answer × List Slot). P y.0) (inside (f, xs) x e) always
   where
@@ -35,7 +35,7 @@ always_applied P (k ∷ ks) f xs x always e =
     always_applied P ks (f v.0.0) v.0.1 x (always v.0.0) v.2
 
 -- an answer on what lies below the operands
-answered_keeps : (w : World) (result : Option Kind) (back : Option VType) (answer : Answer) (rest : List VType) (left : List Slot)
+pub answered_keeps : (w : World) (result : Option Kind) (back : Option VType) (answer : Answer) (rest : List VType) (left : List Slot)
     → IsAnswer w result answer → IsBack back result → AreOf rest left → IsKept w (given_back back rest) (answered left answer)
 answered_keeps w result back (fails x) rest left is fit of = tt
 answered_keeps w result back (returns q) rest left is fit of = by back (subst (IsBack back) is.0 fit)
@@ -49,7 +49,7 @@ answered_keeps w result back (returns_value q v) rest left is fit of = by back (
     by None fit = absurd fit
     by (Some t) fit = (is.1, pushed_kinds t v rest left fit of)
 
-same_pair : (o : Option (Answer × List Slot)) (a b : Answer × List Slot) → o ≡ Some a → o ≡ Some b → a ≡ b
+pub same_pair : (o : Option (Answer × List Slot)) (a b : Answer × List Slot) → o ≡ Some a → o ≡ Some b → a ≡ b
 same_pair o a b x y = cc
 
 pub natives_go_on : (w : World) (r : State) (n : Native) (takes : List Kind) (act : Function takes Answer) (back : Option VType)

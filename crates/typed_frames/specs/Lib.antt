@@ -6,3 +6,4 @@ pub mod EventLaws
 pub mod NativeLaws
 pub mod CallLaws
 pub mod StepKinds
+pub mod EnterLaws

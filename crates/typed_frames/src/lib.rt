@@ -5,6 +5,7 @@
 ghost use Rattle.typed_frames.specs.LocalLaws.{RowsGoOn, ConstantsGoOn, WideConstantsGoOn, ReturnsGoOn, StaticCallsGoOn, RowsKeep};
 ghost use Rattle.typed_frames.specs.EventLaws.{StaticGetsKeep, StaticPutsKeep, FieldGetsKeep, FieldPutsKeep, ArrayLoadsKeep, ArrayStoresKeep, LengthsKeep, CastsKeep, JudgementsKeep, NewObjectsKeep, NewArraysKeep, NewArraysOfArraysKeep};
 ghost use Rattle.typed_frames.specs.CallLaws.{CalleesBegin, CallersWait};
+ghost use Rattle.typed_frames.specs.EnterLaws.{MethodsAreEntered};
 ghost use Rattle.typed_frames.specs.NativeLaws.{NativesKeep, NativesGoOn};
 ghost use Rattle.typed_frames.specs.StepKinds.{EventsGoOn};
 ghost use Rattle.typed_frames.specs.ThrowLaws.{ThrowsKeep, FramesAreLeft, HandlersGoOn, RaisesKeep};
@@ -73,4 +74,10 @@ pub fn callees_begin()
 /// of their fields and elements; where it throws, nothing else changes (JVMS 6.5, 4.10.1.6).
 pub fn events_go_on()
     ensures { EventsGoOn }
+{}
+
+/// A method of an object that was selected is entered: a native one is done, and the frame goes on; one with code begins, and the frame waits
+/// below it. All frames keep to the typing, and the state's values to their kinds (JVMS 2.6.1, 5.4.6, 6.5).
+pub fn methods_are_entered()
+    ensures { MethodsAreEntered }
 {}
