@@ -2,14 +2,10 @@
 use Rattle.std.proofs.Common.{◌≡◌, ℕ, Bool, true, false, List, [], ◌∷◌, Option, Some, None, refl}
 use Rattle.std.specs.Prelude.{length, nat_lt, slice_get, ◌&&◌, if◌then◌else◌}
 use Rattle.opcodes.specs.declared.op.Kind.{Kind}
-use Rattle.instruction_rows.specs.declared.value.Slot.{Slot}
 use Rattle.instruction_rows.specs.Rows.{Row, local, constant, wide_constant, returns, invoke, event, refused, virtual, special, static, interface, dynamic}
 use Rattle.instruction_rows.specs.Table.{row as row_of}
-use Rattle.instruction_rows.specs.SlotEffect.{Moved, acted, pushed}
+use Rattle.instruction_rows.specs.SlotEffect.{acted, pushed}
 use Rattle.items.proofs.Binds.{some_is}
-use Rattle.instruction_rows.specs.declared.value.Value.{Value}
-use Rattle.world_model.specs.declared.members.MethodInfo.{MethodInfo}
-use Rattle.world_model.specs.declared.members.MethodCode.{MethodCode}
 use Rattle.world_model.specs.declared.sites.Naming.{Naming}
 use Rattle.world_model.specs.World.{World}
 use Rattle.world_model.specs.Decoded.{code_at}

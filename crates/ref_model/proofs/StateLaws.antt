@@ -1,5 +1,5 @@
 -- A state in which one thread has changed.
-use Rattle.std.proofs.Common.{◌≡◌, ℕ, zero, suc, Bool, true, false, List, [], ◌∷◌, Option, Some, None, refl, ap, ◌∙◌, sym}
+use Rattle.std.proofs.Common.{◌≡◌, ℕ, zero, suc, Bool, List, [], ◌∷◌, Some, refl, ap, ◌∙◌, sym}
 use Rattle.std.specs.Prelude.{slice_get, slice_set, ◌||◌}
 use Rattle.std.specs.List.{list_any}
 use Rattle.std.proofs.lemmas.List.{set-set}
@@ -8,7 +8,7 @@ use Rattle.vthread_state.specs.declared.thread.Status.{Status}
 use Rattle.vthread_state.specs.declared.thread.Status.TheVariants.{New, Live, Done}
 use Rattle.state_model.specs.Frames.{Frame}
 use Rattle.items.proofs.Binds.{some_is}
-use Rattle.ref_model.specs.State.{JavaThread, State, with_thread, with_frames}
+use Rattle.ref_model.specs.State.{JavaThread, State, with_frames}
 use Rattle.ref_model.specs.Ending.{ending, keeps_going}
 use Rattle.ref_model.specs.Entries.{running_frames, frames_at}
 

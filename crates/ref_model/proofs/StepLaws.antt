@@ -1,11 +1,9 @@
 -- Local instructions as steps, and the steps of an entry.
-use Rattle.std.proofs.Common.{◌≡◌, ℕ, zero, suc, Bool, true, false, List, [], ◌∷◌, Option, Some, None, refl, ap, ◌∙◌, sym}
-use Rattle.std.specs.Prelude.{is_none, nat_le, slice_get, ◌&&◌, ◌==◌, if◌then◌else◌}
-use Rattle.items.specs.Options.{◌>>=◌}
+use Rattle.std.proofs.Common.{◌≡◌, ℕ, zero, suc, Bool, true, false, List, Option, Some, None, refl, ap, ◌∙◌, sym}
+use Rattle.std.specs.Prelude.{is_none, slice_get, ◌&&◌, if◌then◌else◌}
 use Rattle.items.proofs.Binds.{some_is, bind_is}
 use Rattle.vthread_state.specs.declared.phase.Phase.TheVariants.{Run}
 use Rattle.vthread_state.specs.declared.thread.Status.TheVariants.{Live}
-use Rattle.world_model.specs.World.{World}
 use Rattle.state_model.specs.Frames.{Frame}
 use Rattle.ref_model.specs.Setting.{Setting}
 use Rattle.ref_model.specs.State.{JavaThread, State, with_frames}
@@ -13,7 +11,7 @@ use Rattle.ref_model.specs.LocalRows.{row, rows}
 use Rattle.ref_model.specs.Ending.{ending}
 use Rattle.ref_model.specs.Step.{step, enabled, thread_step, status_step, row_or_event}
 use Rattle.ref_model.specs.Run.{steps, after_steps}
-use Rattle.ref_model.specs.Entries.{frames_at, may_be_last, ends_behind, are_grouped_steps, is_grouped, most_local_steps}
+use Rattle.ref_model.specs.Entries.{frames_at, ends_behind, are_grouped_steps, is_grouped}
 use Rattle.ref_model.specs.StepLaws.{LocalBefore}
 use Rattle.ref_model.proofs.StateLaws.{Runs, runs, frames_same, frames_twice, frames_there, frames_ending}
 

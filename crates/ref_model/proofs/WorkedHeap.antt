@@ -1,18 +1,17 @@
 -- Fields, arrays, objects and classes at single values, beside JVMS 6.5 and the limits of a run.
-use Rattle.std.proofs.Common.{◌≡◌, ℕ, ℤ, pos, negsuc, Bool, true, false, List, [], ◌∷◌, Option, Some, None, refl}
+use Rattle.std.proofs.Common.{◌≡◌, ℕ, ℤ, pos, negsuc, true, false, List, [], ◌∷◌, Option, Some, None, refl}
 use Rattle.std.specs.Int.{int_wrap}
 use Rattle.std.specs.Prelude.{codes}
 use Rattle.opcodes.specs.declared.op.Element.TheVariants as elements
-use Rattle.instruction_rows.specs.declared.value.Value.{Value}
 use Rattle.instruction_rows.specs.declared.value.Value.TheVariants.{Int, Long, Null, Ref}
 use Rattle.instruction_rows.specs.declared.value.Slot.{Slot}
 use Rattle.instruction_rows.specs.declared.value.Slot.TheVariants.{One, Second}
 use Rattle.world_model.specs.declared.sites.Naming.{Naming}
 use Rattle.world_model.specs.declared.sites.Site.TheVariants as sites
-use Rattle.state_model.specs.Objects.{Object, instance, text}
+use Rattle.state_model.specs.Objects.{instance, text}
 use Rattle.ref_model.specs.declared.exception.Exception.{Exception}
 use Rattle.ref_model.specs.declared.exception.Exception.TheVariants as exceptions
-use Rattle.ref_model.specs.Classes.{is_sub, class_name, array_class}
+use Rattle.ref_model.specs.Classes.{is_sub, class_name}
 use Rattle.ref_model.specs.Members.{instance_fields, field_place, static_place, new_values}
 use Rattle.ref_model.specs.State.{State}
 use Rattle.ref_model.specs.Heap.{cells_of_values, cells_of_units}

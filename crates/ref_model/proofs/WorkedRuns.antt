@@ -1,21 +1,18 @@
 -- Runs of small programs, step by step (JVMS 2.6, 2.10, 6.5).
-use Rattle.std.proofs.Common.{◌≡◌, ℕ, ℤ, pos, negsuc, true, false, List, [], ◌∷◌, ◌++◌, Option, Some, None, refl}
+use Rattle.std.proofs.Common.{◌≡◌, ℕ, pos, negsuc, true, false, List, [], ◌∷◌, ◌++◌, Option, Some, None, refl}
 use Rattle.std.specs.Char.{encode_utf8}
 use Rattle.std.specs.Int.{int_wrap}
-use Rattle.std.specs.Prelude.{codes, length, option_map, slice_get}
+use Rattle.std.specs.Prelude.{codes, option_map, slice_get}
 use Rattle.items.specs.Options.{◌>>=◌}
 use Rattle.history.specs.declared.entry.Entry.{Entry}
 use Rattle.history.specs.declared.entry.What.TheVariants.{Step, Clock}
-use Rattle.instruction_rows.specs.declared.value.Value.{Value}
-use Rattle.instruction_rows.specs.declared.value.Value.TheVariants.{Int, Long, Null, Ref}
+use Rattle.instruction_rows.specs.declared.value.Value.TheVariants.{Int, Ref}
 use Rattle.instruction_rows.specs.declared.value.Slot.{Slot}
-use Rattle.instruction_rows.specs.declared.value.Slot.TheVariants.{One, Second}
+use Rattle.instruction_rows.specs.declared.value.Slot.TheVariants.{One}
 use Rattle.vthread_state.specs.declared.phase.Phase.TheVariants.{Run, Throwing}
 use Rattle.vthread_state.specs.declared.thread.Status.{Status}
 use Rattle.vthread_state.specs.declared.thread.Status.TheVariants.{Live, Done}
 use Rattle.state_model.specs.Frames.{Frame}
-use Rattle.state_model.specs.Objects.{Object, instance}
-use Rattle.ref_model.specs.declared.ending.Ending.{Ending}
 use Rattle.ref_model.specs.declared.ending.Ending.TheVariants.{Ended, MainThrew}
 use Rattle.ref_model.specs.Setting.{Setting}
 use Rattle.ref_model.specs.State.{JavaThread, State}

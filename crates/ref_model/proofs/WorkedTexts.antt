@@ -1,23 +1,23 @@
 -- Texts and native methods at single values, beside the API of java.lang.String, StringBuilder and Object.
-use Rattle.std.proofs.Common.{◌≡◌, ℕ, ℤ, pos, negsuc, false, List, [], ◌∷◌, Option, Some, None, refl}
+use Rattle.std.proofs.Common.{◌≡◌, ℕ, ℤ, pos, negsuc, false, List, [], ◌∷◌, Some, None, refl}
 use Rattle.std.specs.Char.{encode_utf8}
 use Rattle.std.specs.Int.{int_wrap}
 use Rattle.std.specs.Fmt.{digits}
-use Rattle.std.specs.Prelude.{codes, length}
+use Rattle.std.specs.Prelude.{codes}
 use Rattle.instruction_rows.specs.declared.value.Value.{Value}
-use Rattle.instruction_rows.specs.declared.value.Value.TheVariants.{Int, Long, Null, Ref}
+use Rattle.instruction_rows.specs.declared.value.Value.TheVariants.{Int, Null, Ref}
 use Rattle.instruction_rows.specs.declared.value.Slot.{Slot}
-use Rattle.instruction_rows.specs.declared.value.Slot.TheVariants.{One, Second}
-use Rattle.state_model.specs.Objects.{Object, instance, text}
+use Rattle.instruction_rows.specs.declared.value.Slot.TheVariants.{One}
+use Rattle.state_model.specs.Objects.{instance, text}
 use Rattle.ref_model.specs.declared.exception.Exception.{Exception}
 use Rattle.ref_model.specs.declared.exception.Exception.TheVariants as exceptions
 use Rattle.ref_model.specs.State.{State}
-use Rattle.ref_model.specs.Texts.{text_bytes, text_hash, decimal_text, boolean_text, hex_text}
-use Rattle.ref_model.specs.Effects.{Effect, done, throws}
+use Rattle.ref_model.specs.Texts.{text_bytes, text_hash, decimal_text, hex_text}
+use Rattle.ref_model.specs.Effects.{done, throws}
 use Rattle.ref_model.specs.NativeRows.{NativeRow, native_acted}
 use Rattle.ref_model.specs.ObjectNatives.{object_equals, object_hash_code}
-use Rattle.ref_model.specs.StringNatives.{string_length, string_char_at, string_equals, string_hash_code, string_concat, string_of_int}
-use Rattle.ref_model.specs.BuilderNatives.{append_int, append_string, builder_length}
+use Rattle.ref_model.specs.StringNatives.{string_length, string_char_at, string_equals, string_concat, string_of_int}
+use Rattle.ref_model.specs.BuilderNatives.{append_int, append_string}
 use Rattle.ref_model.specs.Printing.{println_int, print_char, print_string, println_nothing, exit}
 
 -- ---- UTF-8

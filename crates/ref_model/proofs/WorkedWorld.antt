@@ -1,8 +1,7 @@
 -- A small world for facts at single values: seven classes, four array classes, and a few methods.
-use Rattle.std.proofs.Common.{ℕ, ℤ, pos, negsuc, List, [], ◌∷◌, ◌++◌, Option, Some, None}
-use Rattle.std.specs.Prelude.{codes, map}
+use Rattle.std.proofs.Common.{ℕ, pos, List, [], ◌∷◌, Some, None}
+use Rattle.std.specs.Prelude.{codes}
 use Rattle.class_model.specs.declared.class_file.ClassFile.{ClassFile}
-use Rattle.class_model.specs.declared.constant.Const.{Const}
 use Rattle.class_model.specs.declared.constant.Const.TheVariants.{Unused, Utf8, Class}
 use Rattle.class_model.specs.declared.attribute.Row.{Row}
 use Rattle.descriptors.specs.declared.kind.ElementType.TheVariants as elements
@@ -14,7 +13,6 @@ use Rattle.opcodes.specs.declared.op.Op.{Op}
 use Rattle.opcodes.specs.declared.op.Op.TheVariants as ops
 use Rattle.opcodes.specs.declared.op.Simple.TheVariants as simples
 use Rattle.stack_maps.specs.declared.types.Base.TheVariants as bases
-use Rattle.linkage.specs.Program.{Program}
 use Rattle.world_model.specs.declared.members.FieldInfo.{FieldInfo}
 use Rattle.world_model.specs.declared.members.MethodInfo.{MethodInfo}
 use Rattle.world_model.specs.declared.members.MethodCode.{MethodCode}

@@ -1,6 +1,6 @@
 -- Arrays (JVMS 6.5): new ones, their lengths and their elements. Tests come in this order: null, the kind of the elements, index or
 -- length, class of a stored object, room.
-use Rattle.std.specs.Prelude.{ℕ, zero, suc, ◌+◌, ◌*◌, ℤ, pos, negsuc, Bool, true, false, List, [], ◌∷◌, ◌++◌, Option, Some, None, flat_map, int_lt, length, map, nat_le, replicate, slice_get, unsigned_abs, if◌then◌else◌}
+use Rattle.std.specs.Prelude.{ℕ, zero, suc, ◌+◌, ◌*◌, ℤ, pos, negsuc, Bool, true, false, List, [], ◌∷◌, ◌++◌, Option, Some, None, int_lt, length, map, nat_le, replicate, slice_get, unsigned_abs, if◌then◌else◌}
 use Rattle.std.specs.List.{list_any, range_with_len}
 use Rattle.items.specs.Options.{◌>>=◌}
 use Rattle.opcodes.specs.declared.op.Kind.TheVariants as kinds
@@ -11,7 +11,6 @@ use Rattle.instruction_rows.specs.declared.value.Value.TheVariants as values
 use Rattle.instruction_rows.specs.declared.value.Slot.{Slot}
 use Rattle.instruction_rows.specs.Kinds.{value, kind_of_element}
 use Rattle.instruction_rows.specs.SlotEffect.{popped}
-use Rattle.world_model.specs.declared.sites.ArrayType.{ArrayType}
 use Rattle.world_model.specs.declared.sites.Naming.{Naming}
 use Rattle.world_model.specs.World.{World, array_type}
 use Rattle.verify_types.specs.Operands.{serves}

@@ -1,7 +1,6 @@
 -- The native methods of java.lang.StringBuilder. A builder has one field, the String of its text so far; null is the empty text. What
 -- appends makes a new String. (own)
 use Rattle.std.specs.Prelude.{ℕ, pos, List, [], ◌∷◌, ◌++◌, Option, Some, None, length, slice_get}
-use Rattle.std.specs.Option.{option_map_or}
 use Rattle.items.specs.Options.{◌>>=◌}
 use Rattle.opcodes.specs.declared.op.Kind.TheVariants.{Int, Long, Reference}
 use Rattle.instruction_rows.specs.declared.value.Value.{Value}

@@ -1,6 +1,6 @@
 -- Invocations that aren't local (JVMS 6.5: invokevirtual, invokespecial, invokestatic, invokeinterface). Tests come in this order: null, the
 -- class of the receiver, selection, the number of frames. A call is stated by the descriptor that its instruction names.
-use Rattle.std.specs.Prelude.{ℕ, suc, List, Option, Some, None, drop, length, nat_lt, slice_get, ◌||◌, if◌then◌else◌}
+use Rattle.std.specs.Prelude.{ℕ, suc, List, Option, Some, None, drop, nat_lt, slice_get, ◌||◌, if◌then◌else◌}
 use Rattle.items.specs.Options.{◌>>=◌}
 use Rattle.opcodes.specs.declared.op.Kind.TheVariants as kinds
 use Rattle.lib_table.specs.declared.native.Native.{Native}
@@ -12,12 +12,10 @@ use Rattle.class_grammar.specs.Names.{object_class}
 use Rattle.instruction_rows.specs.declared.value.Slot.{Slot}
 use Rattle.instruction_rows.specs.Rows.{Invocation, virtual, special, static, interface, dynamic}
 use Rattle.instruction_rows.specs.SlotEffect.{popped}
-use Rattle.world_model.specs.declared.members.MethodInfo.{MethodInfo}
 use Rattle.world_model.specs.declared.members.MethodCode.{MethodCode}
 use Rattle.world_model.specs.declared.sites.Naming.{Naming}
 use Rattle.world_model.specs.World.{World, name_number}
 use Rattle.world_model.specs.Decoded.{code_at}
-use Rattle.ref_model.specs.declared.exception.Exception.{Exception}
 use Rattle.ref_model.specs.declared.exception.Exception.TheVariants as exceptions
 use Rattle.ref_model.specs.Classes.{is_array}
 use Rattle.ref_model.specs.Kinds.{argument_slots}

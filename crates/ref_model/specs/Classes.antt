@@ -1,11 +1,11 @@
 -- Classes and array classes as the machine asks for them, by their numbers in the linked world.
-use Rattle.std.specs.Prelude.{ℕ, ◌-◌, Bool, true, false, List, [], ◌∷◌, ◌++◌, Option, Some, None, codes, length, map, position, replicate, is_some, nat_lt, unwrap_or, get_or, ◌==◌, ◌&&◌, ◌+◌, if◌then◌else◌}
+use Rattle.std.specs.Prelude.{ℕ, ◌-◌, Bool, true, false, List, [], ◌++◌, Option, Some, None, codes, length, map, position, replicate, is_some, nat_lt, unwrap_or, get_or, ◌==◌, ◌&&◌, ◌+◌, if◌then◌else◌}
 use Rattle.std.specs.Option.{option_map}
 use Rattle.linkage.specs.Hierarchy.{is_below}
 use Rattle.stack_maps.specs.declared.types.Base.{Base}
 use Rattle.stack_maps.specs.declared.types.Base.TheVariants as bases
 use Rattle.world_model.specs.declared.sites.ArrayType.{ArrayType}
-use Rattle.world_model.specs.World.{World, array_type, name_number}
+use Rattle.world_model.specs.World.{World, array_type}
 use Rattle.verify_types.specs.Assignability.{base_assignable, is_array_super}
 
 abbrev pub is_array : World → ℕ → Bool

@@ -1,5 +1,5 @@
 -- How a program ends (JLS 12.8).
-use Rattle.std.specs.Prelude.{ℕ, ℤ, Bool, true, false, not, Option, Some, None, ◌&&◌, if◌then◌else◌}
+use Rattle.std.specs.Prelude.{ℤ, Bool, true, false, not, Option, Some, None, ◌&&◌, if◌then◌else◌}
 use Rattle.std.specs.List.{list_any}
 use Rattle.vthread_state.specs.declared.thread.Status.{Status}
 use Rattle.vthread_state.specs.declared.thread.Status.TheVariants.{New, Live, Done}

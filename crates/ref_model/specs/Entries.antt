@@ -15,7 +15,7 @@ use Rattle.world_model.specs.World.{World}
 use Rattle.verify_types.specs.Environment.{Instruction}
 use Rattle.state_model.specs.Frames.{Frame}
 use Rattle.ref_model.specs.Setting.{Setting}
-use Rattle.ref_model.specs.State.{JavaThread, State}
+use Rattle.ref_model.specs.State.{State}
 use Rattle.ref_model.specs.Fetch.{fetched}
 use Rattle.ref_model.specs.LocalRows.{row, rows}
 use Rattle.ref_model.specs.Run.{Outcome, outcome_after}

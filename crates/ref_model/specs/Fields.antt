@@ -1,5 +1,5 @@
 -- Fields (JVMS 6.5: getstatic, putstatic, getfield, putfield). Null is tested first, and then the class of the object.
-use Rattle.std.specs.Prelude.{ℕ, List, Option, Some, slice_get}
+use Rattle.std.specs.Prelude.{List, Option, Some, slice_get}
 use Rattle.items.specs.Options.{◌>>=◌}
 use Rattle.opcodes.specs.declared.op.Kind.TheVariants as kinds
 use Rattle.instruction_rows.specs.declared.value.Value.{Value}

@@ -1,5 +1,5 @@
 -- How frames are made, go on, and are left (JVMS 2.6). A definition is undefined where a frame would hold more than it may.
-use Rattle.std.specs.Prelude.{ℕ, ◌-◌, Bool, true, false, List, [], ◌∷◌, ◌++◌, Option, Some, None, drop, is_some, length, nat_le, replicate, reverse, slice_get, take, ◌||◌, if◌then◌else◌}
+use Rattle.std.specs.Prelude.{ℕ, ◌-◌, Bool, true, false, List, [], ◌∷◌, ◌++◌, Option, Some, None, drop, length, nat_le, replicate, reverse, slice_get, take, ◌||◌, if◌then◌else◌}
 use Rattle.std.specs.Option.{option_map_or}
 use Rattle.items.specs.Options.{◌>>=◌}
 use Rattle.opcodes.specs.declared.op.Kind.{Kind}
@@ -12,7 +12,6 @@ use Rattle.instruction_rows.specs.SlotEffect.{Moved, popped, pushed}
 use Rattle.world_model.specs.declared.members.MethodInfo.{MethodInfo}
 use Rattle.world_model.specs.declared.members.MethodCode.{MethodCode}
 use Rattle.world_model.specs.World.{World}
-use Rattle.world_model.specs.Decoded.{code_at}
 use Rattle.state_model.specs.Frames.{Frame}
 use Rattle.ref_model.specs.Kinds.{kept}
 use Rattle.ref_model.specs.Members.{is_initializer}

@@ -1,6 +1,6 @@
 -- Types of descriptors as the machine sees them (JVMS 2.11.1, 4.3.2): the kind of a value, the value that a field or an element has at
 -- first, and what a store keeps of an int. float and double are in no program that runs; here they are as references.
-use Rattle.std.specs.Prelude.{ℕ, ℤ, pos, Bool, List, map, sum_by, ◌==◌, if◌then◌else◌}
+use Rattle.std.specs.Prelude.{ℕ, ℤ, pos, sum_by, ◌==◌, if◌then◌else◌}
 use Rattle.descriptors.specs.declared.kind.ElementType.{ElementType}
 use Rattle.descriptors.specs.declared.kind.ElementType.TheVariants as elements
 use Rattle.descriptors.specs.declared.kind.Kind.{Kind as FieldType}

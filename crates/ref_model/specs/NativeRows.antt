@@ -1,17 +1,16 @@
 -- What the machine does in place of the code of a native method: the kinds that it takes, and the function of what it takes.
-use Rattle.std.specs.Prelude.{ℕ, ◌++◌, List, [], ◌∷◌, Option, Some, None}
+use Rattle.std.specs.Prelude.{ℕ, List, Option, Some, None}
 use Rattle.items.specs.Options.{◌>>=◌}
 use Rattle.opcodes.specs.declared.op.Kind.{Kind}
 use Rattle.instruction_rows.specs.declared.value.Value.{Value}
 use Rattle.instruction_rows.specs.declared.value.Value.TheVariants as values
 use Rattle.instruction_rows.specs.declared.value.Slot.{Slot}
 use Rattle.instruction_rows.specs.Kinds.{Function}
-use Rattle.instruction_rows.specs.SlotEffect.{applied, pushed}
+use Rattle.instruction_rows.specs.SlotEffect.{applied}
 use Rattle.ref_model.specs.declared.exception.Exception.{Exception}
 use Rattle.ref_model.specs.declared.exception.Exception.TheVariants as exceptions
 use Rattle.ref_model.specs.State.{State}
 use Rattle.ref_model.specs.Heap.{units_at, with_text}
-use Rattle.ref_model.specs.Texts.{null_text}
 use Rattle.ref_model.specs.Effects.{Effect, done, gives, throws}
 
 pub data Answer : Type 0 where

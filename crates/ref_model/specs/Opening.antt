@@ -27,7 +27,6 @@ use Rattle.instruction_rows.specs.declared.value.Slot.{Slot}
 use Rattle.instruction_rows.specs.declared.value.Slot.TheVariants.{One}
 use Rattle.vthread_state.specs.declared.phase.Phase.TheVariants.{Run}
 use Rattle.vthread_state.specs.declared.thread.Status.TheVariants.{Live}
-use Rattle.vthread_state.specs.declared.thread.Thread.{Thread}
 use Rattle.vthread_state.specs.declared.thread.ThreadKind.TheVariants.{Platform}
 use Rattle.world_model.specs.Strings.{objects_before, strings_of, string_number}
 use Rattle.world_model.specs.World.{World, name_number}

@@ -1,5 +1,5 @@
 -- The state of the reference machine (JVMS 2.5): heap, static fields, threads with their whole stacks, time and output.
-use Rattle.std.specs.Prelude.{ℕ, ℤ, Bool, List, Option, Some, None, slice_get, slice_set}
+use Rattle.std.specs.Prelude.{ℕ, ℤ, Bool, List, Option, slice_get, slice_set}
 use Rattle.std.specs.Option.{option_map_or}
 use Rattle.vthread_state.specs.declared.thread.Status.{Status}
 use Rattle.vthread_state.specs.declared.thread.Thread.{Thread}

@@ -1,5 +1,5 @@
 -- One step of a thread (JVMS 2.11, 6.5): an instruction, or a step of a phase. It is defined only where the thread is enabled.
-use Rattle.std.specs.Prelude.{ℕ, ◌+◌, Bool, true, false, List, [], ◌∷◌, Option, Some, None, is_none, length, slice_get, ◌&&◌, if◌then◌else◌}
+use Rattle.std.specs.Prelude.{ℕ, Bool, true, false, List, [], ◌∷◌, Option, Some, None, is_none, length, slice_get, ◌&&◌, if◌then◌else◌}
 use Rattle.std.specs.Option.{option_map_or}
 use Rattle.items.specs.Options.{◌>>=◌}
 use Rattle.instruction_rows.specs.declared.value.Slot.{Slot}

@@ -15,7 +15,7 @@ use Rattle.ref_model.specs.declared.exception.Exception.{Exception}
 use Rattle.ref_model.specs.declared.exception.Exception.TheVariants as exceptions
 use Rattle.ref_model.specs.Classes.{is_sub, class_name}
 use Rattle.ref_model.specs.Members.{new_values}
-use Rattle.ref_model.specs.State.{JavaThread, State, with_thread, with_frames, with_status}
+use Rattle.ref_model.specs.State.{State, with_thread, with_frames, with_status}
 use Rattle.ref_model.specs.Heap.{class_at, units_at, with_instance}
 use Rattle.ref_model.specs.Texts.{text_bytes}
 use Rattle.ref_model.specs.Fetch.{handlers_of}

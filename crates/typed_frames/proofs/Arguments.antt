@@ -1,5 +1,5 @@
 -- The arguments of a call: what lies on the caller's operand stack has the kinds of the callee's first local variables.
-use Rattle.std.proofs.Common.{◌≡◌, ℕ, ◌+◌, Bool, true, false, cond, List, [], ◌∷◌, ◌++◌, length, Option, Some, None, Result, Ok, Err, refl, ap, sym, subst, ◌∙◌}
+use Rattle.std.proofs.Common.{◌≡◌, ℕ, ◌+◌, Bool, true, false, List, [], ◌∷◌, ◌++◌, length, Option, Some, None, Ok, refl, ap, sym, subst, ◌∙◌}
 use Rattle.std.specs.Prelude.{map, reverse, sum_by, ◌==◌, if◌then◌else◌}
 use Rattle.std.specs.List.{flat_map}
 use Rattle.std.proofs.lemmas.List.{append_assoc, reverse-append, length-append}
@@ -12,16 +12,15 @@ use Rattle.opcodes.specs.declared.op.Kind.{Kind}
 use Rattle.opcodes.specs.declared.op.Kind.TheVariants as kinds
 use Rattle.stack_maps.specs.declared.types.VType.{VType}
 use Rattle.stack_maps.specs.declared.types.VType.TheVariants as types
-use Rattle.instruction_rows.specs.declared.row_why.RowWhy.{RowWhy}
 use Rattle.instruction_rows.specs.declared.row_why.RowWhy.TheVariants as whys
 use Rattle.instruction_rows.specs.declared.value.Slot.{Slot}
 use Rattle.instruction_rows.specs.Results.{◌then◌}
 use Rattle.instruction_rows.specs.Kinds.{kind_of_type, is_kind}
 use Rattle.instruction_rows.specs.Contents.{is_wide, types_of, slot_types}
 use Rattle.instruction_rows.specs.TypeEffect.{only_of, type_popped, type_pushed}
-use Rattle.instruction_rows.specs.Soundness.{IsOf, AreOf}
+use Rattle.instruction_rows.specs.Soundness.{AreOf}
 use Rattle.instruction_rows.proofs.KindLaws.{only_is, holds, is_of, long_is}
-use Rattle.instruction_rows.proofs.ListLaws.{same_length, append_of}
+use Rattle.instruction_rows.proofs.ListLaws.{append_of}
 use Rattle.instruction_rows.proofs.Steps.{ok_is, passed}
 use Rattle.world_model.specs.World.{World}
 use Rattle.verify_types.specs.Assignability.{assignable}

@@ -1,11 +1,10 @@
 -- A frame that goes on to where the typing leads.
-use Rattle.std.proofs.Common.{◌≡◌, ℕ, ◌≤◌, Bool, true, false, List, ◌∷◌, Option, Some, None, length, refl, ap, sym, subst, ◌∙◌}
+use Rattle.std.proofs.Common.{◌≡◌, ℕ, ◌≤◌, Bool, true, false, List, ◌∷◌, Some, None, length, refl, sym, subst}
 use Rattle.std.specs.Prelude.{nat_le, if◌then◌else◌}
 use Rattle.std.proofs.lemmas.Bool.{le-leb}
-use Rattle.stack_maps.specs.declared.types.VType.{VType}
 use Rattle.instruction_rows.specs.declared.value.Slot.{Slot}
 use Rattle.instruction_rows.specs.Contents.{Contents}
-use Rattle.instruction_rows.specs.Soundness.{AreOf, HasKinds}
+use Rattle.instruction_rows.specs.Soundness.{HasKinds}
 use Rattle.instruction_rows.proofs.ListLaws.{same_length}
 use Rattle.world_model.specs.World.{World}
 use Rattle.verify_types.specs.TypeStates.{TypeState}

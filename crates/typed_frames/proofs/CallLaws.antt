@@ -1,5 +1,5 @@
 -- Static calls of frames that keep to the typing.
-use Rattle.std.proofs.Common.{◌≡◌, ℕ, ◌+◌, ◌≤◌, Bool, true, false, List, [], ◌∷◌, ◌++◌, length, take, drop, Option, Some, None, Result, Ok, Err, refl, ap, sym, subst, ◌∙◌, arith}
+use Rattle.std.proofs.Common.{◌≡◌, ℕ, ◌+◌, ◌≤◌, Bool, true, false, List, [], ◌∷◌, ◌++◌, length, take, drop, Option, Some, None, Ok, refl, ap, sym, subst, ◌∙◌, arith}
 use Rattle.std.specs.Prelude.{codes, map, not, reverse, nat_le, nat_lt, slice_get, sum_by, ◌&&◌, ◌||◌, if◌then◌else◌}
 use Rattle.std.specs.Option.{option_map, option_map_or}
 use Rattle.std.proofs.lemmas.Bool.{le-leb}
@@ -14,25 +14,23 @@ use Rattle.items.specs.Options.{◌>>=◌}
 use Rattle.items.proofs.Binds.{some_is, bind_is}
 use Rattle.linkage.specs.Program.{has_flag}
 use Rattle.stack_maps.specs.declared.types.VType.{VType}
-use Rattle.instruction_rows.specs.declared.row_why.RowWhy.{RowWhy}
 use Rattle.instruction_rows.specs.declared.row_why.RowWhy.TheVariants as whys
 use Rattle.instruction_rows.specs.declared.value.Slot.{Slot}
 use Rattle.instruction_rows.specs.Results.{◌then◌}
 use Rattle.instruction_rows.specs.Contents.{slot_types}
-use Rattle.instruction_rows.specs.Rows.{Row, invoke, static, row_goes_on}
+use Rattle.instruction_rows.specs.Rows.{invoke, static, row_goes_on}
 use Rattle.instruction_rows.specs.TypeEffect.{type_pushed}
-use Rattle.instruction_rows.specs.Soundness.{AreOf, HasKinds}
+use Rattle.instruction_rows.specs.Soundness.{AreOf}
 use Rattle.instruction_rows.proofs.ListLaws.{same_length}
 use Rattle.instruction_rows.proofs.Steps.{ok_is, found, passed}
 use Rattle.world_model.specs.declared.members.MethodInfo.{MethodInfo}
 use Rattle.world_model.specs.declared.members.MethodCode.{MethodCode}
-use Rattle.world_model.specs.declared.sites.Naming.{Naming}
 use Rattle.world_model.specs.declared.sites.Site.{Site}
 use Rattle.world_model.specs.declared.sites.Site.TheVariants as sites
 use Rattle.world_model.specs.World.{World}
 use Rattle.world_model.specs.Decoded.{code_at}
 use Rattle.verify_types.specs.ClassTypes.{type_of_kind}
-use Rattle.verify_types.specs.Operands.{only_if, all_wanted}
+use Rattle.verify_types.specs.Operands.{all_wanted}
 use Rattle.verify_types.specs.Objects.{named_class}
 use Rattle.verify_types.specs.TypeStates.{TypeState, with_stack}
 use Rattle.verify_types.specs.Environment.{Instruction, Environment, receiver_type, first_frame as first_types}
@@ -43,15 +41,15 @@ use Rattle.state_model.specs.Frames.{Frame}
 use Rattle.ref_model.specs.Kinds.{argument_slots}
 use Rattle.ref_model.specs.Members.{is_initializer}
 use Rattle.ref_model.specs.Fetch.{Named, named_method}
-use Rattle.ref_model.specs.Frames.{contents, first_frame, callee, caller}
+use Rattle.ref_model.specs.Frames.{first_frame, callee, caller}
 use Rattle.ref_model.specs.LocalRows.{most_frames, has_local_call, frames_called, static_called, row}
-use Rattle.typed_frames.specs.Typed.{IsAt, Stands, Waits, IsUnder, AreUnder, Typed, given_back, back_of, initializes}
+use Rattle.typed_frames.specs.Typed.{Waits, IsUnder, AreUnder, Typed, given_back, back_of, initializes}
 use Rattle.typed_frames.specs.LocalLaws.{Goes}
-use Rattle.typed_frames.proofs.FetchLaws.{Parts, parts, fine}
-use Rattle.typed_frames.proofs.Beginnings.{Begun, begun}
+use Rattle.typed_frames.proofs.FetchLaws.{parts, fine}
+use Rattle.typed_frames.proofs.Beginnings.{begun}
 use Rattle.typed_frames.proofs.LocalRowLaws.{row_is}
 use Rattle.typed_frames.proofs.ReturnLaws.{back_is}
-use Rattle.typed_frames.proofs.Arguments.{stacked, AllOnTop, all_on_top, reversed_of, in_order, widths}
+use Rattle.typed_frames.proofs.Arguments.{stacked, all_on_top, reversed_of, in_order, widths}
 
 if_true : {A : Type 0} (b : Bool) (x y : A) → b ≡ true → (if b then x else y) ≡ x
 if_true true x y e = refl
@@ -59,14 +57,14 @@ if_true false x y e = absurd cc
 
 -- ---- the method that is named
 
-record IsNamed (w : World) (info : MethodInfo) (m : Named) : Type 0 where
+pub record IsNamed (w : World) (info : MethodInfo) (m : Named) : Type 0 where
   pub info_is : info ≡ m.method
   pub at : slice_get w.methods m.number ≡ Some m.method
 
 inside : (a b : Named) → ◌≡◌ {A = Option Named} (Some a) (Some b) → a ≡ b
 inside a b same = cc
 
-is_named : (w : World) (site : Site) (class : Option ℕ) (info : MethodInfo) (m : Named)
+pub is_named : (w : World) (site : Site) (class : Option ℕ) (info : MethodInfo) (m : Named)
     → named_method w (record { site = site; class = class }) ≡ Some m → method_of w site ≡ Ok info → IsNamed w info m
 is_named w (sites.Method n) class info m named e =
     let x = some_is (slice_get w.methods n) (λ x. Some (record { number = n; method = x })) m named in
@@ -117,7 +115,7 @@ called_types w env i s after index m world known named e =
 -- ---- the frames
 
 -- what the callee gives back on top of what the caller keeps
-result_is : (w : World) (result : Option FieldType) (rest : List VType)
+pub result_is : (w : World) (result : Option FieldType) (rest : List VType)
     → option_map_or (λ kind. type_pushed (type_of_kind w kind) rest) result rest ≡ given_back (option_map (type_of_kind w) result) rest
 result_is w None rest = refl
 result_is w (Some t) rest = refl
@@ -139,7 +137,7 @@ static_locals : (w : World) (info : MethodInfo) → has_flag ACC_STATIC info.fla
 static_locals w info static_flag =
     ap (λ b. (if b then [] else receiver_type w info ∷ []) ++ map (type_of_kind w) info.signature.args) static_flag
 
-count_is : (w : World) (args : List FieldType) (tops : List Slot) → AreOf (stacked (reverse (map (type_of_kind w) args))) tops
+pub count_is : (w : World) (args : List FieldType) (tops : List Slot) → AreOf (stacked (reverse (map (type_of_kind w) args))) tops
     → sum_by slots args ≡ length tops
 count_is w args tops of =
     let ts = map (type_of_kind w) args in
@@ -149,7 +147,7 @@ count_is w args tops of =
 first_fits : (a b n k : ℕ) → k ≡ a → n ≡ a + b → k ≤ n
 first_fits a b n k e f = omega arith
 
-callee_is : (n : ℕ) (code : MethodCode) (k : ℕ) (stack tops left : List Slot) (g : Frame) → stack ≡ tops ++ left → k ≡ length tops
+pub callee_is : (n : ℕ) (code : MethodCode) (k : ℕ) (stack tops left : List Slot) (g : Frame) → stack ≡ tops ++ left → k ≡ length tops
     → first_frame n code (reverse tops) ≡ Some g → callee n code k stack ≡ Some g
 callee_is n code k stack tops left g lies count begins =
     let fits = first_fits (length tops) (length left) (length stack) k count (ap length lies ∙ length-append tops left) in
@@ -158,7 +156,7 @@ callee_is n code k stack tops left g lies count begins =
     if_true (nat_le k (length stack)) (first_frame n code (reverse (take k stack))) None (le-leb k (length stack) fits)
     ∙ ap (λ xs. first_frame n code (reverse xs)) taken ∙ begins
 
-left_is : (k : ℕ) (stack tops left : List Slot) → stack ≡ tops ++ left → k ≡ length tops → drop k stack ≡ left
+pub left_is : (k : ℕ) (stack tops left : List Slot) → stack ≡ tops ++ left → k ≡ length tops → drop k stack ≡ left
 left_is k stack tops left lies count =
     ap (λ j. drop j stack) count ∙ ap (λ xs. drop (length tops) xs) lies ∙ drop-append_seam tops left
 

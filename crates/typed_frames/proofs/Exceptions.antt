@@ -1,42 +1,39 @@
 -- Exceptions on their way through frames that keep to the typing.
-use Rattle.std.proofs.Common.{◌≡◌, ℕ, zero, suc, ◌≤◌, Bool, true, false, cond, List, [], ◌∷◌, length, Option, Some, None, refl, ap, sym, subst, ◌∙◌}
-use Rattle.std.specs.Prelude.{find, get_or, slice_get, ◌==◌, ◌&&◌}
+use Rattle.std.proofs.Common.{◌≡◌, ℕ, suc, ◌≤◌, Bool, true, false, cond, List, [], ◌∷◌, length, Option, Some, None, refl, ap, sym, subst, ◌∙◌}
+use Rattle.std.specs.Prelude.{find, slice_get, ◌==◌}
 use Rattle.std.specs.Option.{option_map_or}
 use Rattle.std.proofs.lemmas.Bool.{eqb-true}
-use Rattle.items.specs.Options.{◌>>=◌}
 use Rattle.items.proofs.Binds.{some_is}
 use Rattle.opcodes.specs.declared.op.Kind.TheVariants as kinds
-use Rattle.stack_maps.specs.declared.types.VType.{VType}
 use Rattle.instruction_rows.specs.declared.value.Value.TheVariants as values
 use Rattle.instruction_rows.specs.declared.value.Slot.{Slot}
 use Rattle.instruction_rows.specs.declared.value.Slot.TheVariants.{One}
 use Rattle.instruction_rows.specs.Kinds.{kind_of_type}
 use Rattle.instruction_rows.specs.Contents.{Contents}
 use Rattle.instruction_rows.specs.SlotEffect.{pushed}
-use Rattle.instruction_rows.specs.Soundness.{IsOf, AreOf, HasKinds}
+use Rattle.instruction_rows.specs.Soundness.{HasKinds}
 use Rattle.instruction_rows.proofs.KindLaws.{is_of}
 use Rattle.instruction_rows.proofs.ListLaws.{same_length}
 use Rattle.world_model.specs.declared.members.MethodCode.{MethodCode}
 use Rattle.world_model.specs.declared.sites.ArrayType.{ArrayType}
 use Rattle.world_model.specs.World.{World, array_type, class_type}
 use Rattle.world_model.specs.Decoded.{code_at}
-use Rattle.verify_types.specs.ClassTypes.{throwable_type}
 use Rattle.verify_types.specs.TypeStates.{TypeState}
 use Rattle.verify_types.specs.Environment.{Handler, Environment}
 use Rattle.verify_types.specs.Calls.{covers}
 use Rattle.verify_types.specs.Handlers.{caught_type, caught}
 use Rattle.verify_types.specs.Walk.{Placed, walk}
-use Rattle.verify_types.specs.Typing.{Leads, IsFine, AreTyped}
+use Rattle.verify_types.specs.Typing.{Leads, AreTyped}
 use Rattle.verify_types.proofs.ListLaws.{and_true, found_passes}
 use Rattle.state_model.specs.Frames.{Frame}
 use Rattle.ref_model.specs.Classes.{is_sub}
 use Rattle.ref_model.specs.Fetch.{handlers_of}
-use Rattle.ref_model.specs.Frames.{contents, is_root}
-use Rattle.ref_model.specs.Throwing.{catches, handler_of, at_handler}
-use Rattle.typed_frames.specs.Typed.{IsAt, Stands, Waits, Throws, IsUnder, Typed, Thrown, back_of}
+use Rattle.ref_model.specs.Frames.{is_root}
+use Rattle.ref_model.specs.Throwing.{catches, handler_of}
+use Rattle.typed_frames.specs.Typed.{IsAt, Waits, IsUnder, Typed, Thrown, back_of}
 use Rattle.typed_frames.specs.ThrowLaws.{IsHandled}
-use Rattle.typed_frames.proofs.FetchLaws.{Parts, parts, typed_method, fine}
-use Rattle.typed_frames.proofs.Arrivals.{Arrived, arrived, on_frames}
+use Rattle.typed_frames.proofs.FetchLaws.{parts, typed_method, fine}
+use Rattle.typed_frames.proofs.Arrivals.{arrived, on_frames}
 
 -- ---- frames of a thread that throws
 

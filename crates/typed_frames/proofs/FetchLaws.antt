@@ -9,7 +9,7 @@ use Rattle.world_model.specs.World.{World}
 use Rattle.world_model.specs.Decoded.{code_at}
 use Rattle.verify_types.specs.TypeStates.{TypeState}
 use Rattle.verify_types.specs.Environment.{Instruction, Environment, environment_of, environment}
-use Rattle.verify_types.specs.Walk.{Placed, placed, standing, behind, is_end, placed_at}
+use Rattle.verify_types.specs.Walk.{Placed, placed, standing, behind, is_end}
 use Rattle.verify_types.specs.Typing.{IsFine, IsTypedMethod, AreTyped}
 use Rattle.state_model.specs.Frames.{Frame}
 use Rattle.ref_model.specs.Fetch.{instruction_in, fetched}

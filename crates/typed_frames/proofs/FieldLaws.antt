@@ -1,11 +1,10 @@
 -- Fields keep kinds.
-use Rattle.std.proofs.Common.{◌≡◌, ◌⊎◌, inl, inr, ℕ, zero, suc, Bool, true, false, List, [], ◌∷◌, Option, Some, None, Result, Ok, Err, refl, ap, sym, subst, ◌∙◌}
+use Rattle.std.proofs.Common.{◌≡◌, ◌⊎◌, inl, inr, ℕ, zero, suc, Bool, true, false, List, [], ◌∷◌, Option, Some, None, Result, Ok, refl, ap, sym, subst, ◌∙◌}
 use Rattle.std.specs.Prelude.{map, slice_get, slice_set, ◌||◌, if◌then◌else◌}
 use Rattle.std.specs.Option.{option_map_or}
 use Rattle.std.specs.List.{AllZip}
 use Rattle.items.specs.Options.{◌>>=◌}
 use Rattle.items.proofs.Binds.{some_is}
-use Rattle.opcodes.specs.declared.op.Kind.{Kind}
 use Rattle.opcodes.specs.declared.op.Kind.TheVariants as kinds
 use Rattle.stack_maps.specs.declared.types.VType.{VType}
 use Rattle.instruction_rows.specs.declared.row_why.RowWhy.{RowWhy}
@@ -14,15 +13,14 @@ use Rattle.instruction_rows.specs.declared.value.Value.{Value}
 use Rattle.instruction_rows.specs.declared.value.Slot.{Slot}
 use Rattle.instruction_rows.specs.Results.{◌then◌}
 use Rattle.instruction_rows.specs.Contents.{with_item}
-use Rattle.instruction_rows.specs.Kinds.{Of, kind_of, kind_of_type, value}
+use Rattle.instruction_rows.specs.Kinds.{kind_of, kind_of_type, value}
 use Rattle.instruction_rows.specs.SlotEffect.{popped, pushed}
 use Rattle.instruction_rows.specs.TypeEffect.{type_popped, type_pushed}
 use Rattle.instruction_rows.specs.Soundness.{AreOf}
 use Rattle.instruction_rows.proofs.KindLaws.{pushed_kinds, kind_of_value}
-use Rattle.instruction_rows.proofs.StackLaws.{Popped, popped_of}
+use Rattle.instruction_rows.proofs.StackLaws.{popped_of}
 use Rattle.instruction_rows.proofs.Steps.{ok_is, passed}
 use Rattle.world_model.specs.declared.members.FieldInfo.{FieldInfo}
-use Rattle.world_model.specs.declared.sites.ArrayType.{ArrayType}
 use Rattle.world_model.specs.declared.sites.Naming.{Naming}
 use Rattle.world_model.specs.World.{World, array_type, class_type}
 use Rattle.verify_types.specs.ClassTypes.{type_of_kind}
@@ -38,22 +36,22 @@ use Rattle.ref_model.specs.Members.{is_static_field, instance_fields, field_plac
 use Rattle.ref_model.specs.State.{State}
 use Rattle.ref_model.specs.Heap.{object_at, class_of, class_at, values_of, values_at, object_with, with_value}
 use Rattle.ref_model.specs.Fetch.{field_of}
-use Rattle.ref_model.specs.Effects.{Effect, done, gives, throws, not_null, late_failure, on_instance}
+use Rattle.ref_model.specs.Effects.{Effect, done, gives, throws, late_failure, on_instance}
 use Rattle.ref_model.specs.Fields.{stored, static_gotten, static_put, field_gotten, field_put}
 use Rattle.typed_frames.specs.StateKinds.{IsOfKind, kind_of_field, field_kind, instance_kinds, ValuesFit, ObjectFits, static_kinds, StateFits, HasFieldKinds}
 use Rattle.typed_frames.specs.EventLaws.{IsKept, IsStaticNaming, IsInstanceNaming}
-use Rattle.typed_frames.proofs.ValueLaws.{zip_got, zip_set, item_set, place_among, field_same, PoppedAs, wanted_popped}
+use Rattle.typed_frames.proofs.ValueLaws.{zip_got, zip_set, item_set, place_among, field_same, wanted_popped}
 use Rattle.typed_frames.proofs.ReturnLaws.{kept_kind}
 use Rattle.typed_frames.proofs.Exceptions.{class_kind}
 
 -- what is known of an effect that is known
-kept_is : (w : World) (rest : List VType) (a b : Effect) → ◌≡◌ {A = Option Effect} (Some a) (Some b) → IsKept w rest a → IsKept w rest b
+pub kept_is : (w : World) (rest : List VType) (a b : Effect) → ◌≡◌ {A = Option Effect} (Some a) (Some b) → IsKept w rest a → IsKept w rest b
 kept_is w rest a b e kept = subst (IsKept w rest) (inside a b e) kept
   where
     inside : (a b : Effect) → ◌≡◌ {A = Option Effect} (Some a) (Some b) → a ≡ b
     inside a b same = cc
 
-same_types : (a b : List VType) → ◌≡◌ {A = Result (List VType) RowWhy} (Ok a) (Ok b) → a ≡ b
+pub same_types : (a b : List VType) → ◌≡◌ {A = Result (List VType) RowWhy} (Ok a) (Ok b) → a ≡ b
 same_types a b e = cc
 
 -- the kind of a static field, at its place
@@ -130,7 +128,7 @@ static_puts_keep w naming r ts rest xs effect field_kinds is_static fits of type
 
 -- ---- fields of an object
 
-same_effect : (a b : Effect) → ◌≡◌ {A = Option Effect} (Some a) (Some b) → a ≡ b
+pub same_effect : (a b : Effect) → ◌≡◌ {A = Option Effect} (Some a) (Some b) → a ≡ b
 same_effect a b e = cc
 
 tested : (w : World) (named class : ℕ) (acted : Option Effect) (effect : Effect) (P : Effect → Type 0) → ((x : Exception) → P (throws x))
@@ -220,7 +218,7 @@ gotten w naming r o class named n f below left effect field_kinds lies fits at i
     kept_is w (type_pushed (type_of_kind w f.kind) below) (gives r v.0 left) effect v.2
     (fits, pushed_kinds (type_of_kind w f.kind) v.0 below left (field_kinds n f is ∙ ap Some (sym kind)) of)
 
-same_popped : (o : Option (Option ℕ × List Slot)) (a b : Option ℕ × List Slot) → o ≡ Some a → o ≡ Some b → a ≡ b
+pub same_popped : (o : Option (Option ℕ × List Slot)) (a b : Option ℕ × List Slot) → o ≡ Some a → o ≡ Some b → a ≡ b
 same_popped o a b x y = cc
 
 pub field_gets_keep : (w : World) (naming : Naming) (r : State) (ts rest : List VType) (xs : List Slot) (effect : Effect)
@@ -266,7 +264,7 @@ changed_fits w r o x fits of = record { heap = λ p y e. by p y (set_at r.heap o
     by p y (inl same) = subst (ObjectFits w) (sym same) of
     by p y (inr e) = fits.heap p y e
 
-same_state : (a b : State) → ◌≡◌ {A = Option State} (Some a) (Some b) → a ≡ b
+pub same_state : (a b : State) → ◌≡◌ {A = Option State} (Some a) (Some b) → a ≡ b
 same_state a b e = cc
 
 set_fits : (w : World) (r q : State) (o class place : ℕ) (v : Value) (x : Object) → StateFits w r → object_at r o ≡ Some x

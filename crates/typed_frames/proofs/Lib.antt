@@ -9,3 +9,13 @@ pub mod CallLaws
 pub mod KeepLaws
 pub mod ValueLaws
 pub mod FieldLaws
+pub mod ArrayLaws
+pub mod ObjectLaws
+pub mod NativeLaws
+pub mod InstanceCalls
+pub mod CallerLaws
+pub mod ArrayTrees
+pub mod EventProofs
+pub mod Raises
+pub mod NativeCalls
+pub mod EnterProofs

@@ -1,28 +1,25 @@
 -- Local rows and constants of frames that keep to the typing.
-use Rattle.std.proofs.Common.{◌≡◌, ℕ, Bool, true, false, List, [], ◌∷◌, Option, Some, None, Result, Ok, Err, refl, ap, sym, subst, ◌∙◌}
+use Rattle.std.proofs.Common.{◌≡◌, ℕ, true, false, List, ◌∷◌, Option, Some, Result, Ok, refl, ap, sym, subst, ◌∙◌}
 use Rattle.std.specs.List.{IsAmong}
 use Rattle.items.specs.Options.{◌>>=◌}
-use Rattle.items.proofs.Binds.{some_is, bind_is}
+use Rattle.items.proofs.Binds.{bind_is}
 use Rattle.stack_maps.specs.declared.types.VType.{VType}
-use Rattle.stack_maps.specs.declared.types.VType.TheVariants as types
 use Rattle.instruction_rows.specs.declared.row_why.RowWhy.{RowWhy}
 use Rattle.instruction_rows.specs.declared.value.Value.{Value}
 use Rattle.instruction_rows.specs.declared.value.Value.TheVariants as values
 use Rattle.instruction_rows.specs.declared.value.Slot.{Slot}
-use Rattle.instruction_rows.specs.Results.{◌then◌}
 use Rattle.instruction_rows.specs.Kinds.{kind_of, kind_of_type}
 use Rattle.instruction_rows.specs.Contents.{Contents}
 use Rattle.instruction_rows.specs.Rows.{LocalRow, Row, local, constant, wide_constant, targets_of_row, row_goes_on}
 use Rattle.instruction_rows.specs.Table.{row as row_in_table}
-use Rattle.instruction_rows.specs.SlotEffect.{Way, on, to, Moved, acted, pushed, divides_by_zero}
+use Rattle.instruction_rows.specs.SlotEffect.{Way, on, to, acted, pushed, divides_by_zero}
 use Rattle.instruction_rows.specs.TypeEffect.{typed, type_pushed}
-use Rattle.instruction_rows.specs.Pcs.{pc_of, pc_after}
-use Rattle.instruction_rows.specs.Soundness.{HasKinds, AreOf, IsSound, IsSoundRow, IsWay, Keeps}
+use Rattle.instruction_rows.specs.Pcs.{pc_after}
+use Rattle.instruction_rows.specs.Soundness.{HasKinds, IsSound, IsSoundRow, IsWay}
 use Rattle.instruction_rows.proofs.RowLaws.{keeps}
 use Rattle.instruction_rows.proofs.TableLaws.{sound}
 use Rattle.instruction_rows.proofs.KindLaws.{pushed_kinds}
 use Rattle.instruction_rows.proofs.Steps.{ok_is}
-use Rattle.world_model.specs.declared.sites.Naming.{Naming}
 use Rattle.world_model.specs.declared.sites.Site.{Site}
 use Rattle.world_model.specs.declared.sites.Site.TheVariants as sites
 use Rattle.world_model.specs.World.{World}
@@ -36,10 +33,10 @@ use Rattle.state_model.specs.Frames.{Frame}
 use Rattle.ref_model.specs.Fetch.{fetched, constant_of}
 use Rattle.ref_model.specs.Frames.{contents, gone, moved, behind}
 use Rattle.ref_model.specs.LocalRows.{local_act, constant_pushed, row}
-use Rattle.typed_frames.specs.Typed.{IsAt, Stands, Typed}
+use Rattle.typed_frames.specs.Typed.{IsAt, Typed}
 use Rattle.typed_frames.specs.LocalLaws.{Goes}
 use Rattle.typed_frames.proofs.FetchLaws.{fetched_is, fine}
-use Rattle.typed_frames.proofs.Arrivals.{Arrived, arrived, on_frames}
+use Rattle.typed_frames.proofs.Arrivals.{arrived, on_frames}
 
 -- ---- the row of the top frame's instruction, where that is known
 

@@ -1,7 +1,7 @@
 -- Returns of frames that keep to the typing.
-use Rattle.std.proofs.Common.{◌≡◌, ◌≢◌, ◌⊎◌, inl, inr, ℕ, Bool, true, false, cond, List, [], ◌∷◌, Option, Some, None, Result, Ok, Err, refl, ap, sym, subst, ◌∙◌}
-use Rattle.std.specs.Prelude.{is_none, slice_get, ◌==◌, ◌||◌, if◌then◌else◌}
-use Rattle.std.specs.Option.{option_map, option_map_or}
+use Rattle.std.proofs.Common.{◌≡◌, ◌≢◌, ◌⊎◌, inl, inr, ℕ, Bool, true, false, cond, List, [], ◌∷◌, Option, Some, None, Result, Ok, refl, ap, sym, subst, ◌∙◌}
+use Rattle.std.specs.Prelude.{is_none, slice_get, ◌==◌, if◌then◌else◌}
+use Rattle.std.specs.Option.{option_map}
 use Rattle.items.specs.Options.{◌>>=◌}
 use Rattle.items.proofs.Binds.{bind_is}
 use Rattle.descriptors.specs.declared.kind.ElementType.{ElementType}
@@ -15,14 +15,14 @@ use Rattle.instruction_rows.specs.declared.value.Value.{Value}
 use Rattle.instruction_rows.specs.declared.value.Value.TheVariants as values
 use Rattle.instruction_rows.specs.declared.value.Slot.{Slot}
 use Rattle.instruction_rows.specs.Results.{◌then◌}
-use Rattle.instruction_rows.specs.Kinds.{Of, kind_of, kind_of_type, value}
+use Rattle.instruction_rows.specs.Kinds.{kind_of, kind_of_type, value}
 use Rattle.instruction_rows.specs.Contents.{Contents}
-use Rattle.instruction_rows.specs.Rows.{Row, returns}
+use Rattle.instruction_rows.specs.Rows.{returns}
 use Rattle.instruction_rows.specs.SlotEffect.{popped, pushed}
-use Rattle.instruction_rows.specs.TypeEffect.{type_popped, type_pushed}
+use Rattle.instruction_rows.specs.TypeEffect.{type_popped}
 use Rattle.instruction_rows.specs.Soundness.{AreOf, HasKinds, KeepsKind}
 use Rattle.instruction_rows.proofs.KindLaws.{pushed_kinds, kind_of_value}
-use Rattle.instruction_rows.proofs.StackLaws.{Popped, popped_of}
+use Rattle.instruction_rows.proofs.StackLaws.{popped_of}
 use Rattle.instruction_rows.proofs.Steps.{ok_is}
 use Rattle.world_model.specs.declared.members.MethodInfo.{MethodInfo}
 use Rattle.world_model.specs.World.{World}
@@ -40,10 +40,10 @@ use Rattle.ref_model.specs.Kinds.{kept}
 use Rattle.ref_model.specs.Fetch.{fetched}
 use Rattle.ref_model.specs.Frames.{contents, behind, is_root, stack_returned, returned_to, returned}
 use Rattle.ref_model.specs.LocalRows.{row}
-use Rattle.typed_frames.specs.Typed.{IsAt, Stands, Waits, IsUnder, Typed, given_back, back_of, result_type, initializes}
+use Rattle.typed_frames.specs.Typed.{IsAt, Waits, IsUnder, Typed, given_back, back_of, result_type}
 use Rattle.typed_frames.specs.LocalLaws.{Goes}
-use Rattle.typed_frames.proofs.FetchLaws.{Parts, parts, fetched_is, fine}
-use Rattle.typed_frames.proofs.Arrivals.{Arrived, arrived, on_frames}
+use Rattle.typed_frames.proofs.FetchLaws.{parts, fetched_is, fine}
+use Rattle.typed_frames.proofs.Arrivals.{arrived, on_frames}
 use Rattle.typed_frames.proofs.LocalRowLaws.{row_is}
 
 -- ---- the kind of a result

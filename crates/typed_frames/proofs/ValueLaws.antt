@@ -1,10 +1,9 @@
 -- Values of the kinds of fields and elements, in lists.
-use Rattle.std.proofs.Common.{◌≡◌, ℕ, zero, suc, Bool, true, false, cond, List, [], ◌∷◌, length, take, Option, Some, None, Result, Ok, Err, refl, ap, sym, subst, ◌∙◌}
+use Rattle.std.proofs.Common.{◌≡◌, ℕ, zero, suc, Bool, true, false, List, [], ◌∷◌, length, take, Some, None, Ok, refl, ap, sym, subst, ◌∙◌}
 use Rattle.std.specs.Prelude.{filter, map, nat_lt, slice_get, slice_set, if◌then◌else◌}
 use Rattle.std.specs.List.{AllZip}
 use Rattle.opcodes.specs.declared.op.Kind.{Kind}
 use Rattle.stack_maps.specs.declared.types.VType.{VType}
-use Rattle.instruction_rows.specs.declared.row_why.RowWhy.{RowWhy}
 use Rattle.instruction_rows.specs.declared.row_why.RowWhy.TheVariants as whys
 use Rattle.instruction_rows.specs.declared.value.Value.{Value}
 use Rattle.instruction_rows.specs.declared.value.Slot.{Slot}
@@ -14,7 +13,7 @@ use Rattle.instruction_rows.specs.SlotEffect.{popped}
 use Rattle.instruction_rows.specs.TypeEffect.{type_popped}
 use Rattle.instruction_rows.specs.Contents.{with_item}
 use Rattle.instruction_rows.specs.Soundness.{AreOf}
-use Rattle.instruction_rows.proofs.StackLaws.{Popped, popped_of}
+use Rattle.instruction_rows.proofs.StackLaws.{popped_of}
 use Rattle.instruction_rows.proofs.Steps.{ok_is, found, passed}
 use Rattle.world_model.specs.declared.members.FieldInfo.{FieldInfo}
 use Rattle.world_model.specs.declared.sites.Site.{Site}

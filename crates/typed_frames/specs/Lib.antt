@@ -3,3 +3,7 @@ pub mod LocalLaws
 pub mod ThrowLaws
 pub mod StateKinds
 pub mod EventLaws
+pub mod NativeLaws
+pub mod CallLaws
+pub mod StepKinds
+pub mod EnterLaws

@@ -1,5 +1,5 @@
 -- What it means that the values of a heap and of static fields have the kinds of their fields and elements (JVMS 2.11.1).
-use Rattle.std.specs.Prelude.{◌≡◌, ℕ, true, List, Option, Some, None, filter, map, slice_get}
+use Rattle.std.specs.Prelude.{◌≡◌, ℕ, List, Option, Some, None, filter, map, slice_get}
 use Rattle.std.specs.Option.{option_map_or}
 use Rattle.std.specs.List.{AllZip}
 use Rattle.items.specs.First.{Each}

@@ -4,9 +4,12 @@ use Rattle.world_model.specs.World.{World}
 use Rattle.verify_types.specs.Environment.{Handler}
 use Rattle.verify_types.specs.Typing.{AreTyped}
 use Rattle.state_model.specs.Frames.{Frame}
+use Rattle.ref_model.specs.declared.exception.Exception.{Exception}
+use Rattle.ref_model.specs.State.{State}
 use Rattle.ref_model.specs.Frames.{is_root}
-use Rattle.ref_model.specs.Throwing.{handler_of, at_handler}
+use Rattle.ref_model.specs.Throwing.{raised, handler_of, at_handler}
 use Rattle.typed_frames.specs.Typed.{Typed, Thrown}
+use Rattle.typed_frames.specs.StateKinds.{StateFits}
 
 -- a thread that throws keeps its frames
 abbrev pub ThrowsKeep : Type 0
@@ -25,3 +28,7 @@ pub record IsHandled (w : World) (f : Frame) (below : List Frame) (h : Handler) 
 abbrev pub HandlersGoOn : Type 0
 HandlersGoOn = (w : World) (f : Frame) (below : List Frame) (class o : ℕ) (h : Handler) → AreTyped w → Thrown w (f ∷ below) →
     handler_of w class f ≡ Some h → IsHandled w f below h o
+
+-- What is thrown by the machine leaves the state's values of their kinds, and all frames as they are.
+abbrev pub RaisesKeep : Type 0
+RaisesKeep = (w : World) (r q : State) (t : ℕ) (e : Exception) → StateFits w r → raised w r t e ≡ Some q → StateFits w q

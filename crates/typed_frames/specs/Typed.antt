@@ -4,7 +4,6 @@ use Rattle.std.specs.Prelude.{◌≡◌, ℕ, Bool, true, false, List, [], ◌�
 use Rattle.std.specs.Option.{option_map, option_map_or}
 use Rattle.items.specs.Options.{◌>>=◌}
 use Rattle.stack_maps.specs.declared.types.VType.{VType}
-use Rattle.instruction_rows.specs.Contents.{Contents}
 use Rattle.instruction_rows.specs.Rows.{row_goes_on}
 use Rattle.instruction_rows.specs.TypeEffect.{type_pushed}
 use Rattle.instruction_rows.specs.Soundness.{AreOf, HasKinds}

@@ -1,4 +1,5 @@
 use Rattle.typed_frames.proofs.Exceptions.{thrown, left, handled}
+use Rattle.typed_frames.proofs.Raises.{raises_keep}
 use Rattle.typed_frames.proofs.exceptions_go_on.Goals as goal
 
 pub returns-clause-throws : goal.returns-clause-throws
@@ -9,3 +10,6 @@ returns-clause-left c = left
 
 pub returns-clause-handled : goal.returns-clause-handled
 returns-clause-handled c = λ w f below class o h typed t found. handled w f below class o h typed t found
+
+pub returns-clause-raises : goal.returns-clause-raises
+returns-clause-raises c = λ w r q t e fits made. raises_keep w r q t e fits made

@@ -1,0 +1,10 @@
+use Rattle.typed_frames.proofs.NativeCalls.{natives_go_on}
+use Rattle.typed_frames.proofs.NativeLaws.{natives_keep}
+use Rattle.typed_frames.proofs.natives_keep_kinds.Goals as goal
+
+pub returns-clause-answers : goal.returns-clause-answers
+returns-clause-answers c = λ w r n row fits e. natives_keep w r n row fits e
+
+pub returns-clause-operands : goal.returns-clause-operands
+returns-clause-operands c = λ w r n takes act back ts rest xs effect fits row types of fit made.
+    natives_go_on w r n takes act back ts rest xs effect fits row types of fit made
