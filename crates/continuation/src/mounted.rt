@@ -1,7 +1,7 @@
 ghost use Rattle.std.specs.Prelude.{◌≡◌, ◌↔◌, ◌+◌, ◌-◌, ◌<◌, ◌≤◌, Err, IfErr, IfOk, IsOk, IsTrue, OnErr, OnOk, Some, [], drop, length, slice_get, reverse, vec_len};
 ghost use Rattle.std.specs.Vec.{vec_capacity};
 ghost use Rattle.std.specs.Borrow.{sem};
-ghost use Rattle.frames.specs.Frames.{HasRoom, at_pc, called, cleared, entered, left, popped, pushed, returned, room_left, row_of, settled, size_of, top_locals, top_method, top_pc, top_room, top_stack, with_frames, with_local};
+ghost use Rattle.frames.specs.Frames.{HasRoom, at_pc, called, cleared, dropped, entered, left, popped, pushed, returned, room_left, row_of, settled, size_of, top_locals, top_method, top_pc, top_room, top_stack, with_frames, with_local};
 ghost use Rattle.continuation.specs.Continuation.{with_pin, without_pin};
 
 use frames::{FrameView, MOST_FRAMES, Stack, StackError};
@@ -203,6 +203,15 @@ impl Mounted {
         ensures popped { self.new ≡ record self.old { stack = popped self.old.stack } }
     {
         self.stack.pop()
+    }
+
+    /// Drops so many of the top frame's operands, from the top on.
+    #[inline(always)]
+    pub fn drop_operands(&mut self, slots: u16)
+        requires { slots ≤ length (top_stack self.old.stack.frames) }
+        ensures { self.new ≡ record self.old { stack = dropped slots self.old.stack } }
+    {
+        self.stack.drop_operands(slots);
     }
 
     /// Drops the top frame's operands.

@@ -1,3 +1,4 @@
 pub mod RowLaws
 pub mod StackLaws
 pub mod SeenLaws
+pub mod Windows

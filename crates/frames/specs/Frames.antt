@@ -75,6 +75,9 @@ with_frames frames s = record s { frames = frames }
 abbrev pub pushed : Slot → Frames → Frames
 pushed slot s = record s { frames = with_stack (slot ∷ top_stack s.frames) s.frames; spare = drop 1 s.spare }
 
+abbrev pub dropped : ℕ → Frames → Frames
+dropped slots s = record s { frames = with_stack (drop slots (top_stack s.frames)) s.frames; spare = reverse (take slots (top_stack s.frames)) ++ s.spare }
+
 abbrev pub popped : Frames → Frames
 popped s = record s { frames = with_stack (drop 1 (top_stack s.frames)) s.frames; spare = take 1 (top_stack s.frames) ++ s.spare }
 
@@ -120,6 +123,21 @@ abbrev pub with_row : Frames → List Slot → Frames
 with_row s slots =
     let row = over (row_of s) slots in
     record s { frames = read_from row s.frames; spare = drop (size_of s.frames) row }
+
+-- the row from the top frame's first slot on
+abbrev pub window : Frames → List Slot
+window s = drop (size_of (drop 1 s.frames)) (row_of s)
+
+-- the top frame and what is spare, read off other slots; the frames below are as they were
+abbrev pub top_read_from : List Slot → List Frame → List Frame
+top_read_from slots [] = []
+top_read_from slots (f ∷ below) = record f { locals = ascending slots 0 (length f.locals); stack = descending slots (length f.locals) (length f.stack) } ∷ below
+
+abbrev pub with_window : List Slot → Frames → Frames
+with_window slots s = record s {
+  frames = top_read_from slots s.frames;
+  spare = drop (length (top_locals s.frames) + length (top_stack s.frames)) slots;
+}
 
 -- whether a frame of this size can be pushed without new memory
 abbrev pub HasRoom : Frames → ℕ → ℕ → Type 0

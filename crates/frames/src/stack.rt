@@ -1,6 +1,6 @@
 ghost use Rattle.std.specs.Prelude.{ℕ, ◌≡◌, ◌↔◌, ◌+◌, ◌-◌, ◌<◌, ◌≤◌, Err, IsOk, IsTrue, OnErr, OnOk, Some, [], drop, length, slice_get};
 ghost use Rattle.std.specs.Borrow.{sem};
-ghost use Rattle.frames.specs.Frames.{HasRoom, at_pc, called, cleared, entered, left, popped, pushed, returned, room_left, row_of, settled, size_of, top_locals, top_method, top_pc, top_room, top_stack, with_frames, with_local};
+ghost use Rattle.frames.specs.Frames.{HasRoom, at_pc, called, cleared, dropped, entered, left, popped, pushed, returned, room_left, row_of, settled, size_of, top_locals, top_method, top_pc, top_room, top_stack, with_frames, with_local};
 ghost use Rattle.frames.specs.declared.error.StackError.TheVariants as errors;
 
 use crate::error::StackError;
@@ -153,6 +153,15 @@ impl Stack {
         let cell = self.cells[self.top.end() - 1];
         self.top.used -= 1;
         cell.slot()
+    }
+
+    /// Drops so many of the top frame's operands, from the top on.
+    #[inline(always)]
+    pub fn drop_operands(&mut self, slots: u16)
+        requires { slots ≤ length (top_stack self.old.frames) }
+        ensures { self.new ≡ dropped slots self.old }
+    {
+        self.top.used -= slots;
     }
 
     /// Drops the top frame's operands.
