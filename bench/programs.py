@@ -6,7 +6,7 @@ usage: programs.py SOURCES OUT
 The Java sources of the folder SOURCES whose first line says that they link are compiled with the javac of this machine. In OUT it writes files of class
 files, each behind its length in four bytes, the highest first:
 
-  classes-N     N of the classes that javac wrote, for 10, 50, 250 and 1,250: they stand there again and again under other names
+  classes-N     N of the classes that javac wrote, or a few more, for 10, 50, 250 and 1,250: they stand there again and again under other names
   KIND          a class file or more that are meant to be slow or to want much memory, for each kind below
 """
 
@@ -63,22 +63,24 @@ def renamed(data, names, mark):
     return head + u2(count) + b"".join(pool) + data[reader.at:]
 
 
-def javac_classes(sources):
-    """The class files of the sources that link, by the names of their classes."""
-    with tempfile.TemporaryDirectory() as folder:
-        for source in sorted(sources.glob("*.java")):
-            if source.read_text().startswith("// links"):
+def javac_programs(sources):
+    """The class files of each source that links, by the names of their classes."""
+    for source in sorted(sources.glob("*.java")):
+        if source.read_text().startswith("// links"):
+            with tempfile.TemporaryDirectory() as folder:
                 subprocess.run(["javac", "--release", "17", "-XDstringConcat=inline", "-nowarn", "-Xlint:-options", "-d", folder, source],
                                check=True, stderr=subprocess.DEVNULL)
-        return {path.stem.encode(): path.read_bytes() for path in sorted(Path(folder).glob("*.class"))}
+                yield {path.stem.encode(): path.read_bytes() for path in sorted(Path(folder).glob("*.class"))}
 
 
-def copies(classes):
-    """The classes again and again, each time under other names."""
-    mark = 0
+def copies(programs, count):
+    """At least so many classes: those of the programs again and again, each time under other names."""
+    made, mark = [], 0
     while True:
-        for data in classes.values():
-            yield renamed(data, classes, b"$%d" % mark) if mark else data
+        for classes in programs:
+            made += [renamed(data, classes, b"$%d" % mark) if mark else data for data in classes.values()]
+            if len(made) >= count:
+                return made
         mark += 1
 
 
@@ -282,10 +284,9 @@ def write(path, classes):
 def main():
     sources, out = Path(sys.argv[1]), Path(sys.argv[2])
     out.mkdir(parents=True, exist_ok=True)
-    classes = javac_classes(sources)
+    programs = list(javac_programs(sources))
     for count in (10, 50, 250, 1250):
-        made = copies(classes)
-        write(out / f"classes-{count}", [next(made) for _ in range(count)])
+        write(out / f"classes-{count}", copies(programs, count))
     for kind, made in KINDS.items():
         write(out / kind, made())
 
