@@ -78,7 +78,7 @@ def copies(programs, count):
     made, mark = [], 0
     while True:
         for classes in programs:
-            made += [renamed(data, classes, b"$%d" % mark) if mark else data for data in classes.values()]
+            made += [renamed(data, classes, b"_%d" % mark) if mark else data for data in classes.values()]
             if len(made) >= count:
                 return made
         mark += 1
