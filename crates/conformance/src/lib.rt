@@ -33,6 +33,8 @@ mod sleepers;
 #[cfg(test)]
 mod stack_map_frames;
 #[cfg(test)]
+mod storage;
+#[cfg(test)]
 mod texts;
 #[cfg(test)]
 mod thread_states;

@@ -25,7 +25,11 @@ impl Model for Mounted {
 
     ghost Value = { Continuation };
 
-    ghost view = { λ a. record { thread = a.thread; stack = a.stack; pinned = reverse a.pinned.items } };
+    ghost view = { λ a. record {
+      thread = a.thread;
+      stack = a.stack;
+      pinned = reverse a.pinned.items;
+    } };
 
     ghost invariant = { λ a. ArePinned (length a.stack.frames) (reverse a.pinned.items) };
 }

@@ -19,7 +19,10 @@ impl Model for SlotBlock {
 
     ghost Value = { Block };
 
-    ghost view = { λ a. record { slots = a.cells.items; spare = vec_capacity a.cells - vec_len a.cells } };
+    ghost view = { λ a. record {
+      slots = a.cells.items;
+      spare = vec_capacity a.cells - vec_len a.cells;
+    } };
 }
 
 impl SlotBlock {
