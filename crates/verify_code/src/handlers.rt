@@ -1,13 +1,14 @@
 //! Exception handlers (JVMS 4.10.1.6, instructionSatisfiesHandlers).
 
-ghost use Rattle.std.specs.Prelude.{◌≡◌, ◌<◌, ◌^◌, IfSome, None, drop, false, get_or};
+ghost use Rattle.std.specs.Prelude.{◌≡◌, ◌<◌, ◌^◌, IfSome, MatchOption, None, Some, drop, false, get_or};
+ghost use Rattle.std.specs.Bool.{MatchBool};
 ghost use Rattle.std.specs.List.{list_all};
 ghost use Rattle.std.specs.Option.{option_map, option_map_or};
 ghost use Rattle.verify_types.specs.Environment.{map_at};
 ghost use Rattle.verify_types.specs.Handlers as spec;
 ghost use Rattle.verify_instructions.specs.Views.{state_in};
 ghost use Rattle.verify_code.specs.Handlers as parts;
-ghost use Rattle.verify_code.specs.Handlers.{handler, caught_fits, keeps_more};
+ghost use Rattle.verify_code.specs.Handlers.{IsCatcher, IsRowKept, handler, caught_fits, keeps_more};
 ghost use Rattle.verify_code.specs.Standings.{IsJudged, IsStanding, holds_at, stood};
 ghost use Rattle.verify_code.specs.declared.standing.Judged.{Judged as JudgedAt};
 
@@ -36,6 +37,23 @@ fn behind_first(catches: &[Option<u32>]) -> &[Option<u32>]
     match catches.split_first() {
         Some((_, behind)) => behind,
         None => catches,
+    }
+}
+
+/// The pc of an exception handler, and the number of the class that it catches, if it names one.
+#[derive(Clone, Copy, Debug, PartialEq, Eq)]
+pub struct Caught {
+    pub handler: u16,
+    pub catch: Option<u32>,
+}
+
+// Whether the handler that is known is this one.
+fn is_last(last: Option<Caught>, here: Caught) -> bool
+    ensures { MatchBool result (last ≡ Some here) (Unit {0}) }
+{
+    match last {
+        Some(last) => last == here,
+        None => false,
     }
 }
 
@@ -132,22 +150,37 @@ impl<'a, L: Lookups> Environment<'a, L> {
             && self.fits_handler(s, caught, u32::from(row.handler))
     }
 
-    // Whether the pc doesn't lie in the range of a row, or the other pc does too, or its handler is satisfied.
-    fn keeps_row(
+    // The handler that is known to be satisfied behind a row, where one is known before it. `None`: the pc lies in the range of the
+    // row, the other pc doesn't, and its handler isn't satisfied.
+    fn judge_row(
         &self,
         known: Option<u32>,
         pc: u32,
         s: &Standing,
+        last: Option<Caught>,
+        here: Caught,
         row: &Row,
-        catch: Option<u32>,
-    ) -> bool
-        requires { IsStanding self.now s.now }
-        ensures { result ≡ keeps_more self.now known pc (stood s.now) (handler row.now catch) }
+    ) -> Option<Option<Caught>>
+        requires stands { IsStanding self.now s.now }
+        requires last { IsCatcher self.now (stood s.now) last }
+        requires here { here.handler ≡ row.now.handler }
+        ensures { MatchOption result
+            (keeps_more self.now known pc (stood s.now) (handler row.now here.catch) ≡ false)
+            (IsRowKept self.now known pc (stood s.now) (handler row.now here.catch)) }
     {
         if !is_covered(row, pc) {
-            return true;
+            return Some(last);
         }
-        is_covered_there(row, known) || self.is_satisfied(s, row, catch)
+        if is_covered_there(row, known) {
+            return Some(last);
+        }
+        if is_last(last, here) {
+            return Some(last);
+        }
+        if !self.is_satisfied(s, row, here.catch) {
+            return None;
+        }
+        Some(Some(here))
     }
 
     // Whether the handlers of the instruction at the pc are satisfied, but for those of the other pc.
@@ -158,10 +191,16 @@ impl<'a, L: Lookups> Environment<'a, L> {
     {
         let mut rows: &[Row] = &self.method.code.rows;
         let mut catches = self.method.catches;
+        let mut last = None;
         while let Some((row, behind)) = rows.split_first() {
-            if !self.keeps_row(known, pc, s, row, first_catch(catches)) {
+            let here = Caught {
+                handler: row.handler,
+                catch: first_catch(catches),
+            };
+            let Some(kept) = self.judge_row(known, pc, s, last, here, row) else {
                 return false;
-            }
+            };
+            last = kept;
             rows = behind;
             catches = behind_first(catches);
         }
