@@ -19,7 +19,9 @@ use Rattle.verify_code.specs.declared.standing.Behind.{Behind}
 use Rattle.verify_code.specs.declared.standing.Standing.{Standing}
 use Rattle.verify_code.specs.FramePaths.{entry_in, state_where}
 use Rattle.verify_code.specs.Frames.{frame_at, frame_in}
-use Rattle.verify_code.specs.Standings.{AllStand, BothStand, behind_one, either_of, going, IsLike, IsOver, IsShared, IsStanding, keeps_locals, like_behind, stood}
+use Rattle.verify_code.specs.Standings.{AllStand, BothStand, behind_one, behind_op, either_of, going, IsJudged, IsLike, IsOver, IsShared, IsStanding, keeps_locals, stood}
+use Rattle.verify_code.specs.declared.standing.Judged.{Judged}
+use Rattle.verify_code.proofs.HandlerLaws.{judged_same}
 use Rattle.verify_code.proofs.KeepLaws.{after_kept}
 use Rattle.verify_code.proofs.ItselfLaws.{LocalsThemselves}
 
@@ -132,9 +134,21 @@ kept_like env i like s after true e stands h pc is =
     let kept = after_kept env i s after e h in
     record { frame = l.frame; state = l.state; at = l.at; is = l.is; locals = l.locals ∙ kept.locals; flag = l.flag ∙ kept.flag }
 
-pub stands_behind : (env : Environment) (i : Instruction) (like : Option ℕ) (s : TypeState) (after : Standing) → ((pc : ℕ) → like ≡ Some pc → IsLike env pc s) → state_after env i s ≡ Ok (stood after) → after.like ≡ like_behind i.instr.op like
-    → IsStanding env after
-stands_behind env i like s after stands h e = λ pc is. kept_like env i like s (stood after) (keeps_locals i.instr.op) refl stands h pc (sym e ∙ is)
+kept_judged : (env : Environment) (i : Instruction) (judged : Option Judged) (s after : TypeState) (b : Bool) → keeps_locals i.instr.op ≡ b → IfSome judged (IsJudged env s) → state_after env i s ≡ Ok after
+    → IfSome (cond b judged None) (IsJudged env after)
+kept_judged env i judged s after false e stands h = tt
+kept_judged env i judged s after true e stands h =
+    let kept = after_kept env i s after e h in
+    judged_same env s after judged kept.locals kept.flag stands
+
+pub stands_behind : (env : Environment) (i : Instruction) (s after : Standing) → IsStanding env s → state_after env i (stood s) ≡ Ok (stood after)
+    → after.like ≡ behind_op i.instr.op s.like → after.judged ≡ behind_op i.instr.op s.judged → IsStanding env after
+stands_behind env i s after stands h like judged = record {
+  like = λ pc is. kept_like env i s.like (stood s) (stood after) (keeps_locals i.instr.op) refl stands.like h pc (sym like ∙ is);
+  judged =
+      subst (λ (o : Option Judged). IfSome o (IsJudged env (stood after))) (sym judged)
+      (kept_judged env i s.judged (stood s) (stood after) (keeps_locals i.instr.op) refl stands.judged h);
+}
 
 pub none_stands : (env : Environment) → AllStand env None
 none_stands env = λ s e. absurd cc
@@ -142,8 +156,23 @@ none_stands env = λ s e. absurd cc
 pub one_stands : (env : Environment) (s : Standing) → IsStanding env s → AllStand env (Some s)
 one_stands env s h = λ t e. let same : s ≡ t = cc in subst (λ (x : Standing). IsStanding env x) same h
 
-pub new_stands : (env : Environment) (pc : ℕ) (f : MapFrame) (s : Standing) → map_at env pc ≡ Some f → f.state ≡ Some (stood s) → s.like ≡ Some pc → AllStand env (Some s)
-new_stands env pc f s at is like = one_stands env s (λ other e. let same : pc ≡ other = cc in subst (λ (n : ℕ). IsLike env n (stood s)) same (stands_at env pc f (stood s) at is))
+pub new_stands : (env : Environment) (pc : ℕ) (f : MapFrame) (s : Standing) → map_at env pc ≡ Some f → f.state ≡ Some (stood s) → s.like ≡ Some pc → IfSome s.judged (IsJudged env (stood s)) → AllStand env (Some s)
+new_stands env pc f s at is like judged = one_stands env s (record {
+  like = λ other e. let same : pc ≡ other = cc in subst (λ (n : ℕ). IsLike env n (stood s)) same (stands_at env pc f (stood s) at is);
+  judged = judged;
+})
+
+-- the state of a frame over another state satisfies the handlers where that does
+pub judged_over : (env : Environment) (s : TypeState) (pc : ℕ) (f : Frame) (there : MapFrame) (t : TypeState) (judged : Option Judged) → IsOver env s pc f → map_at env pc ≡ Some there → there.state ≡ Some t → IfSome judged (IsJudged env s)
+    → IfSome judged (IsJudged env t)
+judged_over env s pc f there t judged h at is known =
+    over_stack (types_on (path f.paths.now f.entry.stack)) (sym h.over ∙ state_found (frame_in f) there (map_at env pc) t h.at at is)
+  where
+    over_stack : (o : Option (List VType)) → option_map (λ ss. with_stack s (reverse (slot_types ss))) o ≡ Some t → IfSome judged (IsJudged env t)
+    over_stack None e = absurd cc
+    over_stack (Some ss) e =
+        let same : with_stack s (reverse (slot_types ss)) ≡ t = cc in
+        judged_same env s t judged (ap (λ (x : TypeState). x.types.locals) same) (ap (λ (x : TypeState). x.this_uninit) same) known
 
 pub either_stands : (env : Environment) (b : Behind) → BothStand env b → AllStand env (either_of b)
 either_stands env b h = of_these b.going b.spare h.going h.spare

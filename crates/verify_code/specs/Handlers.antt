@@ -1,11 +1,15 @@
 -- An exception handler, part by part.
-use Rattle.std.specs.Prelude.{ℕ, Bool, false, [], ◌∷◌, Option}
+use Rattle.std.specs.Prelude.{◌≡◌, ℕ, Bool, true, false, IfSome, not, List, [], ◌∷◌, Option, nat_le, nat_lt, ◌&&◌, ◌||◌, if◌then◌else◌}
 use Rattle.std.specs.Option.{option_map_or}
 use Rattle.class_model.specs.declared.attribute.Row.{Row}
 use Rattle.stack_maps.specs.declared.types.VType.{VType}
+use Rattle.verify_types.specs.Assignability.{assignable}
+use Rattle.verify_types.specs.ClassTypes.{throwable_type}
 use Rattle.verify_types.specs.TypeStates.{TypeState, with_stack}
 use Rattle.verify_types.specs.Environment.{Handler, Environment, map_at}
-use Rattle.verify_types.specs.Handlers.{fits_frame}
+use Rattle.verify_code.specs.declared.handlers.Caught.{Caught}
+use Rattle.verify_types.specs.Calls.{covers}
+use Rattle.verify_types.specs.Handlers.{caught_type, fits_frame, is_satisfied}
 
 -- a row of the exception table, and what it catches
 abbrev pub handler : Row → Option ℕ → Handler
@@ -14,3 +18,35 @@ handler row catch = record { row = row; catch = catch }
 -- whether the state at a handler fits a frame of the map at its pc
 abbrev pub caught_fits : Environment → TypeState → VType → ℕ → Bool
 caught_fits env s caught pc = option_map_or (fits_frame env (with_stack s (caught ∷ []))) (map_at env pc) false
+
+-- whether a pc lies in the range of a row
+abbrev pub row_covers : ℕ → Row → Bool
+row_covers pc r = nat_le r.start pc && nat_lt pc r.end
+
+-- whether a handler asks nothing at a pc, or is satisfied: it asks nothing where its row covers another pc as well, if there is one
+abbrev pub keeps_more : Environment → Option ℕ → ℕ → TypeState → Handler → Bool
+keeps_more env known pc s h = not (covers pc h) || (option_map_or (λ at. covers at h) known false || is_satisfied env s h)
+
+-- whether the handler at this pc, which catches this, is satisfied
+abbrev pub catches_at : Environment → TypeState → ℕ → Option ℕ → Bool
+catches_at env s pc catch =
+    assignable env.world (caught_type env.world catch) (throwable_type env.world)
+    && caught_fits env s (caught_type env.world catch) pc
+
+-- so is this one, if one is known
+abbrev pub IsCatcher : Environment → TypeState → Option Caught → Type 0
+IsCatcher env s last = IfSome last (λ (c : Caught). catches_at env s c.handler c.catch ≡ true)
+
+-- a row asks nothing more, and this handler is known to be satisfied
+pub record IsRowKept (env : Environment) (known : Option ℕ) (pc : ℕ) (s : TypeState) (h : Handler) (last : Option Caught) : Type 0 where
+  pub keeps : keeps_more env known pc s h ≡ true
+  pub caught : IsCatcher env s last
+
+-- the start of a row, where it lies behind this pc and before the next
+abbrev pub nearer : ℕ → ℕ → ℕ → ℕ
+nearer pc next start = if nat_lt pc start && nat_lt start next then start else next
+
+-- the first pc behind this one at which one of the rows starts, or else this other
+abbrev pub next_start : ℕ → ℕ → List Row → ℕ
+next_start pc next [] = next
+next_start pc next (r ∷ rs) = next_start pc (nearer pc next r.start) rs

@@ -1,5 +1,5 @@
 -- States with the local variables of a frame of the map.
-use Rattle.std.specs.Prelude.{◌≡◌, ℕ, Bool, true, false, List, Option, Some, None, reverse, if◌then◌else◌}
+use Rattle.std.specs.Prelude.{◌≡◌, ℕ, ◌<◌, ◌≤◌, Bool, true, false, IfSome, List, Option, Some, None, reverse, nat_le, nat_lt, ◌&&◌, if◌then◌else◌}
 use Rattle.std.specs.Option.{option_map, option_map_or}
 use Rattle.opcodes.specs.declared.op.Op.{Op}
 use Rattle.opcodes.specs.declared.op.Op.TheVariants as ops
@@ -7,9 +7,11 @@ use Rattle.instruction_rows.specs.Contents.{slot_types}
 use Rattle.type_paths.specs.Paths.{path, types_on}
 use Rattle.verify_types.specs.TypeStates.{TypeState, all_assignable, with_stack}
 use Rattle.verify_types.specs.Environment.{MapFrame, Environment, map_at}
+use Rattle.verify_types.specs.Handlers.{are_satisfied}
 use Rattle.verify_instructions.specs.Views.{state_in}
 use Rattle.verify_code.specs.declared.frame.Frame.{Frame}
 use Rattle.verify_code.specs.declared.standing.Behind.{Behind}
+use Rattle.verify_code.specs.declared.standing.Judged.{Judged}
 use Rattle.verify_code.specs.declared.standing.Standing.{Standing}
 use Rattle.verify_code.specs.Frames.{frame_at, frame_in}
 
@@ -25,9 +27,34 @@ pub record IsLike (env : Environment) (pc : ℕ) (s : TypeState) : Type 0 where
   pub locals : state.types.locals ≡ s.types.locals
   pub flag : state.this_uninit ≡ s.this_uninit
 
--- so has the frame at the pc that is kept with the state, if there is one
-abbrev pub IsStanding : Environment → Standing → Type 0
-IsStanding env s = (pc : ℕ) → s.like ≡ Some pc → IsLike env pc (stood s)
+-- so has the frame at this pc, if there is one
+abbrev pub MayBeLike : Environment → Option ℕ → TypeState → Type 0
+MayBeLike env like s = (pc : ℕ) → like ≡ Some pc → IsLike env pc s
+
+-- the handlers are satisfied at this pc, and up to the next at which a row of the exception table starts
+pub record IsJudged (env : Environment) (s : TypeState) (j : Judged) : Type 0 where
+  pub at : are_satisfied env j.at s ≡ true
+  pub on : (pc : ℕ) → j.at ≤ pc → pc < j.until → are_satisfied env pc s ≡ true
+
+-- what is kept with the state is true of it
+pub record IsStanding (env : Environment) (s : Standing) : Type 0 where
+  pub like : MayBeLike env s.like (stood s)
+  pub judged : IfSome s.judged (IsJudged env (stood s))
+
+-- whether the handlers are known to be satisfied at a pc
+abbrev pub holds_at : ℕ → Option Judged → Bool
+holds_at pc judged = option_map_or (λ (j : Judged). nat_le j.at pc && nat_lt pc j.until) judged false
+
+-- whether an instruction changes the operand stack alone
+abbrev pub keeps_locals : Op → Bool
+keeps_locals (ops.Store kind n) = false
+keeps_locals (ops.InvokeSpecial index) = false
+keeps_locals (ops.New index) = false
+keeps_locals op = true
+
+-- what is kept of a state, behind an instruction
+abbrev pub behind_op : {A : Type 0} → Op → Option A → Option A
+behind_op op kept = if keeps_locals op then kept else None
 
 abbrev pub AllStand : Environment → Option Standing → Type 0
 AllStand env o = (s : Standing) → o ≡ Some s → IsStanding env s
@@ -60,13 +87,3 @@ pub record IsOver (env : Environment) (s : TypeState) (pc : ℕ) (f : Frame) : T
   pub at : map_at env pc ≡ Some (frame_in f)
   pub over : (frame_in f).state ≡ over_stack_of f s
   pub itself : all_assignable env.world s.types.locals s.types.locals ≡ true
-
--- whether an instruction changes the operand stack alone
-abbrev pub keeps_locals : Op → Bool
-keeps_locals (ops.Store kind n) = false
-keeps_locals (ops.InvokeSpecial index) = false
-keeps_locals (ops.New index) = false
-keeps_locals op = true
-
-abbrev pub like_behind : Op → Option ℕ → Option ℕ
-like_behind op like = if keeps_locals op then like else None

@@ -1,17 +1,19 @@
 //! Exception handlers (JVMS 4.10.1.6, instructionSatisfiesHandlers).
 
-ghost use Rattle.std.specs.Prelude.{◌≡◌, ◌||◌, None, drop, false, get_or, not};
-ghost use Rattle.std.specs.Option.{option_map_or};
-ghost use Rattle.verify_types.specs.Calls.{covers};
+ghost use Rattle.std.specs.Prelude.{◌≡◌, ◌<◌, ◌^◌, IfSome, MatchOption, None, Some, drop, false, get_or};
+ghost use Rattle.std.specs.Bool.{MatchBool};
+ghost use Rattle.std.specs.List.{list_all};
+ghost use Rattle.std.specs.Option.{option_map, option_map_or};
 ghost use Rattle.verify_types.specs.Environment.{map_at};
 ghost use Rattle.verify_types.specs.Handlers as spec;
-ghost use Rattle.verify_types.specs.TypeStates.{fits, with_stack};
 ghost use Rattle.verify_instructions.specs.Views.{state_in};
-ghost use Rattle.verify_code.specs.Handlers.{handler, caught_fits};
-ghost use Rattle.verify_code.specs.Standings.{IsStanding, stood};
+ghost use Rattle.verify_code.specs.Handlers as parts;
+ghost use Rattle.verify_code.specs.Handlers.{IsCatcher, IsRowKept, handler, caught_fits, keeps_more};
+ghost use Rattle.verify_code.specs.Standings.{IsJudged, IsStanding, holds_at, stood};
+ghost use Rattle.verify_code.specs.declared.standing.Judged.{Judged as JudgedAt};
 
 use crate::environment::Environment;
-use crate::standing::Standing;
+use crate::standing::{Judged, Standing, holds_at};
 use class_model::Row;
 use stack_maps::VType;
 use verify_instructions::State;
@@ -35,6 +37,74 @@ fn behind_first(catches: &[Option<u32>]) -> &[Option<u32>]
     match catches.split_first() {
         Some((_, behind)) => behind,
         None => catches,
+    }
+}
+
+/// The pc of an exception handler, and the number of the class that it catches, if it names one.
+#[derive(Clone, Copy, Debug, PartialEq, Eq)]
+pub struct Caught {
+    pub handler: u16,
+    pub catch: Option<u32>,
+}
+
+// Whether the handler that is known is this one.
+fn is_last(last: Option<Caught>, here: Caught) -> bool
+    ensures { MatchBool result (last ≡ Some here) (Unit {0}) }
+{
+    match last {
+        Some(last) => last == here,
+        None => false,
+    }
+}
+
+// Whether a pc lies in the range of a row.
+fn is_covered(row: &Row, pc: u32) -> bool
+    ensures { result ≡ parts.row_covers pc row.now }
+{
+    u32::from(row.start) <= pc && pc < u32::from(row.end)
+}
+
+// Whether a pc, if there is one, lies in the range of a row.
+fn is_covered_there(row: &Row, pc: Option<u32>) -> bool
+    ensures { result ≡ option_map_or (λ at. parts.row_covers at row.now) pc false }
+{
+    match pc {
+        Some(at) => is_covered(row, at),
+        None => false,
+    }
+}
+
+// The start of a row, where it lies behind a pc and before the next.
+fn nearer(pc: u32, next: u32, start: u32) -> u32
+    ensures { result ≡ parts.nearer pc next start }
+{
+    if pc < start && start < next {
+        start
+    } else {
+        next
+    }
+}
+
+// The first pc behind this one at which a row starts; 65,536 where there is none.
+fn next_start(rows: &[Row], pc: u32) -> u32
+    ensures { result ≡ parts.next_start pc 65536 rows.now }
+{
+    let mut next = 65_536;
+    let mut rest = rows;
+    while let Some((row, behind)) = rest.split_first() {
+        next = nearer(pc, next, u32::from(row.start));
+        rest = behind;
+    }
+    next
+}
+
+// The pc at which handlers are satisfied, if one is known.
+fn at_of(judged: Option<Judged>) -> Option<u32>
+    ensures { result ≡ option_map (λ (j : JudgedAt). j.at) judged }
+{
+    match judged {
+        Some(j) => Some(j.at),
+        None => None,
     }
 }
 
@@ -80,29 +150,101 @@ impl<'a, L: Lookups> Environment<'a, L> {
             && self.fits_handler(s, caught, u32::from(row.handler))
     }
 
-    // Whether the pc doesn't lie in the range of a row, or its handler is satisfied.
-    fn keeps_row(&self, pc: u32, s: &Standing, row: &Row, catch: Option<u32>) -> bool
-        requires { IsStanding self.now s.now }
-        ensures { result ≡ (not (covers pc (handler row.now catch))
-            || spec.is_satisfied self.now (stood s.now) (handler row.now catch)) }
+    // The handler that is known to be satisfied behind a row, where one is known before it. `None`: the pc lies in the range of the
+    // row, the other pc doesn't, and its handler isn't satisfied.
+    fn judge_row(
+        &self,
+        known: Option<u32>,
+        pc: u32,
+        s: &Standing,
+        last: Option<Caught>,
+        here: Caught,
+        row: &Row,
+    ) -> Option<Option<Caught>>
+        requires stands { IsStanding self.now s.now }
+        requires last { IsCatcher self.now (stood s.now) last }
+        requires here { here.handler ≡ row.now.handler }
+        ensures { MatchOption result
+            (keeps_more self.now known pc (stood s.now) (handler row.now here.catch) ≡ false)
+            (IsRowKept self.now known pc (stood s.now) (handler row.now here.catch)) }
     {
-        !(u32::from(row.start) <= pc && pc < u32::from(row.end)) || self.is_satisfied(s, row, catch)
+        if !is_covered(row, pc) {
+            return Some(last);
+        }
+        if is_covered_there(row, known) {
+            return Some(last);
+        }
+        if is_last(last, here) {
+            return Some(last);
+        }
+        if !self.is_satisfied(s, row, here.catch) {
+            return None;
+        }
+        Some(Some(here))
     }
 
-    /// Whether all handlers of the instruction at the pc are satisfied.
-    pub fn are_satisfied(&self, pc: u32, s: &Standing) -> bool
+    // Whether the handlers of the instruction at the pc are satisfied, but for those of the other pc.
+    fn are_more_satisfied(&self, known: Option<u32>, pc: u32, s: &Standing) -> bool
         requires { IsStanding self.now s.now }
-        ensures { result ≡ spec.are_satisfied self.now pc (stood s.now) }
+        ensures { result ≡
+            list_all (keeps_more self.now known pc (stood s.now)) self.now.handlers }
     {
         let mut rows: &[Row] = &self.method.code.rows;
         let mut catches = self.method.catches;
+        let mut last = None;
         while let Some((row, behind)) = rows.split_first() {
-            if !self.keeps_row(pc, s, row, first_catch(catches)) {
+            let here = Caught {
+                handler: row.handler,
+                catch: first_catch(catches),
+            };
+            let Some(kept) = self.judge_row(known, pc, s, last, here, row) else {
                 return false;
-            }
+            };
+            last = kept;
             rows = behind;
             catches = behind_first(catches);
         }
         true
+    }
+
+    // Where a state satisfies the handlers, if it does so at the pc. `None`: it doesn't.
+    fn judge_handlers(&self, pc: u32, s: &Standing) -> Option<Judged>
+        requires low { pc < 2 ^ 16 }
+        requires stands { IsStanding self.now s.now }
+        ensures judged { IfSome result (IsJudged self.now (stood s.now)) }
+        ensures found { holds_at pc result ≡ spec.are_satisfied self.now pc (stood s.now) }
+    {
+        if !self.are_more_satisfied(at_of(s.judged), pc, s) {
+            return None;
+        }
+        Some(Judged {
+            at: pc,
+            until: next_start(&self.method.code.rows, pc),
+        })
+    }
+
+    /// A state, and where it satisfies the exception handlers: at the pc, if it does so at all.
+    pub fn judged(&self, pc: u32, s: Standing) -> Standing
+        requires low { pc < 2 ^ 16 }
+        requires stands { IsStanding self.now s }
+        ensures same { stood result ≡ stood s }
+        ensures stands { IsStanding self.now result }
+        ensures found { holds_at pc result.judged ≡
+            spec.are_satisfied self.now pc (stood s) }
+    {
+        if holds_at(pc, s.judged) {
+            return s;
+        }
+        let judged = self.judge_handlers(pc, &s);
+        let Standing {
+            state,
+            like,
+            judged: _,
+        } = s;
+        Standing {
+            state,
+            like,
+            judged,
+        }
     }
 }

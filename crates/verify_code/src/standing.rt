@@ -6,11 +6,23 @@ ghost use Rattle.verify_code.specs.Standings as spec;
 use opcodes::Op;
 use verify_instructions::State;
 
-/// A state, and the pc of a frame of the stack map with the same local variables and the same flag, where one is known.
+/// Where the exception handlers of a state are satisfied.
+#[derive(Clone, Copy, Debug, PartialEq, Eq)]
+pub struct Judged {
+    /// A pc at which they are.
+    pub at: u32,
+    /// No row of the exception table starts behind that and before this pc.
+    pub until: u32,
+}
+
+/// A state, and what is known of its local variables and its flag.
 #[derive(Drop)]
 pub struct Standing {
     pub state: State,
+    /// The pc of a frame of the stack map that has the same.
     pub like: Option<u32>,
+    /// Where they satisfy the exception handlers.
+    pub judged: Option<Judged>,
 }
 
 /// The state that goes on behind an instruction, or else one that doesn't, whose local variables may serve at the next frame.
@@ -74,7 +86,24 @@ fn keeps_locals(op: &Op) -> bool
 
 /// The pc of the frame that the state behind an instruction is like, where the one before it is like this.
 pub fn like_behind(op: &Op, like: Option<u32>) -> Option<u32>
-    ensures { result ≡ spec.like_behind op.now like }
+    ensures { result ≡ spec.behind_op op.now like }
 {
     if keeps_locals(op) { like } else { None }
+}
+
+/// Where the state behind an instruction satisfies the exception handlers, where the one before it does so here.
+pub fn judged_behind(op: &Op, judged: Option<Judged>) -> Option<Judged>
+    ensures { result ≡ spec.behind_op op.now judged }
+{
+    if keeps_locals(op) { judged } else { None }
+}
+
+/// Whether the exception handlers are known to be satisfied at a pc.
+pub fn holds_at(pc: u32, judged: Option<Judged>) -> bool
+    ensures { result ≡ spec.holds_at pc judged }
+{
+    match judged {
+        Some(j) => j.at <= pc && pc < j.until,
+        None => false,
+    }
 }

@@ -1,23 +1,24 @@
 //! The walk over the instructions of a method, from front to back (JVMS 4.10.1.6, mergedCodeIsTypeSafe).
 
-ghost use Rattle.std.specs.Prelude.{◌≡◌, ◌<◌, ◌^◌, Bool, IfOk, None, Option, Some};
+ghost use Rattle.std.specs.Prelude.{◌≡◌, ◌<◌, ◌^◌, Bool, IfOk, IfSome, None, Option, Some};
 ghost use Rattle.std.specs.Option.{option_map};
 ghost use Rattle.instruction_rows.specs.Table.{row};
 ghost use Rattle.world_model.specs.declared.sites.Naming.{Naming as Meaning};
 ghost use Rattle.verify_types.specs.TypeStates.{TypeState};
-ghost use Rattle.verify_types.specs.Environment.{map_at};
+ghost use Rattle.verify_types.specs.Environment.{MapFrame, map_at};
 ghost use Rattle.verify_types.specs.Walk.{standing};
 ghost use Rattle.verify_types.specs.Faults.{is_shallow};
+ghost use Rattle.verify_types.specs.Handlers.{are_satisfied};
 ghost use Rattle.verify_instructions.specs.Views.{state_in};
 ghost use Rattle.verify_code.specs.Findings.{instruction_of, findings_at};
 ghost use Rattle.verify_code.specs.Frames.{frame_in};
-ghost use Rattle.verify_code.specs.Standings.{AllStand, BothStand, IsStanding, going, stood};
+ghost use Rattle.verify_code.specs.Standings.{AllStand, BothStand, IsJudged, IsStanding, going, holds_at, stood};
 ghost use Rattle.verify_code.specs.Walks.{IsAfter, IsPassage, IsStep, IsVerdict, arrives, entry_of, goes_to, place, walk_fault};
 
 use crate::environment::Environment;
 use crate::findings::Findings;
 use crate::frame::Frame;
-use crate::standing::{Behind, Standing, like_behind};
+use crate::standing::{Behind, Judged, Standing, holds_at, judged_behind, like_behind};
 use instruction_rows::RowWhy;
 use items::NoMemory;
 use opcodes::Instr;
@@ -96,6 +97,34 @@ impl<'a, L: Lookups> Environment<'a, L> {
         }
     }
 
+    // Where the state of the frame of the map at a pc satisfies the exception handlers, if its local variables are those of this
+    // state.
+    fn judged_over(&self, s: &Standing, pc: u32) -> Option<Judged>
+        requires { IsStanding self.now s.now }
+        ensures { (f : MapFrame) (t : TypeState) → map_at self.now pc ≡ Some f
+            → f.state ≡ Some t → IfSome result (IsJudged self.now t) }
+    {
+        match self.shared(s, pc) {
+            Some(_) => s.judged,
+            None => None,
+        }
+    }
+
+    // The same, behind an instruction.
+    fn judged_there(&self, before: &Behind, pc: u32) -> Option<Judged>
+        requires { BothStand self.now before.now }
+        ensures { (f : MapFrame) (t : TypeState) → map_at self.now pc ≡ Some f
+            → f.state ≡ Some t → IfSome result (IsJudged self.now t) }
+    {
+        if let Some(s) = &before.going {
+            return self.judged_over(s, pc);
+        }
+        match &before.spare {
+            Some(s) => self.judged_over(s, pc),
+            None => None,
+        }
+    }
+
     // The state before the instruction at a pc: that of the frame of the map there, or else this one.
     fn arrive(
         &self,
@@ -122,11 +151,13 @@ impl<'a, L: Lookups> Environment<'a, L> {
             Some(s) => !is_entry || self.fits_frame(&s.state, &frame),
             None => true,
         };
+        let judged = self.judged_there(&before, pc);
         match self.state_there(alloc, before.either(), &frame, pc)? {
             Some(state) => Ok(Arrival {
                 standing: Some(Standing {
                     state,
                     like: Some(pc),
+                    judged,
                 }),
                 fits,
             }),
@@ -153,7 +184,9 @@ impl<'a, L: Lookups> Environment<'a, L> {
         naming: Naming,
         is_last: bool,
     ) -> Findings
-        requires { IsStanding self.now s.now }
+        requires stands { IsStanding self.now s.now }
+        requires judged { holds_at i.now.pc s.now.judged
+            ≡ are_satisfied self.now i.now.pc (stood s.now) }
         ensures { result ≡
             findings_at self.now fits (instruction_of i.now naming) is_last (stood s.now) }
     {
@@ -162,7 +195,7 @@ impl<'a, L: Lookups> Environment<'a, L> {
             arrives: fits,
             is_shallow: self.is_shallow(&s.state),
             has_locals: s.state.has_locals(self.method.code.max_locals),
-            are_satisfied: self.are_satisfied(i.pc, s),
+            are_satisfied: holds_at(i.pc, s.judged),
             is_returned: s.state.is_returned(self.world, &self.method, &i.op),
             is_finished: s.state.is_finished(&i.op),
             passes_end: goes_on(&i.op) && is_last,
@@ -182,12 +215,17 @@ impl<'a, L: Lookups> Environment<'a, L> {
         ensures { IfOk result
             (IsAfter self.now (instruction_of i.now naming) (stood s)) }
     {
-        let Standing { state, like } = s;
+        let Standing {
+            state,
+            like,
+            judged,
+        } = s;
         let mut state = state;
         match state.apply(alloc, self.world, &self.method, i.pc as u16, naming, &i.op) {
             Ok(()) => Ok(After::Kept(Standing {
                 state,
                 like: like_behind(&i.op, like),
+                judged: judged_behind(&i.op, judged),
             })),
             Err(stop) => Ok(After::Broken(broken_rule(stop)?)),
         }
@@ -213,6 +251,8 @@ impl<'a, L: Lookups> Environment<'a, L> {
     ) -> Result<Verdict, NoMemory>
         requires low { i.now.pc < 2 ^ 16 }
         requires stands { IsStanding self.now s }
+        requires judged { holds_at i.now.pc s.judged
+            ≡ are_satisfied self.now i.now.pc (stood s) }
         ensures { IfOk result (λ v. (entry : Option TypeState)
             → fits ≡ arrives self.now i.now.pc entry
             → IsVerdict self.now (place i.now naming (Some (stood s)) entry is_last)
@@ -263,6 +303,7 @@ impl<'a, L: Lookups> Environment<'a, L> {
         let Some(s) = standing else {
             return Ok(self.pass_unknown(i));
         };
+        let s = self.judged(i.pc, s);
         match self.judge(alloc, s, fits, i, naming, is_last)? {
             Verdict::Broken(why) => Ok(Passage::Broken(why)),
             Verdict::Kept(after) => Ok(Passage::On(Behind::new(after, goes_on(&i.op)))),
@@ -306,6 +347,7 @@ impl<'a, L: Lookups> Environment<'a, L> {
         let first = Standing {
             state: first,
             like: None,
+            judged: None,
         };
         let mut before = Behind::new(first, true);
         let mut is_entry = true;

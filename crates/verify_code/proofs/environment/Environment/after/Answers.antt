@@ -16,8 +16,8 @@ returns-in_ok-broken_rule-in-Err g c =
 pub returns-in-Ok : goal.returns-in-Ok
 returns-in-Ok g c =
     let i = instruction_of c.args.i.now c.args.naming in
-    let after : Standing = record { state = c.apply.new.self; like = c.like_behind.result } in
+    let after : Standing = record { state = c.apply.new.self; like = c.like_behind.result; judged = c.judged_behind.result } in
     let is =
     ap (λ (env : Environment). state_after env i (stood c.args.s)) (sym c.self.view_is)
     ∙ gives_kept c.apply.result (stood after) _ c.in-Ok.field-0 c.apply.ensures c.in-Ok.is in
-    (is, stands_behind c.args.self.now i c.args.s.like (stood c.args.s) after c.requires.stands is c.like_behind.ensures)
+    (is, stands_behind c.args.self.now i c.args.s after c.requires.stands is c.like_behind.ensures c.judged_behind.ensures)

@@ -1,0 +1,138 @@
+-- Handlers that are satisfied at more than one pc.
+use Rattle.std.proofs.Common.{◌≡◌, ◌⊎◌, inl, inr, ℕ, ◌<◌, ◌≤◌, true, false, Bool, cond, get_or, List, [], ◌∷◌, Option, Some, None, refl, ap, sym, subst, ◌∙◌, arith}
+use Rattle.std.specs.Prelude.{IfSome, drop, not, nat_le, nat_lt, ◌&&◌, ◌||◌}
+use Rattle.std.specs.List.{list_all}
+use Rattle.std.specs.Option.{option_map}
+use Rattle.std.proofs.lemmas.Bool.{ltb-true, ltb-false, leb-true, le-leb, lt-ltb, and_parts, and_from, and_cases}
+use Rattle.class_model.specs.declared.attribute.Row.{Row}
+use Rattle.stack_maps.specs.declared.types.VType.{VType}
+use Rattle.verify_types.specs.TypeStates.{TypeState}
+use Rattle.verify_types.specs.Environment.{Handler, Environment, with_catches}
+use Rattle.verify_types.specs.Calls.{covers}
+use Rattle.verify_types.specs.Handlers.{are_satisfied, is_satisfied}
+use Rattle.verify_code.specs.declared.standing.Judged.{Judged}
+use Rattle.verify_code.specs.Handlers.{handler, keeps_more, nearer, next_start}
+use Rattle.verify_code.specs.Standings.{IsJudged, holds_at}
+
+-- ---- states with the same local variables and the same flag
+
+abbrev over : List VType → Bool → TypeState
+over locals flag = record { types = record { locals = locals; stack = [] }; this_uninit = flag }
+
+same_at : (env : Environment) (pc : ℕ) (s t : TypeState) → s.types.locals ≡ t.types.locals → s.this_uninit ≡ t.this_uninit → are_satisfied env pc s ≡ are_satisfied env pc t
+same_at env pc s t locals flag =
+    ap (λ ls. are_satisfied env pc (over ls s.this_uninit)) locals ∙ ap (λ b. are_satisfied env pc (over t.types.locals b)) flag
+
+pub judged_same : (env : Environment) (s t : TypeState) (o : Option Judged) → s.types.locals ≡ t.types.locals → s.this_uninit ≡ t.this_uninit → IfSome o (IsJudged env s) → IfSome o (IsJudged env t)
+judged_same env s t None locals flag h = tt
+judged_same env s t (Some j) locals flag h = record {
+  at = sym (same_at env j.at s t locals flag) ∙ h.at;
+  on = λ pc low high. sym (same_at env pc s t locals flag) ∙ h.on pc low high;
+}
+
+-- ---- rows that cover another pc too
+
+abbrev Asks : Environment → ℕ → TypeState → Handler → Bool
+Asks env pc s h = not (covers pc h) || is_satisfied env s h
+
+at_one : (a b c : Bool) → (not b || c) ≡ true → (not a || (b || c)) ≡ (not a || c)
+at_one a true c h = ap (λ x. not a || x) (sym h)
+at_one a false c h = refl
+
+more_all : (env : Environment) (at pc : ℕ) (s : TypeState) (hs : List Handler) → list_all (Asks env at s) hs ≡ true
+    → list_all (keeps_more env (Some at) pc s) hs ≡ list_all (Asks env pc s) hs
+more_all env at pc s [] e = refl
+more_all env at pc s (h ∷ hs) e =
+    let parts = and_parts (Asks env at s h) (list_all (Asks env at s) hs) e in
+    ap (λ x. x && list_all (keeps_more env (Some at) pc s) hs) (at_one (covers pc h) (covers at h) (is_satisfied env s h) parts.0)
+    ∙ ap (λ x. Asks env pc s h && x) (more_all env at pc s hs parts.1)
+
+pub more_is : (env : Environment) (pc : ℕ) (s : TypeState) (o : Option Judged) → IfSome o (IsJudged env s)
+    → list_all (keeps_more env (option_map (λ (j : Judged). j.at) o) pc s) env.handlers ≡ are_satisfied env pc s
+more_is env pc s None h = refl
+more_is env pc s (Some j) h = more_all env j.at pc s env.handlers h.at
+
+-- ---- up to the next start of a row
+
+abbrev Is_nearer : ℕ → ℕ → ℕ → Bool
+Is_nearer at n start = nat_lt at start && nat_lt start n
+
+nearer_low : (at n start : ℕ) → nearer at n start ≤ n
+nearer_low at n start = by_test (Is_nearer at n start) refl
+  where
+    by_test : (b : Bool) → Is_nearer at n start ≡ b → cond b start n ≤ n
+    by_test true e = omega (arith, ltb-true start n (and_parts (nat_lt at start) (nat_lt start n) e).1)
+    by_test false e = omega arith
+
+nearer_high : (at n start : ℕ) → at < n → at < nearer at n start
+nearer_high at n start h = by_test (Is_nearer at n start) refl
+  where
+    by_test : (b : Bool) → Is_nearer at n start ≡ b → at < cond b start n
+    by_test true e = ltb-true at start (and_parts (nat_lt at start) (nat_lt start n) e).0
+    by_test false e = h
+
+next_low : (at n : ℕ) (rs : List Row) → next_start at n rs ≤ n
+next_low at n [] = omega arith
+next_low at n (r ∷ rs) = omega (arith, next_low at (nearer at n r.start) rs, nearer_low at n r.start)
+
+next_high : (at n : ℕ) (rs : List Row) → at < n → at < next_start at n rs
+next_high at n [] h = h
+next_high at n (r ∷ rs) h = next_high at (nearer at n r.start) rs (nearer_high at n r.start h)
+
+starts_before : (at pc n start : ℕ) → pc < nearer at n start → start ≤ pc → start ≤ at
+starts_before at pc n start high low = by_test (Is_nearer at n start) refl high
+  where
+    behind : (x : (nat_lt at start ≡ false) ⊎ (nat_lt start n ≡ false)) → pc < n → start ≤ at
+    behind (inl e) h = ltb-false at start e
+    behind (inr e) h = absurd (omega (arith, ltb-false start n e))
+
+    by_test : (b : Bool) → Is_nearer at n start ≡ b → pc < cond b start n → start ≤ at
+    by_test true e h = absurd (omega arith)
+    by_test false e h = behind (and_cases (nat_lt at start) (nat_lt start n) e) h
+
+covers_both : (at pc n : ℕ) (h : Handler) → at ≤ pc → pc < nearer at n h.row.start → covers pc h ≡ true → covers at h ≡ true
+covers_both at pc n h low high is =
+    let parts = and_parts (nat_le h.row.start pc) (nat_lt pc h.row.end) is in
+    and_from (nat_le h.row.start at) (nat_lt at h.row.end)
+    (le-leb h.row.start at (starts_before at pc n h.row.start high (leb-true h.row.start pc parts.0)))
+    (lt-ltb at h.row.end (omega (arith, ltb-true pc h.row.end parts.1)))
+
+asked_before : (x y c : Bool) → (x ≡ true → y ≡ true) → (not y || c) ≡ true → (not x || c) ≡ true
+asked_before false y c f h = refl
+asked_before true y c f h = subst (λ b. (not b || c) ≡ true) (f refl) h
+
+all_on : (env : Environment) (at pc n : ℕ) (s : TypeState) (rs : List Row) (cs : List (Option ℕ)) → at ≤ pc → pc < next_start at n rs
+    → list_all (Asks env at s) (with_catches rs cs) ≡ true → list_all (Asks env pc s) (with_catches rs cs) ≡ true
+all_on env at pc n s [] cs low high e = refl
+all_on env at pc n s (r ∷ rs) cs low high e =
+    let first : Handler = handler r (get_or cs 0 None) in
+    let behind = with_catches rs (drop 1 cs) in
+    let parts = and_parts (Asks env at s first) (list_all (Asks env at s) behind) e in
+    and_from (Asks env pc s first) (list_all (Asks env pc s) behind)
+    (asked_before (covers pc first) (covers at first) (is_satisfied env s first)
+    (λ is. covers_both at pc n first low (omega (arith, high, next_low at (nearer at n r.start) rs)) is) parts.0)
+    (all_on env at pc (nearer at n r.start) s rs (drop 1 cs) low high parts.1)
+
+pub judged_here : (env : Environment) (s : TypeState) (pc until : ℕ) (rs : List Row) (cs : List (Option ℕ)) → env.handlers ≡ with_catches rs cs → until ≡ next_start pc 65536 rs → are_satisfied env pc s ≡ true
+    → IsJudged env s (record { at = pc; until = until })
+judged_here env s pc until rs cs are is satisfied = record {
+  at = satisfied;
+  on = λ p low high.
+      ap (λ hs. list_all (Asks env p s) hs) are
+      ∙ all_on env pc p 65536 s rs cs low (subst (λ (n : ℕ). p < n) is high) (sym (ap (λ hs. list_all (Asks env pc s) hs) are) ∙ satisfied);
+}
+
+pub holds_here : (pc until : ℕ) (rs : List Row) → pc < 65536 → until ≡ next_start pc 65536 rs → holds_at pc (Some (record { at = pc; until = until })) ≡ true
+holds_here pc until rs low is =
+    and_from (nat_le pc pc) (nat_lt pc until) (le-leb pc pc (omega arith)) (lt-ltb pc until (subst (λ (n : ℕ). pc < n) (sym is) (next_high pc 65536 rs low)))
+
+pub held : (env : Environment) (pc : ℕ) (s : TypeState) (o : Option Judged) → IfSome o (IsJudged env s) → holds_at pc o ≡ true → are_satisfied env pc s ≡ true
+held env pc s None h e = absurd cc
+held env pc s (Some j) h e =
+    let parts = and_parts (nat_le j.at pc) (nat_lt pc j.until) e in
+    h.on pc (leb-true j.at pc parts.0) (ltb-true pc j.until parts.1)
+
+pub satisfied_is : (env : Environment) (pc : ℕ) (s : TypeState) (o : Option Judged) (known : Option ℕ) (b : Bool) → b ≡ list_all (keeps_more env known pc s) env.handlers → known ≡ option_map (λ (j : Judged). j.at) o → IfSome o (IsJudged env s)
+    → b ≡ are_satisfied env pc s
+satisfied_is env pc s o known b is at h =
+    is ∙ ap (λ (k : Option ℕ). list_all (keeps_more env k pc s) env.handlers) at ∙ more_is env pc s o h
