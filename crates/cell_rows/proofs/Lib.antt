@@ -1,0 +1,3 @@
+pub mod RowShapes
+pub mod TopWrites
+pub mod MadeRows

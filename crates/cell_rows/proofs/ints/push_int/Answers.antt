@@ -1,0 +1,11 @@
+use Rattle.std.proofs.Common.{◌+◌, ◌∙◌, ap, ℤ, arith, rules}
+use Rattle.std.specs.Prelude.{slice_set}
+use Rattle.std.proofs.lemmas.Int.{to_z-of_z}
+use Rattle.std.specs.Int.{w32}
+use Rattle.instruction_rows.specs.declared.value.Value.TheVariants as values
+use Rattle.instruction_rows.specs.declared.value.Slot.TheVariants as slots
+use Rattle.cell_rows.proofs.RowShapes.{pushed_one}
+use Rattle.cell_rows.proofs.ints.push_int.Goals as goal
+
+pub returns : goal.returns
+returns c = pushed_one c.args.row.now c.put_int.new.row c.args.locals c.args.used (c.args.used + 1) (slots.One (values.Int c.args.n)) (c.put_int.ensures ∙ ap (λ (n : ℤ). slice_set c.args.row.now (c.args.locals + c.args.used) (slots.One (values.Int n))) (to_z-of_z w32 c.args.n (search rules))) c.requires.room (omega arith)

@@ -1,0 +1,10 @@
+//! The local rows of instructions (JVMS 6.5) on the slots of a frame, which lie in a row of cells: its local variables first, and its
+//! operands behind them. Each call has as its condition that its row is defined there, and leaves what the row does.
+#![tactic(auto)]
+
+mod ints;
+mod moves;
+mod row;
+
+pub use ints::{int_binary, push_int};
+pub use moves::{dup, dup_two, dup_two_x1, dup_two_x2, dup_x1, dup_x2, pop, pop_two, swap};
