@@ -1,3 +1,4 @@
 pub mod RowShapes
 pub mod TopWrites
+pub mod LowWords
 pub mod MadeRows

@@ -3,8 +3,11 @@
 #![tactic(auto)]
 
 mod ints;
+mod longs;
 mod moves;
 mod row;
+mod words;
 
-pub use ints::{int_binary, push_int};
+pub use ints::{int_binary, int_narrow, int_negate, long_compare, long_to_int, push_int};
+pub use longs::{int_to_long, long_binary, long_negate, long_shift, push_long};
 pub use moves::{dup, dup_two, dup_two_x1, dup_two_x2, dup_x1, dup_x2, pop, pop_two, swap};

@@ -1,11 +1,20 @@
-use Rattle.std.proofs.Common.{◌+◌, ◌∙◌, ap, ℤ, arith, rules}
+use Rattle.std.proofs.Common.{ℤ, ◌≡◌, ◌+◌, ◌-◌, ◌<◌, ◌≤◌, ◌∙◌, ◌-ℤ◌, [], ◌∷◌, Some, ap, sym, refl, arith, rules, to_z, of_z, pos}
 use Rattle.std.specs.Prelude.{slice_set}
+use Rattle.std.specs.Int.{w32, w64, int_wrap}
 use Rattle.std.proofs.lemmas.Int.{to_z-of_z}
-use Rattle.std.specs.Int.{w32}
+use Rattle.opcodes.specs.declared.op.Kind.TheVariants as kinds
 use Rattle.instruction_rows.specs.declared.value.Value.TheVariants as values
 use Rattle.instruction_rows.specs.declared.value.Slot.TheVariants as slots
-use Rattle.cell_rows.proofs.RowShapes.{pushed_one}
+use Rattle.jvm_words.specs.declared.operation.IntOp.TheVariants as int_ops
+use Rattle.jvm_words.specs.declared.operation.LongOp.TheVariants as long_ops
+use Rattle.jvm_words.specs.Words.{int_result, long_result, long_shift_result, long_order, narrow_result}
+use Rattle.cell_rows.proofs.MadeRows.{int_of_one, int_of_two, long_of_one, long_of_two, int_takes_one, int_takes_two, long_takes_one, long_takes_two, int_is_given, long_is_given, reads_int, reads_long}
+use Rattle.cell_rows.proofs.TopWrites.{top_written}
+use Rattle.stack_maps.specs.declared.types.VType.TheVariants as types
+use Rattle.instruction_rows.specs.Rows.{push}
 use Rattle.cell_rows.proofs.ints.push_int.Goals as goal
 
 pub returns : goal.returns
-returns c = pushed_one c.args.row.now c.put_int.new.row c.args.locals c.args.used (c.args.used + 1) (slots.One (values.Int c.args.n)) (c.put_int.ensures ∙ ap (λ (n : ℤ). slice_set c.args.row.now (c.args.locals + c.args.used) (slots.One (values.Int n))) (to_z-of_z w32 c.args.n (search rules))) c.requires.room (omega arith)
+returns c =
+    top_written (push types.Int (values.Int c.args.n)) c.args.row.now c.put_int.new.row c.args.locals c.args.used c.args.used (c.args.locals + c.args.used) (c.args.used + 1) (slots.One (values.Int c.args.n) ∷ [])
+    refl (c.put_int.ensures ∙ ap (λ (n : ℤ). slice_set c.args.row.now (c.args.locals + c.args.used) (slots.One (values.Int n))) (to_z-of_z w32 c.args.n (search rules))) refl (omega arith) (omega arith)
