@@ -2,3 +2,4 @@ pub mod RowShapes
 pub mod TopWrites
 pub mod LowWords
 pub mod MadeRows
+pub mod VariableRows

@@ -1,6 +1,6 @@
 //! What of ints and longs jvm_words leaves to the row: negation and i2l.
 
-ghost use Rattle.std.specs.Prelude.{◌≡◌, ◌-ℤ◌, pos};
+ghost use Rattle.std.specs.Prelude.{◌≡◌, ◌-ℤ◌, ◌+ℤ◌, pos};
 ghost use Rattle.std.specs.Int.{w32, w64, int_wrap};
 
 // An int subtracted from 0.
@@ -26,4 +26,12 @@ pub(crate) fn low_half(a: i64) -> i32
 {
     let low = (a.cast_unsigned() % 0x1_0000_0000) as u32;
     low.cast_signed()
+}
+
+// An int with an amount added.
+#[inline(always)]
+pub(crate) fn increased(a: i32, amount: i16) -> i32
+    ensures { result ≡ int_wrap w32 (a +ℤ amount) }
+{
+    a.wrapping_add(i32::from(amount))
 }
