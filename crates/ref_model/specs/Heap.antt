@@ -54,13 +54,13 @@ array_at w r o = object_at r o >>= array_of w
 -- ---- changes
 
 -- an object has this value at a place now
+abbrev pub object_with : State → ℕ → ℕ → Value → Object → Option State
+object_with r o place v (instance class values) =
+    with_item place v values >>= λ others. Some (record r { heap = slice_set r.heap o (instance class others) })
+object_with r o place v (text units) = None
+
 abbrev pub with_value : State → ℕ → ℕ → Value → Option State
-with_value r o place v = object_at r o >>= by
-  where
-    by : Object → Option State
-    by (instance class values) =
-        with_item place v values >>= λ others. Some (record r { heap = slice_set r.heap o (instance class others) })
-    by (text units) = None
+with_value r o place v = object_at r o >>= object_with r o place v
 
 -- ---- new objects, which have the next number. They have to fit in the room that is left. (own)
 

@@ -1,5 +1,5 @@
-use Rattle.frame_typing.proofs.Exceptions.{thrown, left, handled}
-use Rattle.frame_typing.proofs.exceptions_go_on.Goals as goal
+use Rattle.typed_frames.proofs.Exceptions.{thrown, left, handled}
+use Rattle.typed_frames.proofs.exceptions_go_on.Goals as goal
 
 pub returns-clause-throws : goal.returns-clause-throws
 returns-clause-throws c = thrown

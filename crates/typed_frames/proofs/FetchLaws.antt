@@ -13,7 +13,7 @@ use Rattle.verify_types.specs.Walk.{Placed, placed, standing, behind, is_end, pl
 use Rattle.verify_types.specs.Typing.{IsFine, IsTypedMethod, AreTyped}
 use Rattle.state_model.specs.Frames.{Frame}
 use Rattle.ref_model.specs.Fetch.{instruction_in, fetched}
-use Rattle.frame_typing.specs.Typed.{IsAt}
+use Rattle.typed_frames.specs.Typed.{IsAt}
 
 -- ---- a method's environment
 

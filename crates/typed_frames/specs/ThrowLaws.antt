@@ -6,7 +6,7 @@ use Rattle.verify_types.specs.Typing.{AreTyped}
 use Rattle.state_model.specs.Frames.{Frame}
 use Rattle.ref_model.specs.Frames.{is_root}
 use Rattle.ref_model.specs.Throwing.{handler_of, at_handler}
-use Rattle.frame_typing.specs.Typed.{Typed, Thrown}
+use Rattle.typed_frames.specs.Typed.{Typed, Thrown}
 
 -- a thread that throws keeps its frames
 abbrev pub ThrowsKeep : Type 0

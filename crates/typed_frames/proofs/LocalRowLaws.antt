@@ -36,10 +36,10 @@ use Rattle.state_model.specs.Frames.{Frame}
 use Rattle.ref_model.specs.Fetch.{fetched, constant_of}
 use Rattle.ref_model.specs.Frames.{contents, gone, moved, behind}
 use Rattle.ref_model.specs.LocalRows.{local_act, constant_pushed, row}
-use Rattle.frame_typing.specs.Typed.{IsAt, Stands, Typed}
-use Rattle.frame_typing.specs.LocalLaws.{Goes}
-use Rattle.frame_typing.proofs.FetchLaws.{fetched_is, fine}
-use Rattle.frame_typing.proofs.Arrivals.{Arrived, arrived, on_frames}
+use Rattle.typed_frames.specs.Typed.{IsAt, Stands, Typed}
+use Rattle.typed_frames.specs.LocalLaws.{Goes}
+use Rattle.typed_frames.proofs.FetchLaws.{fetched_is, fine}
+use Rattle.typed_frames.proofs.Arrivals.{Arrived, arrived, on_frames}
 
 -- ---- the row of the top frame's instruction, where that is known
 

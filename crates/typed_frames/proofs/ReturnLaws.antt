@@ -40,11 +40,11 @@ use Rattle.ref_model.specs.Kinds.{kept}
 use Rattle.ref_model.specs.Fetch.{fetched}
 use Rattle.ref_model.specs.Frames.{contents, behind, is_root, stack_returned, returned_to, returned}
 use Rattle.ref_model.specs.LocalRows.{row}
-use Rattle.frame_typing.specs.Typed.{IsAt, Stands, Waits, IsUnder, Typed, given_back, back_of, result_type, initializes}
-use Rattle.frame_typing.specs.LocalLaws.{Goes}
-use Rattle.frame_typing.proofs.FetchLaws.{Parts, parts, fetched_is, fine}
-use Rattle.frame_typing.proofs.Arrivals.{Arrived, arrived, on_frames}
-use Rattle.frame_typing.proofs.LocalRowLaws.{row_is}
+use Rattle.typed_frames.specs.Typed.{IsAt, Stands, Waits, IsUnder, Typed, given_back, back_of, result_type, initializes}
+use Rattle.typed_frames.specs.LocalLaws.{Goes}
+use Rattle.typed_frames.proofs.FetchLaws.{Parts, parts, fetched_is, fine}
+use Rattle.typed_frames.proofs.Arrivals.{Arrived, arrived, on_frames}
+use Rattle.typed_frames.proofs.LocalRowLaws.{row_is}
 
 -- ---- the kind of a result
 
@@ -92,7 +92,7 @@ result_kind w a t k may has = by (kinds_kept w a (type_of_kind w t) may)
     by (inr same) = sym same ∙ has
     by (inl none) = let e = no_float w a (type_of_kind w t) (no_kind w t none) may in absurd cc
 
-kept_kind : (t : FieldType) (v : Value) → kind_of (kept t v) ≡ kind_of v
+pub kept_kind : (t : FieldType) (v : Value) → kind_of (kept t v) ≡ kind_of v
 kept_kind t (values.Int n) = refl
 kept_kind t (values.Long n) = refl
 kept_kind t values.Null = refl
@@ -112,7 +112,7 @@ none_is None e = refl
 none_is (Some x) e = absurd cc
 
 -- what the method gives back, by its result
-back_is : (w : World) (n : ℕ) (info : MethodInfo) (result : Option FieldType) → slice_get w.methods n ≡ Some info
+pub back_is : (w : World) (n : ℕ) (info : MethodInfo) (result : Option FieldType) → slice_get w.methods n ≡ Some info
     → info.signature.result ≡ result → back_of w n ≡ option_map (type_of_kind w) result
 back_is w n info result at has =
     bind_is (slice_get w.methods n) (result_type w) info (option_map (type_of_kind w) result) at (ap (option_map (type_of_kind w)) has)

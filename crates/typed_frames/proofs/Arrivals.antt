@@ -12,7 +12,7 @@ use Rattle.verify_types.specs.TypeStates.{TypeState}
 use Rattle.verify_types.specs.Typing.{Leads}
 use Rattle.state_model.specs.Frames.{Frame}
 use Rattle.ref_model.specs.Frames.{gone}
-use Rattle.frame_typing.specs.Typed.{IsAt, Stands, AreUnder, Typed}
+use Rattle.typed_frames.specs.Typed.{IsAt, Stands, AreUnder, Typed}
 
 pub record Arrived (w : World) (f : Frame) (pc : ℕ) (c : Contents Slot) : Type 0 where
   pub frame : Frame

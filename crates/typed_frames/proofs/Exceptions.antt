@@ -33,10 +33,10 @@ use Rattle.ref_model.specs.Classes.{is_sub}
 use Rattle.ref_model.specs.Fetch.{handlers_of}
 use Rattle.ref_model.specs.Frames.{contents, is_root}
 use Rattle.ref_model.specs.Throwing.{catches, handler_of, at_handler}
-use Rattle.frame_typing.specs.Typed.{IsAt, Stands, Waits, Throws, IsUnder, Typed, Thrown, back_of}
-use Rattle.frame_typing.specs.ThrowLaws.{IsHandled}
-use Rattle.frame_typing.proofs.FetchLaws.{Parts, parts, typed_method, fine}
-use Rattle.frame_typing.proofs.Arrivals.{Arrived, arrived, on_frames}
+use Rattle.typed_frames.specs.Typed.{IsAt, Stands, Waits, Throws, IsUnder, Typed, Thrown, back_of}
+use Rattle.typed_frames.specs.ThrowLaws.{IsHandled}
+use Rattle.typed_frames.proofs.FetchLaws.{Parts, parts, typed_method, fine}
+use Rattle.typed_frames.proofs.Arrivals.{Arrived, arrived, on_frames}
 
 -- ---- frames of a thread that throws
 
@@ -66,7 +66,7 @@ found_at p [] x e = absurd cc
 found_at p (y ∷ xs) x e = found_by (p y) y x xs (find p xs) e (found_at p xs x)
 
 -- every class is a reference
-class_kind : (w : World) (n : ℕ) → kind_of_type (class_type w n) ≡ Some kinds.Reference
+pub class_kind : (w : World) (n : ℕ) → kind_of_type (class_type w n) ≡ Some kinds.Reference
 class_kind w n = by (array_type w n) refl
   where
     by : (o : Option ArrayType) → array_type w n ≡ o → kind_of_type (class_type w n) ≡ Some kinds.Reference

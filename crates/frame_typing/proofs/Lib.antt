@@ -1,5 +1,0 @@
-pub mod FetchLaws
-pub mod Arrivals
-pub mod LocalRowLaws
-pub mod ReturnLaws
-pub mod Exceptions

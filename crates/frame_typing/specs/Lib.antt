@@ -1,3 +1,0 @@
-pub mod Typed
-pub mod LocalLaws
-pub mod ThrowLaws

@@ -1,0 +1,14 @@
+pub mod FetchLaws
+pub mod Arrivals
+pub mod LocalRowLaws
+pub mod ReturnLaws
+pub mod Exceptions
+pub mod Arguments
+pub mod Beginnings
+pub mod CallLaws
+pub mod KeepLaws
+pub mod ValueLaws
+pub mod FieldLaws
+pub mod ArrayLaws
+pub mod ObjectLaws
+pub mod NativeLaws

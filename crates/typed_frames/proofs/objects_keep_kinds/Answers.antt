@@ -1,0 +1,16 @@
+use Rattle.typed_frames.proofs.ObjectLaws.{casts_keep, judgements_keep, new_objects_keep, new_arrays_keep}
+use Rattle.typed_frames.proofs.objects_keep_kinds.Goals as goal
+
+pub returns-clause-casts : goal.returns-clause-casts
+returns-clause-casts c = λ w naming r ts rest class xs effect fits of types e. casts_keep w naming r ts rest class xs effect fits of types e
+
+pub returns-clause-judgements : goal.returns-clause-judgements
+returns-clause-judgements c = λ w naming r ts rest class xs effect fits of types e.
+    judgements_keep w naming r ts rest class xs effect fits of types e
+
+pub returns-clause-objects : goal.returns-clause-objects
+returns-clause-objects c = λ w naming r pc ts xs effect named fits of e. new_objects_keep w naming r pc ts xs effect named fits of e
+
+pub returns-clause-arrays : goal.returns-clause-arrays
+returns-clause-arrays c = λ w naming r t ts x xs effect fits of kind types e.
+    new_arrays_keep w naming r t ts x xs effect fits of kind types e

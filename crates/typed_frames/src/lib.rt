@@ -1,0 +1,58 @@
+//! That the frames of a thread keep to the typing of its program: laws on the definitions of `ref_model` and `verify_types`, each as a
+//! call that does nothing.
+#![tactic(auto)]
+
+ghost use Rattle.typed_frames.specs.LocalLaws.{RowsGoOn, ConstantsGoOn, WideConstantsGoOn, ReturnsGoOn, StaticCallsGoOn, RowsKeep};
+ghost use Rattle.typed_frames.specs.EventLaws.{StaticGetsKeep, StaticPutsKeep, FieldGetsKeep, FieldPutsKeep, ArrayLoadsKeep, ArrayStoresKeep, LengthsKeep, CastsKeep, JudgementsKeep, NewObjectsKeep, NewArraysKeep};
+ghost use Rattle.typed_frames.specs.NativeLaws.{NativesKeep};
+ghost use Rattle.typed_frames.specs.ThrowLaws.{ThrowsKeep, FramesAreLeft, HandlersGoOn};
+
+/// A local instruction of frames that keep to the typing is defined, unless it divides by 0 or returns from a root frame, and leaves
+/// frames that keep to it (JVMS 4.10.1.6).
+pub fn local_instructions_go_on()
+    ensures rows { RowsGoOn }
+    ensures constants { ConstantsGoOn }
+    ensures wide_constants { WideConstantsGoOn }
+    ensures returns { ReturnsGoOn }
+    ensures static_calls { StaticCallsGoOn }
+    ensures keep { RowsKeep }
+{}
+
+/// An exception that leaves frames, or is caught in one, leaves frames that keep to the typing (JVMS 2.10, 4.10.1.6).
+pub fn exceptions_go_on()
+    ensures throws { ThrowsKeep }
+    ensures left { FramesAreLeft }
+    ensures handled { HandlersGoOn }
+{}
+
+/// Fields keep kinds: what is got of a field has the kind of its type, and what is put keeps the state's values of their kinds (JVMS 6.5,
+/// 2.11.1).
+pub fn fields_keep_kinds()
+    ensures static_gets { StaticGetsKeep }
+    ensures static_puts { StaticPutsKeep }
+    ensures gets { FieldGetsKeep }
+    ensures puts { FieldPutsKeep }
+{}
+
+/// Arrays keep kinds: what is loaded has the kind of the elements, and what is stored keeps the state's values of their kinds (JVMS 6.5,
+/// 2.11.1).
+pub fn arrays_keep_kinds()
+    ensures loads { ArrayLoadsKeep }
+    ensures stores { ArrayStoresKeep }
+    ensures lengths { LengthsKeep }
+{}
+
+/// Objects keep kinds: a cast leaves a reference, instanceof an int, and new objects and arrays of one length have values of the kinds of
+/// their fields and elements (JVMS 6.5, 2.3, 2.4).
+pub fn objects_keep_kinds()
+    ensures casts { CastsKeep }
+    ensures judgements { JudgementsKeep }
+    ensures objects { NewObjectsKeep }
+    ensures arrays { NewArraysKeep }
+{}
+
+/// Native methods keep kinds: each leaves the state's values of their kinds, and gives back a value of its descriptor's kind, or none (the
+/// API of `Object`, `String`, `StringBuilder`, `PrintStream` and `System`).
+pub fn natives_keep_kinds()
+    ensures { NativesKeep }
+{}
