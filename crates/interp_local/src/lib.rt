@@ -1,0 +1,4 @@
+//! Runs the local instructions of a thread (JVMS 6.5).
+#![tactic(auto)]
+
+mod simple;
