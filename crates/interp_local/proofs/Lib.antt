@@ -1,2 +1,3 @@
 pub mod RoomLaws
 pub mod SimpleRows
+pub mod Divisors

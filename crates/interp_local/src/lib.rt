@@ -4,3 +4,4 @@
 mod making;
 mod operands;
 mod simple;
+mod staying;
