@@ -1,3 +1,4 @@
 pub mod RoomLaws
 pub mod SimpleRows
 pub mod Divisors
+pub mod FrameSteps

@@ -1,1 +1,2 @@
 pub mod FrameRows
+pub mod Places
