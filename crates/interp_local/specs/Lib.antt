@@ -1,2 +1,3 @@
 pub mod FrameRows
 pub mod Places
+pub mod Runs
