@@ -5,3 +5,5 @@ pub mod FrameSteps
 pub mod PlaceLaws
 pub mod ReadyLaws
 pub mod LoopLaws
+pub mod Windows
+pub mod TopLaws

@@ -1,4 +1,4 @@
-//! Runs the local instructions of a thread (JVMS 6.5).
+//! Runs the local instructions of a thread (JVMS 6.5): those that stay in its top frame, one after the other.
 #![tactic(auto)]
 
 mod frame_run;
@@ -6,7 +6,9 @@ mod making;
 mod operands;
 mod places;
 mod prepared;
+mod run;
 mod simple;
 mod staying;
 
 pub use prepared::Prepared;
+pub use run::{Local, run_local};
