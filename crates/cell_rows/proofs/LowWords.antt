@@ -1,5 +1,5 @@
 -- The low half of a long.
-use Rattle.std.proofs.Common.{◌≡◌, ℕ, suc, ◌-◌, ◌%◌, ◌^◌, ◌<◌, ℤ, pos, negsuc, FitsSigned, refl, ap, arith}
+use Rattle.std.proofs.Common.{◌≡◌, suc, ◌-◌, ◌%◌, ◌^◌, ◌<◌, ℤ, pos, negsuc, FitsSigned, refl, ap, arith}
 use Rattle.std.specs.Int.{w32, w64, cast_signed, cast_unsigned, int_wrap}
 
 pub low_word : (a : ℤ) → FitsSigned w64 a → cast_signed w32 (cast_unsigned w64 a % 4294967296) ≡ int_wrap w32 a

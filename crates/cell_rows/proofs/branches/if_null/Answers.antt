@@ -1,9 +1,7 @@
-use Rattle.std.proofs.Common.{ℕ, ℤ, ◌≡◌, ◌+◌, ◌-◌, ◌<◌, ◌≤◌, ◌∙◌, [], ◌∷◌, Option, Some, None, ap, sym, refl, arith, rules, to_z, of_z, pos}
-use Rattle.std.specs.Int.{w32}
-use Rattle.std.proofs.lemmas.Int.{to_z-of_z}
+use Rattle.std.proofs.Common.{◌+◌, ◌-◌, None, sym, arith}
 use Rattle.opcodes.specs.declared.op.Kind.TheVariants as kinds
-use Rattle.instruction_rows.specs.Comparisons.{compares, are_so}
-use Rattle.cell_rows.proofs.MadeRows.{Reads, reads_object, tests_one, tests_two, branch_of_one, branch_of_two}
+use Rattle.instruction_rows.specs.Comparisons.{are_so}
+use Rattle.cell_rows.proofs.MadeRows.{reads_object, tests_one, branch_of_one}
 use Rattle.cell_rows.proofs.branches.if_null.Goals as goal
 
 pub overflow_sub-at : goal.overflow_sub-at

@@ -1,4 +1,4 @@
-use Rattle.std.proofs.Common.{ℤ, ◌+◌, ◌-◌, ◌≤◌, ◌∙◌, ap, arith, rules, to_z, of_z}
+use Rattle.std.proofs.Common.{◌+◌, ◌-◌, ◌∙◌, arith, rules, to_z, of_z}
 use Rattle.std.specs.Int.{w32, w64}
 use Rattle.std.proofs.lemmas.Int.{to_z-of_z}
 use Rattle.instruction_rows.specs.Switches.{table_target, table_targets}

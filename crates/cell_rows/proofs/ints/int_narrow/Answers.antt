@@ -1,15 +1,9 @@
-use Rattle.std.proofs.Common.{ℤ, ◌≡◌, ◌+◌, ◌-◌, ◌<◌, ◌≤◌, ◌∙◌, ◌-ℤ◌, [], ◌∷◌, Some, ap, sym, refl, arith, rules, to_z, of_z, pos}
-use Rattle.std.specs.Prelude.{slice_set}
-use Rattle.std.specs.Int.{w32, w64, int_wrap}
+use Rattle.std.proofs.Common.{◌+◌, ◌-◌, ◌∙◌, Some, ap, sym, arith, rules, to_z, of_z}
+use Rattle.std.specs.Int.{w32}
 use Rattle.std.proofs.lemmas.Int.{to_z-of_z}
 use Rattle.opcodes.specs.declared.op.Kind.TheVariants as kinds
-use Rattle.instruction_rows.specs.declared.value.Value.TheVariants as values
-use Rattle.instruction_rows.specs.declared.value.Slot.TheVariants as slots
-use Rattle.jvm_words.specs.declared.operation.IntOp.TheVariants as int_ops
-use Rattle.jvm_words.specs.declared.operation.LongOp.TheVariants as long_ops
-use Rattle.jvm_words.specs.Words.{int_result, long_result, long_shift_result, long_order, narrow_result}
-use Rattle.cell_rows.proofs.MadeRows.{int_of_one, int_of_two, long_of_one, long_of_two, int_takes_one, int_takes_two, long_takes_one, long_takes_two, int_is_given, long_is_given, reads_int, reads_long}
-use Rattle.cell_rows.proofs.TopWrites.{top_written}
+use Rattle.jvm_words.specs.Words.{narrow_result}
+use Rattle.cell_rows.proofs.MadeRows.{int_of_one, int_takes_one, reads_int}
 use Rattle.cell_rows.proofs.ints.int_narrow.Goals as goal
 
 pub overflow_sub-at : goal.overflow_sub-at

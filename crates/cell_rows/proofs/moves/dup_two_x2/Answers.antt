@@ -1,6 +1,6 @@
-use Rattle.std.proofs.Common.{ℕ, ◌+◌, ◌-◌, ◌≤◌, [], ◌∷◌, refl, arith}
-use Rattle.instruction_rows.specs.StackItems.{one, two}
-use Rattle.cell_rows.proofs.TopWrites.{moves_written, moves_enough, lie_one, lie_two, lie_three, lie_four}
+use Rattle.std.proofs.Common.{◌+◌, ◌-◌, [], ◌∷◌, refl, arith}
+use Rattle.instruction_rows.specs.StackItems.{two}
+use Rattle.cell_rows.proofs.TopWrites.{moves_written, moves_enough, lie_four}
 use Rattle.cell_rows.proofs.moves.dup_two_x2.Goals as goal
 
 pub overflow_sub-at : goal.overflow_sub-at

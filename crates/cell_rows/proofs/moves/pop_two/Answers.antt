@@ -1,7 +1,7 @@
-use Rattle.std.proofs.Common.{ℕ, ◌+◌, ◌-◌, ◌≤◌, [], ◌∷◌, refl, arith}
-use Rattle.instruction_rows.specs.StackItems.{one, two}
+use Rattle.std.proofs.Common.{◌+◌, ◌-◌, [], ◌∷◌, refl, arith}
+use Rattle.instruction_rows.specs.StackItems.{two}
 use Rattle.frames.specs.Rows.{ascending}
-use Rattle.cell_rows.proofs.TopWrites.{moves_written, moves_enough, lie_one, lie_two, lie_three, lie_four}
+use Rattle.cell_rows.proofs.TopWrites.{moves_written, moves_enough}
 use Rattle.cell_rows.proofs.moves.pop_two.Goals as goal
 
 pub overflow_sub-result : goal.overflow_sub-result

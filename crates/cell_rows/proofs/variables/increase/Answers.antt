@@ -1,9 +1,8 @@
-use Rattle.std.proofs.Common.{ℤ, ◌+ℤ◌, ◌≡◌, ◌+◌, ◌-◌, ◌<◌, ◌≤◌, ◌∙◌, ap, sym, refl, arith, rules, to_z, of_z}
-use Rattle.std.specs.Int.{w16, w32, w64, int_wrap}
+use Rattle.std.proofs.Common.{ℤ, ◌+ℤ◌, ◌∙◌, ap, arith, rules, to_z, of_z}
+use Rattle.std.specs.Int.{w16, w32, int_wrap}
 use Rattle.std.proofs.lemmas.Int.{to_z-of_z}
-use Rattle.opcodes.specs.declared.op.Kind.TheVariants as kinds
-use Rattle.cell_rows.proofs.MadeRows.{reads_int, reads_long}
-use Rattle.cell_rows.proofs.VariableRows.{Held, loaded, incremented, load_one, load_two, store_one, store_two, store_inside, store_takes, increment_one}
+use Rattle.cell_rows.proofs.MadeRows.{reads_int}
+use Rattle.cell_rows.proofs.VariableRows.{incremented, increment_one}
 use Rattle.cell_rows.proofs.variables.increase.Goals as goal
 
 pub int_at-a-requires : goal.int_at-a-requires

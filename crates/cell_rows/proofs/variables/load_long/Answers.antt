@@ -1,9 +1,9 @@
-use Rattle.std.proofs.Common.{ℤ, ◌≡◌, ◌+◌, ◌-◌, ◌<◌, ◌≤◌, ◌∙◌, ap, sym, refl, arith, rules, to_z, of_z}
-use Rattle.std.specs.Int.{w32, w64, int_wrap}
+use Rattle.std.proofs.Common.{◌+◌, refl, arith, rules, to_z, of_z}
+use Rattle.std.specs.Int.{w64}
 use Rattle.std.proofs.lemmas.Int.{to_z-of_z}
 use Rattle.opcodes.specs.declared.op.Kind.TheVariants as kinds
-use Rattle.cell_rows.proofs.MadeRows.{reads_int, reads_long}
-use Rattle.cell_rows.proofs.VariableRows.{Held, loaded, incremented, load_one, load_two, store_one, store_two, store_inside, store_takes, increment_one}
+use Rattle.cell_rows.proofs.MadeRows.{reads_long}
+use Rattle.cell_rows.proofs.VariableRows.{loaded, load_two}
 use Rattle.cell_rows.proofs.variables.load_long.Goals as goal
 
 pub long_at-a-requires : goal.long_at-a-requires
