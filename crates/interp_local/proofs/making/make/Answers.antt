@@ -1,13 +1,12 @@
-use Rattle.std.proofs.Common.{ℕ, ℤ, ◌≡◌, ◌+◌, ◌≤◌, [], ◌∷◌, Option, None, Some, length, pos, subst, refl, arith}
+use Rattle.std.proofs.Common.{[], ◌∷◌, None, pos, subst, arith}
 use Rattle.opcodes.specs.declared.op.Op.{Op}
-use Rattle.opcodes.specs.declared.op.Op.TheVariants as ops
 use Rattle.opcodes.specs.declared.op.Kind.TheVariants as kinds
 use Rattle.stack_maps.specs.declared.types.VType.TheVariants as types
 use Rattle.instruction_rows.specs.declared.value.Value.TheVariants as values
 use Rattle.instruction_rows.specs.Comparisons.{compares, are_so}
 use Rattle.instruction_rows.specs.Table.{row}
-use Rattle.cell_rows.specs.CellRows.{contents_at, CanAct, CanTest}
-use Rattle.interp_local.specs.FrameRows.{Fits, Leaves, frame_row}
+use Rattle.cell_rows.specs.CellRows.{contents_at}
+use Rattle.interp_local.specs.FrameRows.{Fits, frame_row}
 use Rattle.interp_local.proofs.RoomLaws.{push_room, can_test}
 use Rattle.interp_local.proofs.making.make.Goals as goal
 

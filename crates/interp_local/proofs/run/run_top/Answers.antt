@@ -1,4 +1,4 @@
-use Rattle.std.proofs.Common.{◌≡◌, ℕ, ◌+◌, ◌≤◌, ◌∙◌, List, ◌∷◌, length, refl, ap, sym, subst}
+use Rattle.std.proofs.Common.{◌∙◌, List, refl, ap, sym, subst}
 use Rattle.state_model.specs.Frames.{Frame}
 use Rattle.typed_frames.specs.Typed.{Stands}
 use Rattle.continuation.specs.Continuation.{Continuation}
