@@ -34,7 +34,7 @@ in_order : (pc : ℕ) (code : List ℕ) (is : List Instr) (ns : List Naming) →
 in_order pc code [] ns b = tt
 in_order pc code (i ∷ is) ns b = (b.1.here, rises pc code i b.0 b.1, in_order i.next b.0 is (drop 1 ns) b.2)
 
-linked_code : (w : World) (m : MethodInfo) (code : MethodCode) (ns : List Naming) (cs : List (Option ℕ)) (is : List Instr) → is ≡ code.code
+pub linked_code : (w : World) (m : MethodInfo) (code : MethodCode) (ns : List Naming) (cs : List (Option ℕ)) (is : List Instr) → is ≡ code.code
     → (bytes : List ℕ) → IsCode bytes is → 0 < length bytes → IsLinkedCode (environment_of w m code ns cs)
 linked_code w m code ns cs [] e bytes b some = let none : length bytes ≡ 0 = ap length b in absurd (omega arith)
 linked_code w m code ns cs (i ∷ is) e bytes b some =

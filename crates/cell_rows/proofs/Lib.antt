@@ -1,0 +1,5 @@
+pub mod RowShapes
+pub mod TopWrites
+pub mod LowWords
+pub mod MadeRows
+pub mod VariableRows

@@ -1,0 +1,147 @@
+//! Rows that choose where to go on (JVMS 6.5: the ifs and the switches).
+
+ghost use Rattle.std.specs.Prelude.{ℕ, ℤ, ◌≡◌, ◌+◌, ◌-◌, ◌≤◌, ◌<◌, [], ◌∷◌, None, Option, Some, length, pos, slice_get};
+ghost use Rattle.opcodes.specs.declared.op.Kind.TheVariants as kinds;
+ghost use Rattle.instruction_rows.specs.declared.value.Slot.TheVariants as slots;
+ghost use Rattle.instruction_rows.specs.Comparisons as comparisons;
+ghost use Rattle.instruction_rows.specs.Kinds.{value};
+ghost use Rattle.instruction_rows.specs.Rows.{branch, select};
+ghost use Rattle.instruction_rows.specs.SlotEffect.{to};
+ghost use Rattle.instruction_rows.specs.Switches.{lookup_target, lookup_targets, table_target, table_targets};
+ghost use Rattle.cell_rows.specs.CellRows.{CanAct, CanTest, Acts, way_of};
+
+use instruction_rows::{Slot, Value, compares};
+use opcodes::{Comparison, LookupSwitch, Sameness, TableSwitch};
+use slot_block::{Cell, int_at, slot_at};
+
+// The number of the object to which a reference at an index refers, None for null.
+#[inline(always)]
+fn object_at(row: &[Cell], i: usize) -> Option<u32>
+    requires { i < length row.now }
+    ensures { (r : Option ℕ) → slice_get row.now i ≡ Some (slots.One (value kinds.Reference r))
+        → result ≡ r }
+{
+    match slot_at(row, i) {
+        Slot::One(Value::Ref(object)) => Some(object),
+        _ => None,
+    }
+}
+
+// Whether two references compare so.
+#[inline(always)]
+fn are_so(s: Sameness, a: Option<u32>, b: Option<u32>) -> bool
+    ensures { result ≡ comparisons.are_so s a b }
+{
+    let same = match (a, b) {
+        (None, None) => true,
+        (Some(a), Some(b)) => a == b,
+        _ => false,
+    };
+    match s {
+        Sameness::Same => same,
+        Sameness::Different => !same,
+    }
+}
+
+/// ifeq to ifle: whether the branch is taken.
+#[inline(always)]
+pub fn if_zero(order: Comparison, row: &[Cell], locals: usize, used: usize) -> bool
+    requires fits { locals + used ≤ length row.now }
+    requires tests { CanTest (kinds.Int ∷ []) (λ a. comparisons.compares order a (pos 0)) row.now locals used }
+    ensures { (target : ℤ) → Acts (branch (kinds.Int ∷ []) (λ a. comparisons.compares order a (pos 0)) target)
+        row.now locals used row.now (used - 1) (way_of result target) }
+{
+    let at = locals + used - 1;
+    let a = int_at(row, at);
+    compares(order, a, 0)
+}
+
+/// if_icmpeq to if_icmple: whether the branch is taken.
+#[inline(always)]
+pub fn if_ints(order: Comparison, row: &[Cell], locals: usize, used: usize) -> bool
+    requires fits { locals + used ≤ length row.now }
+    requires tests { CanTest (kinds.Int ∷ kinds.Int ∷ []) (λ b a. comparisons.compares order a b) row.now locals used }
+    ensures { (target : ℤ) → Acts (branch (kinds.Int ∷ kinds.Int ∷ []) (λ b a. comparisons.compares order a b) target)
+        row.now locals used row.now (used - 2) (way_of result target) }
+{
+    let at = locals + used - 2;
+    let a = int_at(row, at);
+    let b = int_at(row, at + 1);
+    compares(order, a, b)
+}
+
+/// if_acmpeq and if_acmpne: whether the branch is taken.
+#[inline(always)]
+pub fn if_references(s: Sameness, row: &[Cell], locals: usize, used: usize) -> bool
+    requires fits { locals + used ≤ length row.now }
+    requires tests { CanTest (kinds.Reference ∷ kinds.Reference ∷ []) (λ b a. comparisons.are_so s a b) row.now locals used }
+    ensures { (target : ℤ) → Acts (branch (kinds.Reference ∷ kinds.Reference ∷ []) (λ b a. comparisons.are_so s a b) target)
+        row.now locals used row.now (used - 2) (way_of result target) }
+{
+    let at = locals + used - 2;
+    let a = object_at(row, at);
+    let b = object_at(row, at + 1);
+    are_so(s, a, b)
+}
+
+/// ifnull and ifnonnull: whether the branch is taken.
+#[inline(always)]
+pub fn if_null(s: Sameness, row: &[Cell], locals: usize, used: usize) -> bool
+    requires fits { locals + used ≤ length row.now }
+    requires tests { CanTest (kinds.Reference ∷ []) (λ a. comparisons.are_so s a None) row.now locals used }
+    ensures { (target : ℤ) → Acts (branch (kinds.Reference ∷ []) (λ a. comparisons.are_so s a None) target)
+        row.now locals used row.now (used - 1) (way_of result target) }
+{
+    let at = locals + used - 1;
+    let a = object_at(row, at);
+    are_so(s, a, None)
+}
+
+// The target of a tableswitch for an int.
+fn table_choice(s: &TableSwitch, n: i32) -> i64
+    ensures { result ≡ table_target s.now n }
+{
+    if n < s.low {
+        return s.default;
+    }
+    let targets = s.targets.as_slice();
+    targets
+        .get(n.abs_diff(s.low) as usize)
+        .copied()
+        .unwrap_or(s.default)
+}
+
+// The target of a lookupswitch for an int.
+fn lookup_choice(s: &LookupSwitch, n: i32) -> i64
+    ensures { result ≡ lookup_target s.now n }
+{
+    s.matches
+        .as_slice()
+        .iter()
+        .find(|m| m.value == n)
+        .map(|m| m.target)
+        .unwrap_or(s.default)
+}
+
+/// tableswitch: the target.
+pub fn table_switch(s: &TableSwitch, row: &[Cell], locals: usize, used: usize) -> i64
+    requires fits { locals + used ≤ length row.now }
+    requires acts { CanAct (select (table_target s.now) (table_targets s.now)) row.now locals used }
+    ensures { Acts (select (table_target s.now) (table_targets s.now))
+        row.now locals used row.now (used - 1) (to result) }
+{
+    let a = int_at(row, locals + used - 1);
+    table_choice(s, a)
+}
+
+/// lookupswitch: the target.
+pub fn lookup_switch(s: &LookupSwitch, row: &[Cell], locals: usize, used: usize) -> i64
+    requires fits { locals + used ≤ length row.now }
+    requires acts { CanAct (select (lookup_target s.now) (lookup_targets s.now))
+        row.now locals used }
+    ensures { Acts (select (lookup_target s.now) (lookup_targets s.now))
+        row.now locals used row.now (used - 1) (to result) }
+{
+    let a = int_at(row, locals + used - 1);
+    lookup_choice(s, a)
+}

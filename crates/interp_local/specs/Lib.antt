@@ -1,0 +1,4 @@
+pub mod FrameRows
+pub mod Places
+pub mod Runs
+pub mod Stops

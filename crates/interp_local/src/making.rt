@@ -1,0 +1,107 @@
+//! Instructions that stay in their frame (JVMS 6.5), on its cells.
+
+ghost use Rattle.std.specs.Prelude.{◌+◌, ◌-◌, ◌≤◌, length, if◌then◌else◌, Some, None, ◌≡◌};
+ghost use Rattle.instruction_rows.specs.Table as table;
+ghost use Rattle.cell_rows.specs.CellRows.{contents_at};
+ghost use Rattle.interp_local.specs.FrameRows.{Fits, Leaves, frame_row, way_to};
+
+use crate::operands::{constant, load, store};
+use crate::simple::make_simple;
+use cell_rows::{
+    if_ints, if_null, if_references, if_zero, increase, lookup_switch, push_int, push_long,
+    table_switch,
+};
+use opcodes::Op;
+use slot_block::Cell;
+use world_model::Naming;
+
+/// How many operands an instruction leaves, and the pc of its target where it goes to one.
+#[derive(Clone, Copy)]
+pub(crate) struct Left {
+    pub(crate) used: usize,
+    pub(crate) target: Option<i64>,
+}
+
+#[inline(always)]
+fn on(used: usize) -> Left
+    ensures { result ≡ record { used = used; target = None } }
+{
+    Left { used, target: None }
+}
+
+#[inline(always)]
+fn branched(taken: bool, target: i64, used: usize) -> Left
+    ensures { result ≡ record { used = used; target = if taken then Some target else None } }
+{
+    Left {
+        used,
+        target: if taken { Some(target) } else { None },
+    }
+}
+
+// What the instruction does, where it stays in its frame.
+#[inline(always)]
+pub(crate) fn make(op: &Op, naming: Naming, row: &mut [Cell], locals: usize, used: usize) -> Left
+    requires fits { locals + used ≤ length row.old }
+    requires made { Fits (frame_row (table.row op.now) naming (contents_at row.old locals used))
+        locals row.old }
+    ensures { Leaves (frame_row (table.row op.now) naming (contents_at row.old locals used))
+        row.new locals result.used (way_to result.target) }
+{
+    match op {
+        Op::Simple(simple) => on(make_simple(*simple, row, locals, used)),
+        Op::PushInt(n) => on(push_int(row, locals, used, i32::from(*n))),
+        Op::PushLong(n) => on(push_long(row, locals, used, i64::from(*n))),
+        Op::PushConstant(_) => on(constant(naming, row, locals, used)),
+        Op::PushWideConstant(_) => on(constant(naming, row, locals, used)),
+        Op::Load(kind, n) => on(load(*kind, *n, row, locals, used)),
+        Op::Store(kind, n) => on(store(*kind, *n, row, locals, used)),
+        Op::Increment(n, amount) => {
+            increase(row, locals, used, *n as usize, *amount);
+            on(used)
+        }
+        Op::IfZero(order, target) => {
+            let taken = if_zero(*order, row, locals, used);
+            branched(taken, *target, used - 1)
+        }
+        Op::IfInts(order, target) => {
+            let taken = if_ints(*order, row, locals, used);
+            branched(taken, *target, used - 2)
+        }
+        Op::IfReferences(s, target) => {
+            let taken = if_references(*s, row, locals, used);
+            branched(taken, *target, used - 2)
+        }
+        Op::IfNull(s, target) => {
+            let taken = if_null(*s, row, locals, used);
+            branched(taken, *target, used - 1)
+        }
+        Op::Goto(target) => branched(true, *target, used),
+        Op::TableSwitch(s) => {
+            let target = table_switch(s.get(), row, locals, used);
+            branched(true, target, used - 1)
+        }
+        Op::LookupSwitch(s) => {
+            let target = lookup_switch(s.get(), row, locals, used);
+            branched(true, target, used - 1)
+        }
+        Op::GetStatic(_)
+        | Op::PutStatic(_)
+        | Op::GetField(_)
+        | Op::PutField(_)
+        | Op::InvokeVirtual(_)
+        | Op::InvokeSpecial(_)
+        | Op::InvokeStatic(_)
+        | Op::InvokeInterface(_, _)
+        | Op::InvokeDynamic(_)
+        | Op::New(_)
+        | Op::NewArray(_)
+        | Op::ANewArray(_)
+        | Op::MultiANewArray(_, _)
+        | Op::CheckCast(_)
+        | Op::InstanceOf(_)
+        | Op::Jsr(_)
+        | Op::Ret(_)
+        | Op::Floating(_) => unreachable!(),
+    }
+}

@@ -1,0 +1,112 @@
+//! Whether an instruction stays in its frame (JVMS 6.5): idiv, irem, ldiv and lrem do where the divisor isn't 0.
+
+ghost use Rattle.std.specs.Prelude.{◌≡◌, ◌+◌, ◌≤◌, length, not};
+ghost use Rattle.opcodes.specs.declared.op.Op.TheVariants as ops;
+ghost use Rattle.opcodes.specs.declared.op.Simple.TheVariants as simples;
+ghost use Rattle.instruction_rows.specs.Marks.{has_zero_divisor, is_zero_int_on, is_zero_long_on};
+ghost use Rattle.frames.specs.Rows.{descending};
+ghost use Rattle.cell_rows.specs.CellRows.{CanAct};
+ghost use Rattle.interp_local.specs.FrameRows as spec;
+ghost use Rattle.interp_local.specs.FrameRows.{HasOperands, adds_ints, adds_longs};
+
+use jvm_words::{IntOp, LongOp, i_binary, l_binary};
+use opcodes::{Op, Simple};
+use slot_block::{Cell, int_at, long_at};
+
+// Whether the int on top isn't 0.
+#[inline(always)]
+fn has_int_divisor(row: &[Cell], locals: usize, used: usize) -> bool
+    requires fits { locals + used ≤ length row.now }
+    requires operands { CanAct adds_ints row.now locals used }
+    ensures { result ≡ not (is_zero_int_on (descending row.now locals used)) }
+{
+    let divisor = int_at(row, locals + used - 1);
+    i_binary(IntOp::Div, 0, divisor).is_some()
+}
+
+#[inline(always)]
+fn int_stays(op: IntOp, row: &[Cell], locals: usize, used: usize) -> bool
+    requires fits { locals + used ≤ length row.now }
+    requires operands { CanAct adds_ints row.now locals used }
+    ensures { result ≡ not (has_zero_divisor (ops.Simple (simples.IntBinary op))
+        (descending row.now locals used)) }
+{
+    match op {
+        IntOp::Div => has_int_divisor(row, locals, used),
+        IntOp::Rem => has_int_divisor(row, locals, used),
+        _ => true,
+    }
+}
+
+// Whether the long on top isn't 0.
+#[inline(always)]
+fn has_long_divisor(row: &[Cell], locals: usize, used: usize) -> bool
+    requires fits { locals + used ≤ length row.now }
+    requires operands { CanAct adds_longs row.now locals used }
+    ensures { result ≡ not (is_zero_long_on (descending row.now locals used)) }
+{
+    let divisor = long_at(row, locals + used - 2);
+    l_binary(LongOp::Div, 0, divisor).is_some()
+}
+
+#[inline(always)]
+fn long_stays(op: LongOp, row: &[Cell], locals: usize, used: usize) -> bool
+    requires fits { locals + used ≤ length row.now }
+    requires operands { CanAct adds_longs row.now locals used }
+    ensures { result ≡ not (has_zero_divisor (ops.Simple (simples.LongBinary op))
+        (descending row.now locals used)) }
+{
+    match op {
+        LongOp::Div => has_long_divisor(row, locals, used),
+        LongOp::Rem => has_long_divisor(row, locals, used),
+        _ => true,
+    }
+}
+
+#[inline(always)]
+fn simple_stays(simple: Simple, row: &[Cell], locals: usize, used: usize) -> bool
+    requires fits { locals + used ≤ length row.now }
+    requires operands { HasOperands (ops.Simple simple) row.now locals used }
+    ensures { result ≡ spec.stays (ops.Simple simple) (descending row.now locals used) }
+{
+    match simple {
+        Simple::IntBinary(op) => int_stays(op, row, locals, used),
+        Simple::LongBinary(op) => long_stays(op, row, locals, used),
+        Simple::ArrayLoad(_)
+        | Simple::ArrayStore(_)
+        | Simple::ReturnValue(_)
+        | Simple::Return
+        | Simple::ArrayLength
+        | Simple::Throw
+        | Simple::MonitorEnter
+        | Simple::MonitorExit => false,
+        _ => true,
+    }
+}
+
+// Whether the instruction stays in its frame.
+#[inline(always)]
+pub(crate) fn does_stay(op: &Op, row: &[Cell], locals: usize, used: usize) -> bool
+    requires fits { locals + used ≤ length row.now }
+    requires operands { HasOperands op.now row.now locals used }
+    ensures { result ≡ spec.stays op.now (descending row.now locals used) }
+{
+    match op {
+        Op::Simple(simple) => simple_stays(*simple, row, locals, used),
+        Op::PushInt(_)
+        | Op::PushLong(_)
+        | Op::PushConstant(_)
+        | Op::PushWideConstant(_)
+        | Op::Load(_, _)
+        | Op::Store(_, _)
+        | Op::Increment(_, _)
+        | Op::IfZero(_, _)
+        | Op::IfInts(_, _)
+        | Op::IfReferences(_, _)
+        | Op::IfNull(_, _)
+        | Op::Goto(_)
+        | Op::TableSwitch(_)
+        | Op::LookupSwitch(_) => true,
+        _ => false,
+    }
+}
