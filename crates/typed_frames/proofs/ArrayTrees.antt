@@ -33,7 +33,8 @@ use Rattle.ref_model.specs.Heap.{with_objects}
 use Rattle.ref_model.specs.Fetch.{class_of}
 use Rattle.ref_model.specs.Effects.{Effect, gives_new, throws}
 use Rattle.ref_model.specs.Arrays.{element_zero, not_negative, cells_of_lengths, element_class, inner_number, all_joined, arrays_from, ints_popped, with_arrays, arrays_made}
-use Rattle.typed_frames.specs.StateKinds.{IsOfKind, ValuesFit, ObjectFits, StateFits}
+use Rattle.typed_frames.specs.StateKinds.{IsOfKind, ValuesFit, ObjectFits}
+use Rattle.typed_frames.specs.TypedStates.{IsTypedState}
 use Rattle.typed_frames.specs.EventLaws.{IsKept, HasDimensions}
 use Rattle.typed_frames.proofs.FieldLaws.{kept_is, same_types}
 use Rattle.typed_frames.proofs.ObjectLaws.{array_fits, made_keeps}
@@ -152,7 +153,7 @@ lengths_popped (suc n) ts rest xs e of =
 -- ---- multianewarray
 
 pub arrays_keep : (w : World) (naming : Naming) (r : State) (dimensions : ℕ) (t : VType) (ts rest : List VType) (xs : List Slot)
-    (effect : Effect) → HasDimensions w → StateFits w r → AreOf ts xs → kind_of_type t ≡ Some kinds.Reference
+    (effect : Effect) → HasDimensions w → IsTypedState w r → AreOf ts xs → kind_of_type t ≡ Some kinds.Reference
     → types_popped (replicate dimensions kinds.Int) ts ≡ Ok rest → arrays_made w dimensions naming r xs ≡ Some effect
     → IsKept w (type_pushed t rest) effect
 arrays_keep w naming r dimensions t ts rest xs effect dims fits of kind taken e =

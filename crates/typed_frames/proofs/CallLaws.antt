@@ -85,7 +85,7 @@ is_named w (sites.Value v) class info m named e = absurd cc
 
 -- ---- what the typing says of the call
 
-record Called (w : World) (s after : TypeState) (m : Named) : Type 0 where
+pub record Called (w : World) (s after : TypeState) (m : Named) : Type 0 where
   pub rest : List VType
   pub taken : all_wanted w (argument_types w m.method.signature) s.types.stack ≡ Ok rest
   pub is : with_stack s (result_pushed w m.method rest) ≡ after
@@ -100,7 +100,7 @@ static_types w s after info m named e =
     let given = passed (not (has_initializer_name m.method.name)) (with_stack s (result_pushed w m.method parts.0)) after whys.Init parts.2 in
     record { rest = parts.0; taken = parts.1; is = given.1; ordinary = given.0; at = named.at }
 
-called_types : (w : World) (env : Environment) (i : Instruction) (s after : TypeState) (index : ℕ) (m : Named) → w ≡ env.world
+pub called_types : (w : World) (env : Environment) (i : Instruction) (s after : TypeState) (index : ℕ) (m : Named) → w ≡ env.world
     → row_of i ≡ invoke static index → named_method w i.naming ≡ Some m → state_after env i s ≡ Ok after → Called w s after m
 called_types w env i s after index m world known named e =
     let here : row_state env i.instr.pc i.naming (invoke static index) s ≡ Ok after =
@@ -132,7 +132,7 @@ no_initializer w m at ordinary =
     ∙ both_false (same_text m.method.name (codes "<init>")) (same_text m.method.name (codes "<clinit>")) ordinary
 
 -- a static method has no receiver
-static_locals : (w : World) (info : MethodInfo) → has_flag ACC_STATIC info.flags ≡ true
+pub static_locals : (w : World) (info : MethodInfo) → has_flag ACC_STATIC info.flags ≡ true
     → (first_types w info).locals ≡ map (type_of_kind w) info.signature.args
 static_locals w info static_flag =
     ap (λ b. (if b then [] else receiver_type w info ∷ []) ++ map (type_of_kind w) info.signature.args) static_flag
@@ -160,12 +160,17 @@ pub left_is : (k : ℕ) (stack tops left : List Slot) → stack ≡ tops ++ left
 left_is k stack tops left lies count =
     ap (λ j. drop j stack) count ∙ ap (λ xs. drop (length tops) xs) lies ∙ drop-append_seam tops left
 
-pub static_goes : (w : World) (f : Frame) (below : List Frame) (index : ℕ) (m : Named) (code : MethodCode) → AreTyped w
+-- the callee's frame begins, and the caller's waits below it
+pub record StaticBegins (w : World) (f : Frame) (below : List Frame) (m : Named) (code : MethodCode) : Type 0 where
+  pub frame : Frame
+  pub is : callee m.number code (argument_slots m.method.signature) f.stack ≡ Some frame
+  pub typed : Typed w (frame ∷ caller f (argument_slots m.method.signature) ∷ below)
+
+pub static_begins : (w : World) (f : Frame) (below : List Frame) (index : ℕ) (m : Named) (code : MethodCode) → AreTyped w
     → (t : Typed w (f ∷ below)) → row_of t.0.at.place.instruction ≡ invoke static index
     → named_method w t.0.at.place.instruction.naming ≡ Some m → has_flag ACC_STATIC m.method.flags ≡ true
-    → code_at w m.number ≡ Some code → has_local_call w m ≡ true → nat_lt (length (f ∷ below)) most_frames ≡ true
-    → Goes w (row w (f ∷ below))
-static_goes w f below index m code typed_world t known named static_flag code_is local few =
+    → code_at w m.number ≡ Some code → StaticBegins w f below m code
+static_begins w f below index m code typed_world t known named static_flag code_is =
     let at = t.0.at in
     let i = at.place.instruction in
     let good = fine w f typed_world at in
@@ -207,17 +212,32 @@ static_goes w f below index m code typed_world t known named static_flag code_is
     } in
     let under : IsUnder w m.number waiting (initializes w m.number) =
     subst (IsUnder w m.number waiting) (sym (no_initializer w m call.at call.ordinary)) waits in
+    record {
+      frame = b.frame;
+      is = callee_is m.number code n f.stack tops.tops tops.left b.frame tops.is count b.is;
+      typed = (b.stands, subst (λ (k : ℕ). AreUnder w k (waiting ∷ below)) (sym b.method) (under, t.1));
+    }
+
+pub static_goes : (w : World) (f : Frame) (below : List Frame) (index : ℕ) (m : Named) (code : MethodCode) → AreTyped w
+    → (t : Typed w (f ∷ below)) → row_of t.0.at.place.instruction ≡ invoke static index
+    → named_method w t.0.at.place.instruction.naming ≡ Some m → has_flag ACC_STATIC m.method.flags ≡ true
+    → code_at w m.number ≡ Some code → has_local_call w m ≡ true → nat_lt (length (f ∷ below)) most_frames ≡ true
+    → Goes w (row w (f ∷ below))
+static_goes w f below index m code typed_world t known named static_flag code_is local few =
+    let i = t.0.at.place.instruction in
+    let b = static_begins w f below index m code typed_world t known named static_flag code_is in
+    let n = argument_slots m.method.signature in
+    let waiting : Frame = caller f n in
     let after = b.frame ∷ waiting ∷ below in
     let frames : frames_called w m f below ≡ Some after =
     bind_is (code_at w m.number) (λ c. callee m.number c n f.stack >>= λ g. Some (g ∷ waiting ∷ below)) code (Some after) code_is
-    (bind_is (callee m.number code n f.stack) (λ g. Some (g ∷ waiting ∷ below)) b.frame (Some after)
-    (callee_is m.number code n f.stack tops.tops tops.left b.frame tops.is count b.is) refl) in
+    (bind_is (callee m.number code n f.stack) (λ g. Some (g ∷ waiting ∷ below)) b.frame (Some after) b.is refl) in
     let both : (has_local_call w m && nat_lt (length (f ∷ below)) most_frames) ≡ true = rw (local, few) refl in
     let act : static_called w m f below ≡ Some after =
     if_true (has_local_call w m && nat_lt (length (f ∷ below)) most_frames) (frames_called w m f below) None both ∙ frames in
     record {
       frames = after;
-      is = row_is w f below at (invoke static index) (Some after) known
+      is = row_is w f below t.0.at (invoke static index) (Some after) known
           (bind_is (named_method w i.naming) (λ x. static_called w x f below) m (Some after) named act);
-      typed = (b.stands, subst (λ (k : ℕ). AreUnder w k (waiting ∷ below)) (sym b.method) (under, t.1));
+      typed = b.typed;
     }

@@ -1,21 +1,22 @@
--- Methods of objects are entered by frames that keep to the typing.
-use Rattle.std.proofs.Common.{◌≡◌, ℕ, suc, Bool, true, false, List, ◌∷◌, drop, Option, Some, None, Ok, refl, ap, sym, subst, ◌∙◌}
-use Rattle.std.specs.Prelude.{nat_lt, ◌||◌, if◌then◌else◌}
+-- Methods are entered by frames that keep to the typing.
+use Rattle.std.proofs.Common.{◌≡◌, ℕ, suc, Bool, true, false, List, [], ◌∷◌, drop, Option, Some, None, Ok, refl, ap, sym, subst}
+use Rattle.std.specs.Prelude.{nat_lt, slice_get, ◌||◌, if◌then◌else◌}
 use Rattle.items.specs.Options.{◌>>=◌}
 use Rattle.items.proofs.Binds.{some_is}
 use Rattle.descriptors.specs.declared.kind.Signature.{Signature}
 use Rattle.lib_table.specs.declared.native.Native.{Native}
+use Rattle.opcodes.specs.declared.op.Kind.{Kind}
+use Rattle.opcodes.specs.declared.op.Kind.TheVariants as kinds
 use Rattle.stack_maps.specs.declared.types.VType.{VType}
-use Rattle.instruction_rows.specs.declared.value.Slot.{Slot}
-use Rattle.instruction_rows.specs.Contents.{Contents}
-use Rattle.instruction_rows.specs.Rows.{Invocation, invoke, row_goes_on}
-use Rattle.instruction_rows.specs.SlotEffect.{applied}
+use Rattle.instruction_rows.specs.Results.{◌then◌}
+use Rattle.instruction_rows.specs.Rows.{Invocation, invoke, static, row_goes_on}
+use Rattle.instruction_rows.specs.TypeEffect.{type_popped}
 use Rattle.instruction_rows.specs.Soundness.{AreOf}
-use Rattle.instruction_rows.proofs.StackLaws.{applied_of}
 use Rattle.world_model.specs.declared.members.MethodCode.{MethodCode}
 use Rattle.world_model.specs.World.{World}
 use Rattle.world_model.specs.Decoded.{code_at}
 use Rattle.verify_types.specs.Calls.{argument_types}
+use Rattle.verify_types.specs.TypeStates.{TypeState}
 use Rattle.verify_types.specs.Environment.{Environment}
 use Rattle.verify_types.specs.Operands.{all_wanted}
 use Rattle.verify_types.specs.Effects.{row_of}
@@ -28,61 +29,53 @@ use Rattle.ref_model.specs.State.{State}
 use Rattle.ref_model.specs.Fetch.{Named, named_method}
 use Rattle.ref_model.specs.Frames.{callee, caller}
 use Rattle.ref_model.specs.LocalRows.{most_frames}
-use Rattle.ref_model.specs.Effects.{Effect, done, invokes, throws, throws_object}
-use Rattle.ref_model.specs.NativeRows.{Answer, NativeRow, native, answered, native_acted}
+use Rattle.ref_model.specs.Effects.{Effect, invokes, throws}
+use Rattle.ref_model.specs.NativeRows.{native_acted}
 use Rattle.ref_model.specs.Natives.{native_row}
 use Rattle.ref_model.specs.Calls.{code_entered, native_entered, entered}
-use Rattle.typed_frames.specs.Typed.{Waits, IsUnder, AreUnder, Typed, given_back, result_type, back_of, initializes}
-use Rattle.typed_frames.specs.StateKinds.{StateFits}
-use Rattle.typed_frames.specs.EventLaws.{IsKept}
+use Rattle.typed_frames.specs.Typed.{Waits, IsUnder, AreUnder, Typed, back_of, initializes}
+use Rattle.typed_frames.specs.TypedStates.{IsTypedState}
 use Rattle.typed_frames.specs.CallLaws.{CallerWaits, takes_receiver}
-use Rattle.typed_frames.specs.NativeLaws.{native_result, IsAnswer}
-use Rattle.typed_frames.specs.EnterLaws.{IsChosen, IsCallResult}
+use Rattle.typed_frames.specs.NativeKinds.{native_takes, FitsNative}
+use Rattle.typed_frames.specs.EnterLaws.{IsOfClass, IsChosen, IsCallResult}
 use Rattle.typed_frames.proofs.FetchLaws.{parts, fine}
-use Rattle.typed_frames.proofs.Arrivals.{arrived, on_frames}
-use Rattle.typed_frames.proofs.FieldLaws.{same_effect}
-use Rattle.typed_frames.proofs.CallLaws.{result_is}
+use Rattle.typed_frames.proofs.CallLaws.{Called, called_types, static_begins}
 use Rattle.typed_frames.proofs.CallerLaws.{Took, invocation_took, callers_wait}
 use Rattle.typed_frames.proofs.InstanceCalls.{begins}
-use Rattle.typed_frames.proofs.NativeLaws.{natives_keep}
-use Rattle.typed_frames.proofs.NativeCalls.{always_applied, answered_keeps, same_pair}
-
--- what is known of an effect that is known
-result_of : (w : World) (f : Frame) (below : List Frame) (next : ℕ) (a b : Effect) → ◌≡◌ {A = Option Effect} (Some a) (Some b)
-    → IsCallResult w f below next a → IsCallResult w f below next b
-result_of w f below next a b e h = subst (IsCallResult w f below next) (same_effect a b e) h
+use Rattle.typed_frames.proofs.NativeEnters.{result_of, IsTaken, taken_by, native_goes}
 
 -- ---- a method with code
 
 code_begins : (w : World) (f : Frame) (below : List Frame) (next : ℕ) (m chosen : Named) (code : MethodCode) (effect : Effect) → AreTyped w
-    → (t : Typed w (f ∷ below)) → (h : CallerWaits w f t.0 m) → (c : IsChosen w m chosen) → code_at w chosen.number ≡ Some code
+    → (t : Typed w (f ∷ below)) → (h : CallerWaits w f t.0 m) → (c : IsChosen w m chosen)
+    → slice_get w.methods chosen.number ≡ Some chosen.method → code_at w chosen.number ≡ Some code
     → (callee chosen.number code (suc (argument_slots m.method.signature)) f.stack >>= λ g.
     Some (invokes g (drop (suc (argument_slots m.method.signature)) f.stack))) ≡ Some effect
     → IsCallResult w f below next effect
-code_begins w f below next m chosen code effect typed t h c code_is e =
+code_begins w f below next m chosen code effect typed t h c there code_is e =
     let n = suc (argument_slots m.method.signature) in
     let g = some_is (callee chosen.number code n f.stack) (λ g. Some (invokes g (drop n f.stack))) effect e in
     let made : callee chosen.number code (suc (argument_slots chosen.method.signature)) f.stack ≡ Some g.0 =
     subst (λ (s : Signature). callee chosen.number code (suc (argument_slots s)) f.stack ≡ Some g.0) (sym c.signature) g.1 in
     let taken : all_wanted w (argument_types w chosen.method.signature) t.0.at.state.types.stack ≡ Ok h.rest =
     subst (λ (s : Signature). all_wanted w (argument_types w s) t.0.at.state.types.stack ≡ Ok h.rest) (sym c.signature) h.taken in
-    let b = begins w chosen code t.0.at.state.types.stack h.rest h.receiver f.stack g.0 typed c.at code_is c.of_objects
+    let b = begins w chosen code t.0.at.state.types.stack h.rest h.receiver f.stack g.0 typed there code_is c.method.flag
     t.0.kinds.stack taken h.popped made in
     let left : AreOf h.receiver.1 (drop n f.stack) =
     subst (λ (s : Signature). AreOf h.receiver.1 (drop (suc (argument_slots s)) f.stack)) c.signature b.left in
     let waits : Waits w (back_of w chosen.number) (caller f n) =
-    h.waits chosen c.at (ap (λ (s : Signature). s.result) c.signature) left in
+    h.waits chosen there (ap (λ (s : Signature). s.result) c.signature) left in
     let under : IsUnder w chosen.number (caller f n) (initializes w chosen.number) =
-    subst (IsUnder w chosen.number (caller f n)) (sym c.ordinary) waits in
+    subst (IsUnder w chosen.number (caller f n)) (sym c.method.ordinary) waits in
     result_of w f below next (invokes g.0 (drop n f.stack)) effect g.2
     (b.stands, subst (λ (k : ℕ). AreUnder w k (caller f n ∷ below)) (sym b.method) (under, t.1))
 
 code_goes : (w : World) (f : Frame) (below : List Frame) (next depth : ℕ) (m chosen : Named) (effect : Effect) → AreTyped w
-    → (t : Typed w (f ∷ below)) → (h : CallerWaits w f t.0 m) → (c : IsChosen w m chosen) → (o : Option MethodCode)
-    → code_at w chosen.number ≡ o
+    → (t : Typed w (f ∷ below)) → (h : CallerWaits w f t.0 m) → (c : IsChosen w m chosen)
+    → slice_get w.methods chosen.number ≡ Some chosen.method → (o : Option MethodCode) → code_at w chosen.number ≡ o
     → code_entered w depth chosen o (suc (argument_slots m.method.signature)) f.stack ≡ Some effect → IsCallResult w f below next effect
-code_goes w f below next depth m chosen effect typed t h c None code_is e = result_of w f below next (throws AbstractMethodError) effect e tt
-code_goes w f below next depth m chosen effect typed t h c (Some code) code_is e =
+code_goes w f below next depth m chosen effect typed t h c there None code_is e = result_of w f below next (throws AbstractMethodError) effect e tt
+code_goes w f below next depth m chosen effect typed t h c there (Some code) code_is e =
     by (is_synchronized chosen.method || is_hold w chosen.method) (nat_lt depth most_frames) e
   where
     by : (a b : Bool) → (if a then None else if b
@@ -90,54 +83,38 @@ code_goes w f below next depth m chosen effect typed t h c (Some code) code_is e
         Some (invokes g (drop (suc (argument_slots m.method.signature)) f.stack)))
         else Some (throws StackOverflowError)) ≡ Some effect → IsCallResult w f below next effect
     by true b e = absurd cc
-    by false true e = code_begins w f below next m chosen code effect typed t h c code_is e
+    by false true e = code_begins w f below next m chosen code effect typed t h c there code_is e
     by false false e = result_of w f below next (throws StackOverflowError) effect e tt
 
 -- ---- a native method
 
-native_goes : (w : World) (f : Frame) (below : List Frame) (m chosen : Named) (r : State) (n : Native) (effect : Effect) → (typed : AreTyped w)
-    → StateFits w r → (t : Typed w (f ∷ below)) → (k : Took w t.0.at.state (fine w f typed t.0.at).after m)
+native_at_rest : (w : World) (s : Signature) (n : Native) (takes : List Kind) (ts rest : List VType) (x : VType × List VType)
+    → FitsNative s (kinds.Reference ∷ []) n → native_takes n ≡ Some takes → all_wanted w (argument_types w s) ts ≡ Ok rest
+    → type_popped kinds.Reference rest ≡ Ok x → IsTaken w s n takes ts x.1
+native_at_rest w s n takes ts rest x fits e taken popped =
+    taken_by w s (kinds.Reference ∷ []) n takes ts rest x.1 fits e taken (ap (λ r. r then λ (y : VType × List VType). Ok y.1) popped)
+
+instance_native : (w : World) (f : Frame) (below : List Frame) (m chosen : Named) (r : State) (n : Native) (effect : Effect)
+    → (typed : AreTyped w) → IsTypedState w r → (t : Typed w (f ∷ below)) → Took w t.0.at.state (fine w f typed t.0.at).after m
     → row_goes_on (row_of t.0.at.place.instruction) ≡ true → IsChosen w m chosen → native_at w chosen.number ≡ Some n
     → (native_row w r n >>= λ row. native_acted row f.stack) ≡ Some effect
     → IsCallResult w f below t.0.at.place.instruction.instr.next effect
-native_goes w f below m chosen r n effect typed fits t k goes c at e =
-    let row = some_is (native_row w r n) (λ row. native_acted row f.stack) effect e in by row.0 row.1 row.2
-  where
-    kept : (x : Effect) → IsKept w (given_back (result_type w m.method) k.under) x → IsCallResult w f below t.0.at.place.instruction.instr.next x
-    kept (done q stack) h =
-        let good = fine w f typed t.0.at in
-        let slots : Contents Slot = record { locals = f.locals; stack = stack } in
-        let types = k.stack ∙ result_is w m.method.signature.result k.under in
-        let a = arrived w f t.0.at good.after t.0.at.place.instruction.instr.next slots (good.on goes)
-        (record { locals = k.locals f.locals t.0.kinds.locals; stack = subst (λ (us : List VType). AreOf us stack) (sym types) h.1 })
-        good.after_shallow in
-        record { frame = a.frame; is = a.is; typed = on_frames w f a.frame below a.method a.stands t.1; state = h.0 }
-    kept (invokes g stack) h = absurd h
-    kept (throws x) h = tt
-    kept (throws_object o) h = tt
-
-    by : (row : NativeRow) → native_row w r n ≡ Some row → native_acted row f.stack ≡ Some effect
-        → IsCallResult w f below t.0.at.place.instruction.instr.next effect
-    by (native takes act) row_is made =
-        let types = c.takes r n takes act at row_is t.0.at.state.types.stack k.rest k.receiver k.taken k.popped in
-        let a = applied_of Answer takes act t.0.at.state.types.stack k.receiver.1 f.stack types t.0.kinds.stack in
-        let x = some_is (applied Answer takes act f.stack) (λ x. Some (answered x.1 x.0)) effect made in
-        let same = same_pair (applied Answer takes act f.stack) (a.result, a.left) x.0 a.is x.1 in
-        let left : AreOf k.under x.0.1 = k.kept x.0.1 (subst (λ (y : Answer × List Slot). AreOf k.receiver.1 y.1) same a.of) in
-        let is = always_applied (IsAnswer w (native_result n)) takes act f.stack x.0 (natives_keep w r n (native takes act) fits row_is) x.1 in
-        subst (IsCallResult w f below t.0.at.place.instruction.instr.next) (same_effect (answered x.0.1 x.0.0) effect x.2)
-        (kept (answered x.0.1 x.0.0)
-        (answered_keeps w (native_result n) (result_type w m.method) x.0.0 k.under x.0.1 is (c.gives n at) left))
+instance_native w f below m chosen r n effect typed fits t k goes c at e =
+    let named : FitsNative m.method.signature (kinds.Reference ∷ []) n =
+    subst (λ (s : Signature). FitsNative s (kinds.Reference ∷ []) n) c.signature (c.method.natives n at) in
+    native_goes w f below m r n effect typed fits t
+    (record { left = k.receiver.1; under = k.under; stack = k.stack; kept = k.kept; locals = k.locals }) goes
+    (λ takes has. native_at_rest w m.method.signature n takes t.0.at.state.types.stack k.rest k.receiver named has k.taken k.popped) e
 
 -- ---- the method that was selected
 
 pub methods_are_entered : (w : World) (f : Frame) (below : List Frame) (invocation : Invocation) (index depth : ℕ) (m chosen : Named) (r : State)
-    (effect : Effect) → AreTyped w → StateFits w r → (t : Typed w (f ∷ below))
+    (effect : Effect) → AreTyped w → IsTypedState w r → (t : Typed w (f ∷ below))
     → row_of t.0.at.place.instruction ≡ invoke invocation index → takes_receiver invocation ≡ true
-    → named_method w t.0.at.place.instruction.naming ≡ Some m → IsChosen w m chosen
-    → entered w r depth chosen (suc (argument_slots m.method.signature)) f.stack ≡ Some effect
+    → named_method w t.0.at.place.instruction.naming ≡ Some m → slice_get w.methods chosen.number ≡ Some chosen.method
+    → IsChosen w m chosen → entered w r depth chosen (suc (argument_slots m.method.signature)) f.stack ≡ Some effect
     → IsCallResult w f below t.0.at.place.instruction.instr.next effect
-methods_are_entered w f below invocation index depth m chosen r effect typed fits t known receiver named c e =
+methods_are_entered w f below invocation index depth m chosen r effect typed fits t known receiver named there c e =
     let at = t.0.at in
     let good = fine w f typed at in
     let p = parts w f.method at.env at.method in
@@ -149,5 +126,73 @@ methods_are_entered w f below invocation index depth m chosen r effect typed fit
     by : Took w t.0.at.state (fine w f typed t.0.at).after m → CallerWaits w f t.0 m → (o : Option Native) → native_at w chosen.number ≡ o
         → native_entered w r depth chosen o (suc (argument_slots m.method.signature)) f.stack ≡ Some effect
         → IsCallResult w f below t.0.at.place.instruction.instr.next effect
-    by k h None at e = code_goes w f below t.0.at.place.instruction.instr.next depth m chosen effect typed t h c (code_at w chosen.number) refl e
-    by k h (Some n) at e = native_goes w f below m chosen r n effect typed fits t k (ap row_goes_on known) c at e
+    by k h None at e = code_goes w f below t.0.at.place.instruction.instr.next depth m chosen effect typed t h c there (code_at w chosen.number) refl e
+    by k h (Some n) at e = instance_native w f below m chosen r n effect typed fits t k (ap row_goes_on known) c at e
+
+-- ---- a static method
+
+static_native : (w : World) (f : Frame) (below : List Frame) (index : ℕ) (m : Named) (r : State) (n : Native) (effect : Effect)
+    → (typed : AreTyped w) → IsTypedState w r → (t : Typed w (f ∷ below)) → Called w t.0.at.state (fine w f typed t.0.at).after m
+    → row_of t.0.at.place.instruction ≡ invoke static index → IsOfClass w m → native_at w m.number ≡ Some n
+    → (native_row w r n >>= λ row. native_acted row f.stack) ≡ Some effect
+    → IsCallResult w f below t.0.at.place.instruction.instr.next effect
+static_native w f below index m r n effect typed fits t k known c at e =
+    native_goes w f below m r n effect typed fits t
+    (record {
+      left = k.rest;
+      under = k.rest;
+      stack = ap (λ (s : TypeState). s.types.stack) (sym k.is);
+      kept = λ xs of. of;
+      locals = λ xs of. subst (λ (s : TypeState). AreOf s.types.locals xs) k.is of;
+    }) (ap row_goes_on known)
+    (λ takes has. taken_by w m.method.signature [] n takes t.0.at.state.types.stack k.rest k.rest (c.natives n at) has k.taken refl) e
+
+static_code : (w : World) (f : Frame) (below : List Frame) (next index depth : ℕ) (m : Named) (effect : Effect) → AreTyped w
+    → (t : Typed w (f ∷ below)) → row_of t.0.at.place.instruction ≡ invoke static index
+    → named_method w t.0.at.place.instruction.naming ≡ Some m → IsOfClass w m → (o : Option MethodCode) → code_at w m.number ≡ o
+    → code_entered w depth m o (argument_slots m.method.signature) f.stack ≡ Some effect → IsCallResult w f below next effect
+static_code w f below next index depth m effect typed t known named c None code_is e =
+    result_of w f below next (throws AbstractMethodError) effect e tt
+static_code w f below next index depth m effect typed t known named c (Some code) code_is e =
+    by (is_synchronized m.method || is_hold w m.method) (nat_lt depth most_frames) e
+  where
+    same_frame : (o : Option Frame) (a b : Frame) → o ≡ Some a → o ≡ Some b → a ≡ b
+    same_frame o a b x y = cc
+
+    begins_there : (callee m.number code (argument_slots m.method.signature) f.stack >>= λ g.
+        Some (invokes g (drop (argument_slots m.method.signature) f.stack))) ≡ Some effect → IsCallResult w f below next effect
+    begins_there e =
+        let b = static_begins w f below index m code typed t known named c.flag code_is in
+        let left = drop (argument_slots m.method.signature) f.stack in
+        let g = some_is (callee m.number code (argument_slots m.method.signature) f.stack) (λ g. Some (invokes g left)) effect e in
+        let same = same_frame (callee m.number code (argument_slots m.method.signature) f.stack) b.frame g.0 b.is g.1 in
+        result_of w f below next (invokes g.0 left) effect g.2
+        (subst (λ (h : Frame). Typed w (h ∷ caller f (argument_slots m.method.signature) ∷ below)) same b.typed)
+
+    by : (a b : Bool) → (if a then None else if b
+        then (callee m.number code (argument_slots m.method.signature) f.stack >>= λ g.
+        Some (invokes g (drop (argument_slots m.method.signature) f.stack)))
+        else Some (throws StackOverflowError)) ≡ Some effect → IsCallResult w f below next effect
+    by true b e = absurd cc
+    by false true e = begins_there e
+    by false false e = result_of w f below next (throws StackOverflowError) effect e tt
+
+pub statics_are_entered : (w : World) (f : Frame) (below : List Frame) (index depth : ℕ) (m : Named) (r : State) (effect : Effect) → AreTyped w
+    → IsTypedState w r → (t : Typed w (f ∷ below)) → row_of t.0.at.place.instruction ≡ invoke static index
+    → named_method w t.0.at.place.instruction.naming ≡ Some m → IsOfClass w m
+    → entered w r depth m (argument_slots m.method.signature) f.stack ≡ Some effect
+    → IsCallResult w f below t.0.at.place.instruction.instr.next effect
+statics_are_entered w f below index depth m r effect typed fits t known named c e =
+    let at = t.0.at in
+    let good = fine w f typed at in
+    let p = parts w f.method at.env at.method in
+    let k = called_types w at.env at.place.instruction at.state good.after index m (ap (λ (env : Environment). env.world) p.is) known named
+    good.is in
+    by k (native_at w m.number) refl e
+  where
+    by : Called w t.0.at.state (fine w f typed t.0.at).after m → (o : Option Native) → native_at w m.number ≡ o
+        → native_entered w r depth m o (argument_slots m.method.signature) f.stack ≡ Some effect
+        → IsCallResult w f below t.0.at.place.instruction.instr.next effect
+    by k None at e =
+        static_code w f below t.0.at.place.instruction.instr.next index depth m effect typed t known named c (code_at w m.number) refl e
+    by k (Some n) at e = static_native w f below index m r n effect typed fits t k known c at e

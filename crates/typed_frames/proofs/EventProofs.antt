@@ -30,7 +30,7 @@ use Rattle.ref_model.specs.Effects.{Effect, done, invokes, throws, throws_object
 use Rattle.ref_model.specs.Instances.{object_thrown}
 use Rattle.ref_model.specs.Step.{event_effect}
 use Rattle.typed_frames.specs.Typed.{Typed}
-use Rattle.typed_frames.specs.StateKinds.{StateFits}
+use Rattle.typed_frames.specs.TypedStates.{IsTypedState}
 use Rattle.typed_frames.specs.EventLaws.{IsKept}
 use Rattle.typed_frames.specs.StepKinds.{IsLinkedWorld, IsEventNaming, IsResult}
 use Rattle.typed_frames.proofs.FetchLaws.{parts, fine}
@@ -58,7 +58,7 @@ thrown_keeps w rest xs effect e =
 
 -- an event but new
 stack_keeps : (w : World) (own pc : ℕ) (naming : Naming) (e : Event) (r : State) (ts rest : List VType) (xs : List Slot) (effect : Effect)
-    → IsLinkedWorld w → StateFits w r → IsEventNaming w naming e → AreOf ts xs → stack_after w own pc naming e ts ≡ Ok rest
+    → IsLinkedWorld w → IsTypedState w r → IsEventNaming w naming e r xs → AreOf ts xs → stack_after w own pc naming e ts ≡ Ok rest
     → event_effect w naming e r xs ≡ Some effect → ((index : ℕ) → e ≢ new index) → IsKept w rest effect
 stack_keeps w own pc naming (get_static index) r ts rest xs effect linked fits names of typed e other =
     static_gets_keep w naming r ts rest xs effect linked.fields names fits of typed e
@@ -117,7 +117,7 @@ same_state : (a b : TypeState) → ◌≡◌ {A = Result TypeState RowWhy} (Ok a
 same_state a b e = cc
 
 other_kept : (w : World) (own pc : ℕ) (naming : Naming) (e : Event) (r : State) (f : Frame) (s after : TypeState) (effect : Effect)
-    → IsLinkedWorld w → StateFits w r → IsEventNaming w naming e → AreOf s.types.locals f.locals → AreOf s.types.stack f.stack
+    → IsLinkedWorld w → IsTypedState w r → IsEventNaming w naming e r f.stack → AreOf s.types.locals f.locals → AreOf s.types.stack f.stack
     → (stack_after w own pc naming e s.types.stack then λ stack. Ok (with_stack s stack)) ≡ Ok after
     → event_effect w naming e r f.stack ≡ Some effect → ((index : ℕ) → e ≢ new index) → EventKept w after f effect
 other_kept w own pc naming e r f s after effect linked fits names locals stack typed made other =
@@ -138,7 +138,7 @@ topped test (t ∷ ts) (x ∷ xs) of = (by (test t), topped test ts xs of.1)
     by false = of.0
 
 new_kept : (w : World) (pc : ℕ) (naming : Naming) (index : ℕ) (r : State) (f : Frame) (s after : TypeState) (effect : Effect)
-    → StateFits w r → IsEventNaming w naming (new index) → AreOf s.types.locals f.locals → AreOf s.types.stack f.stack
+    → IsTypedState w r → IsEventNaming w naming (new index) r f.stack → AreOf s.types.locals f.locals → AreOf s.types.stack f.stack
     → made_anew pc s ≡ Ok after → event_effect w naming (new index) r f.stack ≡ Some effect → EventKept w after f effect
 new_kept w pc naming index r f s after effect fits names locals stack typed made =
     let made_state = with_types s (record { locals = replaced (is_new pc) types.Top s.types.locals; stack = types.Uninit pc ∷ s.types.stack }) in
@@ -149,14 +149,12 @@ new_kept w pc naming index r f s after effect fits names locals stack typed made
     })
 
 event_kept : (w : World) (own pc : ℕ) (naming : Naming) (e : Event) (r : State) (f : Frame) (s after : TypeState) (effect : Effect)
-    → IsLinkedWorld w → StateFits w r → IsEventNaming w naming e → AreOf s.types.locals f.locals → AreOf s.types.stack f.stack
+    → IsLinkedWorld w → IsTypedState w r → IsEventNaming w naming e r f.stack → AreOf s.types.locals f.locals → AreOf s.types.stack f.stack
     → event_state w own pc naming e s ≡ Ok after → event_effect w naming e r f.stack ≡ Some effect → EventKept w after f effect
 event_kept w own pc naming (new index) r f s after effect linked fits names locals stack typed made =
     new_kept w pc naming index r f s after effect fits names locals stack typed made
 event_kept w own pc naming e r f s after effect linked fits names locals stack typed made =
     other_kept w own pc naming e r f s after effect linked fits names locals stack typed made (λ index same. cc)
-
--- ---- the frame behind it
 
 -- ---- the frame behind it
 
@@ -172,9 +170,9 @@ goes_on w naming throw r q xs stack made =
     absurd (never_done x.0.0 q stack x.2)
 goes_on w naming e r q xs stack made = refl
 
-pub events_go_on : (w : World) (f : Frame) (below : List Frame) (e : Event) (r : State) (effect : Effect) → IsLinkedWorld w → StateFits w r
+pub events_go_on : (w : World) (f : Frame) (below : List Frame) (e : Event) (r : State) (effect : Effect) → IsLinkedWorld w → IsTypedState w r
     → (t : Typed w (f ∷ below)) → row_of t.0.at.place.instruction ≡ event e
-    → IsEventNaming w t.0.at.place.instruction.naming e → event_effect w t.0.at.place.instruction.naming e r f.stack ≡ Some effect
+    → IsEventNaming w t.0.at.place.instruction.naming e r f.stack → event_effect w t.0.at.place.instruction.naming e r f.stack ≡ Some effect
     → IsResult w f below t.0.at.place.instruction.instr.next effect
 events_go_on w f below e r effect linked fits t known names made =
     let at = t.0.at in

@@ -4,7 +4,7 @@ use Rattle.std.specs.Prelude.{map, slice_get, slice_set, ◌||◌, if◌then◌e
 use Rattle.std.specs.Option.{option_map_or}
 use Rattle.std.specs.List.{AllZip}
 use Rattle.items.specs.Options.{◌>>=◌}
-use Rattle.items.proofs.Binds.{some_is}
+use Rattle.items.proofs.Binds.{some_is, bind_is}
 use Rattle.opcodes.specs.declared.op.Kind.TheVariants as kinds
 use Rattle.stack_maps.specs.declared.types.VType.{VType}
 use Rattle.instruction_rows.specs.declared.row_why.RowWhy.{RowWhy}
@@ -38,8 +38,9 @@ use Rattle.ref_model.specs.Heap.{object_at, class_of, class_at, values_of, value
 use Rattle.ref_model.specs.Fetch.{field_of}
 use Rattle.ref_model.specs.Effects.{Effect, done, gives, throws, late_failure, on_instance}
 use Rattle.ref_model.specs.Fields.{stored, static_gotten, static_put, field_gotten, field_put}
-use Rattle.typed_frames.specs.StateKinds.{IsOfKind, kind_of_field, field_kind, instance_kinds, ValuesFit, ObjectFits, static_kinds, StateFits, HasFieldKinds}
-use Rattle.typed_frames.specs.EventLaws.{IsKept, IsStaticNaming, IsInstanceNaming}
+use Rattle.typed_frames.specs.StateKinds.{IsOfKind, kind_of_field, field_kind, instance_kinds, ValuesFit, ObjectFits, static_kinds, HasFieldKinds}
+use Rattle.typed_frames.specs.TypedStates.{IsTypedState}
+use Rattle.typed_frames.specs.EventLaws.{IsKept, IsStaticNaming, IsInstanceNaming, OfReceiver, got_object, put_object}
 use Rattle.typed_frames.proofs.ValueLaws.{zip_got, zip_set, item_set, place_among, field_same, wanted_popped}
 use Rattle.typed_frames.proofs.ReturnLaws.{kept_kind}
 use Rattle.typed_frames.proofs.Exceptions.{class_kind}
@@ -62,14 +63,14 @@ static_kind w n f at static_flag = place_among is_static_field kind_of_field w.f
 -- ---- getstatic
 
 pub static_gets_keep : (w : World) (naming : Naming) (r : State) (ts rest : List VType) (xs : List Slot) (effect : Effect)
-    → HasFieldKinds w → IsStaticNaming w naming → StateFits w r → AreOf ts xs → get_static_types w naming ts ≡ Ok rest
+    → HasFieldKinds w → IsStaticNaming w naming → IsTypedState w r → AreOf ts xs → get_static_types w naming ts ≡ Ok rest
     → static_gotten w naming r xs ≡ Some effect → IsKept w rest effect
 static_gets_keep w naming r ts rest xs effect field_kinds is_static fits of types e =
     let f = ok_is (typed_field w naming.site) (λ (f : FieldInfo). Ok (type_pushed (type_of_kind w f.kind) ts)) rest types in
     let n = some_is (field_of naming.site) (λ n. slice_get r.statics (static_place w n) >>= λ v. Some (gives r v xs)) effect e in
     let v = some_is (slice_get r.statics (static_place w n.0)) (λ v. Some (gives r v xs)) effect n.2 in
     let at = field_same w naming.site n.0 f.0 n.1 f.1 in
-    let kind = zip_got (static_kinds w) r.statics (static_place w n.0) (kind_of_field f.0) v.0 fits.statics
+    let kind = zip_got (static_kinds w) r.statics (static_place w n.0) (kind_of_field f.0) v.0 fits.values.statics
     (static_kind w n.0 f.0 at (is_static n.0 f.0 n.1 at)) v.1 in
     let stack = pushed_kinds (type_of_kind w f.0.kind) v.0 ts xs (field_kinds n.0 f.0 at ∙ ap Some (sym kind)) of in
     kept_is w rest (gives r v.0 xs) effect v.2
@@ -102,7 +103,7 @@ same_field : (o : Option FieldInfo) (a b : FieldInfo) → o ≡ Some a → o ≡
 same_field o a b x y = cc
 
 pub static_puts_keep : (w : World) (naming : Naming) (r : State) (ts rest : List VType) (xs : List Slot) (effect : Effect)
-    → HasFieldKinds w → IsStaticNaming w naming → StateFits w r → AreOf ts xs → put_static_types w naming ts ≡ Ok rest
+    → HasFieldKinds w → IsStaticNaming w naming → IsTypedState w r → AreOf ts xs → put_static_types w naming ts ≡ Ok rest
     → static_put w naming r xs ≡ Some effect → IsKept w rest effect
 static_puts_keep w naming r ts rest xs effect field_kinds is_static fits of types e =
     let f = ok_is (typed_field w naming.site) (λ (f : FieldInfo). wanted w (type_of_kind w f.kind) ts) rest types in
@@ -122,9 +123,9 @@ static_puts_keep w naming r ts rest xs effect field_kinds is_static fits of type
     subst (λ (h : FieldInfo). wanted w (type_of_kind w h.kind) ts ≡ Ok rest) same f.2 in
     let k = stored_is w g.0 ts rest xs x.0 (field_kinds n.0 g.0 g.1) here of x.1 in
     let statics = subst (λ (vs : List Value). AllZip IsOfKind (static_kinds w) vs) (item_set (static_place w n.0) x.0.0 r.statics s.0 s.1)
-    (zip_set (static_kinds w) r.statics (static_place w n.0) (kind_of_field g.0) x.0.0 fits.statics
+    (zip_set (static_kinds w) r.statics (static_place w n.0) (kind_of_field g.0) x.0.0 fits.values.statics
     (static_kind w n.0 g.0 g.1 (is_static n.0 g.0 n.1 g.1)) k.kind) in
-    kept_is w rest (done (record r { statics = s.0 }) x.0.1) effect s.2 (record { heap = fits.heap; statics = statics }, k.below)
+    kept_is w rest (done (record r { statics = s.0 }) x.0.1) effect s.2 (record { values = record { heap = fits.values.heap; statics = statics }; threads = fits.threads }, k.below)
 
 -- ---- fields of an object
 
@@ -141,7 +142,7 @@ tested w named class acted effect P thrown false sub act e =
 -- what is done on an instance, or thrown
 pub instance_cases : (w : World) (naming : Naming) (r : State) (reference : Option ℕ) (act : ℕ → ℕ → Option Effect) (effect : Effect)
     (P : Effect → Type 0) → on_instance w naming r reference act ≡ Some effect → ((x : Exception) → P (throws x))
-    → ((o class named : ℕ) → class_at w r o ≡ Some class → naming.class ≡ Some named → is_sub w class named ≡ true
+    → ((o class named : ℕ) → reference ≡ Some o → class_at w r o ≡ Some class → naming.class ≡ Some named → is_sub w class named ≡ true
     → act o class ≡ Some effect → P effect)
     → P effect
 instance_cases w naming r None act effect P e thrown acted =
@@ -152,21 +153,21 @@ instance_cases w naming r (Some o) act effect P e thrown acted =
     let named = some_is naming.class
     (λ named. if is_sub w class.0 named then act o class.0 else Some (throws (late_failure w named))) effect class.2 in
     tested w named.0 class.0 (act o class.0) effect P thrown (is_sub w class.0 named.0) refl
-    (acted o class.0 named.0 class.1 named.1) named.2
+    (acted o class.0 named.0 refl class.1 named.1) named.2
 
 -- an object of a class that is no array
 pub record Instance (w : World) (r : State) (o class : ℕ) (values : List Value) : Type 0 where
   pub at : object_at r o ≡ Some (instance class values)
   pub fit : AllZip IsOfKind (instance_kinds w class) values
 
-instance_of : (w : World) (r : State) (o class : ℕ) (x : Object) → StateFits w r → object_at r o ≡ Some x → class_of w x ≡ Some class
+instance_of : (w : World) (r : State) (o class : ℕ) (x : Object) → IsTypedState w r → object_at r o ≡ Some x → class_of w x ≡ Some class
     → array_type w class ≡ None → (values : List Value) → values_of x ≡ Some values → Instance w r o class values
 instance_of w r o class (text units) fits at of_class no_array values has = absurd cc
 instance_of w r o class (instance c vs) fits at of_class no_array values has =
     let same : c ≡ class = cc in
     let all : vs ≡ values = cc in
     let none : array_type w c ≡ None = ap (array_type w) same ∙ no_array in
-    let here : AllZip IsOfKind (instance_kinds w c) vs = subst (ValuesFit w c vs) none (fits.heap o (instance c vs) at) in
+    let here : AllZip IsOfKind (instance_kinds w c) vs = subst (ValuesFit w c vs) none (fits.values.heap o (instance c vs) at) in
     let moved : AllZip IsOfKind (instance_kinds w class) vs = subst (λ (n : ℕ). AllZip IsOfKind (instance_kinds w n) vs) same here in
     record {
       at = at ∙ ap (λ n. Some (instance n vs)) same ∙ ap (λ ys. Some (instance class ys)) all;
@@ -187,14 +188,14 @@ place_kind w class place n f lies at =
     ∙ ap (λ o. Some (option_map_or kind_of_field o kinds.Reference)) at
 
 -- the object on which a field instruction works
-field_instance : (w : World) (naming : Naming) (r : State) (o class named n place : ℕ) (values : List Value) → IsInstanceNaming w naming
-    → StateFits w r → field_of naming.site ≡ Some n → naming.class ≡ Some named → is_sub w class named ≡ true
+field_instance : (w : World) (naming : Naming) (r : State) (o class named n place : ℕ) (values : List Value)
+    → IsInstanceNaming w naming class → IsTypedState w r → field_of naming.site ≡ Some n → naming.class ≡ Some named → is_sub w class named ≡ true
     → field_place w n ≡ Some place → class_at w r o ≡ Some class → values_at r o ≡ Some values → Instance w r o class values
 field_instance w naming r o class named n place values lies fits at is_named sub placed of_class has =
     let x = some_is (object_at r o) (class_of w) class of_class in
     let y = some_is (object_at r o) values_of values has in
     let same = same_object (object_at r o) y.0 x.0 y.1 x.1 in
-    instance_of w r o class x.0 fits x.1 x.2 (lies n class named place at is_named sub placed).1 values (ap values_of (sym same) ∙ y.2)
+    instance_of w r o class x.0 fits x.1 x.2 (lies n named place at is_named sub placed).1 values (ap values_of (sym same) ∙ y.2)
   where
     same_object : (o : Option Object) (a b : Object) → o ≡ Some a → o ≡ Some b → a ≡ b
     same_object o a b x y = cc
@@ -202,7 +203,7 @@ field_instance w naming r o class named n place values lies fits at is_named sub
 -- ---- getfield
 
 gotten : (w : World) (naming : Naming) (r : State) (o class named n : ℕ) (f : FieldInfo) (below : List VType) (left : List Slot)
-    (effect : Effect) → HasFieldKinds w → IsInstanceNaming w naming → StateFits w r → field_of naming.site ≡ Some n
+    (effect : Effect) → HasFieldKinds w → IsInstanceNaming w naming class → IsTypedState w r → field_of naming.site ≡ Some n
     → slice_get w.fields n ≡ Some f → AreOf below left → class_at w r o ≡ Some class → naming.class ≡ Some named
     → is_sub w class named ≡ true
     → (field_place w n >>= λ place. values_at r o >>= λ fields. slice_get fields place >>= λ v. Some (gives r v left)) ≡ Some effect
@@ -213,7 +214,7 @@ gotten w naming r o class named n f below left effect field_kinds lies fits at i
     let fields = some_is (values_at r o) (λ fields. slice_get fields place.0 >>= λ v. Some (gives r v left)) effect place.2 in
     let v = some_is (slice_get fields.0 place.0) (λ v. Some (gives r v left)) effect fields.2 in
     let x = field_instance w naming r o class named n place.0 fields.0 lies fits at is_named sub place.1 of_class fields.1 in
-    let there = (lies n class named place.0 at is_named sub place.1).0 in
+    let there = (lies n named place.0 at is_named sub place.1).0 in
     let kind = zip_got (instance_kinds w class) fields.0 place.0 (kind_of_field f) v.0 x.fit (place_kind w class place.0 n f there is) v.1 in
     kept_is w (type_pushed (type_of_kind w f.kind) below) (gives r v.0 left) effect v.2
     (fits, pushed_kinds (type_of_kind w f.kind) v.0 below left (field_kinds n f is ∙ ap Some (sym kind)) of)
@@ -222,7 +223,7 @@ pub same_popped : (o : Option (Option ℕ × List Slot)) (a b : Option ℕ × Li
 same_popped o a b x y = cc
 
 pub field_gets_keep : (w : World) (naming : Naming) (r : State) (ts rest : List VType) (xs : List Slot) (effect : Effect)
-    → HasFieldKinds w → IsInstanceNaming w naming → StateFits w r → AreOf ts xs → get_field_types w naming ts ≡ Ok rest
+    → HasFieldKinds w → OfReceiver w r (got_object xs) (IsInstanceNaming w naming) → IsTypedState w r → AreOf ts xs → get_field_types w naming ts ≡ Ok rest
     → field_gotten w naming r xs ≡ Some effect → IsKept w rest effect
 field_gets_keep w naming r ts rest xs effect field_kinds lies fits of types e =
     let f = ok_is (typed_field w naming.site)
@@ -241,13 +242,14 @@ field_gets_keep w naming r ts rest xs effect field_kinds lies fits of types e =
     let at = field_same w naming.site n.0 f.0 n.1 f.1 in
     let kept = instance_cases w naming r x.0.0 (λ o class.
     field_place w n.0 >>= λ place. values_at r o >>= λ fields. slice_get fields place >>= λ v. Some (gives r v x.0.1)) effect
-    (IsKept w (type_pushed (type_of_kind w f.0.kind) below.0)) x.2 (λ e. tt) (λ o class named of_class is_named sub act.
-    gotten w naming r o class named n.0 f.0 below.0 x.0.1 effect field_kinds lies fits n.1 at left of_class is_named sub act) in
+    (IsKept w (type_pushed (type_of_kind w f.0.kind) below.0)) x.2 (λ e. tt) (λ o class named at_hand of_class is_named sub act.
+    gotten w naming r o class named n.0 f.0 below.0 x.0.1 effect field_kinds
+    (lies o class (bind_is (popped kinds.Reference xs) (λ y. y.0) x.0 (Some o) x.1 at_hand) of_class) fits n.1 at left of_class is_named sub act) in
     subst (λ (us : List VType). IsKept w us effect) (same_types (type_pushed (type_of_kind w f.0.kind) below.0) rest below.2) kept
 
 -- ---- putfield
 
-set_at : {A : Type 0} (xs : List A) (o : ℕ) (z : A) (p : ℕ) (y : A) → slice_get (slice_set xs o z) p ≡ Some y
+pub set_at : {A : Type 0} (xs : List A) (o : ℕ) (z : A) (p : ℕ) (y : A) → slice_get (slice_set xs o z) p ≡ Some y
     → (y ≡ z) ⊎ (slice_get xs p ≡ Some y)
 set_at [] o z p y e = absurd cc
 set_at (x ∷ xs) zero z zero y e = let same : y ≡ z = cc in inl same
@@ -256,20 +258,23 @@ set_at (x ∷ xs) (suc o) z zero y e = inr e
 set_at (x ∷ xs) (suc o) z (suc p) y e = set_at xs o z p y e
 
 -- the state in which one object has changed
-pub changed_fits : (w : World) (r : State) (o : ℕ) (x : Object) → StateFits w r → ObjectFits w x
-    → StateFits w (record r { heap = slice_set r.heap o x })
-changed_fits w r o x fits of = record { heap = λ p y e. by p y (set_at r.heap o x p y e); statics = fits.statics }
+pub changed_fits : (w : World) (r : State) (o : ℕ) (x : Object) → IsTypedState w r → ObjectFits w x
+    → IsTypedState w (record r { heap = slice_set r.heap o x })
+changed_fits w r o x fits of = record {
+  values = record { heap = λ p y e. by p y (set_at r.heap o x p y e); statics = fits.values.statics };
+  threads = fits.threads;
+}
   where
     by : (p : ℕ) (y : Object) → (y ≡ x) ⊎ (slice_get r.heap p ≡ Some y) → ObjectFits w y
     by p y (inl same) = subst (ObjectFits w) (sym same) of
-    by p y (inr e) = fits.heap p y e
+    by p y (inr e) = fits.values.heap p y e
 
 pub same_state : (a b : State) → ◌≡◌ {A = Option State} (Some a) (Some b) → a ≡ b
 same_state a b e = cc
 
-set_fits : (w : World) (r q : State) (o class place : ℕ) (v : Value) (x : Object) → StateFits w r → object_at r o ≡ Some x
+set_fits : (w : World) (r q : State) (o class place : ℕ) (v : Value) (x : Object) → IsTypedState w r → object_at r o ≡ Some x
     → class_of w x ≡ Some class → array_type w class ≡ None → slice_get (instance_kinds w class) place ≡ Some (kind_of v)
-    → object_with r o place v x ≡ Some q → StateFits w q
+    → object_with r o place v x ≡ Some q → IsTypedState w q
 set_fits w r q o class place v (text units) fits at of_class no_array kind e = absurd cc
 set_fits w r q o class place v (instance c vs) fits at of_class no_array kind e =
     let h = instance_of w r o class (instance c vs) fits at of_class no_array vs refl in
@@ -281,18 +286,18 @@ set_fits w r q o class place v (instance c vs) fits at of_class no_array kind e 
     let here : ValuesFit w class others.0 (array_type w class) =
     subst (ValuesFit w class others.0) (sym no_array) set in
     let object : ObjectFits w (instance c others.0) = subst (λ (n : ℕ). ObjectFits w (instance n others.0)) (sym same) here in
-    subst (StateFits w) (same_state (record r { heap = slice_set r.heap o (instance c others.0) }) q others.2)
+    subst (IsTypedState w) (same_state (record r { heap = slice_set r.heap o (instance c others.0) }) q others.2)
     (changed_fits w r o (instance c others.0) fits object)
 
 put : (w : World) (naming : Naming) (r : State) (o class named n : ℕ) (f : FieldInfo) (v : Value) (rest : List VType) (left : List Slot)
-    (effect : Effect) → IsInstanceNaming w naming → StateFits w r → field_of naming.site ≡ Some n
+    (effect : Effect) → IsInstanceNaming w naming class → IsTypedState w r → field_of naming.site ≡ Some n
     → slice_get w.fields n ≡ Some f → kind_of v ≡ kind_of_field f → AreOf rest left → class_at w r o ≡ Some class
     → naming.class ≡ Some named → is_sub w class named ≡ true
     → (field_place w n >>= λ place. with_value r o place v >>= λ q. Some (done q left)) ≡ Some effect → IsKept w rest effect
 put w naming r o class named n f v rest left effect lies fits at is kind of of_class is_named sub e =
     let place = some_is (field_place w n) (λ place. with_value r o place v >>= λ q. Some (done q left)) effect e in
     let q = some_is (with_value r o place.0 v) (λ q. Some (done q left)) effect place.2 in
-    let there = lies n class named place.0 at is_named sub place.1 in
+    let there = lies n named place.0 at is_named sub place.1 in
     let x = some_is (object_at r o) (object_with r o place.0 v) q.0 q.1 in
     let y = some_is (object_at r o) (class_of w) class of_class in
     let same = same_object (object_at r o) y.0 x.0 y.1 x.1 in
@@ -303,8 +308,19 @@ put w naming r o class named n f v rest left effect lies fits at is kind of of_c
     same_object : (o : Option Object) (a b : Object) → o ≡ Some a → o ≡ Some b → a ≡ b
     same_object o a b x y = cc
 
+-- the object on which putfield works
+object_is : (w : World) (naming : Naming) (xs : List Slot) (n : ℕ) (f : FieldInfo) (x : Value × List Slot) (y : Option ℕ × List Slot) (o : ℕ)
+    → field_of naming.site ≡ Some n → slice_get w.fields n ≡ Some f → stored f xs ≡ Some x → popped kinds.Reference x.1 ≡ Some y
+    → y.0 ≡ Some o → put_object w naming xs ≡ Some o
+object_is w naming xs n f x y o site at value reference is =
+    bind_is (field_of naming.site)
+    (λ n. slice_get w.fields n >>= λ f. stored f xs >>= λ x. popped kinds.Reference x.1 >>= λ y. y.0) n (Some o) site
+    (bind_is (slice_get w.fields n) (λ f. stored f xs >>= λ x. popped kinds.Reference x.1 >>= λ y. y.0) f (Some o) at
+    (bind_is (stored f xs) (λ x. popped kinds.Reference x.1 >>= λ y. y.0) x (Some o) value
+    (bind_is (popped kinds.Reference x.1) (λ y. y.0) y (Some o) reference is)))
+
 pub field_puts_keep : (w : World) (naming : Naming) (r : State) (own : ℕ) (ts rest : List VType) (xs : List Slot) (effect : Effect)
-    → HasFieldKinds w → IsInstanceNaming w naming → StateFits w r → AreOf ts xs → put_field_types w own naming ts ≡ Ok rest
+    → HasFieldKinds w → OfReceiver w r (put_object w naming xs) (IsInstanceNaming w naming) → IsTypedState w r → AreOf ts xs → put_field_types w own naming ts ≡ Ok rest
     → field_put w naming r xs ≡ Some effect → IsKept w rest effect
 field_puts_keep w naming r own ts rest xs effect field_kinds lies fits of types e =
     let f = ok_is (typed_field w naming.site)
@@ -333,5 +349,6 @@ field_puts_keep w naming r own ts rest xs effect field_kinds lies fits of types 
     let left : AreOf rest y.0.1 = subst (λ (us : List VType). AreOf us y.0.1) low.1 under in
     instance_cases w naming r y.0.0
     (λ o class. field_place w n.0 >>= λ place. with_value r o place x.0.0 >>= λ q. Some (done q y.0.1)) effect
-    (IsKept w rest) y.2 (λ e. tt) (λ o class named of_class is_named sub act.
-    put w naming r o class named n.0 g.0 x.0.0 rest y.0.1 effect lies fits n.1 g.1 k.kind left of_class is_named sub act)
+    (IsKept w rest) y.2 (λ e. tt) (λ o class named at_hand of_class is_named sub act.
+    put w naming r o class named n.0 g.0 x.0.0 rest y.0.1 effect
+    (lies o class (object_is w naming xs n.0 g.0 x.0 y.0 o n.1 g.1 x.1 y.1 at_hand) of_class) fits n.1 g.1 k.kind left of_class is_named sub act)

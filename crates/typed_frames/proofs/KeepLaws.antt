@@ -39,7 +39,7 @@ not_else : {A : Type 0} (b : Bool) (o : Option A) (x : A) → (if b then o else 
 not_else true o x e = (refl, e)
 not_else false o x e = absurd cc
 
-static_keeps : (w : World) (f : Frame) (below after : List Frame) (index : ℕ) (m : Named) → AreTyped w → NamesStatic w
+static_keeps : (w : World) (f : Frame) (below after : List Frame) (index : ℕ) (m : Named) → AreTyped w → NamesStatic w f
     → (t : Typed w (f ∷ below)) → row_of t.0.at.place.instruction ≡ invoke static index
     → named_method w t.0.at.place.instruction.naming ≡ Some m → static_called w m f below ≡ Some after → Goes w (row w (f ∷ below))
 static_keeps w f below after index m typed names t known named e =
@@ -47,10 +47,10 @@ static_keeps w f below after index m typed names t known named e =
     let tests = and_true (has_local_call w m) (nat_lt (length (f ∷ below)) most_frames) call.0 in
     let n = argument_slots m.method.signature in
     let code = some_is (code_at w m.number) (λ c. callee m.number c n f.stack >>= λ g. Some (g ∷ caller f n ∷ below)) after call.1 in
-    let flag = names f t.0.at.place.instruction index m (fetched_is w f t.0.at) known named in
+    let flag = names t.0.at.place.instruction index m (fetched_is w f t.0.at) known named in
     static_goes w f below index m code.0 typed t known named flag code.1 tests.0 tests.1
 
-act_goes : (w : World) (f : Frame) (below after : List Frame) → AreTyped w → NamesStatic w → (t : Typed w (f ∷ below)) → (r : Row)
+act_goes : (w : World) (f : Frame) (below after : List Frame) → AreTyped w → NamesStatic w f → (t : Typed w (f ∷ below)) → (r : Row)
     → row_of t.0.at.place.instruction ≡ r → local_act w t.0.at.place.instruction r f below ≡ Some after → Goes w (row w (f ∷ below))
 act_goes w f below after typed names t (local act) known e =
     let i = t.0.at.place.instruction in
@@ -70,16 +70,20 @@ act_goes w f below after typed names t (invoke dynamic index) known e = absurd c
 act_goes w f below after typed names t (event ev) known e = absurd cc
 act_goes w f below after typed names t refused known e = absurd cc
 
-pub row_keeps : (w : World) (frames after : List Frame) → AreTyped w → NamesStatic w → Typed w frames → row w frames ≡ Some after
-    → Typed w after
-row_keeps w [] after typed names t e = absurd t
-row_keeps w (f ∷ below) after typed names t e =
+pub row_keeps : (w : World) (f : Frame) (below after : List Frame) → AreTyped w → NamesStatic w f → Typed w (f ∷ below)
+    → row w (f ∷ below) ≡ Some after → Typed w after
+row_keeps w f below after typed names t e =
     let i = t.0.at.place.instruction in
     let act = local_act w i (row_of i) f below in
     let here = row_is w f below t.0.at (row_of i) act refl refl in
     kept_by w (row w (f ∷ below)) after (act_goes w f below after typed names t (row_of i) refl (sym here ∙ e)) e
 
-pub rows_keep : (w : World) (n : ℕ) (frames after : List Frame) → AreTyped w → NamesStatic w → Typed w frames
+next_keeps : (w : World) (frames after : List Frame) → AreTyped w → ((f : Frame) → NamesStatic w f) → Typed w frames
+    → row w frames ≡ Some after → Typed w after
+next_keeps w [] after typed names t e = absurd t
+next_keeps w (f ∷ below) after typed names t e = row_keeps w f below after typed (names f) t e
+
+pub rows_keep : (w : World) (n : ℕ) (frames after : List Frame) → AreTyped w → ((f : Frame) → NamesStatic w f) → Typed w frames
     → rows w n frames ≡ Some after → Typed w after
 rows_keep w zero frames after typed names t e = subst (Typed w) (inside frames after e) t
   where
@@ -87,4 +91,4 @@ rows_keep w zero frames after typed names t e = subst (Typed w) (inside frames a
     inside a b same = cc
 rows_keep w (suc n) frames after typed names t e =
     let mid = some_is (rows w n frames) (row w) after e in
-    row_keeps w mid.0 after typed names (rows_keep w n frames mid.0 typed names t mid.1) mid.2
+    next_keeps w mid.0 after typed names (rows_keep w n frames mid.0 typed names t mid.1) mid.2

@@ -12,10 +12,13 @@ pub mod FieldLaws
 pub mod ArrayLaws
 pub mod ObjectLaws
 pub mod NativeLaws
+pub mod NativeKinds
 pub mod InstanceCalls
 pub mod CallerLaws
 pub mod ArrayTrees
 pub mod EventProofs
+pub mod ThreadLaws
 pub mod Raises
 pub mod NativeCalls
+pub mod NativeEnters
 pub mod EnterProofs

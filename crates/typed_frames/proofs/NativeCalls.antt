@@ -17,7 +17,7 @@ use Rattle.ref_model.specs.Effects.{Effect, done, gives}
 use Rattle.ref_model.specs.NativeRows.{Answer, returns, returns_value, fails, native, answered, native_acted}
 use Rattle.ref_model.specs.Natives.{native_row}
 use Rattle.typed_frames.specs.Typed.{given_back}
-use Rattle.typed_frames.specs.StateKinds.{StateFits}
+use Rattle.typed_frames.specs.TypedStates.{IsTypedState}
 use Rattle.typed_frames.specs.EventLaws.{IsKept}
 use Rattle.typed_frames.specs.NativeLaws.{native_result, IsAnswer, Always, IsBack}
 use Rattle.typed_frames.proofs.FieldLaws.{kept_is}
@@ -53,7 +53,7 @@ pub same_pair : (o : Option (Answer × List Slot)) (a b : Answer × List Slot) �
 same_pair o a b x y = cc
 
 pub natives_go_on : (w : World) (r : State) (n : Native) (takes : List Kind) (act : Function takes Answer) (back : Option VType)
-    (ts rest : List VType) (xs : List Slot) (effect : Effect) → StateFits w r → native_row w r n ≡ Some (native takes act)
+    (ts rest : List VType) (xs : List Slot) (effect : Effect) → IsTypedState w r → native_row w r n ≡ Some (native takes act)
     → types_popped takes ts ≡ Ok rest → AreOf ts xs → IsBack back (native_result n) → native_acted (native takes act) xs ≡ Some effect
     → IsKept w (given_back back rest) effect
 natives_go_on w r n takes act back ts rest xs effect fits row types of fit made =

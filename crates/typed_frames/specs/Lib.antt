@@ -1,9 +1,11 @@
 pub mod Typed
 pub mod LocalLaws
-pub mod ThrowLaws
 pub mod StateKinds
+pub mod TypedStates
+pub mod ThrowLaws
 pub mod EventLaws
 pub mod NativeLaws
+pub mod NativeKinds
 pub mod CallLaws
 pub mod StepKinds
 pub mod EnterLaws

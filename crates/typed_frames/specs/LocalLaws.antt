@@ -51,11 +51,16 @@ StaticCallsGoOn = (w : World) (f : Frame) (below : List Frame) (index : ℕ) (m 
     Goes w (row w (f ∷ below))
 
 -- What linking gives (JVMS 6.5): an invokestatic names a static method.
-abbrev pub NamesStatic : World → Type 0
-NamesStatic w = (f : Frame) (i : Instruction) (index : ℕ) (m : Named) → fetched w f ≡ Some i → row_of i ≡ invoke static index →
+abbrev pub NamesStatic : World → Frame → Type 0
+NamesStatic w f = (i : Instruction) (index : ℕ) (m : Named) → fetched w f ≡ Some i → row_of i ≡ invoke static index →
     named_method w i.naming ≡ Some m → has_flag ACC_STATIC m.method.flags ≡ true
 
--- So many local instructions, where they are defined, keep to the typing.
+-- A local instruction, where it is defined, keeps to the typing.
+abbrev pub RowKeeps : Type 0
+RowKeeps = (w : World) (f : Frame) (below after : List Frame) → AreTyped w → NamesStatic w f → Typed w (f ∷ below) →
+    row w (f ∷ below) ≡ Some after → Typed w after
+
+-- So do so many.
 abbrev pub RowsKeep : Type 0
-RowsKeep = (w : World) (n : ℕ) (frames after : List Frame) → AreTyped w → NamesStatic w → Typed w frames →
+RowsKeep = (w : World) (n : ℕ) (frames after : List Frame) → AreTyped w → ((f : Frame) → NamesStatic w f) → Typed w frames →
     rows w n frames ≡ Some after → Typed w after

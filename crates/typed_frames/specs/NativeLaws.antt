@@ -15,7 +15,7 @@ use Rattle.ref_model.specs.Effects.{Effect}
 use Rattle.ref_model.specs.NativeRows.{Answer, returns, returns_value, fails, NativeRow, native, native_acted}
 use Rattle.ref_model.specs.Natives.{native_row}
 use Rattle.typed_frames.specs.Typed.{given_back}
-use Rattle.typed_frames.specs.StateKinds.{StateFits}
+use Rattle.typed_frames.specs.TypedStates.{IsTypedState}
 use Rattle.typed_frames.specs.EventLaws.{IsKept}
 
 -- the kind of what a native method gives back, by its descriptor; of a method without a result, and of one that has no row, None
@@ -45,8 +45,8 @@ native_result n = None
 
 -- an answer with a result of this kind, or without one
 abbrev pub IsAnswer : World → Option Kind → Answer → Type 0
-IsAnswer w result (returns q) = (result ≡ None) × StateFits w q
-IsAnswer w result (returns_value q v) = (result ≡ Some (kind_of v)) × StateFits w q
+IsAnswer w result (returns q) = (result ≡ None) × IsTypedState w q
+IsAnswer w result (returns_value q v) = (result ≡ Some (kind_of v)) × IsTypedState w q
 IsAnswer w result (fails e) = Unit {0}
 
 -- what holds of a function of values of these kinds, whatever they are
@@ -59,7 +59,7 @@ IsRow w result (native takes act) = Always (IsAnswer w result) takes act
 
 -- A native method keeps the state's values of their kinds, and gives back what its descriptor says.
 abbrev pub NativesKeep : Type 0
-NativesKeep = (w : World) (r : State) (n : Native) (row : NativeRow) → StateFits w r → native_row w r n ≡ Some row →
+NativesKeep = (w : World) (r : State) (n : Native) (row : NativeRow) → IsTypedState w r → native_row w r n ≡ Some row →
     IsRow w (native_result n) row
 
 -- ---- on the operand stack
@@ -73,6 +73,6 @@ IsBack back result = ⊥
 -- A native method takes its operands, and leaves what it gives back on what lies below them.
 abbrev pub NativesGoOn : Type 0
 NativesGoOn = (w : World) (r : State) (n : Native) (takes : List Kind) (act : Function takes Answer) (back : Option VType)
-    (ts rest : List VType) (xs : List Slot) (effect : Effect) → StateFits w r → native_row w r n ≡ Some (native takes act) →
+    (ts rest : List VType) (xs : List Slot) (effect : Effect) → IsTypedState w r → native_row w r n ≡ Some (native takes act) →
     types_popped takes ts ≡ Ok rest → AreOf ts xs → IsBack back (native_result n) →
     native_acted (native takes act) xs ≡ Some effect → IsKept w (given_back back rest) effect

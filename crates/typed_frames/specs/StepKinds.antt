@@ -12,8 +12,9 @@ use Rattle.ref_model.specs.Effects.{Effect, done, invokes, throws, throws_object
 use Rattle.ref_model.specs.Frames.{behind}
 use Rattle.ref_model.specs.Step.{event_effect}
 use Rattle.typed_frames.specs.Typed.{Typed}
-use Rattle.typed_frames.specs.StateKinds.{HasFieldKinds, StateFits}
-use Rattle.typed_frames.specs.EventLaws.{IsStaticNaming, IsInstanceNaming, IsObjectNaming, HasDimensions}
+use Rattle.typed_frames.specs.StateKinds.{HasFieldKinds}
+use Rattle.typed_frames.specs.TypedStates.{IsTypedState}
+use Rattle.typed_frames.specs.EventLaws.{IsStaticNaming, IsInstanceNaming, OfReceiver, got_object, put_object, IsObjectNaming, HasDimensions}
 
 -- ---- what linking gives
 
@@ -22,14 +23,14 @@ pub record IsLinkedWorld (w : World) : Type 0 where
   pub fields : HasFieldKinds w
   pub arrays : HasDimensions w
 
--- of the constant of an event
-abbrev pub IsEventNaming : World → Naming → Event → Type 0
-IsEventNaming w naming (get_static index) = IsStaticNaming w naming
-IsEventNaming w naming (put_static index) = IsStaticNaming w naming
-IsEventNaming w naming (get_field index) = IsInstanceNaming w naming
-IsEventNaming w naming (put_field index) = IsInstanceNaming w naming
-IsEventNaming w naming (new index) = IsObjectNaming w naming
-IsEventNaming w naming e = Unit {0}
+-- of the constant of an event, with this operand stack in this state
+abbrev pub IsEventNaming : World → Naming → Event → State → List Slot → Type 0
+IsEventNaming w naming (get_static index) r stack = IsStaticNaming w naming
+IsEventNaming w naming (put_static index) r stack = IsStaticNaming w naming
+IsEventNaming w naming (get_field index) r stack = OfReceiver w r (got_object stack) (IsInstanceNaming w naming)
+IsEventNaming w naming (put_field index) r stack = OfReceiver w r (put_object w naming stack) (IsInstanceNaming w naming)
+IsEventNaming w naming (new index) r stack = IsObjectNaming w naming
+IsEventNaming w naming e r stack = Unit {0}
 
 -- ---- what an event leaves
 
@@ -38,7 +39,7 @@ pub record GoesOnBehind (w : World) (f : Frame) (below : List Frame) (next : ℕ
   pub frame : Frame
   pub is : behind f next stack ≡ Some frame
   pub typed : Typed w (frame ∷ below)
-  pub state : StateFits w q
+  pub state : IsTypedState w q
 
 -- an exception changes nothing, and no event invokes
 abbrev pub IsResult : World → Frame → List Frame → ℕ → Effect → Type 0
@@ -49,7 +50,7 @@ IsResult w f below next (throws_object o) = Unit {0}
 
 -- An event of a frame that keeps to the typing leaves one that does, and a state whose values have their kinds.
 abbrev pub EventsGoOn : Type 0
-EventsGoOn = (w : World) (f : Frame) (below : List Frame) (e : Event) (r : State) (effect : Effect) → IsLinkedWorld w → StateFits w r →
+EventsGoOn = (w : World) (f : Frame) (below : List Frame) (e : Event) (r : State) (effect : Effect) → IsLinkedWorld w → IsTypedState w r →
     (t : Typed w (f ∷ below)) → row_of t.0.at.place.instruction ≡ event e →
-    IsEventNaming w t.0.at.place.instruction.naming e → event_effect w t.0.at.place.instruction.naming e r f.stack ≡ Some effect →
+    IsEventNaming w t.0.at.place.instruction.naming e r f.stack → event_effect w t.0.at.place.instruction.naming e r f.stack ≡ Some effect →
     IsResult w f below t.0.at.place.instruction.instr.next effect

@@ -1,15 +1,15 @@
 -- What an exception on its way does to frames that keep to the typing.
-use Rattle.std.specs.Prelude.{◌≡◌, ℕ, false, List, ◌∷◌, Some}
+use Rattle.std.specs.Prelude.{◌≡◌, ℕ, false, List, ◌∷◌, Some, slice_get}
 use Rattle.world_model.specs.World.{World}
 use Rattle.verify_types.specs.Environment.{Handler}
 use Rattle.verify_types.specs.Typing.{AreTyped}
 use Rattle.state_model.specs.Frames.{Frame}
 use Rattle.ref_model.specs.declared.exception.Exception.{Exception}
-use Rattle.ref_model.specs.State.{State}
+use Rattle.ref_model.specs.State.{JavaThread, State}
 use Rattle.ref_model.specs.Frames.{is_root}
-use Rattle.ref_model.specs.Throwing.{raised, handler_of, at_handler}
+use Rattle.ref_model.specs.Throwing.{throwing, raised, handler_of, at_handler}
 use Rattle.typed_frames.specs.Typed.{Typed, Thrown}
-use Rattle.typed_frames.specs.StateKinds.{StateFits}
+use Rattle.typed_frames.specs.TypedStates.{IsTypedState}
 
 -- a thread that throws keeps its frames
 abbrev pub ThrowsKeep : Type 0
@@ -29,6 +29,14 @@ abbrev pub HandlersGoOn : Type 0
 HandlersGoOn = (w : World) (f : Frame) (below : List Frame) (class o : ℕ) (h : Handler) → AreTyped w → Thrown w (f ∷ below) →
     handler_of w class f ≡ Some h → IsHandled w f below h o
 
--- What is thrown by the machine leaves the state's values of their kinds, and all frames as they are.
+-- the frames of a thread in a state are such
+abbrev pub OfFrames : State → ℕ → (List Frame → Type 0) → Type 0
+OfFrames r t Holds = (x : JavaThread) → slice_get r.threads t ≡ Some x → Holds x.frames
+
+-- A thread that throws an object, one of the program or one that the machine makes, leaves a state that keeps to the typing.
+abbrev pub ThrowingKeeps : Type 0
+ThrowingKeeps = (w : World) (r : State) (t o : ℕ) → IsTypedState w r → OfFrames r t (Thrown w) → IsTypedState w (throwing r t o)
+
 abbrev pub RaisesKeep : Type 0
-RaisesKeep = (w : World) (r q : State) (t : ℕ) (e : Exception) → StateFits w r → raised w r t e ≡ Some q → StateFits w q
+RaisesKeep = (w : World) (r q : State) (t : ℕ) (e : Exception) → IsTypedState w r → OfFrames r t (Thrown w) →
+    raised w r t e ≡ Some q → IsTypedState w q

@@ -2,13 +2,14 @@
 //! call that does nothing.
 #![tactic(auto)]
 
-ghost use Rattle.typed_frames.specs.LocalLaws.{RowsGoOn, ConstantsGoOn, WideConstantsGoOn, ReturnsGoOn, StaticCallsGoOn, RowsKeep};
+ghost use Rattle.typed_frames.specs.LocalLaws.{RowsGoOn, ConstantsGoOn, WideConstantsGoOn, ReturnsGoOn, StaticCallsGoOn, RowKeeps, RowsKeep};
 ghost use Rattle.typed_frames.specs.EventLaws.{StaticGetsKeep, StaticPutsKeep, FieldGetsKeep, FieldPutsKeep, ArrayLoadsKeep, ArrayStoresKeep, LengthsKeep, CastsKeep, JudgementsKeep, NewObjectsKeep, NewArraysKeep, NewArraysOfArraysKeep};
 ghost use Rattle.typed_frames.specs.CallLaws.{CalleesBegin, CallersWait};
-ghost use Rattle.typed_frames.specs.EnterLaws.{MethodsAreEntered};
+ghost use Rattle.typed_frames.specs.EnterLaws.{MethodsAreEntered, StaticsAreEntered};
 ghost use Rattle.typed_frames.specs.NativeLaws.{NativesKeep, NativesGoOn};
+ghost use Rattle.typed_frames.specs.NativeKinds.{TypesHaveKinds, NativesTake};
 ghost use Rattle.typed_frames.specs.StepKinds.{EventsGoOn};
-ghost use Rattle.typed_frames.specs.ThrowLaws.{ThrowsKeep, FramesAreLeft, HandlersGoOn, RaisesKeep};
+ghost use Rattle.typed_frames.specs.ThrowLaws.{ThrowsKeep, FramesAreLeft, HandlersGoOn, ThrowingKeeps, RaisesKeep};
 
 /// A local instruction of frames that keep to the typing is defined, unless it divides by 0 or returns from a root frame, and leaves
 /// frames that keep to it (JVMS 4.10.1.6).
@@ -18,6 +19,7 @@ pub fn local_instructions_go_on()
     ensures wide_constants { WideConstantsGoOn }
     ensures returns { ReturnsGoOn }
     ensures static_calls { StaticCallsGoOn }
+    ensures row { RowKeeps }
     ensures keep { RowsKeep }
 {}
 
@@ -26,6 +28,7 @@ pub fn exceptions_go_on()
     ensures throws { ThrowsKeep }
     ensures left { FramesAreLeft }
     ensures handled { HandlersGoOn }
+    ensures throwing { ThrowingKeeps }
     ensures raises { RaisesKeep }
 {}
 
@@ -57,10 +60,13 @@ pub fn objects_keep_kinds()
 {}
 
 /// Native methods keep kinds: each leaves the state's values of their kinds, and gives back a value of its descriptor's kind, or none (the
-/// API of `Object`, `String`, `StringBuilder`, `PrintStream` and `System`).
+/// API of `Object`, `String`, `StringBuilder`, `PrintStream` and `System`). What it takes are the kinds of a table, and each type of a
+/// descriptor but float and double has a kind.
 pub fn natives_keep_kinds()
     ensures answers { NativesKeep }
     ensures operands { NativesGoOn }
+    ensures takes { NativesTake }
+    ensures types { TypesHaveKinds }
 {}
 
 /// The frame of a method of an object keeps to the typing when it begins, and its caller waits for what the method gives back (JVMS 2.6.1,
@@ -76,8 +82,9 @@ pub fn events_go_on()
     ensures { EventsGoOn }
 {}
 
-/// A method of an object that was selected is entered: a native one is done, and the frame goes on; one with code begins, and the frame waits
-/// below it. All frames keep to the typing, and the state's values to their kinds (JVMS 2.6.1, 5.4.6, 6.5).
+/// A method of an object that was selected, and a static one, is entered: a native one is done, and the frame goes on; one with code begins,
+/// and the frame waits below it. All frames keep to the typing, and the state's values to their kinds (JVMS 2.6.1, 5.4.6, 6.5).
 pub fn methods_are_entered()
-    ensures { MethodsAreEntered }
+    ensures of_objects { MethodsAreEntered }
+    ensures of_classes { StaticsAreEntered }
 {}

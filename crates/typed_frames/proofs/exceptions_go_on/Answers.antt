@@ -1,5 +1,6 @@
 use Rattle.typed_frames.proofs.Exceptions.{thrown, left, handled}
 use Rattle.typed_frames.proofs.Raises.{raises_keep}
+use Rattle.typed_frames.proofs.ThreadLaws.{throwing_keeps}
 use Rattle.typed_frames.proofs.exceptions_go_on.Goals as goal
 
 pub returns-clause-throws : goal.returns-clause-throws
@@ -12,4 +13,7 @@ pub returns-clause-handled : goal.returns-clause-handled
 returns-clause-handled c = λ w f below class o h typed t found. handled w f below class o h typed t found
 
 pub returns-clause-raises : goal.returns-clause-raises
-returns-clause-raises c = λ w r q t e fits made. raises_keep w r q t e fits made
+returns-clause-raises c = λ w r q t e typed good made. raises_keep w r q t e typed good made
+
+pub returns-clause-throwing : goal.returns-clause-throwing
+returns-clause-throwing c = λ w r t o typed good. throwing_keeps w r t o typed good

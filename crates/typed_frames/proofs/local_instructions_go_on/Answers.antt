@@ -1,6 +1,6 @@
 use Rattle.typed_frames.proofs.LocalRowLaws.{row_goes, narrow_goes, wide_goes}
 use Rattle.typed_frames.proofs.CallLaws.{static_goes}
-use Rattle.typed_frames.proofs.KeepLaws.{rows_keep}
+use Rattle.typed_frames.proofs.KeepLaws.{row_keeps, rows_keep}
 use Rattle.typed_frames.proofs.ReturnLaws.{return_goes}
 use Rattle.typed_frames.proofs.local_instructions_go_on.Goals as goal
 
@@ -19,6 +19,9 @@ returns-clause-returns c = λ w f below kind typed t known root. return_goes w f
 pub returns-clause-static_calls : goal.returns-clause-static_calls
 returns-clause-static_calls c = λ w f below index m code typed t known named flag code_is local few.
     static_goes w f below index m code typed t known named flag code_is local few
+
+pub returns-clause-row : goal.returns-clause-row
+returns-clause-row c = λ w f below after typed names t moves. row_keeps w f below after typed names t moves
 
 pub returns-clause-keep : goal.returns-clause-keep
 returns-clause-keep c = λ w n frames after typed static first moves. rows_keep w n frames after typed static first moves

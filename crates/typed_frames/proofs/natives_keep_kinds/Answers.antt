@@ -1,4 +1,5 @@
 use Rattle.typed_frames.proofs.NativeCalls.{natives_go_on}
+use Rattle.typed_frames.proofs.NativeKinds.{type_kind, natives_take}
 use Rattle.typed_frames.proofs.NativeLaws.{natives_keep}
 use Rattle.typed_frames.proofs.natives_keep_kinds.Goals as goal
 
@@ -8,3 +9,9 @@ returns-clause-answers c = λ w r n row fits e. natives_keep w r n row fits e
 pub returns-clause-operands : goal.returns-clause-operands
 returns-clause-operands c = λ w r n takes act back ts rest xs effect fits row types of fit made.
     natives_go_on w r n takes act back ts rest xs effect fits row types of fit made
+
+pub returns-clause-takes : goal.returns-clause-takes
+returns-clause-takes c = λ w r n takes act row. natives_take w r n takes act row
+
+pub returns-clause-types : goal.returns-clause-types
+returns-clause-types c = λ w t has. type_kind w t has

@@ -1,0 +1,2 @@
+pub mod ReceiverLaws
+pub mod RowLaws

@@ -1,0 +1,195 @@
+-- What a native method takes and gives back, by kinds and by types.
+use Rattle.std.proofs.Common.{◌≡◌, Bool, true, false, List, [], ◌∷◌, ◌++◌, Option, Some, None, Result, Ok, refl, ap, sym, ◌∙◌}
+use Rattle.std.specs.Prelude.{map, reverse, ◌==◌, if◌then◌else◌}
+use Rattle.std.specs.Option.{option_map}
+use Rattle.std.proofs.lemmas.List.{reverse-append}
+use Rattle.descriptors.specs.declared.kind.ElementType.{ElementType}
+use Rattle.descriptors.specs.declared.kind.ElementType.TheVariants as elements
+use Rattle.descriptors.specs.declared.kind.Kind.{Kind as FieldType}
+use Rattle.descriptors.specs.declared.kind.Signature.{Signature}
+use Rattle.lib_table.specs.declared.native.Native.{Native}
+use Rattle.lib_table.specs.declared.native.Native.TheVariants as natives
+use Rattle.opcodes.specs.declared.op.Kind.{Kind}
+use Rattle.opcodes.specs.declared.op.Kind.TheVariants as kinds
+use Rattle.stack_maps.specs.declared.types.VType.{VType}
+use Rattle.instruction_rows.specs.declared.row_why.RowWhy.{RowWhy}
+use Rattle.instruction_rows.specs.declared.row_why.RowWhy.TheVariants as whys
+use Rattle.instruction_rows.specs.Results.{◌then◌}
+use Rattle.instruction_rows.specs.Kinds.{Function, kind_of_type}
+use Rattle.instruction_rows.specs.TypeEffect.{type_popped, types_popped}
+use Rattle.instruction_rows.proofs.Steps.{ok_is, passed}
+use Rattle.world_model.specs.World.{World}
+use Rattle.verify_types.specs.Assignability.{assignable}
+use Rattle.verify_types.specs.ClassTypes.{type_of_element, type_of_kind}
+use Rattle.verify_types.specs.Operands.{only_if, popped_as, wanted, all_wanted}
+use Rattle.verify_types.specs.Calls.{argument_types}
+use Rattle.ref_model.specs.Kinds.{kind_of_element_type, value_kind}
+use Rattle.ref_model.specs.State.{State}
+use Rattle.ref_model.specs.NativeRows.{Answer, NativeRow, native}
+use Rattle.ref_model.specs.Natives.{native_row}
+use Rattle.typed_frames.specs.NativeLaws.{IsBack}
+use Rattle.typed_frames.specs.NativeKinds.{has_element_kind, has_kind, argument_kinds, native_takes, GivesKind}
+
+-- ---- the kinds of types
+
+element_kind : (w : World) (element : ElementType) → has_element_kind element ≡ true
+    → kind_of_type (type_of_element w element) ≡ Some (kind_of_element_type element)
+element_kind w elements.Byte has = refl
+element_kind w elements.Char has = refl
+element_kind w elements.Double has = absurd cc
+element_kind w elements.Float has = absurd cc
+element_kind w elements.Int has = refl
+element_kind w elements.Long has = refl
+element_kind w elements.Short has = refl
+element_kind w elements.Bool has = refl
+element_kind w (elements.Class name) has = refl
+
+no_element_kind : (w : World) (element : ElementType) → has_element_kind element ≡ false
+    → kind_of_type (type_of_element w element) ≡ None
+no_element_kind w elements.Byte has = absurd cc
+no_element_kind w elements.Char has = absurd cc
+no_element_kind w elements.Double has = refl
+no_element_kind w elements.Float has = refl
+no_element_kind w elements.Int has = absurd cc
+no_element_kind w elements.Long has = absurd cc
+no_element_kind w elements.Short has = absurd cc
+no_element_kind w elements.Bool has = absurd cc
+no_element_kind w (elements.Class name) has = absurd cc
+
+by_dimensions : (b : Bool) (t named : VType) (k : Kind) (has : Bool) → kind_of_type named ≡ Some kinds.Reference
+    → (has ≡ true → kind_of_type t ≡ Some k) → (if b then has else true) ≡ true
+    → kind_of_type (if b then t else named) ≡ Some (if b then k else kinds.Reference)
+by_dimensions true t named k has array element e = element e
+by_dimensions false t named k has array element e = array
+
+pub type_kind : (w : World) (t : FieldType) → has_kind t ≡ true → kind_of_type (type_of_kind w t) ≡ Some (value_kind t)
+type_kind w t has =
+    by_dimensions (t.dimensions == 0) (type_of_element w t.element) _ (kind_of_element_type t.element) (has_element_kind t.element) refl
+    (element_kind w t.element) has
+
+none_by_dimensions : (b : Bool) (t named : VType) (has : Bool) → (has ≡ false → kind_of_type t ≡ None) → (if b then has else true) ≡ false
+    → kind_of_type (if b then t else named) ≡ None
+none_by_dimensions true t named has element e = element e
+none_by_dimensions false t named has element e = absurd cc
+
+no_type_kind : (w : World) (t : FieldType) → has_kind t ≡ false → kind_of_type (type_of_kind w t) ≡ None
+no_type_kind w t has =
+    none_by_dimensions (t.dimensions == 0) (type_of_element w t.element) _ (has_element_kind t.element) (no_element_kind w t.element) has
+
+-- ---- arguments
+
+same_types : (a b : List VType) → ◌≡◌ {A = Result (List VType) RowWhy} (Ok a) (Ok b) → a ≡ b
+same_types a b e = cc
+
+-- an operand of a type is one of its kind
+kind_popped : (w : World) (t : FieldType) (ts rest : List VType) → wanted w (type_of_kind w t) ts ≡ Ok rest
+    → (x : VType × List VType) × (type_popped (value_kind t) ts ≡ Ok x) × (x.1 ≡ rest)
+kind_popped w t ts rest e = by (has_kind t) refl
+  where
+    by : (b : Bool) → has_kind t ≡ b → (x : VType × List VType) × (type_popped (value_kind t) ts ≡ Ok x) × (x.1 ≡ rest)
+    by true has =
+        let named = type_of_kind w t in
+        let here : (type_popped (value_kind t) ts then λ x. only_if (assignable w x.0 named) whys.Kind x.1) ≡ Ok rest =
+        ap (λ o. popped_as o ts then λ x. only_if (assignable w x.0 named) whys.Kind x.1) (sym (type_kind w t has)) ∙ e in
+        let parts = ok_is (type_popped (value_kind t) ts) (λ (x : VType × List VType). only_if (assignable w x.0 named) whys.Kind x.1) rest here in
+        (parts.0, parts.1, (passed (assignable w parts.0.0 named) parts.0.1 rest whys.Kind parts.2).1)
+    by false has =
+        let none = no_type_kind w t has in
+        let here = ap (λ o. popped_as o ts then λ x. only_if (assignable w x.0 (type_of_kind w t)) whys.Kind x.1) (sym none) ∙ e in
+        absurd cc
+
+-- such, one after the other
+all_popped : (w : World) (args : List FieldType) (ts rest : List VType) → all_wanted w (map (type_of_kind w) args) ts ≡ Ok rest
+    → types_popped (map value_kind args) ts ≡ Ok rest
+all_popped w [] ts rest e = e
+all_popped w (t ∷ args) ts rest e =
+    let below = ok_is (wanted w (type_of_kind w t) ts) (λ us. all_wanted w (map (type_of_kind w) args) us) rest e in
+    let x = kind_popped w t ts below.0 below.1 in
+    ap (λ r. r then λ (y : VType × List VType). types_popped (map value_kind args) y.1) x.1
+    ∙ ap (λ us. types_popped (map value_kind args) us) x.2 ∙ all_popped w args below.0 rest below.2
+
+joined_map : {A B : Type 0} (f : A → B) (xs ys : List A) → map f (xs ++ ys) ≡ map f xs ++ map f ys
+joined_map f [] ys = refl
+joined_map f (x ∷ xs) ys = ap (λ zs. f x ∷ zs) (joined_map f xs ys)
+
+pub reversed_map : {A B : Type 0} (f : A → B) (xs : List A) → map f (reverse xs) ≡ reverse (map f xs)
+reversed_map f [] = refl
+reversed_map f (x ∷ xs) =
+    ap (map f) (reverse-append (x ∷ []) xs) ∙ joined_map f (reverse xs) (x ∷ []) ∙ ap (λ ys. ys ++ f x ∷ []) (reversed_map f xs)
+    ∙ sym (reverse-append (f x ∷ []) (map f xs))
+
+pub arguments_popped : (w : World) (s : Signature) (ts rest : List VType) → all_wanted w (argument_types w s) ts ≡ Ok rest
+    → types_popped (argument_kinds s) ts ≡ Ok rest
+arguments_popped w s ts rest e =
+    ap (λ ks. types_popped ks ts) (sym (reversed_map value_kind s.args))
+    ∙ all_popped w (reverse s.args) ts rest (ap (λ us. all_wanted w us ts) (reversed_map (type_of_kind w) s.args) ∙ e)
+
+-- more below
+pub popped_join : (ks more : List Kind) (ts rest last : List VType) → types_popped ks ts ≡ Ok rest → types_popped more rest ≡ Ok last
+    → types_popped (ks ++ more) ts ≡ Ok last
+popped_join [] more ts rest last first below = ap (types_popped more) (same_types ts rest first) ∙ below
+popped_join (k ∷ ks) more ts rest last first below =
+    let x = ok_is (type_popped k ts) (λ (x : VType × List VType). types_popped ks x.1) rest first in
+    ap (λ r. r then λ (y : VType × List VType). types_popped (ks ++ more) y.1) x.1 ∙ popped_join ks more x.0.1 rest last x.2 below
+
+pub popped_alone : (ks : List Kind) (ts rest : List VType) → types_popped ks ts ≡ Ok rest → types_popped (ks ++ []) ts ≡ Ok rest
+popped_alone ks ts rest e = popped_join ks [] ts rest rest e refl
+
+-- ---- results
+
+pub back_kind : (w : World) (result : Option FieldType) (k : Option Kind) → GivesKind result k → IsBack (option_map (type_of_kind w) result) k
+back_kind w None None gives = tt
+back_kind w None (Some k) gives = absurd cc
+back_kind w (Some t) None gives = let e = gives.1 in absurd cc
+back_kind w (Some t) (Some k) gives = type_kind w t gives.0 ∙ sym gives.1
+
+-- ---- the table
+
+abbrev takes_of : NativeRow → List Kind
+takes_of (native takes act) = takes
+
+inside : (a b : NativeRow) → ◌≡◌ {A = Option NativeRow} (Some a) (Some b) → a ≡ b
+inside a b e = cc
+
+taken_is : (known : NativeRow) (takes : List Kind) (act : Function takes Answer) → ◌≡◌ {A = Option NativeRow} (Some known) (Some (native takes act))
+    → takes_of known ≡ takes
+taken_is known takes act e = ap takes_of (inside known (native takes act) e)
+
+pub natives_take : (w : World) (r : State) (n : Native) (takes : List Kind) (act : Function takes Answer)
+    → native_row w r n ≡ Some (native takes act) → native_takes n ≡ Some takes
+natives_take w r natives.ObjectInit takes act e = ap Some (taken_is _ takes act e)
+natives_take w r natives.ObjectEquals takes act e = ap Some (taken_is _ takes act e)
+natives_take w r natives.ObjectHashCode takes act e = ap Some (taken_is _ takes act e)
+natives_take w r natives.ObjectToString takes act e = ap Some (taken_is _ takes act e)
+natives_take w r natives.StringLength takes act e = ap Some (taken_is _ takes act e)
+natives_take w r natives.StringCharAt takes act e = ap Some (taken_is _ takes act e)
+natives_take w r natives.StringIsEmpty takes act e = ap Some (taken_is _ takes act e)
+natives_take w r natives.StringEquals takes act e = ap Some (taken_is _ takes act e)
+natives_take w r natives.StringHashCode takes act e = ap Some (taken_is _ takes act e)
+natives_take w r natives.StringConcat takes act e = ap Some (taken_is _ takes act e)
+natives_take w r natives.StringToString takes act e = ap Some (taken_is _ takes act e)
+natives_take w r natives.StringValueOfInt takes act e = ap Some (taken_is _ takes act e)
+natives_take w r natives.StringValueOfLong takes act e = ap Some (taken_is _ takes act e)
+natives_take w r natives.StringValueOfChar takes act e = ap Some (taken_is _ takes act e)
+natives_take w r natives.StringValueOfBoolean takes act e = ap Some (taken_is _ takes act e)
+natives_take w r natives.StringBuilderInit takes act e = ap Some (taken_is _ takes act e)
+natives_take w r natives.StringBuilderAppendInt takes act e = ap Some (taken_is _ takes act e)
+natives_take w r natives.StringBuilderAppendLong takes act e = ap Some (taken_is _ takes act e)
+natives_take w r natives.StringBuilderAppendChar takes act e = ap Some (taken_is _ takes act e)
+natives_take w r natives.StringBuilderAppendBoolean takes act e = ap Some (taken_is _ takes act e)
+natives_take w r natives.StringBuilderAppendString takes act e = ap Some (taken_is _ takes act e)
+natives_take w r natives.StringBuilderLength takes act e = ap Some (taken_is _ takes act e)
+natives_take w r natives.StringBuilderToString takes act e = ap Some (taken_is _ takes act e)
+natives_take w r natives.SystemExit takes act e = ap Some (taken_is _ takes act e)
+natives_take w r natives.PrintStreamPrintln takes act e = ap Some (taken_is _ takes act e)
+natives_take w r natives.PrintStreamPrintlnInt takes act e = ap Some (taken_is _ takes act e)
+natives_take w r natives.PrintStreamPrintlnLong takes act e = ap Some (taken_is _ takes act e)
+natives_take w r natives.PrintStreamPrintlnChar takes act e = ap Some (taken_is _ takes act e)
+natives_take w r natives.PrintStreamPrintlnBoolean takes act e = ap Some (taken_is _ takes act e)
+natives_take w r natives.PrintStreamPrintlnString takes act e = ap Some (taken_is _ takes act e)
+natives_take w r natives.PrintStreamPrintInt takes act e = ap Some (taken_is _ takes act e)
+natives_take w r natives.PrintStreamPrintLong takes act e = ap Some (taken_is _ takes act e)
+natives_take w r natives.PrintStreamPrintChar takes act e = ap Some (taken_is _ takes act e)
+natives_take w r natives.PrintStreamPrintBoolean takes act e = ap Some (taken_is _ takes act e)
+natives_take w r natives.PrintStreamPrintString takes act e = ap Some (taken_is _ takes act e)
+natives_take w r n takes act e = absurd cc

@@ -1,0 +1,4 @@
+pub mod Namings
+pub mod StepLaws
+pub mod OpeningLaws
+pub mod MethodKinds

@@ -1,0 +1,228 @@
+//! The kinds of what native methods take and give back, and whether they fit their descriptors.
+
+ghost use Rattle.std.specs.Prelude.{◌≡◌, ◌++◌, true, map, reverse, IfOk};
+ghost use Rattle.std.specs.Option.{option_map};
+ghost use Rattle.ref_model.specs.Kinds as spec;
+ghost use Rattle.typed_frames.specs.NativeLaws.{native_result};
+ghost use Rattle.typed_frames.specs.NativeKinds.{argument_kinds, native_takes, GivesKind, FitsNative};
+ghost use Rattle.typing_tests.specs.Receivers.{receiver_kinds};
+
+use crate::kinds::{has_kind, value_kind};
+use descriptors::{Kind as FieldType, Signature};
+use items::NoMemory;
+use lib_table::Native;
+use opcodes::Kind;
+use std::alloc::Global;
+
+/// The kinds of what a native method takes, the topmost first, with the receiver below. `None`: the machine does nothing in its place yet.
+pub fn takes(native: Native) -> Option<&'static [Kind]>
+    ensures { option_map (λ kinds. kinds.now) result ≡ native_takes native }
+{
+    match native {
+        Native::ObjectInit
+        | Native::ObjectHashCode
+        | Native::StringLength
+        | Native::StringIsEmpty
+        | Native::StringHashCode
+        | Native::StringToString
+        | Native::StringBuilderInit
+        | Native::StringBuilderLength
+        | Native::StringBuilderToString
+        | Native::PrintStreamPrintln => Some(&[Kind::Reference]),
+        Native::ObjectEquals
+        | Native::StringEquals
+        | Native::StringConcat
+        | Native::StringBuilderAppendString
+        | Native::PrintStreamPrintlnString
+        | Native::PrintStreamPrintString => Some(&[Kind::Reference, Kind::Reference]),
+        Native::ObjectToString
+        | Native::StringCharAt
+        | Native::StringBuilderAppendInt
+        | Native::StringBuilderAppendChar
+        | Native::StringBuilderAppendBoolean
+        | Native::PrintStreamPrintlnInt
+        | Native::PrintStreamPrintlnChar
+        | Native::PrintStreamPrintlnBoolean
+        | Native::PrintStreamPrintInt
+        | Native::PrintStreamPrintChar
+        | Native::PrintStreamPrintBoolean => Some(&[Kind::Int, Kind::Reference]),
+        Native::StringBuilderAppendLong
+        | Native::PrintStreamPrintlnLong
+        | Native::PrintStreamPrintLong => Some(&[Kind::Long, Kind::Reference]),
+        Native::StringValueOfInt
+        | Native::StringValueOfChar
+        | Native::StringValueOfBoolean
+        | Native::SystemExit => Some(&[Kind::Int]),
+        Native::StringValueOfLong => Some(&[Kind::Long]),
+        Native::ObjectWait
+        | Native::ObjectWaitMillis
+        | Native::ObjectNotify
+        | Native::ObjectNotifyAll
+        | Native::SystemNanoTime
+        | Native::SystemCurrentTimeMillis => None,
+        Native::ThreadCreatePlatform
+        | Native::ThreadCreateVirtual
+        | Native::ThreadStart
+        | Native::ThreadInterrupt
+        | Native::ThreadIsInterrupted
+        | Native::ThreadIsAlive
+        | Native::ThreadIsVirtual
+        | Native::ThreadIsDaemon
+        | Native::ThreadSetDaemon
+        | Native::ThreadSetName
+        | Native::ThreadId
+        | Native::ThreadCurrentThread
+        | Native::ThreadSleep
+        | Native::ThreadInterrupted => None,
+        Native::ThreadJoin
+        | Native::ThreadJoinMillis
+        | Native::ThreadGetName
+        | Native::ThreadGetState
+        | Native::ThreadYield
+        | Native::ThreadOnSpinWait => None,
+        Native::LockSupportPark
+        | Native::LockSupportParkBlocker
+        | Native::LockSupportParkNanos
+        | Native::LockSupportParkNanosBlocker
+        | Native::LockSupportUnpark => None,
+    }
+}
+
+/// The kind of what a native method gives back. `None`: it gives nothing back, or the machine does nothing in its place yet.
+pub fn gives(native: Native) -> Option<Kind>
+    ensures { result ≡ native_result native }
+{
+    match native {
+        Native::ObjectEquals
+        | Native::ObjectHashCode
+        | Native::StringLength
+        | Native::StringCharAt
+        | Native::StringIsEmpty
+        | Native::StringEquals
+        | Native::StringHashCode
+        | Native::StringBuilderLength => Some(Kind::Int),
+        Native::ObjectToString
+        | Native::StringConcat
+        | Native::StringToString
+        | Native::StringValueOfInt
+        | Native::StringValueOfLong
+        | Native::StringValueOfChar
+        | Native::StringValueOfBoolean
+        | Native::StringBuilderAppendInt
+        | Native::StringBuilderAppendLong
+        | Native::StringBuilderAppendChar
+        | Native::StringBuilderAppendBoolean
+        | Native::StringBuilderAppendString
+        | Native::StringBuilderToString => Some(Kind::Reference),
+        Native::ObjectInit
+        | Native::ObjectWait
+        | Native::ObjectWaitMillis
+        | Native::ObjectNotify
+        | Native::ObjectNotifyAll
+        | Native::StringBuilderInit
+        | Native::SystemExit
+        | Native::SystemNanoTime
+        | Native::SystemCurrentTimeMillis
+        | Native::PrintStreamPrintln
+        | Native::PrintStreamPrintlnInt
+        | Native::PrintStreamPrintlnLong
+        | Native::PrintStreamPrintlnChar
+        | Native::PrintStreamPrintlnBoolean
+        | Native::PrintStreamPrintlnString
+        | Native::PrintStreamPrintInt
+        | Native::PrintStreamPrintLong
+        | Native::PrintStreamPrintChar
+        | Native::PrintStreamPrintBoolean
+        | Native::PrintStreamPrintString
+        | Native::ThreadCreatePlatform
+        | Native::ThreadCreateVirtual
+        | Native::ThreadStart
+        | Native::ThreadInterrupt
+        | Native::ThreadIsInterrupted
+        | Native::ThreadJoin
+        | Native::ThreadJoinMillis
+        | Native::ThreadIsAlive
+        | Native::ThreadIsVirtual
+        | Native::ThreadIsDaemon
+        | Native::ThreadSetDaemon
+        | Native::ThreadGetName
+        | Native::ThreadSetName
+        | Native::ThreadId
+        | Native::ThreadGetState
+        | Native::ThreadCurrentThread
+        | Native::ThreadYield
+        | Native::ThreadOnSpinWait
+        | Native::ThreadSleep
+        | Native::ThreadInterrupted
+        | Native::LockSupportPark
+        | Native::LockSupportParkBlocker
+        | Native::LockSupportParkNanos
+        | Native::LockSupportParkNanosBlocker
+        | Native::LockSupportUnpark => None,
+    }
+}
+
+// The kinds of the arguments, the topmost first.
+fn kinds_of_arguments(alloc: Global, signature: &Signature) -> Result<Vec<Kind>, NoMemory>
+    ensures { IfOk result (λ v. v.items ≡ map spec.value_kind (reverse signature.now.args)) }
+{
+    Ok(signature.args.iter().rev().map(value_kind).collect(alloc)?)
+}
+
+// The kinds of what a method of this descriptor takes, the topmost first.
+fn operand_kinds(
+    alloc: Global,
+    signature: &Signature,
+    receiver: bool,
+) -> Result<Vec<Kind>, NoMemory>
+    ensures { IfOk result (λ v. v.items ≡ map spec.value_kind (reverse signature.now.args) ++ receiver_kinds receiver) }
+{
+    let mut kinds = kinds_of_arguments(alloc, signature)?;
+    if !receiver {
+        return Ok(kinds);
+    }
+    kinds.push(Kind::Reference)?;
+    Ok(kinds)
+}
+
+// Whether a result has this kind.
+fn gives_kind(given: &Option<FieldType>, kind: Option<Kind>) -> bool
+    ensures { result ≡ true → GivesKind given.now kind }
+{
+    match given {
+        None => kind.is_none(),
+        Some(t) => has_kind(t) && kind == Some(value_kind(t)),
+    }
+}
+
+// Whether a method of this descriptor takes these kinds.
+fn takes_kinds(
+    alloc: Global,
+    signature: &Signature,
+    receiver: bool,
+    kinds: &[Kind],
+) -> Result<bool, NoMemory>
+    ensures { IfOk result (λ b. b ≡ true → kinds.now ≡ argument_kinds signature.now ++ receiver_kinds receiver) }
+{
+    let wanted = operand_kinds(alloc, signature, receiver)?;
+    Ok(kinds == wanted.as_slice())
+}
+
+/// Whether a native method fits a descriptor, of a method of objects or not: it takes and gives back what that says. One in whose place the
+/// machine does nothing yet always does.
+pub fn fits_native(
+    alloc: Global,
+    signature: &Signature,
+    receiver: bool,
+    native: Native,
+) -> Result<bool, NoMemory>
+    ensures { IfOk result (λ b. b ≡ true → FitsNative signature.now (receiver_kinds receiver) native) }
+{
+    match takes(native) {
+        None => Ok(true),
+        Some(kinds) => Ok(
+            takes_kinds(alloc, signature, receiver, kinds)?
+                && gives_kind(&signature.result, gives(native)),
+        ),
+    }
+}
