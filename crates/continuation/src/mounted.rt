@@ -161,6 +161,14 @@ impl Mounted {
         self.stack.operand_room()
     }
 
+    /// The top frame has no more operands than it may have. This does nothing.
+    #[inline(always)]
+    pub fn operands_fit(&self)
+        ensures { length (top_stack self.now.stack.frames) ≤ top_room self.now.stack.frames }
+    {
+        self.stack.operands_fit();
+    }
+
     /// Whether a frame of this size can be pushed without new memory.
     #[inline(always)]
     pub fn fits(&self, locals: u32, operands: u16) -> bool

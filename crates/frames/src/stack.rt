@@ -114,6 +114,14 @@ impl Stack {
         self.top.room - self.top.used
     }
 
+    /// The top frame has no more operands than it may have. This does nothing.
+    #[inline(always)]
+    pub fn operands_fit(&self)
+        ensures { length (top_stack self.now.frames) ≤ top_room self.now.frames }
+    {
+        let _ = &self.top;
+    }
+
     /// Sets the top frame's pc.
     #[inline(always)]
     pub fn set_pc(&mut self, pc: u32)

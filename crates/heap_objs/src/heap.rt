@@ -100,8 +100,8 @@ impl Heap {
         Ok(number)
     }
 
-    // How many cells are left.
-    fn room(&self) -> u32
+    /// How many cells are left.
+    pub fn room(&self) -> u32
         ensures { result ≡ self.now.cells - self.now.used }
     {
         self.cells - self.used

@@ -1,0 +1,65 @@
+-- What an invocation does, where the method that it names is known.
+use Rattle.std.proofs.Common.{ℕ, ◌≡◌, List, Option, Some, refl, sym, subst, ap, ◌∙◌}
+use Rattle.std.specs.Prelude.{Result, Ok, Err, IfOk, slice_get}
+use Rattle.items.specs.Options.{◌>>=◌}
+use Rattle.items.proofs.Binds.{bind_is}
+use Rattle.instruction_rows.specs.declared.value.Slot.{Slot}
+use Rattle.instruction_rows.specs.Rows.{Invocation, virtual, special, static, interface}
+use Rattle.world_model.specs.declared.members.MethodInfo.{MethodInfo}
+use Rattle.world_model.specs.declared.sites.Naming.{Naming}
+use Rattle.world_model.specs.World.{World}
+use Rattle.ref_model.specs.State.{State}
+use Rattle.ref_model.specs.Effects.{Effect}
+use Rattle.ref_model.specs.Fetch.{Named, method_of, named_method}
+use Rattle.ref_model.specs.Kinds.{argument_slots}
+use Rattle.ref_model.specs.Calls.{called, entered, invoked}
+use Rattle.method_calls.specs.declared.target.Target.{Target}
+use Rattle.method_calls.specs.Targets.{Gives, numbered_effect, special_effect, virtual_effect}
+
+pub named_is : (w : World) (naming : Naming) (n : ℕ) (m : MethodInfo) → Some n ≡ method_of naming.site → Some m ≡ slice_get w.methods n →
+    named_method w naming ≡ Some (record { number = n; method = m })
+named_is w naming n m site method =
+    bind_is (method_of naming.site) _ n _ (sym site) (bind_is (slice_get w.methods n) _ m _ (sym method) refl)
+
+pub invoked_by : (w : World) (naming : Naming) (invocation : Invocation) (r : State) (depth : ℕ) (stack : List Slot) (n : ℕ) (m : MethodInfo) →
+    Some n ≡ method_of naming.site → Some m ≡ slice_get w.methods n →
+    invoked w naming invocation r depth stack ≡ called w naming invocation (record { number = n; method = m }) r depth stack
+invoked_by w naming invocation r depth stack n m site method =
+    ap (λ (x : Option Named). x >>= λ named. called w naming invocation named r depth stack) (named_is w naming n m site method)
+
+pub static_is : (w : World) (naming : Naming) (r : State) (depth : ℕ) (stack : List Slot) (n slots : ℕ) (m : MethodInfo) →
+    Some n ≡ method_of naming.site → Some m ≡ slice_get w.methods n → slots ≡ argument_slots m.signature →
+    invoked w naming static r depth stack ≡ numbered_effect w r depth n slots stack
+static_is w naming r depth stack n slots m site method is =
+    let named : Named = record { number = n; method = m } in
+    invoked_by w naming static r depth stack n m site method ∙ ap (λ s. entered w r depth named s stack) (sym is)
+    ∙ ap (λ (x : Option MethodInfo). (x >>= λ y. Some (record { number = n; method = y })) >>= λ y. entered w r depth y slots stack) method
+
+pub virtual_is : (w : World) (naming : Naming) (r : State) (depth : ℕ) (stack : List Slot) (n slots : ℕ) (m : MethodInfo) →
+    Some n ≡ method_of naming.site → Some m ≡ slice_get w.methods n → slots ≡ argument_slots m.signature →
+    invoked w naming virtual r depth stack ≡ virtual_effect w naming n slots r depth stack
+virtual_is w naming r depth stack n slots m site method is =
+    invoked_by w naming virtual r depth stack n m site method ∙ ap (λ s. virtual_effect w naming n s r depth stack) (sym is)
+
+pub interface_is : (w : World) (naming : Naming) (count : ℕ) (r : State) (depth : ℕ) (stack : List Slot) (n slots : ℕ) (m : MethodInfo) →
+    Some n ≡ method_of naming.site → Some m ≡ slice_get w.methods n → slots ≡ argument_slots m.signature →
+    invoked w naming (interface count) r depth stack ≡ virtual_effect w naming n slots r depth stack
+interface_is w naming count r depth stack n slots m site method is =
+    invoked_by w naming (interface count) r depth stack n m site method ∙ ap (λ s. virtual_effect w naming n s r depth stack) (sym is)
+
+pub special_is : (w : World) (naming : Naming) (r : State) (depth : ℕ) (stack : List Slot) (n slots : ℕ) (m : MethodInfo) →
+    Some n ≡ method_of naming.site → Some m ≡ slice_get w.methods n → slots ≡ argument_slots m.signature →
+    invoked w naming special r depth stack ≡ special_effect w naming n slots r depth stack
+special_is w naming r depth stack n slots m site method is =
+    invoked_by w naming special r depth stack n m site method ∙ ap (λ s. special_effect w naming n s r depth stack) (sym is)
+
+-- ---- what holds of a target, along an equation of its effect
+
+pub if_ok_mapped : {A E : Type 0} (x : Result A E) (P Q : A → Type 0) → ((a : A) → P a → Q a) → IfOk x P → IfOk x Q
+if_ok_mapped (Ok a) P Q f h = f a h
+if_ok_mapped (Err e) P Q f h = tt
+
+pub gives_along : (w : World) (r : State) (depth : ℕ) (stack : List Slot) (effect other : Option Effect) (target : Target) → effect ≡ other →
+    Gives w r depth stack other target → Gives w r depth stack effect target
+gives_along w r depth stack effect other target e h =
+    let P : Option Effect → Type 0 = λ x. Gives w r depth stack x target in subst P (sym e) h

@@ -1,0 +1,64 @@
+use Rattle.std.proofs.Common.{ap, ◌∙◌}
+use Rattle.opcodes.specs.declared.op.Op.{Op}
+use Rattle.instruction_rows.specs.Table.{row}
+use Rattle.object_events.specs.Operands.{operands}
+use Rattle.object_events.specs.Outcomes.{with_heap}
+use Rattle.method_calls.specs.Targets.{IsInvoked, IsVirtual, numbered_effect, row_invoked, special_effect, virtual_effect}
+use Rattle.method_calls.proofs.InvocationLaws.{gives_along, if_ok_mapped, interface_is, special_is, static_is, virtual_is}
+use Rattle.method_calls.proofs.invocations.invoke.Goals as goal
+
+pub returns-in-InvokeStatic : goal.returns-in-InvokeStatic
+returns-in-InvokeStatic g c = λ r depth.
+    let w = g.W.EventWorld.world c.args.world.now in
+    let naming = c.args.naming in
+    let n = c.in-Some.n in
+    let m = c.in-Some-method.method.now in
+    let slots = c.in-Some-argument_slots.slots in
+    let q = with_heap c.args.heap.now r in
+    let stack = operands c.args.mounted.now in
+    gives_along w q depth stack (row_invoked w naming (row c.args.op.now) q depth stack) (numbered_effect w q depth n slots stack) c.numbered.result
+    (ap (λ (o : Op). row_invoked w naming (row o) q depth stack) c.in-InvokeStatic.is
+    ∙ static_is w naming q depth stack n slots m c.in-Some.ensures c.in-Some-method.ensures c.in-Some-argument_slots.ensures.slots) (c.numbered.ensures q depth stack)
+
+pub returns-in-InvokeSpecial : goal.returns-in-InvokeSpecial
+returns-in-InvokeSpecial g c = λ r depth.
+    let w = g.W.EventWorld.world c.args.world.now in
+    let naming = c.args.naming in
+    let n = c.in-Some.n in
+    let m = c.in-Some-method.method.now in
+    let slots = c.in-Some-argument_slots.slots in
+    let q = with_heap c.args.heap.now r in
+    let stack = operands c.args.mounted.now in
+    gives_along w q depth stack (row_invoked w naming (row c.args.op.now) q depth stack) (special_effect w naming n slots q depth stack) c.invoke_special.result
+    (ap (λ (o : Op). row_invoked w naming (row o) q depth stack) c.in-InvokeSpecial.is
+    ∙ special_is w naming q depth stack n slots m c.in-Some.ensures c.in-Some-method.ensures c.in-Some-argument_slots.ensures.slots) (c.invoke_special.ensures r depth)
+
+pub returns-in-InvokeVirtual : goal.returns-in-InvokeVirtual
+returns-in-InvokeVirtual g c =
+    let w = g.W.EventWorld.world c.args.world.now in
+    let naming = c.args.naming in
+    let n = c.in-Some.n in
+    let m = c.in-Some-method.method.now in
+    let slots = c.in-Some-argument_slots.slots in
+    if_ok_mapped c.invoke_virtual.result (IsVirtual w naming n slots c.args.heap.now c.args.mounted.now) (IsInvoked w naming (row c.args.op.now) c.args.heap.now c.args.mounted.now)
+    (λ target h r depth.
+    let q = with_heap c.args.heap.now r in
+    let stack = operands c.args.mounted.now in
+    gives_along w q depth stack (row_invoked w naming (row c.args.op.now) q depth stack) (virtual_effect w naming n slots q depth stack) target
+    (ap (λ (o : Op). row_invoked w naming (row o) q depth stack) c.in-InvokeVirtual.is
+    ∙ virtual_is w naming q depth stack n slots m c.in-Some.ensures c.in-Some-method.ensures c.in-Some-argument_slots.ensures.slots) (h r depth)) c.invoke_virtual.ensures
+
+pub returns-in-InvokeInterface : goal.returns-in-InvokeInterface
+returns-in-InvokeInterface g c =
+    let w = g.W.EventWorld.world c.args.world.now in
+    let naming = c.args.naming in
+    let n = c.in-Some.n in
+    let m = c.in-Some-method.method.now in
+    let slots = c.in-Some-argument_slots.slots in
+    if_ok_mapped c.invoke_virtual-in-InvokeInterface.result (IsVirtual w naming n slots c.args.heap.now c.args.mounted.now) (IsInvoked w naming (row c.args.op.now) c.args.heap.now c.args.mounted.now)
+    (λ target h r depth.
+    let q = with_heap c.args.heap.now r in
+    let stack = operands c.args.mounted.now in
+    gives_along w q depth stack (row_invoked w naming (row c.args.op.now) q depth stack) (virtual_effect w naming n slots q depth stack) target
+    (ap (λ (o : Op). row_invoked w naming (row o) q depth stack) c.in-InvokeInterface.is
+    ∙ interface_is w naming c.in-InvokeInterface.field-1 q depth stack n slots m c.in-Some.ensures c.in-Some-method.ensures c.in-Some-argument_slots.ensures.slots) (h r depth)) c.invoke_virtual-in-InvokeInterface.ensures

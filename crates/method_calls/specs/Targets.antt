@@ -1,0 +1,78 @@
+-- What an invocation comes to.
+use Rattle.std.specs.Prelude.{ℕ, suc, ◌≡◌, List, Option, Some, None}
+use Rattle.items.specs.Options.{◌>>=◌}
+use Rattle.lib_table.specs.declared.native.Native.{Native}
+use Rattle.instruction_rows.specs.declared.value.Slot.{Slot}
+use Rattle.instruction_rows.specs.Rows.{Row, invoke}
+use Rattle.world_model.specs.declared.sites.Naming.{Naming}
+use Rattle.world_model.specs.World.{World}
+use Rattle.world_model.specs.Decoded.{code_at}
+use Rattle.heap_objs.specs.Heap.{Heap}
+use Rattle.continuation.specs.Continuation.{Continuation}
+use Rattle.ref_model.specs.State.{State}
+use Rattle.ref_model.specs.Effects.{Effect, throws}
+use Rattle.ref_model.specs.NativeRows.{native_acted}
+use Rattle.ref_model.specs.Natives.{native_row}
+use Rattle.ref_model.specs.Calls.{choice_of, chosen, entered, invoked, method_entered, method_numbered}
+use Rattle.object_events.specs.Operands.{operands}
+use Rattle.object_events.specs.Outcomes.{with_heap}
+use Rattle.method_calls.specs.Receivers.{on_receiver}
+use Rattle.method_calls.specs.declared.target.Target.{Target}
+use Rattle.method_calls.specs.declared.target.Target.TheVariants as targets
+
+-- what a native method does
+abbrev pub native_effect : World → State → Native → List Slot → Option Effect
+native_effect w r native stack = native_row w r native >>= λ row. native_acted row stack
+
+-- what a call of a method with code does in a thread of so many frames
+abbrev pub code_effect : World → ℕ → ℕ → ℕ → List Slot → Option Effect
+code_effect w depth n slots stack =
+    method_numbered w n >>= λ m. code_at w n >>= λ code. method_entered w depth m code slots stack
+
+-- Unless it is undefined, a target is that of this effect.
+abbrev pub Gives : World → State → ℕ → List Slot → Option Effect → Target → Type 0
+Gives w r depth stack effect (targets.Native native) = effect ≡ native_effect w r native stack
+Gives w r depth stack effect (targets.Code n slots) = effect ≡ code_effect w depth n slots stack
+Gives w r depth stack effect (targets.Throws e) = effect ≡ Some (throws e)
+Gives w r depth stack effect targets.Undefined = Unit {0}
+
+-- the method with a number runs, and takes so many slots
+abbrev pub numbered_effect : World → State → ℕ → ℕ → ℕ → List Slot → Option Effect
+numbered_effect w r depth n slots stack = method_numbered w n >>= λ m. entered w r depth m slots stack
+
+abbrev pub IsNumbered : World → ℕ → ℕ → Target → Type 0
+IsNumbered w n slots target = (r : State) (depth : ℕ) (stack : List Slot) → Gives w r depth stack (numbered_effect w r depth n slots stack) target
+
+-- that which is selected for a receiver of this class runs
+abbrev pub selected_effect : World → State → ℕ → ℕ → ℕ → ℕ → List Slot → Option Effect
+selected_effect w r depth class n slots stack =
+    choice_of w class n >>= λ choice. chosen w choice (λ k. numbered_effect w r depth k slots stack)
+
+abbrev pub IsSelected : World → ℕ → ℕ → ℕ → Target → Type 0
+IsSelected w class n slots target = (r : State) (depth : ℕ) (stack : List Slot) → Gives w r depth stack (selected_effect w r depth class n slots stack) target
+
+-- invokevirtual or invokeinterface, and invokespecial, of a method that takes so many slots without its receiver
+abbrev pub virtual_effect : World → Naming → ℕ → ℕ → State → ℕ → List Slot → Option Effect
+virtual_effect w naming n slots r depth stack =
+    on_receiver w naming slots r stack (λ class. selected_effect w r depth class n (suc slots) stack)
+
+abbrev pub IsVirtual : World → Naming → ℕ → ℕ → Heap → Continuation → Target → Type 0
+IsVirtual w naming n slots heap m target = (r : State) (depth : ℕ) →
+    Gives w (with_heap heap r) depth (operands m) (virtual_effect w naming n slots (with_heap heap r) depth (operands m)) target
+
+abbrev pub special_effect : World → Naming → ℕ → ℕ → State → ℕ → List Slot → Option Effect
+special_effect w naming n slots r depth stack =
+    on_receiver w naming slots r stack (λ class. numbered_effect w r depth n (suc slots) stack)
+
+abbrev pub IsSpecial : World → Naming → ℕ → ℕ → Heap → Continuation → Target → Type 0
+IsSpecial w naming n slots heap m target = (r : State) (depth : ℕ) →
+    Gives w (with_heap heap r) depth (operands m) (special_effect w naming n slots (with_heap heap r) depth (operands m)) target
+
+-- what an invocation does
+abbrev pub row_invoked : World → Naming → Row → State → ℕ → List Slot → Option Effect
+row_invoked w naming (invoke invocation index) r depth stack = invoked w naming invocation r depth stack
+row_invoked w naming row r depth stack = None
+
+abbrev pub IsInvoked : World → Naming → Row → Heap → Continuation → Target → Type 0
+IsInvoked w naming row heap m target = (r : State) (depth : ℕ) →
+    Gives w (with_heap heap r) depth (operands m) (row_invoked w naming row (with_heap heap r) depth (operands m)) target

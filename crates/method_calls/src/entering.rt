@@ -1,0 +1,65 @@
+//! Methods with code that begin (JVMS 2.6.1).
+
+ghost use Rattle.std.specs.Prelude.{◌≡◌, ◌<◌, IfOk, length};
+ghost use Rattle.ref_model.specs.Members as members;
+ghost use Rattle.method_calls.specs.FrameSteps.{IsEntered};
+
+use crate::world::CallWorld;
+use continuation::Mounted;
+use frames::StackError;
+use items::NoMemory;
+use ref_model::Exception;
+use world_model::MethodInfo;
+
+/// What became of a call of a method with code.
+#[derive(Clone, Copy, Debug, PartialEq, Eq)]
+pub enum Entered {
+    /// Its frame is the top one.
+    Begun,
+    /// It throws a new exception, and the frames are as before: there are 2,048 (own).
+    Throws(Exception),
+    /// The definitions have no effect here, and the frames are as before.
+    Undefined,
+}
+
+// ACC_SYNCHRONIZED (JVMS 4.6).
+const ACC_SYNCHRONIZED: u16 = 0x0020;
+
+fn is_synchronized(method: &MethodInfo) -> bool
+    ensures { result ≡ members.is_synchronized method.now }
+{
+    method.flags & ACC_SYNCHRONIZED == ACC_SYNCHRONIZED
+}
+
+/// Begins the method with a number, which takes so many slots from the operands.
+pub fn enter<W: CallWorld>(
+    world: &W,
+    n: u32,
+    slots: u16,
+    mounted: &mut Mounted,
+) -> Result<Entered, NoMemory>
+    requires { 0 < length mounted.old.stack.frames }
+    ensures entered { IfOk result (λ entered.
+        IsEntered (W.world world.now) n slots mounted.old mounted.new entered) }
+    ensures thread { mounted.new.thread ≡ mounted.old.thread }
+    ensures pinned { mounted.new.pinned ≡ mounted.old.pinned }
+{
+    let Some(method) = world.method(n) else {
+        return Ok(Entered::Undefined);
+    };
+    let Some(code) = world.code(n) else {
+        return Ok(Entered::Undefined);
+    };
+    if is_synchronized(method) || world.is_hold(method) {
+        return Ok(Entered::Undefined);
+    }
+    if slots > mounted.top().operands || slots > code.max_locals {
+        return Ok(Entered::Undefined);
+    }
+    let locals = u32::from(code.max_locals);
+    match mounted.push_frame(n, locals, code.max_stack, slots, false) {
+        Ok(()) => Ok(Entered::Begun),
+        Err(StackError::Deep) => Ok(Entered::Throws(Exception::StackOverflowError)),
+        Err(StackError::NoMemory) => Err(NoMemory),
+    }
+}

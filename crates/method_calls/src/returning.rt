@@ -1,0 +1,107 @@
+//! Methods that end (JVMS 2.6.4).
+
+ghost use Rattle.std.specs.Prelude.{◌≡◌, ◌<◌, length};
+ghost use Rattle.method_calls.specs.FrameSteps.{HasPushed, IsBack, IsBehind, IsLeft, top_is_root};
+ghost use Rattle.object_events.specs.Operands.{HasTop, operands};
+
+use crate::world::CallWorld;
+use continuation::Mounted;
+use instruction_rows::Value;
+use object_events::{kept, push_value, slots_of, value_operand};
+use opcodes::Kind;
+use world_model::MethodInfo;
+
+/// What became of a return.
+#[derive(Clone, Copy, Debug, PartialEq, Eq)]
+pub enum Left {
+    /// The frame below is the top one, behind its call.
+    Returned,
+    /// It is from a root frame, and nothing has changed.
+    Root,
+    /// The definitions have no such step.
+    Undefined,
+}
+
+/// Whether the top frame is a root frame (own).
+pub fn is_root<W: CallWorld>(world: &W, mounted: &Mounted) -> bool
+    requires { 0 < length mounted.now.stack.frames }
+    ensures { result ≡ top_is_root (W.world world.now) mounted.now.stack.frames }
+{
+    mounted.depth() == 1 || world.is_initializer(mounted.top().method)
+}
+
+// What a method gives back, as its result keeps it. `None`: no value of the kind lies on top, or the method gives nothing back.
+fn returned_value(
+    kind: Option<Kind>,
+    method: &MethodInfo,
+    mounted: &Mounted,
+) -> Option<Option<Value>>
+    requires { HasTop mounted.now }
+    ensures { IsBack kind method.now (operands mounted.now) result }
+{
+    let Some(kind) = kind else {
+        return Some(None);
+    };
+    let value = value_operand(mounted, kind, 0)?;
+    let result = method.signature.result.as_ref()?;
+    Some(Some(kept(result, value)))
+}
+
+// Pushes what comes back on the operands of the top frame, where it has room: whether it has.
+fn push_back(mounted: &mut Mounted, back: Option<Value>) -> bool
+    requires { 0 < length mounted.old.stack.frames }
+    ensures pushed { HasPushed back mounted.old mounted.new result }
+    ensures thread { mounted.new.thread ≡ mounted.old.thread }
+    ensures pinned { mounted.new.pinned ≡ mounted.old.pinned }
+{
+    mounted.operands_fit();
+    let Some(value) = back else {
+        return true;
+    };
+    if mounted.operand_room() < slots_of(value) {
+        return false;
+    }
+    push_value(mounted, value);
+    true
+}
+
+// The top frame goes on behind its call, with what comes back: whether it can.
+fn go_on<W: CallWorld>(world: &W, back: Option<Value>, mounted: &mut Mounted) -> bool
+    requires { 0 < length mounted.old.stack.frames }
+    ensures behind { IsBehind (W.world world.now) back mounted.old mounted.new result }
+    ensures thread { mounted.new.thread ≡ mounted.old.thread }
+    ensures pinned { mounted.new.pinned ≡ mounted.old.pinned }
+{
+    let view = mounted.top();
+    let Some(next) = world.next(view.method, view.pc) else {
+        return false;
+    };
+    if !push_back(mounted, back) {
+        return false;
+    }
+    mounted.set_pc(next);
+    true
+}
+
+/// Leaves the top frame, with a value of a kind or without one: the frame below goes on behind its call.
+pub fn leave<W: CallWorld>(world: &W, kind: Option<Kind>, mounted: &mut Mounted) -> Left
+    requires { 0 < length mounted.old.stack.frames }
+    ensures left { IsLeft (W.world world.now) kind mounted.old mounted.new result }
+    ensures thread { mounted.new.thread ≡ mounted.old.thread }
+{
+    if is_root(world, mounted) {
+        return Left::Root;
+    }
+    mounted.operands_fit();
+    let Some(method) = world.method(mounted.top().method) else {
+        return Left::Undefined;
+    };
+    let Some(back) = returned_value(kind, method, mounted) else {
+        return Left::Undefined;
+    };
+    mounted.pop_frame();
+    if !go_on(world, back, mounted) {
+        return Left::Undefined;
+    }
+    Left::Returned
+}

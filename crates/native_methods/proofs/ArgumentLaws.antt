@@ -1,0 +1,80 @@
+-- What a native method does on an operand stack whose topmost operands are known.
+use Rattle.std.proofs.Common.{◌≡◌, List, [], ◌∷◌, Option, Some, None, ap, ◌∙◌}
+use Rattle.items.specs.Options.{◌>>=◌}
+use Rattle.opcodes.specs.declared.op.Kind.{Kind}
+use Rattle.opcodes.specs.declared.op.Kind.TheVariants as kinds
+use Rattle.instruction_rows.specs.declared.value.Slot.{Slot}
+use Rattle.instruction_rows.specs.Kinds.{Of, Function}
+use Rattle.instruction_rows.specs.SlotEffect.{applied, popped}
+use Rattle.lib_table.specs.declared.native.Native.{Native}
+use Rattle.world_model.specs.World.{World}
+use Rattle.ref_model.specs.State.{State}
+use Rattle.ref_model.specs.Effects.{Effect}
+use Rattle.ref_model.specs.NativeRows as rows
+use Rattle.ref_model.specs.NativeRows.{NativeRow, native, native_acted, answered}
+use Rattle.ref_model.specs.Natives.{native_row}
+use Rattle.native_methods.specs.Arguments.{answer_to, answer_to_two, native_effect, row_answer, with_argument}
+use Rattle.native_methods.specs.NativeStates.{IsAnswer, IsAnswerEffect}
+use Rattle.native_methods.specs.declared.answer.Answer.{Answer}
+use Rattle.native_methods.specs.declared.answer.Answer.TheVariants as answers
+
+-- what a row does on a stack, if there is a row
+abbrev on : Option NativeRow → List Slot → Option Effect
+on o stack = o >>= λ row. native_acted row stack
+
+answered_is : (o : Option NativeRow) (stack : List Slot) (a : rows.Answer) → row_answer o ≡ Some a → on o stack ≡ Some (answered stack a)
+answered_is None stack a h = cc
+answered_is (Some (native [] answer)) stack a h = ap (λ (x : Option rows.Answer). x >>= λ b. Some (answered stack b)) h
+answered_is (Some (native (k ∷ ks) act)) stack a h = cc
+
+-- a row on a stack whose topmost operand is of the kind that it takes first
+taken : (k : Kind) (ks : List Kind) (act : Function (k ∷ ks) rows.Answer) (x : Of k) (stack rest : List Slot) → popped k stack ≡ Some (x, rest) →
+    native_acted (native (k ∷ ks) act) stack ≡ native_acted (native ks (act x)) rest
+taken k ks act x stack rest p =
+    ap (λ (y : Option (Of k × List Slot)). (y >>= λ z. applied rows.Answer ks (act z.0) z.1) >>= λ z. Some (answered z.1 z.0)) p
+
+argument_is : (k : Kind) (x : Of k) (o : Option NativeRow) (stack rest : List Slot) (e : Effect) → popped k stack ≡ Some (x, rest) →
+    on (with_argument k x o) rest ≡ Some e → on o stack ≡ Some e
+argument_is kinds.Int x None stack rest e p h = cc
+argument_is kinds.Int x (Some (native [] act)) stack rest e p h = cc
+argument_is kinds.Int x (Some (native (kinds.Int ∷ ks) act)) stack rest e p h = taken kinds.Int ks act x stack rest p ∙ h
+argument_is kinds.Int x (Some (native (kinds.Long ∷ ks) act)) stack rest e p h = cc
+argument_is kinds.Int x (Some (native (kinds.Reference ∷ ks) act)) stack rest e p h = cc
+argument_is kinds.Long x None stack rest e p h = cc
+argument_is kinds.Long x (Some (native [] act)) stack rest e p h = cc
+argument_is kinds.Long x (Some (native (kinds.Int ∷ ks) act)) stack rest e p h = cc
+argument_is kinds.Long x (Some (native (kinds.Long ∷ ks) act)) stack rest e p h = taken kinds.Long ks act x stack rest p ∙ h
+argument_is kinds.Long x (Some (native (kinds.Reference ∷ ks) act)) stack rest e p h = cc
+argument_is kinds.Reference x None stack rest e p h = cc
+argument_is kinds.Reference x (Some (native [] act)) stack rest e p h = cc
+argument_is kinds.Reference x (Some (native (kinds.Int ∷ ks) act)) stack rest e p h = cc
+argument_is kinds.Reference x (Some (native (kinds.Long ∷ ks) act)) stack rest e p h = cc
+argument_is kinds.Reference x (Some (native (kinds.Reference ∷ ks) act)) stack rest e p h = taken kinds.Reference ks act x stack rest p ∙ h
+
+-- ---- from an answer to an effect
+
+-- where an answer makes an effect of the same kind, whatever it is
+by_answer : (answer : Answer) (defined : Option rows.Answer) (effect : Option Effect) (q : State) (rest : List Slot) →
+    ((a : rows.Answer) → defined ≡ Some a → effect ≡ Some (answered rest a)) → IsAnswer answer defined q → IsAnswerEffect answer effect q rest
+by_answer answers.Returns defined effect q rest is h = is _ h
+by_answer (answers.Gives v) defined effect q rest is h = is _ h
+by_answer (answers.Throws e) defined effect q rest is h = is _ h
+by_answer answers.Undefined defined effect q rest is h = tt
+
+-- A native method that takes one operand, and one that takes two, the second a reference.
+pub one_answered : (answer : Answer) (w : World) (r q : State) (n : Native) (k : Kind) (x : Of k) (stack rest : List Slot) →
+    popped k stack ≡ Some (x, rest) → IsAnswer answer (answer_to w r n k x) q → IsAnswerEffect answer (native_effect w n r stack) q rest
+one_answered answer w r q n k x stack rest p h =
+    let row = native_row w r n in
+    by_answer answer (answer_to w r n k x) (native_effect w n r stack) q rest
+    (λ a e. argument_is k x row stack rest (answered rest a) p (answered_is (with_argument k x row) rest a e)) h
+
+pub two_answered : (answer : Answer) (w : World) (r q : State) (n : Native) (k : Kind) (x : Of k) (this : Of kinds.Reference)
+    (stack middle rest : List Slot) → popped k stack ≡ Some (x, middle) → popped kinds.Reference middle ≡ Some (this, rest) →
+    IsAnswer answer (answer_to_two w r n k x this) q → IsAnswerEffect answer (native_effect w n r stack) q rest
+two_answered answer w r q n k x this stack middle rest p p2 h =
+    let row = native_row w r n in
+    by_answer answer (answer_to_two w r n k x this) (native_effect w n r stack) q rest
+    (λ a e. argument_is k x row stack middle (answered rest a) p
+    (argument_is kinds.Reference this (with_argument k x row) middle rest (answered rest a) p2
+    (answered_is (with_argument kinds.Reference this (with_argument k x row)) rest a e))) h

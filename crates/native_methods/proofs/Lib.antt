@@ -1,0 +1,7 @@
+pub mod AnswerLaws
+pub mod ArgumentLaws
+pub mod BuilderLaws
+pub mod LineLaws
+pub mod NumberLaws
+pub mod StateLaws
+pub mod TextLaws

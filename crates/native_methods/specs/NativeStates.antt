@@ -1,0 +1,101 @@
+-- The parts of a state that native methods read and write, and what an answer says of them.
+use Rattle.std.specs.Prelude.{ℕ, ◌≡◌, Bool, true, false, List, [], Option, Some, None, drop, slice_get}
+use Rattle.items.specs.Options.{◌>>=◌}
+use Rattle.instruction_rows.specs.declared.value.Slot.{Slot}
+use Rattle.instruction_rows.specs.declared.value.Value.{Value}
+use Rattle.instruction_rows.specs.declared.value.Value.TheVariants as values
+use Rattle.continuation.specs.Continuation.{Continuation}
+use Rattle.ref_model.specs.State.{State}
+use Rattle.ref_model.specs.Effects.{Effect, done, gives, throws}
+use Rattle.ref_model.specs.Heap.{units_of, values_of, with_value}
+use Rattle.ref_model.specs.NativeRows as rows
+use Rattle.ref_model.specs.Printing.{line}
+use Rattle.state_model.specs.Objects.{Object}
+use Rattle.object_events.specs.Operands.{operands}
+use Rattle.object_events.specs.Outcomes.{IsEffect, with_heap}
+use Rattle.object_events.specs.declared.outcome.Outcome.{Outcome}
+use Rattle.object_events.specs.declared.outcome.Outcome.TheVariants as outcomes
+use Rattle.native_methods.specs.declared.state.NativeState.{NativeState}
+use Rattle.native_methods.specs.declared.answer.Answer.{Answer}
+use Rattle.native_methods.specs.declared.answer.Answer.TheVariants as answers
+
+-- ---- a state with these parts
+
+-- without the heap
+abbrev pub beside_heap : NativeState → State → State
+beside_heap s r = record r { out = s.out.items; err = s.err.items; exited = s.exited }
+
+abbrev pub with_natives : NativeState → State → State
+with_natives s r = with_heap s.heap (beside_heap s r)
+
+-- ---- answers
+
+-- Unless it is undefined, an answer is this one of the definitions, where the state is this one afterwards.
+abbrev pub IsAnswer : Answer → Option rows.Answer → State → Type 0
+IsAnswer answers.Returns defined q = defined ≡ Some (rows.returns q)
+IsAnswer (answers.Gives v) defined q = defined ≡ Some (rows.returns_value q v)
+IsAnswer (answers.Throws e) defined q = defined ≡ Some (rows.fails e)
+IsAnswer answers.Undefined defined q = Unit {0}
+
+-- A native method that has its arguments, with what it answers as a function of the state, answered this.
+abbrev pub Answers : (State → Option rows.Answer) → NativeState → NativeState → Answer → Type 0
+Answers act old new answer = (r : State) → IsAnswer answer (act (with_natives old r)) (with_natives new r)
+
+-- a value is the old one, where an exception was thrown
+abbrev pub KeptIfThrown : {A : Type 0} → Answer → A → A → Type 0
+KeptIfThrown (answers.Throws e) old new = new ≡ old
+KeptIfThrown answer old new = Unit {0}
+
+-- the same of an outcome
+abbrev pub StaysIfThrown : {A : Type 0} → Outcome → A → A → Type 0
+StaysIfThrown (outcomes.Throws e) old new = new ≡ old
+StaysIfThrown (outcomes.ThrowsObject o) old new = new ≡ old
+StaysIfThrown outcome old new = Unit {0}
+
+-- Unless it is undefined, an answer is that of this effect, where the state is this one afterwards, and this is left of the operand stack.
+abbrev pub IsAnswerEffect : Answer → Option Effect → State → List Slot → Type 0
+IsAnswerEffect answers.Returns effect q rest = effect ≡ Some (done q rest)
+IsAnswerEffect (answers.Gives v) effect q rest = effect ≡ Some (gives q v rest)
+IsAnswerEffect (answers.Throws e) effect q rest = effect ≡ Some (throws e)
+IsAnswerEffect answers.Undefined effect q rest = Unit {0}
+
+-- Whichever effect an answer is of that takes the place of so many operands, the outcome is of that effect.
+abbrev pub IsAnswered : ℕ → Answer → Continuation → Continuation → Outcome → Type 0
+IsAnswered count answer old new outcome = (q : State) (effect : Option Effect) →
+    IsAnswerEffect answer effect q (drop count (operands old)) → IsEffect outcome effect q (operands new)
+
+-- ---- making and setting
+
+-- What making an object gave: its number and the state with it, or that it has no room, and nothing has changed.
+abbrev pub IsMade : (State → Option (State × ℕ)) → NativeState → NativeState → Option ℕ → Type 0
+IsMade make old new (Some o) = (r : State) → make (with_natives old r) ≡ Some (with_natives new r, o)
+IsMade make old new None = ((r : State) → make (with_natives old r) ≡ None) × (new ≡ old)
+
+-- An object has this value at a place now, if it has such a place.
+abbrev pub IsSet : ℕ → ℕ → Value → NativeState → NativeState → Bool → Type 0
+IsSet o place v old new true = (r : State) → with_value (with_natives old r) o place v ≡ Some (with_natives new r)
+IsSet o place v old new false = Unit {0}
+
+-- ---- texts
+
+-- the units of the String with a number
+abbrev pub units_in : List Object → ℕ → Option (List ℕ)
+units_in heap o = slice_get heap o >>= units_of
+
+-- the units of what a reference refers to, where that is a String
+abbrev pub other_units : List Object → Option ℕ → Option (List ℕ)
+other_units heap other = other >>= units_in heap
+
+-- the units of a builder's text
+abbrev pub field_units : List Object → Value → Option (List ℕ)
+field_units heap values.Null = Some []
+field_units heap (values.Ref o) = units_in heap o
+field_units heap v = None
+
+abbrev pub builder_units : List Object → ℕ → Option (List ℕ)
+builder_units heap o = slice_get heap o >>= values_of >>= λ fields. slice_get fields 0 >>= field_units heap
+
+-- a text with or without a line's end
+abbrev pub printed : Bool → List ℕ → List ℕ
+printed true units = line units
+printed false units = units

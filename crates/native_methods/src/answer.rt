@@ -1,0 +1,39 @@
+ghost use Rattle.object_events.specs.Operands.{ChangesOperands, HasTop};
+ghost use Rattle.object_events.specs.Outcomes.{KeptUnlessDone};
+ghost use Rattle.native_methods.specs.NativeStates.{IsAnswered};
+
+use continuation::Mounted;
+use instruction_rows::Value;
+use object_events::{Outcome, drop_operands, give};
+use ref_model::Exception;
+
+/// What a native method answers to its arguments.
+#[derive(Clone, Copy, Debug, PartialEq, Eq)]
+pub(crate) enum Answer {
+    /// It returns without a result.
+    Returns,
+    /// It returns this value.
+    Gives(Value),
+    /// It throws a new exception, and nothing has changed.
+    Throws(Exception),
+    /// The definitions answer nothing here, or what the machine can't hold: nothing is said.
+    Undefined,
+}
+
+/// The outcome of an answer, which takes the place of so many operands.
+pub(crate) fn outcome_of(mounted: &mut Mounted, count: u16, answer: Answer) -> Outcome
+    requires { HasTop mounted.old }
+    ensures answered { IsAnswered count answer mounted.old mounted.new result }
+    ensures kept { KeptUnlessDone result mounted.old mounted.new }
+    ensures only { ChangesOperands mounted.old mounted.new }
+{
+    match answer {
+        Answer::Returns => {
+            drop_operands(mounted, count);
+            Outcome::Done
+        }
+        Answer::Gives(value) => give(mounted, count, value),
+        Answer::Throws(exception) => Outcome::Throws(exception),
+        Answer::Undefined => Outcome::Undefined,
+    }
+}

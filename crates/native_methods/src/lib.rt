@@ -1,0 +1,22 @@
+//! What the machine does in place of the code of native methods (the API of `Object`, `String`, `StringBuilder`, `System` and
+//! `PrintStream`).
+#![tactic(auto)]
+
+mod answer;
+mod answers;
+mod builder_natives;
+mod class_names;
+mod object_natives;
+mod printing;
+mod run;
+mod state;
+mod string_natives;
+mod texts;
+mod utf8;
+mod world;
+
+pub use run::run_native;
+pub use state::NativeState;
+pub use texts::{hex_text, int_text, long_text, text_hash};
+pub use utf8::push_text;
+pub use world::NativeWorld;

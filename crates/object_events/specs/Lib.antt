@@ -1,0 +1,5 @@
+pub mod Operands
+pub mod Outcomes
+pub mod HeapReads
+pub mod Dispatch
+pub mod ArrayMaking

@@ -1,0 +1,106 @@
+//! The instructions on fields, arrays and objects, and divisions by 0, by what they are (JVMS 6.5).
+
+ghost use Rattle.std.specs.Prelude.{◌≡◌, IfOk};
+ghost use Rattle.instruction_rows.specs.Table.{row, simple_row, new_array_row};
+ghost use Rattle.object_events.specs.Dispatch as spec;
+ghost use Rattle.object_events.specs.Dispatch.{IsHeapRun, IsRun};
+ghost use Rattle.object_events.specs.Operands.{HasTop};
+
+use crate::arrays::{array_length, array_load, array_store, new_array, new_arrays};
+use crate::divisions::{divide_ints, divide_longs};
+use crate::fields::{get_field, get_static, put_field, put_static};
+use crate::objects::{check_cast, instance_of, new_object, throw_object};
+use crate::outcome::Outcome;
+use crate::world::EventWorld;
+use continuation::Mounted;
+use heap_objs::Heap;
+use instruction_rows::Value;
+use items::NoMemory;
+use jvm_words::{IntOp, LongOp};
+use opcodes::{Op, Primitive, Simple};
+use std::alloc::Global;
+use world_model::Naming;
+
+// An instruction without operands in the code.
+fn run_simple<W: EventWorld>(
+    world: &W,
+    simple: Simple,
+    naming: Naming,
+    heap: &mut Heap,
+    statics: &mut [Value],
+    mounted: &mut Mounted,
+) -> Outcome
+    requires { HasTop mounted.old }
+    ensures { IsRun (W.world world.now) naming (simple_row simple)
+        heap.old heap.new statics.old statics.new mounted.old mounted.new result }
+{
+    match simple {
+        Simple::ArrayLoad(element) => array_load(world, element, heap, mounted),
+        Simple::ArrayStore(element) => array_store(world, element, heap, mounted),
+        Simple::ArrayLength => array_length(world, heap, mounted),
+        Simple::Throw => throw_object(mounted),
+        Simple::IntBinary(IntOp::Div) => divide_ints(mounted),
+        Simple::IntBinary(IntOp::Rem) => divide_ints(mounted),
+        Simple::LongBinary(LongOp::Div) => divide_longs(mounted),
+        Simple::LongBinary(LongOp::Rem) => divide_longs(mounted),
+        _ => Outcome::Undefined,
+    }
+}
+
+// Whether an array's elements are floats or doubles.
+fn is_floating(primitive: Primitive) -> bool
+    ensures { result ≡ spec.is_floating primitive }
+{
+    matches!(primitive, Primitive::Float | Primitive::Double)
+}
+
+// newarray; an array of floats or doubles is refused.
+fn new_primitive_array<W: EventWorld>(
+    world: &W,
+    primitive: Primitive,
+    naming: Naming,
+    heap: &mut Heap,
+    mounted: &mut Mounted,
+) -> Result<Outcome, NoMemory>
+    requires { HasTop mounted.old }
+    ensures { IfOk result (λ outcome. IsHeapRun (W.world world.now) naming (new_array_row primitive)
+        heap.old heap.new mounted.old mounted.new outcome) }
+{
+    if is_floating(primitive) {
+        return Ok(Outcome::Undefined);
+    }
+    new_array(world, naming, heap, mounted)
+}
+
+/// An instruction on fields, arrays or objects, or a division by 0, in the thread whose top frame stands at it. Every other one is
+/// undefined.
+pub fn run_event<W: EventWorld>(
+    alloc: Global,
+    world: &W,
+    op: &Op,
+    naming: Naming,
+    heap: &mut Heap,
+    statics: &mut [Value],
+    mounted: &mut Mounted,
+) -> Result<Outcome, NoMemory>
+    requires { HasTop mounted.old }
+    ensures { IfOk result (λ outcome. IsRun (W.world world.now) naming (row op.now)
+        heap.old heap.new statics.old statics.new mounted.old mounted.new outcome) }
+{
+    match op {
+        Op::Simple(simple) => Ok(run_simple(world, *simple, naming, heap, statics, mounted)),
+        Op::GetStatic(_) => Ok(get_static(world, naming, statics, mounted)),
+        Op::PutStatic(_) => Ok(put_static(world, naming, statics, mounted)),
+        Op::GetField(_) => Ok(get_field(world, naming, heap, mounted)),
+        Op::PutField(_) => Ok(put_field(world, naming, heap, mounted)),
+        Op::New(_) => new_object(world, naming, heap, mounted),
+        Op::NewArray(primitive) => new_primitive_array(world, *primitive, naming, heap, mounted),
+        Op::ANewArray(_) => new_array(world, naming, heap, mounted),
+        Op::MultiANewArray(_, dimensions) => {
+            new_arrays(alloc, world, *dimensions, naming, heap, mounted)
+        }
+        Op::CheckCast(_) => Ok(check_cast(world, naming, heap, mounted)),
+        Op::InstanceOf(_) => Ok(instance_of(world, naming, heap, mounted)),
+        _ => Ok(Outcome::Undefined),
+    }
+}

@@ -1,0 +1,224 @@
+//! Fields (JVMS 6.5: getstatic, putstatic, getfield, putfield). Null is tested first, and then the class of the object.
+
+ghost use Rattle.std.specs.Prelude.{◌≡◌};
+ghost use Rattle.ref_model.specs.Effects as effects;
+ghost use Rattle.ref_model.specs.Fetch as fetch;
+ghost use Rattle.ref_model.specs.Fields as spec;
+ghost use Rattle.object_events.specs.HeapReads.{IsPut, IsTarget};
+ghost use Rattle.object_events.specs.Operands.{HasTop, ChangesOperands, IsStored, operands};
+ghost use Rattle.object_events.specs.Outcomes.{Acts, KeptUnlessDone, with_heap, with_statics};
+
+use crate::kinds::{kept, value_kind};
+use crate::operands::{drop_operands, give, reference_operand, value_operand, width};
+use crate::outcome::Outcome;
+use crate::reads::{class_number, set_value, value_in};
+use crate::world::EventWorld;
+use continuation::Mounted;
+use heap_objs::Heap;
+use instruction_rows::Value;
+use ref_model::Exception;
+use world_model::{FieldInfo, Naming, Site};
+
+// The number of the field that an instruction names.
+fn field_of(naming: Naming) -> Option<u32>
+    ensures { result ≡ fetch.field_of naming.site }
+{
+    match naming.site {
+        Site::Field(n) => Some(n),
+        _ => None,
+    }
+}
+
+/// getstatic.
+pub fn get_static<W: EventWorld>(
+    world: &W,
+    naming: Naming,
+    statics: &[Value],
+    mounted: &mut Mounted,
+) -> Outcome
+    requires { HasTop mounted.old }
+    ensures effect { Acts (spec.static_gotten (W.world world.now) naming)
+        (with_statics statics.now) mounted.old (with_statics statics.now) mounted.new result }
+    ensures kept { KeptUnlessDone result mounted.old mounted.new }
+    ensures only { ChangesOperands mounted.old mounted.new }
+{
+    let Some(n) = field_of(naming) else {
+        return Outcome::Undefined;
+    };
+    match statics.get(world.static_place(n) as usize) {
+        Some(value) => give(mounted, 0, *value),
+        None => Outcome::Undefined,
+    }
+}
+
+// The value that a store into a field takes, as the field keeps it. `None`: no value of the field's kind lies on top.
+fn stored(field: &FieldInfo, mounted: &Mounted) -> Option<Value>
+    requires { HasTop mounted.now }
+    ensures { IsStored field.now result (operands mounted.now) }
+{
+    let value = value_operand(mounted, value_kind(&field.kind), 0)?;
+    Some(kept(&field.kind, value))
+}
+
+// Sets the value at a place, where there is one: whether there is.
+fn set_static(statics: &mut [Value], place: u32, value: Value) -> bool
+    ensures { IsPut place value statics.old statics.new result }
+{
+    if place as usize >= statics.len() {
+        return false;
+    }
+    statics[place as usize] = value;
+    true
+}
+
+/// putstatic.
+pub fn put_static<W: EventWorld>(
+    world: &W,
+    naming: Naming,
+    statics: &mut [Value],
+    mounted: &mut Mounted,
+) -> Outcome
+    requires { HasTop mounted.old }
+    ensures effect { Acts (spec.static_put (W.world world.now) naming)
+        (with_statics statics.old) mounted.old (with_statics statics.new) mounted.new result }
+    ensures kept { KeptUnlessDone result mounted.old mounted.new }
+    ensures kept_statics { KeptUnlessDone result statics.old statics.new }
+    ensures only { ChangesOperands mounted.old mounted.new }
+{
+    let Some(n) = field_of(naming) else {
+        return Outcome::Undefined;
+    };
+    let Some(field) = world.field(n) else {
+        return Outcome::Undefined;
+    };
+    let Some(value) = stored(field, mounted) else {
+        return Outcome::Undefined;
+    };
+    if !set_static(statics, world.static_place(n), value) {
+        return Outcome::Undefined;
+    }
+    drop_operands(mounted, width(value_kind(&field.kind)));
+    Outcome::Done
+}
+
+/// What is thrown where an object isn't an instance of the class that an instruction names (own).
+pub fn late_failure<W: EventWorld>(world: &W, class: u32) -> Exception
+    ensures { result ≡ effects.late_failure (W.world world.now) class }
+{
+    if world.array_type(class).is_some() || world.is_interface(class) {
+        Exception::IncompatibleClassChangeError
+    } else {
+        Exception::VerifyError
+    }
+}
+
+// The object of a field instruction, and the place of its field among the object's values.
+#[derive(Clone, Copy)]
+struct FieldTarget {
+    object: u32,
+    place: u32,
+}
+
+// What a field instruction works on, or what it throws. `None`: that is undefined.
+fn field_target<W: EventWorld>(
+    world: &W,
+    naming: Naming,
+    heap: &Heap,
+    n: u32,
+    reference: Option<u32>,
+) -> Option<Result<FieldTarget, Exception>>
+    ensures { IsTarget (W.world world.now) naming heap.now n reference result }
+{
+    let Some(object) = reference else {
+        return Some(Err(Exception::NullPointerException));
+    };
+    let class = class_number(world, heap, object)?;
+    let named = naming.class?;
+    if !world.is_sub(class, named) {
+        return Some(Err(late_failure(world, named)));
+    }
+    let place = world.field_place(n)?;
+    Some(Ok(FieldTarget { object, place }))
+}
+
+/// getfield.
+pub fn get_field<W: EventWorld>(
+    world: &W,
+    naming: Naming,
+    heap: &Heap,
+    mounted: &mut Mounted,
+) -> Outcome
+    requires { HasTop mounted.old }
+    ensures effect { Acts (spec.field_gotten (W.world world.now) naming)
+        (with_heap heap.now) mounted.old (with_heap heap.now) mounted.new result }
+    ensures kept { KeptUnlessDone result mounted.old mounted.new }
+    ensures only { ChangesOperands mounted.old mounted.new }
+{
+    let Some(n) = field_of(naming) else {
+        return Outcome::Undefined;
+    };
+    let Some(reference) = reference_operand(mounted, 0) else {
+        return Outcome::Undefined;
+    };
+    let Some(o) = reference else {
+        return Outcome::Throws(Exception::NullPointerException);
+    };
+    let Some(class) = class_number(world, heap, o) else {
+        return Outcome::Undefined;
+    };
+    let Some(named) = naming.class else {
+        return Outcome::Undefined;
+    };
+    if !world.is_sub(class, named) {
+        return Outcome::Throws(late_failure(world, named));
+    }
+    let Some(place) = world.field_place(n) else {
+        return Outcome::Undefined;
+    };
+    match value_in(heap, o, place) {
+        Some(value) => give(mounted, 1, value),
+        None => Outcome::Undefined,
+    }
+}
+
+/// putfield.
+pub fn put_field<W: EventWorld>(
+    world: &W,
+    naming: Naming,
+    heap: &mut Heap,
+    mounted: &mut Mounted,
+) -> Outcome
+    requires { HasTop mounted.old }
+    ensures effect { Acts (spec.field_put (W.world world.now) naming)
+        (with_heap heap.old) mounted.old (with_heap heap.new) mounted.new result }
+    ensures kept { KeptUnlessDone result mounted.old mounted.new }
+    ensures kept_heap { KeptUnlessDone result heap.old heap.new }
+    ensures only { ChangesOperands mounted.old mounted.new }
+{
+    let Some(n) = field_of(naming) else {
+        return Outcome::Undefined;
+    };
+    let Some(field) = world.field(n) else {
+        return Outcome::Undefined;
+    };
+    let width = width(value_kind(&field.kind));
+    let Some(value) = stored(field, mounted) else {
+        return Outcome::Undefined;
+    };
+    let Some(reference) = reference_operand(mounted, width) else {
+        return Outcome::Undefined;
+    };
+    let Some(target) = field_target(world, naming, heap, n, reference) else {
+        return Outcome::Undefined;
+    };
+    match target {
+        Ok(FieldTarget { object, place }) => {
+            if !set_value(heap, object, place, value) {
+                return Outcome::Undefined;
+            }
+            drop_operands(mounted, width + 1);
+            Outcome::Done
+        }
+        Err(e) => Outcome::Throws(e),
+    }
+}

@@ -1,0 +1,161 @@
+//! The kinds of fields and of arrays' elements, and what a store keeps of a value (JVMS 2.11.1).
+
+ghost use Rattle.std.specs.Prelude.{◌≡◌, ℕ};
+ghost use Rattle.stack_maps.specs.declared.types.VType.TheVariants as types;
+ghost use Rattle.instruction_rows.specs.Kinds.{kind_of_element};
+ghost use Rattle.verify_types.specs.Operands as operands;
+ghost use Rattle.ref_model.specs.Kinds as spec;
+
+use descriptors::{ElementType, Kind as FieldType};
+use instruction_rows::Value;
+use jvm_words::{Narrow, narrow};
+use opcodes::{Element, Kind};
+use stack_maps::Base;
+use world_model::ArrayType;
+
+fn kind_of_element_type(element: &ElementType) -> Kind
+    ensures { result ≡ spec.kind_of_element_type element.now }
+{
+    match element {
+        ElementType::Byte
+        | ElementType::Char
+        | ElementType::Short
+        | ElementType::Bool
+        | ElementType::Int => Kind::Int,
+        ElementType::Long => Kind::Long,
+        ElementType::Float | ElementType::Double | ElementType::Class(_) => Kind::Reference,
+    }
+}
+
+/// The kind of the values of a type.
+pub(crate) fn value_kind(field: &FieldType) -> Kind
+    ensures { result ≡ spec.value_kind field.now }
+{
+    if field.dimensions == 0 {
+        kind_of_element_type(&field.element)
+    } else {
+        Kind::Reference
+    }
+}
+
+fn kept_of_element(element: &ElementType, n: i32) -> i32
+    ensures { result ≡ spec.kept_of_element element.now n }
+{
+    match element {
+        ElementType::Bool => narrow(Narrow::Bool, n),
+        ElementType::Byte => narrow(Narrow::Byte, n),
+        ElementType::Char => narrow(Narrow::Char, n),
+        ElementType::Short => narrow(Narrow::Short, n),
+        _ => n,
+    }
+}
+
+fn kept_of(field: &FieldType, n: i32) -> i32
+    ensures { result ≡ spec.kept_of field.now n }
+{
+    if field.dimensions == 0 {
+        kept_of_element(&field.element, n)
+    } else {
+        n
+    }
+}
+
+/// What a field of this type keeps of a value (JVMS 6.5: putfield, putstatic).
+pub fn kept(field: &FieldType, value: Value) -> Value
+    ensures { result ≡ spec.kept field.now value }
+{
+    match value {
+        Value::Int(n) => Value::Int(kept_of(field, n)),
+        Value::Long(n) => Value::Long(n),
+        Value::Null => Value::Null,
+        Value::Ref(o) => Value::Ref(o),
+    }
+}
+
+fn kept_of_base(base: Base, n: i32) -> i32
+    ensures { result ≡ spec.kept_of_base base n }
+{
+    match base {
+        Base::Bool => narrow(Narrow::Bool, n),
+        Base::Byte => narrow(Narrow::Byte, n),
+        Base::Char => narrow(Narrow::Char, n),
+        Base::Short => narrow(Narrow::Short, n),
+        _ => n,
+    }
+}
+
+/// What an element of an array keeps of a value (JVMS 6.5: bastore, castore, sastore).
+pub(crate) fn kept_in(array: ArrayType, value: Value) -> Value
+    ensures { result ≡ spec.kept_in array value }
+{
+    match value {
+        Value::Int(n) => Value::Int(kept_of_base(array.base, n)),
+        Value::Long(n) => Value::Long(n),
+        Value::Null => Value::Null,
+        Value::Ref(o) => Value::Ref(o),
+    }
+}
+
+/// The kind of the elements that an array instruction loads or stores.
+pub(crate) fn element_kind(element: Element) -> Kind
+    ensures { result ≡ kind_of_element element }
+{
+    match element {
+        Element::Int | Element::Byte | Element::Char | Element::Short => Kind::Int,
+        Element::Long => Kind::Long,
+        Element::Reference => Kind::Reference,
+    }
+}
+
+fn is_element(element: Element, base: Base) -> bool
+    ensures { result ≡ operands.is_element element base }
+{
+    match base {
+        Base::Int => matches!(element, Element::Int),
+        Base::Long => matches!(element, Element::Long),
+        Base::Class(_) => matches!(element, Element::Reference),
+        Base::Byte | Base::Bool => matches!(element, Element::Byte),
+        Base::Char => matches!(element, Element::Char),
+        Base::Short => matches!(element, Element::Short),
+        Base::Float | Base::Double => false,
+    }
+}
+
+/// Whether an array instruction serves for arrays of this type (JVMS 6.5; baload and bastore serve for booleans too).
+pub(crate) fn serves(element: Element, array: ArrayType) -> bool
+    ensures { result ≡ operands.serves element (types.Named array.dimensions array.base) }
+{
+    array.dimensions == 1 && is_element(element, array.base)
+        || 1 < array.dimensions && matches!(element, Element::Reference)
+}
+
+fn kind_of_base(base: Base) -> Kind
+    ensures { result ≡ spec.kind_of_base base }
+{
+    match base {
+        Base::Bool | Base::Byte | Base::Char | Base::Short | Base::Int => Kind::Int,
+        Base::Long => Kind::Long,
+        Base::Float | Base::Double | Base::Class(_) => Kind::Reference,
+    }
+}
+
+fn zero_of_kind(kind: Kind) -> Value
+    ensures { result ≡ spec.zero_of_kind kind }
+{
+    match kind {
+        Kind::Int => Value::Int(0),
+        Kind::Long => Value::Long(0),
+        Kind::Reference => Value::Null,
+    }
+}
+
+/// The value of the elements of a new array (JVMS 2.3, 2.4).
+pub(crate) fn element_zero(array: ArrayType) -> Value
+    ensures { result ≡ spec.zero_of_kind (spec.kind_of_elements array) }
+{
+    if array.dimensions == 1 {
+        zero_of_kind(kind_of_base(array.base))
+    } else {
+        Value::Null
+    }
+}

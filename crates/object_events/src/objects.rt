@@ -1,0 +1,127 @@
+//! Objects and their classes (JVMS 6.5: new, checkcast, instanceof, athrow).
+
+ghost use Rattle.std.specs.Prelude.{◌≡◌, IfOk, OnErr};
+ghost use Rattle.ref_model.specs.Fetch as fetch;
+ghost use Rattle.ref_model.specs.Instances as spec;
+ghost use Rattle.object_events.specs.Operands.{HasTop, ChangesOperands};
+ghost use Rattle.object_events.specs.Outcomes.{Acts, ActsAlone, KeptUnlessDone, with_heap};
+
+use crate::makers::make_object;
+use crate::operands::{give, push_value, reference_operand};
+use crate::outcome::Outcome;
+use crate::reads::class_number;
+use crate::world::EventWorld;
+use continuation::Mounted;
+use heap_objs::Heap;
+use instruction_rows::Value;
+use items::NoMemory;
+use ref_model::Exception;
+use world_model::{Naming, Site};
+
+// The class that an instruction names.
+pub(crate) fn class_of(naming: Naming) -> Option<u32>
+    ensures { result ≡ fetch.class_of naming.site }
+{
+    match naming.site {
+        Site::Class(n) => Some(n),
+        _ => None,
+    }
+}
+
+/// checkcast. The operand stays where it is.
+pub fn check_cast<W: EventWorld>(
+    world: &W,
+    naming: Naming,
+    heap: &Heap,
+    mounted: &Mounted,
+) -> Outcome
+    requires { HasTop mounted.now }
+    ensures { Acts (spec.object_cast (W.world world.now) naming)
+        (with_heap heap.now) mounted.now (with_heap heap.now) mounted.now result }
+{
+    let Some(class) = class_of(naming) else {
+        return Outcome::Undefined;
+    };
+    let Some(reference) = reference_operand(mounted, 0) else {
+        return Outcome::Undefined;
+    };
+    let Some(o) = reference else {
+        return Outcome::Done;
+    };
+    match class_number(world, heap, o) {
+        Some(own) if world.is_sub(own, class) => Outcome::Done,
+        Some(_) => Outcome::Throws(Exception::ClassCastException),
+        None => Outcome::Undefined,
+    }
+}
+
+/// instanceof.
+pub fn instance_of<W: EventWorld>(
+    world: &W,
+    naming: Naming,
+    heap: &Heap,
+    mounted: &mut Mounted,
+) -> Outcome
+    requires { HasTop mounted.old }
+    ensures effect { Acts (spec.object_judged (W.world world.now) naming)
+        (with_heap heap.now) mounted.old (with_heap heap.now) mounted.new result }
+    ensures kept { KeptUnlessDone result mounted.old mounted.new }
+    ensures only { ChangesOperands mounted.old mounted.new }
+{
+    let Some(class) = class_of(naming) else {
+        return Outcome::Undefined;
+    };
+    let Some(reference) = reference_operand(mounted, 0) else {
+        return Outcome::Undefined;
+    };
+    let Some(o) = reference else {
+        return give(mounted, 1, Value::Int(0));
+    };
+    match class_number(world, heap, o) {
+        Some(own) => give(mounted, 1, Value::Int(i32::from(world.is_sub(own, class)))),
+        None => Outcome::Undefined,
+    }
+}
+
+/// athrow.
+pub fn throw_object(mounted: &Mounted) -> Outcome
+    requires { HasTop mounted.now }
+    ensures { ActsAlone spec.object_thrown mounted.now result }
+{
+    match reference_operand(mounted, 0) {
+        Some(Some(o)) => Outcome::ThrowsObject(o),
+        Some(None) => Outcome::Throws(Exception::NullPointerException),
+        None => Outcome::Undefined,
+    }
+}
+
+/// new: an object whose fields have their first values.
+pub fn new_object<W: EventWorld>(
+    world: &W,
+    naming: Naming,
+    heap: &mut Heap,
+    mounted: &mut Mounted,
+) -> Result<Outcome, NoMemory>
+    requires { HasTop mounted.old }
+    ensures effect { IfOk result (λ o. Acts (spec.object_made (W.world world.now) naming)
+        (with_heap heap.old) mounted.old (with_heap heap.new) mounted.new o) }
+    ensures kept { IfOk result (λ o. KeptUnlessDone o mounted.old mounted.new) }
+    ensures kept_heap { IfOk result (λ o. KeptUnlessDone o heap.old heap.new) }
+    ensures only { ChangesOperands mounted.old mounted.new }
+    ensures err { OnErr result (heap.new ≡ heap.old) }
+    ensures err_mounted { OnErr result (mounted.new ≡ mounted.old) }
+{
+    let Some(class) = class_of(naming) else {
+        return Ok(Outcome::Undefined);
+    };
+    if mounted.operand_room() == 0 {
+        return Ok(Outcome::Undefined);
+    }
+    match make_object(heap, class, world.new_values(class))? {
+        Some(o) => {
+            push_value(mounted, Value::Ref(o));
+            Ok(Outcome::Done)
+        }
+        None => Ok(Outcome::Throws(Exception::OutOfMemoryError)),
+    }
+}

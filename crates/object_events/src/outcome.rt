@@ -1,0 +1,15 @@
+use ref_model::Exception;
+
+/// What became of an instruction or of a native method.
+#[derive(Clone, Copy, Debug, PartialEq, Eq)]
+pub enum Outcome {
+    /// It is done: the operand stack is that with which the frame goes on.
+    Done,
+    /// It throws a new exception, and nothing has changed.
+    Throws(Exception),
+    /// It throws this object, and nothing has changed.
+    ThrowsObject(u32),
+    /// The definitions have no effect here, or its result has no room: nothing is said, and nothing has changed. Frames that keep to the
+    /// typing never get there (own).
+    Undefined,
+}
