@@ -3,6 +3,7 @@
 
 mod error;
 mod lookups;
+mod subtypes;
 mod world;
 
 pub use error::LinkError;

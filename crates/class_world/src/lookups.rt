@@ -18,7 +18,7 @@ impl Lookups for World {
     }
 
     fn is_below(&self, a: u32, b: u32) -> bool {
-        self.is_sub(a, b)
+        self.tables().hierarchy().is_below(a, b)
     }
 
     fn parent(&self, class: u32) -> Option<u32> {

@@ -12,9 +12,11 @@ ghost use Rattle.world_model.specs.World.{array_type};
 ghost use Rattle.world_model.specs.Worlds.{world_of};
 ghost use Rattle.world_model.specs.LookUps as asked;
 ghost use Rattle.world_model.specs.MainMethod.{main_of};
-ghost use Rattle.world_model.specs.InstanceFields.{instance_fields};
+ghost use Rattle.world_model.specs.Fields.{instance_fields, place};
+ghost use Rattle.world_model.specs.Subtypes.{is_sub, type_below, type_of};
 
 use crate::error::LinkError;
+use crate::subtypes;
 use class_model::ClassFile;
 use class_resolution::{Classes, Hierarchy, MemberKey, select};
 use descriptors::Kind;
@@ -106,11 +108,19 @@ impl World {
         self.tables.hierarchy().parent(class)
     }
 
-    /// Whether a class is the other, or has it among its superclasses and superinterfaces, in constant time.
+    /// Whether the objects of a class or an array class are instances of another, in constant time (JVMS 6.5: checkcast, instanceof).
     pub fn is_sub(&self, class: u32, other: u32) -> bool
-        ensures { result ≡ hierarchy.is_below self.now class other }
+        ensures { result ≡ is_sub (world_of self.now) class other }
     {
-        self.tables.hierarchy().is_below(class, other)
+        subtypes::is_sub(self.tables(), class, other)
+    }
+
+    /// Whether the objects of a class or an array class are of a type, in constant time (JVMS 6.5: aastore). A class that is no array class
+    /// is the type of its objects without dimensions.
+    pub fn is_of_type(&self, class: u32, kind: ArrayType) -> bool
+        ensures { result ≡ type_below (world_of self.now) (type_of (world_of self.now) class) kind }
+    {
+        subtypes::is_of_type(self.tables(), class, kind)
     }
 
     /// The method of this key that the class itself declares. `None`: it declares none.
@@ -144,9 +154,17 @@ impl World {
 
     /// The numbers of the fields of an object of a class, those of the superclass first, in constant time.
     pub fn instance_fields(&self, class: u32) -> &[u32]
-        ensures { result.now ≡ instance_fields self.now class }
+        ensures { result.now ≡ instance_fields (world_of self.now) class }
     {
         self.tables().instance_fields(class)
+    }
+
+    /// The place of a field, in constant time: a static field's among all static fields, another's among the fields of an object of its
+    /// class, and of each class below. `None`: there is no field of this number.
+    pub fn place(&self, field: u32) -> Option<u32>
+        ensures { result ≡ place (world_of self.now) field }
+    {
+        self.tables().place(field)
     }
 
     /// The number of an array class, by the type of its objects. `None`: the program has no array of such elements as deep.

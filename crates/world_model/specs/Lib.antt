@@ -10,3 +10,6 @@ pub mod Decoded
 pub mod LookUps
 pub mod MainMethod
 pub mod InstanceFields
+pub mod Fields
+pub mod Subtypes
+pub mod Methods

@@ -6,3 +6,5 @@ pub mod CodeLaws
 pub mod DecodingLaws
 pub mod PcLaws
 pub mod InstanceLaws
+pub mod PlaceLaws
+pub mod OwnFieldLaws

@@ -7,3 +7,4 @@ pub mod Codes
 pub mod KnownClasses
 pub mod Decodings
 pub mod PcTables
+pub mod Places

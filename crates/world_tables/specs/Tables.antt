@@ -1,10 +1,12 @@
 -- The world that tables are.
-use Rattle.std.specs.Prelude.{◌≡◌, ◌<◌, ◌^◌, length}
+use Rattle.std.specs.Prelude.{◌≡◌, ℕ, ◌<◌, ◌^◌, None, get_or, length}
 use Rattle.class_resolution.specs.Tables.{tabulate}
 use Rattle.world_model.specs.World.{World}
 use Rattle.world_model.specs.InstanceFields.{instance_fields}
+use Rattle.world_model.specs.Infos.{fields_of}
 use Rattle.world_model.specs.Numbering.{numbering_of}
 use Rattle.world_tables.specs.PcTables.{AreByPc}
+use Rattle.world_tables.specs.Places.{place_by}
 use Rattle.world_tables.specs.KnownClasses.{known_in}
 use Rattle.world_tables.specs.declared.tables.Tables.TheInside.{Inside}
 
@@ -13,6 +15,8 @@ pub record AreNumbered (a : Inside) : Type 0 where
   pub known : a.known ≡ known_in a.numbers.names
   pub numbering : a.numbers ≡ numbering_of a.members
   pub instance_fields : a.instance_fields.items ≡ tabulate (instance_fields a.members) (length a.members.classes)
+  pub fields : a.fields.items ≡ fields_of a.members
+  pub places : (n : ℕ) → get_or a.places.items n None ≡ place_by a.fields.items a.instance_fields.items n
   pub by_pc : AreByPc a.codes a.by_pc.items
   pub few : length a.methods.items < 2 ^ 32
 

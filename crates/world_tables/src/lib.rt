@@ -14,6 +14,7 @@ mod names;
 mod namings;
 mod numbering;
 mod pc_tables;
+mod places;
 mod sites;
 mod strings;
 mod tables;

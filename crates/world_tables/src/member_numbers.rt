@@ -104,6 +104,14 @@ impl MemberNumbers {
         Ok(first)
     }
 
+    /// The number of the first method of a class. A class that isn't there counts as memory run out.
+    pub fn first_method(&self, class: u32) -> Result<u32, NoMemory>
+        ensures { IfOk result (λ n. n ≡ spec.methods_before self.now.classes class) }
+    {
+        let first = first_at(&self.methods, class)?;
+        Ok(first)
+    }
+
     /// The number of the field at a place.
     pub fn field_number(&self, at: Place) -> Result<u32, NoMemory>
         ensures { IfOk result (λ n. n ≡ spec.field_number self.now at) }

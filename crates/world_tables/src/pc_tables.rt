@@ -21,8 +21,8 @@ fn reach(table: &mut Vec<Option<u32>>, pc: u32) -> Result<(), NoMemory>
     Ok(())
 }
 
-// Adds an instruction, unless the table has one at its pc.
-fn add_pc(table: &mut Vec<Option<u32>>, pc: u32, index: u32) -> Result<(), NoMemory>
+/// Adds an entry to a table, unless it has one there.
+pub fn add_first(table: &mut Vec<Option<u32>>, pc: u32, index: u32) -> Result<(), NoMemory>
     ensures { OnOk result ((q : ℕ) → get_or table.new.items q None
         ≡ option_or (get_or table.old.items q None) (cond (nat_eq pc q) (Some index) None)) }
 {
@@ -43,7 +43,7 @@ fn by_pc(alloc: Global, instrs: &[Instr]) -> Result<Items<Option<u32>>, NoMemory
     }
     let mut table = Vec::new(alloc);
     for (index, instr) in instrs.iter().enumerate() {
-        add_pc(&mut table, instr.pc, index as u32)?;
+        add_first(&mut table, instr.pc, index as u32)?;
     }
     Ok(Items::from(table))
 }

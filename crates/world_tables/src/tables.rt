@@ -3,10 +3,11 @@
 ghost use Rattle.std.specs.Prelude.{◌≡◌, length, get_or, slice_get, codes, [], IfOk, IfSome};
 ghost use Rattle.std.specs.Option.{option_copied};
 ghost use Rattle.class_grammar.specs.Names.{object_class};
+ghost use Rattle.linkage.specs.Members as members;
 ghost use Rattle.world_model.specs.World as spec;
 ghost use Rattle.world_model.specs.LookUps as asked;
 ghost use Rattle.world_model.specs.MainMethod.{main_of};
-ghost use Rattle.world_model.specs.InstanceFields.{instance_fields};
+ghost use Rattle.world_model.specs.Fields.{instance_fields, place};
 ghost use Rattle.world_model.specs.Pools as pools;
 ghost use Rattle.world_model.specs.Worlds.{world_of};
 ghost use Rattle.world_model.specs.Decoded.{IsDecoded, code_at};
@@ -21,12 +22,14 @@ use crate::member_numbers::MemberNumbers;
 use crate::namings::{all_catches, all_namings};
 use crate::numbering::Numbering;
 use crate::pc_tables::{all_by_pc, index_by};
+use crate::places::{all_places, place_at};
 use crate::sites::Linker;
 use crate::strings::all_strings;
 use class_grammar::class_name_at;
 use class_resolution::{Hierarchy, dimensions_of, is_array_name, last_element, name_in};
 use descriptors::Kind;
 use items::{Items, NoMemory};
+use linkage::Place;
 use stack_maps::{Base, VType};
 use std::alloc::Global;
 use std::marker::Model;
@@ -43,6 +46,7 @@ pub struct Tables {
     codes: Codes,
     by_pc: Vec<Items<Option<u32>>>,
     instance_fields: Vec<Items<u32>>,
+    places: Vec<Option<u32>>,
     namings: Vec<Items<Naming>>,
     catches: Vec<Items<Option<u32>>>,
     known: KnownClasses,
@@ -93,6 +97,7 @@ impl Tables {
         }
         let by_pc = all_by_pc(alloc, codes.as_slice())?;
         let instance_fields = all_instance_fields(alloc, &members)?;
+        let places = all_places(alloc, &fields, &instance_fields)?;
         let l = Linker {
             members: &members,
             numbers: &numbers,
@@ -109,6 +114,7 @@ impl Tables {
             codes,
             by_pc,
             instance_fields,
+            places,
             namings,
             catches,
             known,
@@ -134,6 +140,30 @@ impl Tables {
         ensures { result ≡ length self.now.names }
     {
         self.numbers.names().count()
+    }
+
+    /// The name of a class, where it is no array class; else none.
+    pub fn name(&self, n: u32) -> &[u16]
+        ensures { result.now ≡ get_or self.now.names n [] }
+    {
+        match self.numbers.names().text(n) {
+            Some(name) => name,
+            None => &[],
+        }
+    }
+
+    /// The array types, in the order of their numbers behind those of the names.
+    pub fn arrays(&self) -> &[ArrayType]
+        ensures { result.now ≡ self.now.arrays }
+    {
+        &self.arrays
+    }
+
+    /// The fields, in the order of their numbers.
+    pub fn fields(&self) -> &[FieldInfo]
+        ensures { result.now ≡ self.now.fields }
+    {
+        &self.fields
     }
 
     /// A field. `None`: there is no field of this number.
@@ -192,6 +222,20 @@ impl Tables {
         self.methods.get(n as usize)
     }
 
+    /// The number of the first method of a class. A class that isn't there counts as memory run out.
+    pub fn first_method(&self, class: u32) -> Result<u32, NoMemory>
+        ensures { IfOk result (λ n. n ≡ members.methods_before self.now.program.classes class) }
+    {
+        self.members.first_method(class)
+    }
+
+    /// The number of the method at a place. A class that isn't there counts as memory run out.
+    pub fn method_number(&self, at: Place) -> Result<u32, NoMemory>
+        ensures { IfOk result (λ n. n ≡ members.method_number self.now.program at) }
+    {
+        self.members.method_number(at)
+    }
+
     /// The code of a method. `None`: it has none, or there is no method of this number.
     pub fn code(&self, method: u32) -> Option<&MethodCode>
         ensures code { option_copied result ≡ code_at self.now method }
@@ -220,8 +264,8 @@ impl Tables {
         }
     }
 
-    // The index of the instruction that begins at a pc of a method.
-    fn index_at(&self, method: u32, pc: u32) -> Option<u32>
+    /// The index of the instruction that begins at a pc of a method, in constant time. `None`: none begins there.
+    pub fn index_at(&self, method: u32, pc: u32) -> Option<u32>
         ensures { result ≡ asked.index_in self.now.codes method pc }
     {
         index_by(&self.by_pc, method, pc)
@@ -258,9 +302,17 @@ impl Tables {
 
     /// The numbers of the fields of an object of a class, those of the superclass first, in constant time.
     pub fn instance_fields(&self, class: u32) -> &[u32]
-        ensures { result.now ≡ instance_fields self.now.program class }
+        ensures { result.now ≡ instance_fields self.now class }
     {
         row_at(&self.instance_fields, class)
+    }
+
+    /// The place of a field, in constant time: a static field's among all static fields, another's among the fields of an object of its
+    /// class, and of each class below. `None`: there is no field of this number.
+    pub fn place(&self, field: u32) -> Option<u32>
+        ensures { result ≡ place self.now field }
+    {
+        place_at(&self.places, field)
     }
 
     /// The number of an array class, by the type of its objects. `None`: the program has no array of such elements as deep.

@@ -1,0 +1,6 @@
+mod FirstObjects
+mod FirstStatics
+mod FrameLaws
+mod HeapLaws
+mod Openings
+mod OrderLaws

@@ -1,0 +1,4 @@
+mod FieldLaws
+mod HandlerLaws
+mod InstructionLaws
+mod TableLaws

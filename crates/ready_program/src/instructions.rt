@@ -1,0 +1,61 @@
+//! The instruction at a pc of a method.
+
+ghost use Rattle.std.specs.Prelude.{◌≡◌, get_or};
+ghost use Rattle.std.specs.Option.{option_map};
+ghost use Rattle.world_model.specs.Sites.{plain};
+ghost use Rattle.ready_program.specs.Instructions.{instruction_by, instruction_of, instruction_at as instruction_found};
+
+use opcodes::Instr;
+use world_model::{Naming, Site};
+use world_tables::Tables;
+
+/// An instruction, and what its constant means.
+#[derive(Clone, Copy)]
+pub struct Fetched<'a> {
+    pub instr: &'a Instr,
+    pub naming: Naming,
+}
+
+#[inline(always)]
+fn naming_at(namings: &[Naming], i: u32) -> Naming
+    ensures { result ≡ get_or namings.now i plain }
+{
+    match namings.get(i as usize) {
+        Some(naming) => *naming,
+        None => Naming {
+            site: Site::Plain,
+            class: None,
+        },
+    }
+}
+
+// The instruction at an index, where there is one.
+#[inline(always)]
+fn instruction_at<'a>(
+    instrs: &'a [Instr],
+    namings: &[Naming],
+    index: Option<u32>,
+) -> Option<Fetched<'a>>
+    ensures { option_map instruction_of result ≡ instruction_by instrs.now namings.now index }
+{
+    let i = index?;
+    let instr = instrs.get(i as usize)?;
+    let naming = naming_at(namings, i);
+    Some(Fetched { instr, naming })
+}
+
+/// The instruction that begins at a pc of a method, in constant time.
+#[inline(always)]
+pub(crate) fn instruction(tables: &Tables, method: u32, pc: u32) -> Option<Fetched<'_>>
+    ensures { option_map instruction_of result
+        ≡ instruction_found tables.now method pc }
+{
+    match tables.code(method) {
+        Some(code) => instruction_at(
+            &code.code,
+            tables.namings(method),
+            tables.index_at(method, pc),
+        ),
+        None => None,
+    }
+}
