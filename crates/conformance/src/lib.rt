@@ -27,6 +27,8 @@ mod memory;
 #[cfg(test)]
 mod mnemonics;
 #[cfg(test)]
+mod native_texts;
+#[cfg(test)]
 mod permits;
 #[cfg(test)]
 mod sleepers;

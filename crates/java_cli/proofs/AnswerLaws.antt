@@ -1,20 +1,14 @@
 -- From what each part of the call did to what the call answers.
-use Rattle.std.proofs.Common.{◌≡◌, ℕ, suc, ◌+◌, ◌<◌, ◌≤◌, inl, inr, true, false, List, [], ◌∷◌, ◌++◌, map, length, take, Option, Some, None, Result, Ok, Err, refl, sym, ap, subst, ◌∙◌, arith, add-zero}
-use Rattle.std.specs.Prelude.{IfErr, OnOk, OnErr, IfSome, IsSomeAnd}
+use Rattle.std.proofs.Common.{◌≡◌, ℕ, suc, ◌+◌, ◌<◌, ◌≤◌, inl, inr, true, false, List, [], ◌∷◌, ◌++◌, map, length, take, Option, Some, None, refl, sym, ap, subst, ◌∙◌, arith, add-zero}
+use Rattle.std.specs.Prelude.{IfSome}
 use Rattle.std.specs.List.{AllZip, AllByRecursion}
-use Rattle.std.proofs.lemmas.List.{take_all}
 use Rattle.std.proofs.lemmas.Option.{same_Some}
 use Rattle.std.proofs.lemmas.Slice.Zip.{AllZip-long, AllZip-map}
 use Rattle.class_model.specs.declared.class_file.ClassFile.{ClassFile}
 use Rattle.class_grammar.specs.declared.class_why.ClassWhy.{ClassWhy}
-use Rattle.jvm_edges.specs.Bytes.{Appends}
-use Rattle.jvm_edges.specs.Causes.{Rose}
 use Rattle.jvm_edges.specs.Files.{file_named}
 use Rattle.jvm_edges.specs.Files as store
-use Rattle.history.specs.declared.entry.Entry.{Entry}
-use Rattle.plain_model.specs.Program.{Method}
-use Rattle.plain_model.specs.Alone.{alone}
-use Rattle.jvm_edges.specs.declared.output.PartWritten.{PartWritten}
+use Rattle.ref_model.specs.Setting.{Setting}
 use Rattle.java_cli.specs.declared.errors.LoadError.{LoadError}
 use Rattle.java_cli.specs.declared.errors.LoadError.TheVariants as load
 use Rattle.linkage.specs.declared.fault.LinkFault as faults
@@ -27,25 +21,23 @@ use Rattle.java_cli.specs.declared.errors.AcceptError.{AcceptError}
 use Rattle.java_cli.specs.declared.errors.AcceptError.TheVariants as accept
 use Rattle.java_cli.specs.declared.errors.StartError.{StartError}
 use Rattle.java_cli.specs.declared.errors.StartError.TheVariants as start
-use Rattle.java_cli.specs.declared.report.Report.{Report}
-use Rattle.java_cli.specs.declared.report.Which.TheVariants.{Files}
+use Rattle.java_cli.specs.declared.report.Which.TheVariants.{Files, FileSize, Events}
 use Rattle.java_cli.specs.declared.report.Why.{Why}
-use Rattle.java_cli.specs.declared.report.Why.TheVariants.{Ended, Usage, Limit, NoMain, LinkFault, VerifyFault, SinkFault, NoMemory}
+use Rattle.java_cli.specs.declared.report.Why.TheVariants.{Usage, Limit, Missing, SourceFault, BadClass, NoMain, LinkFault, VerifyFault, SinkFault, NoMemory}
 use Rattle.java_cli.specs.Limits.{most_files}
 use Rattle.java_cli.specs.Errors.{load_answer, accept_answer, start_answer}
 use Rattle.java_cli.specs.Words.{Command}
-use Rattle.java_cli.specs.Answers.{line_of, line_for, usage_line}
 use Rattle.java_cli.specs.MainClass.{class_named, has_main}
 use Rattle.java_cli.specs.Linking.{program_of, class_text, method_text, IsLinkFault, IsVerifyFault, AreAccepted}
-use Rattle.plain_program.specs.Programs.{IsSpelled, IsPlainProgram}
-use Rattle.java_cli.specs.Programs.{IsProgram}
-use Rattle.java_cli.specs.Causes.{Contents, HasContents, HaveContents, IsClass, AreClasses, IsBad, IsWrong, FirstWrong, IsFirstName, IsProgramAnswer, IsDue, too_many, wrong, by_linking, HasCause, IsReached, contents_of, IsExact, IsRefusal, StoreFaults}
+use Rattle.java_cli.specs.Programs.{IsSpelled, IsStarted, IsProgram, world_of_files, runnable_main}
+use Rattle.java_cli.specs.Causes.{Contents, HasContents, HaveContents, IsClass, AreClasses, IsBad, IsWrong, FirstWrong, IsFirstName, CannotRun, Due, answered, runs, IsProgramRefusal, IsProgramDue, IsDue, too_many, wrong, by_linking, HasCause, HasRun, IsReached, IsOfRun, IsDueOrFault, contents_of, IsExact, IsRefusal, StoreFaults}
 use Rattle.java_cli.specs.LoadCauses.{IsRead, IsWrongFile, NotRead, IsStopped}
 use Rattle.java_cli.specs.LinkCauses.{NotAccepted, NotStarted, first_name}
 use Rattle.java_cli.proofs.NameLaws.{first_is}
-use Rattle.plain_program.specs.Runs.{IsRun}
-use Rattle.java_cli.specs.Runs.{RanCommand}
-use Rattle.java_cli.specs.Headline.{IsTaken, OnRun, OnNoRun, OutFaults, IsKept, Ran, TakesLine}
+use Rattle.machine.specs.declared.execution.Execution.{Execution}
+use Rattle.machine.specs.Runs.{IsRun}
+use Rattle.java_cli.specs.Runs.{IsRunDue, RanCommand}
+use Rattle.java_cli.specs.Headline.{OnRun, OutFaults, IsKept}
 
 -- ---- the contents of files
 
@@ -141,50 +133,65 @@ one_fault classes class other reason again x y =
 main_or_none : (name : List ℕ) (classes : List ClassFile) → has_main name classes ≡ false → has_main name classes ≡ true → ⊥
 main_or_none name classes x y = let no : false ≡ true = sym x ∙ y in absurd cc
 
-pub one_program_answer : (name : List ℕ) (classes : List ClassFile) (a b : Why) → IsProgramAnswer name classes a → IsProgramAnswer name classes b → a ≡ b
-one_program_answer name classes NoMain NoMain x y = refl
-one_program_answer name classes NoMain (LinkFault class reason) x (inl y) = absurd (linked_or_fault classes class reason x.0.links y)
-one_program_answer name classes NoMain (LinkFault class reason) x (inr y) = absurd (main_or_none name classes x.1 y.2.main)
-one_program_answer name classes NoMain Ended x y = absurd (main_or_none name classes x.1 y.1.main)
-one_program_answer name classes NoMain (VerifyFault class method pc reason) x y = absurd (typed_or_fault classes class method pc reason x.0 y)
-one_program_answer name classes NoMain b x y = absurd y
-one_program_answer name classes (LinkFault class reason) NoMain (inl x) y = absurd (linked_or_fault classes class reason y.0.links x)
-one_program_answer name classes (LinkFault class reason) NoMain (inr x) y = absurd (main_or_none name classes y.1 x.2.main)
-one_program_answer name classes (LinkFault class reason) (LinkFault other again) (inl x) (inl y) = one_fault classes class other reason again x y
-one_program_answer name classes (LinkFault class reason) (LinkFault other again) (inl x) (inr y) = absurd (linked_or_fault classes class reason y.1.links x)
-one_program_answer name classes (LinkFault class reason) (LinkFault other again) (inr x) (inl y) = absurd (linked_or_fault classes other again x.1.links y)
-one_program_answer name classes (LinkFault class reason) (LinkFault other again) (inr x) (inr y) =
+-- the machine can run the classes, or it can't
+started_or_not : (name : List ℕ) (classes : List ClassFile) (class : List ℕ) (main : ℕ) → IsStarted name classes main → CannotRun name classes class → ⊥
+started_or_not name classes class main x y = let none : Option ℕ = None in let no : Some main ≡ none = sym x.number ∙ y.cannot in absurd cc
+
+one_refusal : (name : List ℕ) (classes : List ClassFile) (a b : Why) → IsProgramRefusal name classes a → IsProgramRefusal name classes b → a ≡ b
+one_refusal name classes NoMain NoMain x y = refl
+one_refusal name classes NoMain (LinkFault class reason) x (inl y) = absurd (linked_or_fault classes class reason x.0.links y)
+one_refusal name classes NoMain (LinkFault class reason) x (inr y) = absurd (main_or_none name classes x.1 y.2.main)
+one_refusal name classes NoMain (VerifyFault class method pc reason) x y = absurd (typed_or_fault classes class method pc reason x.0 y)
+one_refusal name classes NoMain b x y = absurd y
+one_refusal name classes (LinkFault class reason) NoMain (inl x) y = absurd (linked_or_fault classes class reason y.0.links x)
+one_refusal name classes (LinkFault class reason) NoMain (inr x) y = absurd (main_or_none name classes y.1 x.2.main)
+one_refusal name classes (LinkFault class reason) (LinkFault other again) (inl x) (inl y) = one_fault classes class other reason again x y
+one_refusal name classes (LinkFault class reason) (LinkFault other again) (inl x) (inr y) = absurd (linked_or_fault classes class reason y.1.links x)
+one_refusal name classes (LinkFault class reason) (LinkFault other again) (inr x) (inl y) = absurd (linked_or_fault classes other again x.1.links y)
+one_refusal name classes (LinkFault class reason) (LinkFault other again) (inr x) (inr y) =
     let names : class ≡ other = one_first classes class other x.2.first y.2.first in
     let reasons : reason ≡ again = x.0 ∙ sym y.0 in
     cc
-one_program_answer name classes (LinkFault class reason) Ended (inl x) y = absurd (linked_or_fault classes class reason y.1.accepted.links x)
-one_program_answer name classes (LinkFault class reason) Ended (inr x) y = absurd (x.2.none y.1.method y.1.plain)
-one_program_answer name classes (LinkFault class reason) (VerifyFault other method pc why) (inl x) y = absurd (linked_or_fault classes class reason y.0 x)
-one_program_answer name classes (LinkFault class reason) (VerifyFault other method pc why) (inr x) y = absurd (typed_or_fault classes other method pc why x.1 y)
-one_program_answer name classes (LinkFault class reason) b x y = absurd y
-one_program_answer name classes (VerifyFault class method pc reason) NoMain x y = absurd (typed_or_fault classes class method pc reason y.0 x)
-one_program_answer name classes (VerifyFault class method pc reason) (LinkFault other why) x (inl y) = absurd (linked_or_fault classes other why x.0 y)
-one_program_answer name classes (VerifyFault class method pc reason) (LinkFault other why) x (inr y) = absurd (typed_or_fault classes class method pc reason y.1 x)
-one_program_answer name classes (VerifyFault class method pc reason) (VerifyFault other again next because) x y = one_verify_fault classes class other method again pc next reason because x y
-one_program_answer name classes (VerifyFault class method pc reason) Ended x y = absurd (typed_or_fault classes class method pc reason y.1.accepted x)
-one_program_answer name classes (VerifyFault class method pc reason) b x y = absurd y
-one_program_answer name classes Ended NoMain x y = absurd (main_or_none name classes y.1 x.1.main)
-one_program_answer name classes Ended (LinkFault class reason) x (inl y) = absurd (linked_or_fault classes class reason x.1.accepted.links y)
-one_program_answer name classes Ended (LinkFault class reason) x (inr y) = absurd (y.2.none x.1.method x.1.plain)
-one_program_answer name classes Ended (VerifyFault class method pc reason) x y = absurd (typed_or_fault classes class method pc reason x.1.accepted y)
-one_program_answer name classes Ended Ended x y = refl
-one_program_answer name classes Ended b x y = absurd y
-one_program_answer name classes a b x y = absurd x
+one_refusal name classes (LinkFault class reason) (VerifyFault other method pc why) (inl x) y = absurd (linked_or_fault classes class reason y.0 x)
+one_refusal name classes (LinkFault class reason) (VerifyFault other method pc why) (inr x) y = absurd (typed_or_fault classes other method pc why x.1 y)
+one_refusal name classes (LinkFault class reason) b x y = absurd y
+one_refusal name classes (VerifyFault class method pc reason) NoMain x y = absurd (typed_or_fault classes class method pc reason y.0 x)
+one_refusal name classes (VerifyFault class method pc reason) (LinkFault other why) x (inl y) = absurd (linked_or_fault classes other why x.0 y)
+one_refusal name classes (VerifyFault class method pc reason) (LinkFault other why) x (inr y) = absurd (typed_or_fault classes class method pc reason y.1 x)
+one_refusal name classes (VerifyFault class method pc reason) (VerifyFault other again next because) x y = one_verify_fault classes class other method again pc next reason because x y
+one_refusal name classes (VerifyFault class method pc reason) b x y = absurd y
+one_refusal name classes a b x y = absurd x
+
+-- a program that runs isn't refused
+run_or_refusal : (name : List ℕ) (classes : List ClassFile) (p : Setting) (a : Why) → IsProgram name classes p → IsProgramRefusal name classes a → ⊥
+run_or_refusal name classes p NoMain x y = main_or_none name classes y.1 x.main.declared
+run_or_refusal name classes p (LinkFault class reason) x (inl y) = linked_or_fault classes class reason x.accepted.links y
+run_or_refusal name classes p (LinkFault class reason) x (inr y) = started_or_not name classes class p.main x.main y.2
+run_or_refusal name classes p (VerifyFault class method pc reason) x y = typed_or_fault classes class method pc reason x.accepted y
+run_or_refusal name classes p a x y = y
+
+one_program : (name : List ℕ) (classes : List ClassFile) (p q : Setting) → IsProgram name classes p → IsProgram name classes q → p ≡ q
+one_program name classes p q x y =
+    let worlds : p.world ≡ q.world = x.world ∙ sym y.world in
+    let mains : p.main ≡ q.main = same_Some p.main q.main (sym x.main.number ∙ y.main.number) in
+    let limits : p.limits ≡ q.limits = x.limits ∙ sym y.limits in
+    λ i. record { world = worlds i; main = mains i; limits = limits i }
+
+pub one_program_due : (name : List ℕ) (classes : List ClassFile) (a b : Due) → IsProgramDue name classes a → IsProgramDue name classes b → a ≡ b
+one_program_due name classes (answered a) (answered b) x y = ap answered (one_refusal name classes a b x y)
+one_program_due name classes (answered a) (runs p) x y = absurd (run_or_refusal name classes p a y x)
+one_program_due name classes (runs p) (answered a) x y = absurd (run_or_refusal name classes p a x y)
+one_program_due name classes (runs p) (runs q) x y = ap runs (one_program name classes p q x y)
 
 -- ---- too many files
 
 pub too_many_exact : (known : Option store.Files) (faulty : Type 0) (c : Command) → most_files < length c.files → IsExact known faulty c (Limit Files most_files)
 too_many_exact known faulty c many = record {
   cause = record { contents = map (known_file known) c.files; holds = all_held known c.files; due = too_many many refl };
-  due = λ files answer is due. by due;
+  due = λ files due is it. subst (λ (d : Due). IsDueOrFault d (Limit Files most_files)) (sym (by it)) refl;
 }
   where
-    by : {contents : List Contents} {answer : Why} → IsDue c contents answer → answer ≡ Limit Files most_files
+    by : {contents : List Contents} {due : Due} → IsDue c contents due → due ≡ answered (Limit Files most_files)
     by (too_many lt e) = e
     by (wrong few error x is) = absurd (omega (arith, many, few))
     by (by_linking few classes are x) = absurd (omega (arith, many, few))
@@ -252,9 +259,9 @@ finds_wrong known faulty c error s here =
       first = wrong_behind 0 read.contents s.classes here.contents (map (known_file known) s.back) error read.read (subst (λ (n : ℕ). IsWrong n here.contents error) place here.wrong);
     }
 
-wrong_due : (known : Option store.Files) (c : Command) (error : LoadError) → length c.files ≤ most_files → FindsWrong known c error → (files : store.Files) (answer : Why) → known ≡ Some files → IsDue c (contents_of files c.files) answer
-    → answer ≡ load_answer error
-wrong_due known c error few x files answer is due = by due
+wrong_due : (known : Option store.Files) (c : Command) (error : LoadError) → length c.files ≤ most_files → FindsWrong known c error → (files : store.Files) (due : Due) → known ≡ Some files → IsDue c (contents_of files c.files) due
+    → due ≡ answered (load_answer error)
+wrong_due known c error few x files due is it = by it
   where
     same : x.contents ≡ contents_of files c.files
     same = held_is files c.files x.contents (subst (λ (t : Option store.Files). HaveContents t c.files x.contents) is x.holds)
@@ -262,16 +269,16 @@ wrong_due known c error few x files answer is due = by due
     first : FirstWrong 0 (contents_of files c.files) error
     first = subst (λ (contents : List Contents). FirstWrong 0 contents error) same x.first
 
-    by : IsDue c (contents_of files c.files) answer → answer ≡ load_answer error
+    by : IsDue c (contents_of files c.files) due → due ≡ answered (load_answer error)
     by (too_many many e) = absurd (omega (arith, few, many))
-    by (wrong f other y is) = is ∙ ap load_answer (one_wrong 0 (contents_of files c.files) other error y first)
+    by (wrong f other y is) = is ∙ ap (λ (e : LoadError). answered (load_answer e)) (one_wrong 0 (contents_of files c.files) other error y first)
     by (by_linking f classes are y) = absurd (wrong_or_classes 0 (contents_of files c.files) error classes first are)
 
-wrong_cause : (known : Option store.Files) (c : Command) (error : LoadError) → length c.files ≤ most_files → FindsWrong known c error → HasCause known c (load_answer error)
+wrong_cause : (known : Option store.Files) (c : Command) (error : LoadError) → length c.files ≤ most_files → FindsWrong known c error → HasCause known c (answered (load_answer error))
 wrong_cause known c error few x = record { contents = x.contents; holds = x.holds; due = wrong few error x.first refl }
 
 wrong_exact : (known : Option store.Files) (faulty : Type 0) (c : Command) (error : LoadError) → length c.files ≤ most_files → (s : IsStopped known faulty c.files error) → IsWrongFile known (length s.front) s.name error
-    → HasCause known c (load_answer error) × ((files : store.Files) (answer : Why) → known ≡ Some files → IsDue c (contents_of files c.files) answer → answer ≡ load_answer error)
+    → HasCause known c (answered (load_answer error)) × ((files : store.Files) (due : Due) → known ≡ Some files → IsDue c (contents_of files c.files) due → due ≡ answered (load_answer error))
 wrong_exact known faulty c error few s here = let x = finds_wrong known faulty c error s here in (wrong_cause known c error few x, wrong_due known c error few x)
 
 take_front : (front back : List (List ℕ)) (name : List ℕ) → take (length front) (front ++ name ∷ back) ≡ front
@@ -294,14 +301,23 @@ reached known faulty c error few s =
       read = read.read;
     }
 
+-- what is due is this answer
+is_due : (due : Due) (why : Why) → due ≡ answered why → IsDueOrFault due why
+is_due due why e = subst (λ (d : Due). IsDueOrFault d why) (sym e) (same why)
+  where
+    same : (why : Why) → IsDueOrFault (answered why) why
+    same NoMemory = tt
+    same (SourceFault file) = tt
+    same why = refl
+
 pub stopped_exact : (known : Option store.Files) (faulty : Type 0) (c : Command) (error : LoadError) → length c.files ≤ most_files → IsStopped known faulty c.files error → IsExact known faulty c (load_answer error)
 stopped_exact known faulty c error few s = by error s s.cause
   where
     by : (error : LoadError) (s : IsStopped known faulty c.files error) → NotRead known faulty (length s.front) s.name error → IsExact known faulty c (load_answer error)
-    by load.NoMemory s cause = record { cause = tt; due = λ files answer is due. tt }
+    by load.NoMemory s cause = record { cause = tt; due = λ files due is it. tt }
     by (load.SourceFault file) s cause =
-        record { cause = (cause.1, subst (λ (n : ℕ). IsReached known c n) (sym cause.0) (reached known faulty c (load.SourceFault file) few s)); due = λ files answer is due. tt }
-    by error s cause = let x = wrong_exact known faulty c error few s cause in record { cause = x.0; due = x.1 }
+        record { cause = (cause.1, subst (λ (n : ℕ). IsReached known c n) (sym cause.0) (reached known faulty c (load.SourceFault file) few s)); due = λ files due is it. tt }
+    by error s cause = let x = wrong_exact known faulty c error few s cause in record { cause = x.0; due = λ files due is it. is_due due (load_answer error) (x.1 files due is it) }
 
 -- an error of loading is no end and no fault of a sink
 pub load_refusal : (error : LoadError) → IsRefusal (load_answer error)
@@ -313,9 +329,9 @@ load_refusal load.NoMemory = tt
 
 -- ---- classes that were accepted and ran, or not
 
-program_due : (known : Option store.Files) (c : Command) (classes : List ClassFile) (why : Why) → length c.files ≤ most_files → AreRead known c.files classes → IsProgramAnswer (class_named c.main) classes why
-    → (files : store.Files) (answer : Why) → known ≡ Some files → IsDue c (contents_of files c.files) answer → answer ≡ why
-program_due known c classes why few read program_answer_is files answer is due = by due
+program_due : (known : Option store.Files) (c : Command) (classes : List ClassFile) (what : Due) → length c.files ≤ most_files → AreRead known c.files classes → IsProgramDue (class_named c.main) classes what
+    → (files : store.Files) (due : Due) → known ≡ Some files → IsDue c (contents_of files c.files) due → due ≡ what
+program_due known c classes what few read program_due_is files due is it = by it
   where
     same : read.contents ≡ contents_of files c.files
     same = held_is files c.files read.contents (subst (λ (t : Option store.Files). HaveContents t c.files read.contents) is read.holds)
@@ -323,34 +339,36 @@ program_due known c classes why few read program_answer_is files answer is due =
     are : AreClasses (contents_of files c.files) classes
     are = subst (λ (contents : List Contents). AreClasses contents classes) same read.read
 
-    by : IsDue c (contents_of files c.files) answer → answer ≡ why
+    by : IsDue c (contents_of files c.files) due → due ≡ what
     by (too_many many e) = absurd (omega (arith, few, many))
     by (wrong f error y is) = absurd (wrong_or_classes 0 (contents_of files c.files) error classes y are)
     by (by_linking f others others_are y) =
         let one : others ≡ classes = read.only others (subst (λ (contents : List Contents). AreClasses contents others) (sym same) others_are) in
-        one_program_answer (class_named c.main) classes answer why (subst (λ (cs : List ClassFile). IsProgramAnswer (class_named c.main) cs answer) one y) program_answer_is
+        one_program_due (class_named c.main) classes due what (subst (λ (cs : List ClassFile). IsProgramDue (class_named c.main) cs due) one y) program_due_is
 
-program_cause : (known : Option store.Files) (c : Command) (classes : List ClassFile) (why : Why) → length c.files ≤ most_files → AreRead known c.files classes → IsProgramAnswer (class_named c.main) classes why → HasCause known c why
-program_cause known c classes why few read program_answer_is = record { contents = read.contents; holds = read.holds; due = by_linking few classes read.read program_answer_is }
+program_cause : (known : Option store.Files) (c : Command) (classes : List ClassFile) (due : Due) → length c.files ≤ most_files → AreRead known c.files classes → IsProgramDue (class_named c.main) classes due → HasCause known c due
+program_cause known c classes due few read is = record { contents = read.contents; holds = read.holds; due = by_linking few classes read.read is }
 
--- an answer to the classes is exact
+-- an answer to classes that aren't run is exact
 program_exact : (known : Option store.Files) (faulty : Type 0) (c : Command) (classes : List ClassFile) (why : Why) → length c.files ≤ most_files → AllZip (IsRead known) c.files classes
-    → IsProgramAnswer (class_named c.main) classes why → IsExact known faulty c why
+    → IsProgramRefusal (class_named c.main) classes why → IsExact known faulty c why
 program_exact known faulty c classes why few all is = by why is
   where
     read : AreRead known c.files classes
     read = all_read known c.files classes all
 
-    by : (why : Why) → IsProgramAnswer (class_named c.main) classes why → IsExact known faulty c why
-    by NoMain is = record { cause = program_cause known c classes NoMain few read is; due = program_due known c classes NoMain few read is }
-    by (LinkFault class reason) is = record { cause = program_cause known c classes (LinkFault class reason) few read is; due = program_due known c classes (LinkFault class reason) few read is }
+    due_is : (why : Why) → IsProgramRefusal (class_named c.main) classes why → (files : store.Files) (due : Due) → known ≡ Some files → IsDue c (contents_of files c.files) due → IsDueOrFault due why
+    due_is why is files due told it = is_due due why (program_due known c classes (answered why) few read is files due told it)
+
+    by : (why : Why) → IsProgramRefusal (class_named c.main) classes why → IsExact known faulty c why
+    by NoMain is = record { cause = program_cause known c classes (answered NoMain) few read is; due = due_is NoMain is }
+    by (LinkFault class reason) is = record { cause = program_cause known c classes (answered (LinkFault class reason)) few read is; due = due_is (LinkFault class reason) is }
     by (VerifyFault class method pc reason) is =
-        record { cause = program_cause known c classes (VerifyFault class method pc reason) few read is; due = program_due known c classes (VerifyFault class method pc reason) few read is }
-    by Ended is = record { cause = program_cause known c classes Ended few read is; due = program_due known c classes Ended few read is }
+        record { cause = program_cause known c classes (answered (VerifyFault class method pc reason)) few read is; due = due_is (VerifyFault class method pc reason) is }
     by why is = absurd is
 
 pub memory_exact : (known : Option store.Files) (faulty : Type 0) (c : Command) → IsExact known faulty c NoMemory
-memory_exact known faulty c = record { cause = tt; due = λ files answer is due. tt }
+memory_exact known faulty c = record { cause = tt; due = λ files due is it. tt }
 
 -- classes that are not accepted
 pub unaccepted_exact : (known : Option store.Files) (faulty : Type 0) (c : Command) (classes : List ClassFile) (error : AcceptError) → length c.files ≤ most_files → AllZip (IsRead known) c.files classes
@@ -387,11 +405,11 @@ start_faults start.NoMain before now kept = kept
 start_faults (start.Unsupported class) before now kept = kept
 start_faults start.NoMemory before now kept = tt
 
--- without a method nothing starts
-pub unstarted_is : (name : List ℕ) (classes : List ClassFile) (error : StartError) → has_main name classes ≡ true → ((m : Method) → IsPlainProgram classes m → ⊥) → AllByRecursion IsSpelled classes
+-- classes with a main that the machine can't run
+pub unstarted_is : (name : List ℕ) (classes : List ClassFile) (error : StartError) → has_main name classes ≡ true → runnable_main (world_of_files classes) name ≡ None → AllByRecursion IsSpelled classes
     → error ≡ start.Unsupported (first_name classes) → NotStarted name classes error
-unstarted_is name classes error main none spelled is =
-    subst (λ (e : StartError). NotStarted name classes e) (sym is) (record { main = main; none = none; first = first_is name classes main spelled })
+unstarted_is name classes error main cannot spelled is =
+    subst (λ (e : StartError). NotStarted name classes e) (sym is) (record { main = main; cannot = cannot; first = first_is name classes main spelled })
 
 -- files that were read are spelled
 pub all_spelled : (known : Option store.Files) (names : List (List ℕ)) (classes : List ClassFile) → AllZip (IsRead known) names classes → AllByRecursion IsSpelled classes
@@ -404,32 +422,20 @@ all_spelled known (name ∷ names) (f ∷ classes) read = (by read.0.contents re
     by None is = absurd is
     by (Some bytes) is = (bytes, is.1)
 
-pub program_is : (name : List ℕ) (classes : List ClassFile) (m : Method) → AreAccepted classes → has_main name classes ≡ true → IsPlainProgram classes m → IsProgram name classes (alone m)
-program_is name classes m accepted main plain = record { method = m; accepted = accepted; main = main; plain = plain; is_program = refl }
+-- a run is due to classes that are accepted, and of which main is started
+pub run_due : (known : Option store.Files) (c : Command) (classes : List ClassFile) (p : Setting) → length c.files ≤ most_files → AllZip (IsRead known) c.files classes → IsProgram (class_named c.main) classes p
+    → IsRunDue known c
+run_due known c classes p few all is files due told it = (p, program_due known c classes (runs p) few (all_read known c.files classes all) is files due told it)
 
-pub ended_exact : (known : Option store.Files) (faulty : Type 0) (c : Command) (classes : List ClassFile) (m : Method) → length c.files ≤ most_files → AllZip (IsRead known) c.files classes → AreAccepted classes
-    → has_main (class_named c.main) classes ≡ true → IsPlainProgram classes m → IsExact known faulty c Ended
-ended_exact known faulty c classes m few all accepted main plain =
-    program_exact known faulty c classes Ended few all (alone m, program_is (class_named c.main) classes m accepted main plain)
-
-pub ran_command : (known : Option store.Files) (c : Command) (classes : List ClassFile) (m : Method) (history : List Entry) (out : List ℕ) → AllZip (IsRead known) c.files classes → AreAccepted classes
-    → has_main (class_named c.main) classes ≡ true → IsPlainProgram classes m → IsRun (alone m) history out → RanCommand known c history out
-ran_command known c classes m history out all accepted main plain run_is =
+pub ran_command : (known : Option store.Files) (c : Command) (classes : List ClassFile) (p : Setting) (x : Execution) → length c.files ≤ most_files → AllZip (IsRead known) c.files classes
+    → IsProgram (class_named c.main) classes p → IsRun p x.history.items x.out.items x.err.items x.ending → RanCommand known c x
+ran_command known c classes p x few all is run_is =
     let read = all_read known c.files classes all in
-    record {
-      program = alone m;
-      given = record { contents = read.contents; classes = classes; holds = read.holds; read = read.read; accepted = program_is (class_named c.main) classes m accepted main plain };
-      run_is = run_is;
-    }
+    record { program = p; given = record { contents = read.contents; classes = classes; few = few; holds = read.holds; read = read.read; accepted = is }; run_is = run_is }
 
--- ---- the lines
-
--- a line that was put, or its front
-pub takes : {E : Type 0} (contents : E → Option (List ℕ)) (faults : E → ℕ) (old new : E) (line : List ℕ) (r : Result (Unit {0}) PartWritten) → OnOk r (Appends (contents old) line (contents new))
-    → IfErr r (λ e. Appends (contents old) (take e.taken line) (contents new)) → IfErr r (λ e. e.taken < length line) → OnErr r (Rose (faults old) (faults new)) → OnOk r (faults new ≡ faults old)
-    → TakesLine contents faults old new line
-takes contents faults old new line (Ok x) ok part short cause kept = record { taken = length line; written = rw (take_all (length line) line (omega arith)) ok; whole = λ lt. absurd (omega arith); kept = λ all. kept }
-takes contents faults old new line (Err e) ok part short cause kept = record { taken = e.taken; written = part; whole = λ lt. cause; kept = λ all. absurd (omega (arith, short, all)) }
+pub has_run : (known : Option store.Files) (c : Command) (x : Execution) → RanCommand known c x → HasRun known c
+has_run known c x ran =
+    record { program = ran.program; cause = record { contents = ran.given.contents; holds = ran.given.holds; due = by_linking ran.given.few ran.given.classes ran.given.read ran.given.accepted } }
 
 -- ---- the answer of the call
 
@@ -438,73 +444,31 @@ pub kept_exact : (known : Option store.Files) (faulty : Type 0) (c : Command) (b
 kept_exact known faulty c before after (inl e) exact = subst (λ (w : Why). IsExact known faulty c w) (sym e) exact
 kept_exact known faulty c before after (inr e) exact = subst (λ (w : Why). IsExact known faulty c w) (sym e.1) (memory_exact known faulty c)
 
--- an answer after a run
-pub ran_exact : (known : Option store.Files) (faulty : Type 0) (c : Command) (why : Why) (taken size : ℕ) → IsTaken why taken size → IsExact known faulty c Ended → IsExact known faulty c why
-ran_exact known faulty c Ended taken size is exact = exact
-ran_exact known faulty c (SinkFault which written) taken size is exact = record { cause = exact.cause; due = exact.due }
-ran_exact known faulty c why taken size is exact = absurd is
-
-pub ran_faults : (why : Why) (taken size before now : ℕ) → IsTaken why taken size → StoreFaults Ended before now → StoreFaults why before now
-ran_faults Ended taken size before now is kept = kept
-ran_faults (SinkFault which written) taken size before now is kept = kept
-ran_faults why taken size before now is kept = absurd is
-
-on_run : (X : Type 0) (why : Why) → X → OnRun why X
-on_run X Ended x = x
-on_run X (SinkFault which written) x = x
-on_run X why x = tt
-
-pub ran_idle : (Y : Type 0) (why : Why) (taken size : ℕ) → IsTaken why taken size → OnNoRun why Y
-ran_idle Y Ended taken size is = tt
-ran_idle Y (SinkFault which written) taken size is = tt
-ran_idle Y why taken size is = absurd is
-
-ran_is : (c : Command) (known : Option store.Files) (before after : Option (List ℕ)) (r : Report) (history : List Entry) (out : List ℕ) → RanCommand known c history out → r.history.items ≡ history
-    → Appends before (take r.out_written out) after → IsTaken r.why r.out_written (length out) → Ran c known before after r
-ran_is c known before after r history out ran same written taken =
-    let run_is = ran.run_is in
-    record {
-      program = ran.program;
-      state = run_is.state;
-      given = ran.given;
-      runs = rw same run_is.runs;
-      ended = run_is.ended;
-      tells = run_is.tells;
-      entries = rw same run_is.entries;
-      written = rw run_is.prints written;
-      taken = rw run_is.prints taken;
-    }
-
-pub headline_is : (command : Option Command) (c : Command) (known : Option store.Files) (before after : Option (List ℕ)) (r : Report) (history : List Entry) (out : List ℕ) → Some c ≡ command → RanCommand known c history out
-    → r.history.items ≡ history → Appends before (take r.out_written out) after → IsTaken r.why r.out_written (length out)
-    → OnRun r.why (IsSomeAnd command (λ d. Ran d known before after r))
-headline_is command c known before after r history out is ran same written taken =
-    on_run (IsSomeAnd command (λ d. Ran d known before after r)) r.why (rw (← is) (ran_is c known before after r history out ran same written taken))
-
-no_run : (X : Type 0) (why : Why) → IsRefusal why → OnRun why X
-no_run X Ended is = absurd is
-no_run X (SinkFault which written) is = absurd is
-no_run X why is = tt
-
-on_no_run : (Y : Type 0) (why : Why) → Y → OnNoRun why Y
-on_no_run Y Ended y = tt
-on_no_run Y (SinkFault which written) y = tt
-on_no_run Y why y = y
-
 no_out_fault : (why : Why) (n : ℕ) → IsRefusal why → OutFaults why n n
 no_out_fault (SinkFault which written) n is = absurd is
 no_out_fault why n is = refl
 
-kept_refusal : (before after : Why) → IsKept before after → IsRefusal before → IsRefusal after
+pub kept_refusal : (before after : Why) → IsKept before after → IsRefusal before → IsRefusal after
 kept_refusal before after (inl e) is = subst IsRefusal (sym e) is
 kept_refusal before after (inr e) is = subst IsRefusal (sym e.1) tt
 
+-- a refusal is no answer to a run
+pub refusal_or_run : (why : Why) → IsRefusal why → IsOfRun why → ⊥
+refusal_or_run (Limit Files number) is run = run
+refusal_or_run (Limit FileSize number) is run = run
+refusal_or_run (Limit Events number) is run = is
+refusal_or_run (Missing file) is run = run
+refusal_or_run (SourceFault file) is run = run
+refusal_or_run (BadClass file at reason) is run = run
+refusal_or_run NoMain is run = run
+refusal_or_run (LinkFault class reason) is run = run
+refusal_or_run (VerifyFault class method pc reason) is run = run
+refusal_or_run NoMemory is run = run
+refusal_or_run why is run = is
+
 -- a refusal runs nothing, and leaves the out sink
 pub refused_headline : (X : Type 0) (before after : Why) → IsKept before after → IsRefusal before → OnRun after X
-refused_headline X before after kept is = no_run X after (kept_refusal before after kept is)
-
-pub refused_idle : (Y : Type 0) (why : Why) → Y → OnNoRun why Y
-refused_idle Y why y = on_no_run Y why y
+refused_headline X before after kept is run = absurd (refusal_or_run after (kept_refusal before after kept is) run)
 
 pub refused_out : (before after : Why) (n : ℕ) → IsKept before after → IsRefusal before → OutFaults after n n
 refused_out before after n kept is = no_out_fault after n (kept_refusal before after kept is)
@@ -520,13 +484,3 @@ not_usage before after kept is e = subst IsRefusal e (kept_refusal before after 
 -- what holds of the command that the words spell
 pub of_command : (command : Option Command) (c : Command) (P : Command → Type 0) → Some c ≡ command → P c → IfSome command P
 of_command command c P is p = rw (← is) p
-
--- the line names the words of that command
-pub line_named : {E : Type 0} (contents : E → Option (List ℕ)) (faults : E → ℕ) (old new : E) (command : Option Command) (c : Command) (why : Why) → Some c ≡ command → TakesLine contents faults old new (line_of c why)
-    → TakesLine contents faults old new (line_for command why)
-line_named contents faults old new command c why is line = subst (λ (o : Option Command). TakesLine contents faults old new (line_for o why)) is line
-
--- where there is no command, the line is that of Usage
-pub line_of_none : {E : Type 0} (contents : E → Option (List ℕ)) (faults : E → ℕ) (old new : E) (command : Option Command) (why : Why) → None ≡ command → TakesLine contents faults old new usage_line
-    → TakesLine contents faults old new (line_for command why)
-line_of_none contents faults old new command why is line = subst (λ (o : Option Command). TakesLine contents faults old new (line_for o why)) is line

@@ -6,30 +6,27 @@ use Rattle.class_model.specs.declared.class_file.ClassFile.{ClassFile}
 use Rattle.class_grammar.specs.declared.class_why.ClassWhy.{ClassWhy}
 use Rattle.class_file.specs.File.{first_bad}
 use Rattle.class_file.proofs.OutcomeLaws.{one_value, none_bad, some_spelled}
-use Rattle.plain_model.specs.Program.{Method}
-use Rattle.plain_model.specs.Alone.{alone}
 use Rattle.linkage.specs.declared.fault.LinkFault as faults
 use Rattle.linkage.specs.declared.why.LinkWhy.TheVariants.{Unsupported}
 use Rattle.linkage.specs.Faults.{Links, link_fault}
 use Rattle.world_model.specs.Worlds.{world_of}
 use Rattle.verify_types.specs.declared.fault.VerifyFault as typing
 use Rattle.verify_types.specs.Faults.{first_fault}
-use Rattle.plain_program.specs.Programs.{IsSpelled, IsPlainProgram}
-use Rattle.plain_program.proofs.Deciding.{plain_or_not}
+use Rattle.java_cli.specs.Limits.{run_limits}
+use Rattle.java_cli.specs.Programs.{IsSpelled, world_of_files, runnable_main}
 use Rattle.java_cli.specs.declared.errors.LoadError.{LoadError}
 use Rattle.java_cli.specs.declared.errors.LoadError.TheVariants as load
 use Rattle.java_cli.specs.declared.report.Which.TheVariants.{Files}
-use Rattle.java_cli.specs.declared.report.Why.{Why}
-use Rattle.java_cli.specs.declared.report.Why.TheVariants.{Ended, Limit, NoMain, LinkFault, VerifyFault}
+use Rattle.java_cli.specs.declared.report.Why.TheVariants.{Limit, NoMain, LinkFault, VerifyFault}
 use Rattle.java_cli.specs.Limits.{most_files, most_bytes}
 use Rattle.java_cli.specs.Errors.{load_answer}
 use Rattle.java_cli.specs.Words.{Command}
 use Rattle.java_cli.specs.MainClass.{class_named, has_main}
 use Rattle.java_cli.specs.Linking.{program_of, class_text, method_text, IsTypingFault, AreAccepted}
-use Rattle.java_cli.specs.Causes.{Contents, IsClass, AreClasses, IsWrong, FirstWrong, IsProgramAnswer, IsDue, too_many, wrong, by_linking, AreBytes, OneIsDue}
+use Rattle.java_cli.specs.Causes.{Contents, IsClass, AreClasses, IsWrong, FirstWrong, Due, answered, runs, IsProgramDue, IsDue, too_many, wrong, by_linking, AreBytes, OneIsDue}
 use Rattle.java_cli.specs.LinkCauses.{first_name}
 use Rattle.java_cli.proofs.NameLaws.{first_is}
-use Rattle.java_cli.proofs.AnswerLaws.{one_wrong, wrong_or_classes, one_program_answer, program_is}
+use Rattle.java_cli.proofs.AnswerLaws.{one_wrong, wrong_or_classes, one_program_due}
 
 -- ---- at most one
 
@@ -48,16 +45,16 @@ one_list (h ∷ contents) (f ∷ a) (g ∷ b) x y =
     let others : a ≡ b = one_list contents a b x.1 y.1 in
     cc
 
-one_program : (name : List ℕ) (contents : List Contents) (cs ds : List ClassFile) (a b : Why) → AreClasses contents cs → AreClasses contents ds → IsProgramAnswer name cs a → IsProgramAnswer name ds b → a ≡ b
+one_program : (name : List ℕ) (contents : List Contents) (cs ds : List ClassFile) (a b : Due) → AreClasses contents cs → AreClasses contents ds → IsProgramDue name cs a → IsProgramDue name ds b → a ≡ b
 one_program name contents cs ds a b are are_too x y =
-    one_program_answer name ds a b (subst (λ (es : List ClassFile). IsProgramAnswer name es a) (one_list contents cs ds are are_too) x) y
+    one_program_due name ds a b (subst (λ (es : List ClassFile). IsProgramDue name es a) (one_list contents cs ds are are_too) x) y
 
-one_due : (c : Command) (contents : List Contents) (a b : Why) → IsDue c contents a → IsDue c contents b → a ≡ b
+one_due : (c : Command) (contents : List Contents) (a b : Due) → IsDue c contents a → IsDue c contents b → a ≡ b
 one_due c contents a b (too_many m e) (too_many n f) = e ∙ sym f
 one_due c contents a b (too_many m e) (wrong few error x f) = absurd (omega (arith, m, few))
 one_due c contents a b (too_many m e) (by_linking few classes are x) = absurd (omega (arith, m, few))
 one_due c contents a b (wrong few error x e) (too_many n f) = absurd (omega (arith, n, few))
-one_due c contents a b (wrong few error x e) (wrong few_too other y f) = e ∙ ap load_answer (one_wrong 0 contents error other x y) ∙ sym f
+one_due c contents a b (wrong few error x e) (wrong few_too other y f) = e ∙ ap (λ (x : LoadError). answered (load_answer x)) (one_wrong 0 contents error other x y) ∙ sym f
 one_due c contents a b (wrong few error x e) (by_linking few_too classes are y) = absurd (wrong_or_classes 0 contents error classes x are)
 one_due c contents a b (by_linking few classes are x) (too_many n f) = absurd (omega (arith, n, few))
 one_due c contents a b (by_linking few classes are x) (wrong few_too error y f) = absurd (wrong_or_classes 0 contents error classes y are)
@@ -101,42 +98,43 @@ all_spelled [] (f ∷ classes) are = absurd are
 all_spelled (h ∷ contents) [] are = absurd are
 all_spelled (h ∷ contents) (f ∷ classes) are = (one_spelled h f are.0, all_spelled contents classes are.1)
 
-by_plain : (name : List ℕ) (classes : List ClassFile) → AllByRecursion IsSpelled classes → AreAccepted classes → has_main name classes ≡ true → ((m : Method) × IsPlainProgram classes m) ⊎ ((m : Method) → IsPlainProgram classes m → ⊥)
-    → (a : Why) × IsProgramAnswer name classes a
-by_plain name classes spelled accepted main (inl x) = (Ended, (alone x.0, program_is name classes x.0 accepted main x.1))
-by_plain name classes spelled accepted main (inr refuted) =
-    (LinkFault (first_name classes) Unsupported, inr (refl, accepted, record { main = main; none = refuted; first = first_is name classes main spelled }))
+by_number : (name : List ℕ) (classes : List ClassFile) → AllByRecursion IsSpelled classes → AreAccepted classes → has_main name classes ≡ true → (n : Option ℕ) → runnable_main (world_of_files classes) name ≡ n
+    → (a : Due) × IsProgramDue name classes a
+by_number name classes spelled accepted main (Some n) e =
+    (runs (record { world = world_of_files classes; main = n; limits = run_limits }), record { accepted = accepted; main = record { declared = main; number = e }; world = refl; limits = refl })
+by_number name classes spelled accepted main None e =
+    (answered (LinkFault (first_name classes) Unsupported), inr (refl, accepted, record { main = main; cannot = e; first = first_is name classes main spelled }))
 
-by_main : (name : List ℕ) (classes : List ClassFile) → AllByRecursion IsSpelled classes → AreAccepted classes → (b : Bool) → has_main name classes ≡ b → (a : Why) × IsProgramAnswer name classes a
-by_main name classes spelled accepted false e = (NoMain, (accepted, e))
-by_main name classes spelled accepted true e = by_plain name classes spelled accepted e (plain_or_not classes spelled)
+by_main : (name : List ℕ) (classes : List ClassFile) → AllByRecursion IsSpelled classes → AreAccepted classes → (b : Bool) → has_main name classes ≡ b → (a : Due) × IsProgramDue name classes a
+by_main name classes spelled accepted false e = (answered NoMain, (accepted, e))
+by_main name classes spelled accepted true e = by_number name classes spelled accepted e (runnable_main (world_of_files classes) name) refl
 
 by_typing : (name : List ℕ) (classes : List ClassFile) → AllByRecursion IsSpelled classes → Links (program_of classes) → (o : Option typing.VerifyFault) → first_fault (world_of (program_of classes)) ≡ o
-    → (a : Why) × IsProgramAnswer name classes a
+    → (a : Due) × IsProgramDue name classes a
 by_typing name classes spelled links None e = by_main name classes spelled (record { links = links; typed = e }) (has_main name classes) refl
 by_typing name classes spelled links (Some f) e =
     let p = program_of classes in
     let named : IsTypingFault p (class_text p f.class) (method_text p.classes f.method) f.pc f.why = record { fault = f; first = e; class_is = refl; method_is = refl; pc_is = refl; reason_is = refl } in
-    (VerifyFault (class_text p f.class) (method_text p.classes f.method) f.pc f.why, (links, named))
+    (answered (VerifyFault (class_text p f.class) (method_text p.classes f.method) f.pc f.why), (links, named))
 
-by_fault : (name : List ℕ) (classes : List ClassFile) → AllByRecursion IsSpelled classes → (o : Option faults.LinkFault) → link_fault (program_of classes) ≡ o → (a : Why) × IsProgramAnswer name classes a
+by_fault : (name : List ℕ) (classes : List ClassFile) → AllByRecursion IsSpelled classes → (o : Option faults.LinkFault) → link_fault (program_of classes) ≡ o → (a : Due) × IsProgramDue name classes a
 by_fault name classes spelled None e = by_typing name classes spelled e (first_fault (world_of (program_of classes))) refl
-by_fault name classes spelled (Some f) e = (LinkFault f.class f.why, inl e)
+by_fault name classes spelled (Some f) e = (answered (LinkFault f.class f.why), inl e)
 
-by_files : (c : Command) (contents : List Contents) → length c.files ≤ most_files → ((error : LoadError) × FirstWrong 0 contents error) ⊎ ((classes : List ClassFile) × AreClasses contents classes) → (a : Why) × IsDue c contents a
-by_files c contents few (inl x) = (load_answer x.0, wrong few x.0 x.1 refl)
+by_files : (c : Command) (contents : List Contents) → length c.files ≤ most_files → ((error : LoadError) × FirstWrong 0 contents error) ⊎ ((classes : List ClassFile) × AreClasses contents classes) → (a : Due) × IsDue c contents a
+by_files c contents few (inl x) = (answered (load_answer x.0), wrong few x.0 x.1 refl)
 by_files c contents few (inr x) =
     let a = by_fault (class_named c.main) x.0 (all_spelled contents x.0 x.1) (link_fault (program_of x.0)) refl in
     (a.0, by_linking few x.0 x.1 a.1)
 
-some_due : (c : Command) (contents : List Contents) → AllByRecursion AreBytes contents → (a : Why) × IsDue c contents a
+some_due : (c : Command) (contents : List Contents) → AllByRecursion AreBytes contents → (a : Due) × IsDue c contents a
 some_due c contents fits = by_count (cases_lt most_files (length c.files))
   where
-    by_count : (most_files < length c.files) ⊎ (length c.files ≤ most_files) → (a : Why) × IsDue c contents a
-    by_count (inl many) = (Limit Files most_files, too_many many refl)
+    by_count : (most_files < length c.files) ⊎ (length c.files ≤ most_files) → (a : Due) × IsDue c contents a
+    by_count (inl many) = (answered (Limit Files most_files), too_many many refl)
     by_count (inr few) = by_files c contents few (first_wrong_or_read 0 contents fits)
 
 pub one_is_due : (c : Command) (contents : List Contents) → AllByRecursion AreBytes contents → OneIsDue c contents
 one_is_due c contents fits =
     let some = some_due c contents fits in
-    record { answer = some.0; due = some.1; only = λ other due. one_due c contents other some.0 due some.1 }
+    record { what = some.0; due = some.1; only = λ other due. one_due c contents other some.0 due some.1 }

@@ -1,5 +1,5 @@
 -- From what linking and typing say of a program to what they say of class files.
-use Rattle.std.proofs.Common.{◌≡◌, ℕ, List, drop, Some, Result, Ok, Err, refl, sym, ap, subst, ◌∙◌}
+use Rattle.std.proofs.Common.{◌≡◌, ℕ, List, drop, Some, Result, Ok, Err, refl, ap, subst, ◌∙◌}
 use Rattle.std.specs.Prelude.{IfOk, IfErr}
 use Rattle.std.proofs.Math.Seq.{drop-append_seam}
 use Rattle.class_model.specs.declared.class_file.ClassFile.{ClassFile}
@@ -27,10 +27,18 @@ accepted_is classes p (Ok w) same links found typed =
     record { links = subst Links same links; typed = subst IsWellTyped (found ∙ ap world_of same) typed }
 accepted_is classes p (Err error) same links found typed = tt
 
-pub files_are : (classes : List ClassFile) (p : Program) (r : Result World AcceptError) → p ≡ program_of classes → IfOk r (λ w. w ≡ world_of p) → IfOk r (λ w. drop w.program.built_in w.program.classes ≡ classes)
-files_are classes p (Ok w) same found =
-    subst (λ (v : World). drop v.program.built_in v.program.classes ≡ classes) (sym (found ∙ ap world_of same)) (drop-append_seam built_in classes)
-files_are classes p (Err error) same found = tt
+-- the files of the program that was linked
+pub seam : (classes : List ClassFile) (p : Program) → p ≡ program_of classes → drop p.built_in p.classes ≡ classes
+seam classes p same = ap (λ (q : Program). drop q.built_in q.classes) same ∙ drop-append_seam built_in classes
+
+-- the world that was typed is that of the files
+pub world_is : (classes : List ClassFile) (p : Program) (r : Result World AcceptError) → p ≡ program_of classes → IfOk r (λ w. w ≡ world_of p) → IfOk r (λ w. w ≡ world_of (program_of classes))
+world_is classes p (Ok w) same found = found ∙ ap world_of same
+world_is classes p (Err error) same found = tt
+
+pub program_in : (classes : List ClassFile) (p : Program) (r : Result World AcceptError) → p ≡ program_of classes → IfOk r (λ w. w ≡ world_of p) → IfOk r (λ w. w.program ≡ program_of classes)
+program_in classes p (Ok w) same found = ap (λ (v : World). v.program) found ∙ same
+program_in classes p (Err error) same found = tt
 
 -- a program that is refused, of the files
 pub not_typed : (classes : List ClassFile) (p : Program) (r : Result World AcceptError) → p ≡ program_of classes → Links p → IfErr r (NotTyped p) → IfErr r (NotAccepted classes)

@@ -14,7 +14,7 @@ use Rattle.java_cli.specs.declared.report.Why.{Why}
 use Rattle.java_cli.specs.Words.{texts}
 use Rattle.java_cli.specs.Limits.{most_bytes}
 use Rattle.java_cli.specs.Errors.{load_answer, loaded_answer}
-use Rattle.java_cli.specs.Causes.{answer_of, Contents, HasContents, IsBad, IsRefusal, StoreFaults}
+use Rattle.java_cli.specs.Causes.{Contents, HasContents, IsBad, IsRefusal, StoreFaults}
 use Rattle.class_grammar.specs.Grammar.{SpellsOnly}
 use Rattle.java_cli.specs.LoadCauses.{IsRead, IsWrongFile, NotRead, IsStopped}
 
@@ -150,10 +150,9 @@ faults_is (Ok x) error before since after is same faults = absurd is
 faults_is (Err e) error before since after is same faults =
     subst (λ (x : LoadError). StoreFaults (load_answer x) before after) (sym is) (subst (λ (n : ℕ). StoreFaults (load_answer error) n after) same faults)
 
-pub answer_is : {A : Type 0} (r : Result A Why) (why : Why) (P : Why → Type 0) → IsErrAnd r (λ e. e ≡ why) → P why → P (answer_of r)
+pub answer_is : {A : Type 0} (r : Result A Why) (why : Why) (P : Why → Type 0) → IsErrAnd r (λ e. e ≡ why) → P why → IfErr r P
 answer_is (Ok x) why P is p = absurd is
 answer_is (Err e) why P is p = subst P (sym is) p
 
 pub refusal_is : {A : Type 0} (r : Result A Why) (why : Why) → IsErrAnd r (λ e. e ≡ why) → IsRefusal why → IfErr r IsRefusal
-refusal_is (Ok x) why is p = absurd is
-refusal_is (Err e) why is p = subst IsRefusal (sym is) p
+refusal_is r why is p = answer_is r why IsRefusal is p

@@ -14,7 +14,7 @@ use Rattle.class_grammar.specs.declared.class_why.ClassWhy.TheVariants.{Index}
 use Rattle.class_grammar.specs.Checks.{Item, unless, is_class, class_fault, text_fault, constant_items, pool_items, class_items, member_items}
 use Rattle.class_grammar.specs.Pool.{text_at, class_name_of, class_name_at}
 use Rattle.class_grammar.specs.Grammar.{IsSound}
-use Rattle.plain_program.specs.Programs.{IsSpelled}
+use Rattle.java_cli.specs.Programs.{IsSpelled}
 use Rattle.java_cli.specs.LinkCauses.{first_name}
 use Rattle.java_cli.specs.MainClass.{has_main}
 use Rattle.java_cli.specs.Causes.{IsFirstName}

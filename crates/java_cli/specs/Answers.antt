@@ -4,6 +4,7 @@ use Rattle.std.specs.Prelude.{ℕ, List, [], ◌∷◌, ◌++◌, Option, Some, 
 use Rattle.std.specs.Fmt.{decimal}
 use Rattle.std.specs.Str.{encode_utf8_all}
 use Rattle.std.specs.Char.Utf16.{utf16_chars}
+use Rattle.jvm_words.specs.Words.{low_bits}
 use Rattle.class_grammar.specs.declared.class_why.ClassWhy.{ClassWhy}
 use Rattle.class_grammar.specs.declared.class_why.ClassWhy.TheVariants as class_whys
 use Rattle.linkage.specs.declared.why.LinkWhy.{LinkWhy}
@@ -11,14 +12,16 @@ use Rattle.linkage.specs.declared.why.LinkWhy.TheVariants as link_whys
 use Rattle.verify_types.specs.declared.why.VerifyWhy.{VerifyWhy}
 use Rattle.verify_types.specs.declared.why.VerifyWhy.TheVariants as verify_whys
 use Rattle.java_cli.specs.declared.report.Which.{Which}
-use Rattle.java_cli.specs.declared.report.Which.TheVariants.{Files, FileSize}
+use Rattle.java_cli.specs.declared.report.Which.TheVariants.{Files, FileSize, Events}
 use Rattle.java_cli.specs.declared.report.Why.{Why}
-use Rattle.java_cli.specs.declared.report.Why.TheVariants.{Ended, Usage, Limit, Missing, SourceFault, BadClass, NoMain, LinkFault, VerifyFault, SinkFault, NoMemory}
+use Rattle.java_cli.specs.declared.report.Why.TheVariants.{Ended, MainThrew, Exited, Usage, Limit, Missing, SourceFault, BadClass, NoMain, LinkFault, VerifyFault, SinkFault, NoMemory}
 use Rattle.java_cli.specs.Words.{Command}
 
 -- This table and those of names and lines list every case, so that a new answer is refused until it has a row.
 abbrev pub status_of : Why → ℕ
 status_of Ended = 0
+status_of MainThrew = 1
+status_of (Exited n) = low_bits 8 n
 status_of Usage = 64
 status_of (BadClass file at why) = 65
 status_of (Missing file) = 66
@@ -76,6 +79,7 @@ verify_why_name verify_whys.End = codes "End"
 abbrev pub which_name : Which → List ℕ
 which_name Files = codes "Files"
 which_name FileSize = codes "FileSize"
+which_name Events = codes "Events"
 
 -- units of UTF-16 as UTF-8, with `?` for a surrogate without its partner
 abbrev pub utf8_of : List ℕ → List ℕ
@@ -108,9 +112,14 @@ usage_line = codes "jvt: usage\n"
 abbrev pub memory_line : List ℕ
 memory_line = codes "jvt: no memory\n"
 
+abbrev pub fault_line : List ℕ
+fault_line = codes "jvt: cannot write\n"
+
 -- the line of an answer to this command
 abbrev pub line_of : Command → Why → List ℕ
 line_of c Ended = []
+line_of c MainThrew = []
+line_of c (Exited n) = []
 line_of c Usage = usage_line
 line_of c (Limit which number) = limit_line which number
 line_of c (Missing file) = line_with (codes "jvt: missing ") (file_word c file)
@@ -119,7 +128,7 @@ line_of c (BadClass file at why) = bad_class_line (file_word c file) at why
 line_of c NoMain = line_with (codes "jvt: no main in ") c.main
 line_of c (LinkFault class why) = link_line class why
 line_of c (VerifyFault class method pc why) = verify_line class method pc why
-line_of c (SinkFault which written) = codes "jvt: cannot write\n"
+line_of c (SinkFault which written) = fault_line
 line_of c NoMemory = memory_line
 
 -- the line of an answer to words, which may spell no command

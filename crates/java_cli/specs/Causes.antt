@@ -1,6 +1,6 @@
 -- The answer that a command asks for, by the files of the store that its words name: the first cause in the order of
 -- this file.
-use Rattle.std.specs.Prelude.{◌≡◌, ◌⊎◌, ℕ, ◌+◌, ◌<◌, ◌≤◌, false, true, List, [], ◌∷◌, length, take, map, Option, Some, None, Result, Ok, Err, IfSome, slice_index}
+use Rattle.std.specs.Prelude.{◌≡◌, ◌⊎◌, ℕ, ◌+◌, ◌<◌, ◌≤◌, false, true, List, [], ◌∷◌, length, take, map, Option, Some, None, IfSome, slice_index}
 use Rattle.std.specs.List.{AllZip}
 use Rattle.jvm_edges.specs.Causes.{Rose}
 use Rattle.jvm_edges.specs.Files.{file_named}
@@ -11,19 +11,18 @@ use Rattle.class_grammar.specs.Pool.{class_name_at}
 use Rattle.class_grammar.specs.Grammar.{Spells}
 use Rattle.class_file.specs.File.{first_bad}
 use Rattle.linkage.specs.declared.why.LinkWhy.TheVariants.{Unsupported}
-use Rattle.plain_model.specs.Program.{Method, Program}
-use Rattle.plain_program.specs.Programs.{IsPlainProgram}
+use Rattle.ref_model.specs.Setting.{Setting}
 use Rattle.java_cli.specs.declared.errors.LoadError.{LoadError}
 use Rattle.java_cli.specs.declared.errors.LoadError.TheVariants as load
-use Rattle.java_cli.specs.declared.report.Which.TheVariants.{Files}
+use Rattle.java_cli.specs.declared.report.Which.TheVariants.{Files, FileSize, Events}
 use Rattle.java_cli.specs.declared.report.Why.{Why}
-use Rattle.java_cli.specs.declared.report.Why.TheVariants.{Ended, Usage, Limit, Missing, SourceFault, BadClass, NoMain, LinkFault, VerifyFault, SinkFault, NoMemory}
+use Rattle.java_cli.specs.declared.report.Why.TheVariants.{Ended, MainThrew, Exited, Usage, Limit, Missing, SourceFault, BadClass, NoMain, LinkFault, VerifyFault, SinkFault, NoMemory}
 use Rattle.java_cli.specs.Limits.{most_files, most_bytes}
 use Rattle.java_cli.specs.Errors.{load_answer}
 use Rattle.java_cli.specs.Words.{Command}
 use Rattle.java_cli.specs.MainClass.{class_named, has_main}
 use Rattle.java_cli.specs.Linking.{IsLinkFault, IsVerifyFault, AreAccepted}
-use Rattle.java_cli.specs.Programs.{IsProgram}
+use Rattle.java_cli.specs.Programs.{world_of_files, runnable_main, IsProgram}
 
 -- ---- the contents of a file: `None` where there is no such file
 
@@ -74,35 +73,49 @@ abbrev pub IsFirstName : List ClassFile → List ℕ → Type 0
 IsFirstName [] name = ⊥
 IsFirstName (f ∷ classes) name = class_name_at f.pool f.own ≡ Some name
 
--- There is a main, but the classes are no program that runs today. The first of them has this name.
+-- There is a main, but the machine can't run the classes yet. The first of them has this name. (own)
 pub record CannotRun (name : List ℕ) (classes : List ClassFile) (class : List ℕ) : Type 0 where
   pub main : has_main name classes ≡ true
-  pub none : (m : Method) → IsPlainProgram classes m → ⊥
+  pub cannot : runnable_main (world_of_files classes) name ≡ None
   pub first : IsFirstName classes class
 
--- The answer to classes, where main is to be in the one of this name: the first fault of linking; then the first fault of
--- typing; then, of classes that are accepted, no main; then what can't run yet; then the end of the run. No other answer is one.
-abbrev pub IsProgramAnswer : List ℕ → List ClassFile → Why → Type 0
-IsProgramAnswer name classes NoMain = AreAccepted classes × (has_main name classes ≡ false)
-IsProgramAnswer name classes (LinkFault class reason) =
+-- What is due to a command: an answer without a run, or the run of a program.
+pub data Due : Type 0 where
+  answered : Why → Due
+  runs : Setting → Due
+
+-- The answer to classes that aren't run, where main is to be in the one of this name: the first fault of linking; then the first fault of
+-- typing; then, of classes that are accepted, no main; then what can't run yet. No other answer is one.
+abbrev pub IsProgramRefusal : List ℕ → List ClassFile → Why → Type 0
+IsProgramRefusal name classes NoMain = AreAccepted classes × (has_main name classes ≡ false)
+IsProgramRefusal name classes (LinkFault class reason) =
     IsLinkFault classes class reason ⊎ ((reason ≡ Unsupported) × AreAccepted classes × CannotRun name classes class)
-IsProgramAnswer name classes (VerifyFault class method pc reason) = IsVerifyFault classes class method pc reason
-IsProgramAnswer name classes Ended = (p : Program) × IsProgram name classes p
-IsProgramAnswer name classes why = ⊥
+IsProgramRefusal name classes (VerifyFault class method pc reason) = IsVerifyFault classes class method pc reason
+IsProgramRefusal name classes why = ⊥
+
+-- what is due to classes
+abbrev pub IsProgramDue : List ℕ → List ClassFile → Due → Type 0
+IsProgramDue name classes (answered why) = IsProgramRefusal name classes why
+IsProgramDue name classes (runs p) = IsProgram name classes p
 
 -- ---- the whole command
 
--- the answer that the command asks for, where its files are these and neither the store nor a sink nor memory fails
-pub data IsDue (c : Command) (contents : List Contents) (why : Why) : Type 0 where
-  too_many : most_files < length c.files → why ≡ Limit Files most_files → IsDue c contents why
-  wrong : length c.files ≤ most_files → (error : LoadError) → FirstWrong 0 contents error → why ≡ load_answer error → IsDue c contents why
-  by_linking : length c.files ≤ most_files → (classes : List ClassFile) → AreClasses contents classes → IsProgramAnswer (class_named c.main) classes why → IsDue c contents why
+-- what the command asks for, where its files are these and neither the store nor memory fails
+pub data IsDue (c : Command) (contents : List Contents) (due : Due) : Type 0 where
+  too_many : most_files < length c.files → due ≡ answered (Limit Files most_files) → IsDue c contents due
+  wrong : length c.files ≤ most_files → (error : LoadError) → FirstWrong 0 contents error → due ≡ answered (load_answer error) → IsDue c contents due
+  by_linking : length c.files ≤ most_files → (classes : List ClassFile) → AreClasses contents classes → IsProgramDue (class_named c.main) classes due → IsDue c contents due
 
 -- it is due by the store's files
-pub record HasCause (known : Option store.Files) (c : Command) (why : Why) : Type 0 where
+pub record HasCause (known : Option store.Files) (c : Command) (what : Due) : Type 0 where
   pub contents : List Contents
   pub holds : HaveContents known c.files contents
-  pub due : IsDue c contents why
+  pub due : IsDue c contents what
+
+-- a run is due
+pub record HasRun (known : Option store.Files) (c : Command) : Type 0 where
+  pub program : Setting
+  pub cause : HasCause known c (runs program)
 
 -- the files before the one of index n were read, and that one is to be read next
 pub record IsReached (known : Option store.Files) (c : Command) (n : ℕ) : Type 0 where
@@ -117,30 +130,47 @@ pub record IsReached (known : Option store.Files) (c : Command) (n : ℕ) : Type
 abbrev pub IsCaused : Option store.Files → Type 0 → Command → Why → Type 0
 IsCaused known faulty c NoMemory = Unit {0}
 IsCaused known faulty c (SourceFault file) = faulty × IsReached known c file
-IsCaused known faulty c (SinkFault which written) = HasCause known c Ended
+IsCaused known faulty c Ended = HasRun known c
+IsCaused known faulty c MainThrew = HasRun known c
+IsCaused known faulty c (Exited status) = HasRun known c
+IsCaused known faulty c (Limit Events number) = HasRun known c
+IsCaused known faulty c (SinkFault which written) = HasRun known c
 IsCaused known faulty c Usage = ⊥
-IsCaused known faulty c why = HasCause known c why
+IsCaused known faulty c why = HasCause known c (answered why)
 
--- the answer that is due, or the fault that came before it
-abbrev pub IsDueOrFault : Why → Why → Type 0
+-- the answers that a run may have
+abbrev pub IsOfRun : Why → Type 0
+IsOfRun Ended = Unit {0}
+IsOfRun MainThrew = Unit {0}
+IsOfRun (Exited status) = Unit {0}
+IsOfRun (Limit Files number) = ⊥
+IsOfRun (Limit FileSize number) = ⊥
+IsOfRun (Limit Events number) = Unit {0}
+IsOfRun (SinkFault which written) = Unit {0}
+IsOfRun why = ⊥
+
+-- what is due, or the fault that came before it
+abbrev pub IsDueOrFault : Due → Why → Type 0
 IsDueOrFault due NoMemory = Unit {0}
 IsDueOrFault due (SourceFault file) = Unit {0}
-IsDueOrFault due (SinkFault which written) = due ≡ Ended
-IsDueOrFault due why = due ≡ why
+IsDueOrFault (answered answer) why = answer ≡ why
+IsDueOrFault (runs p) why = IsOfRun why
 
 -- the contents of the files of these names
 abbrev pub contents_of : store.Files → List (List ℕ) → List Contents
 contents_of files names = map (λ name. file_named name files) names
 
--- Each answer comes only by its cause; and where the store's files are known, it is the one that is due, unless the
--- store or the sink failed or memory ran out.
+-- Each answer comes only by its cause; and where the store's files are known, it is what is due, unless the store or a sink failed or
+-- memory ran out.
 pub record IsExact (known : Option store.Files) (faulty : Type 0) (c : Command) (why : Why) : Type 0 where
   pub cause : IsCaused known faulty c why
-  pub due : (files : store.Files) (answer : Why) → known ≡ Some files → IsDue c (contents_of files c.files) answer → IsDueOrFault answer why
+  pub due : (files : store.Files) (due : Due) → known ≡ Some files → IsDue c (contents_of files c.files) due → IsDueOrFault due why
 
 -- An answer to a command that was not run. No other answer is one, so that a new answer is refused until it has a row.
 abbrev pub IsRefusal : Why → Type 0
-IsRefusal (Limit which number) = Unit {0}
+IsRefusal (Limit Files number) = Unit {0}
+IsRefusal (Limit FileSize number) = Unit {0}
+IsRefusal (Limit Events number) = ⊥
 IsRefusal (Missing file) = Unit {0}
 IsRefusal (SourceFault file) = Unit {0}
 IsRefusal (BadClass file at reason) = Unit {0}
@@ -150,11 +180,6 @@ IsRefusal (VerifyFault class method pc reason) = Unit {0}
 IsRefusal NoMemory = Unit {0}
 IsRefusal why = ⊥
 
--- the answer to a run that went to its end, or to none
-abbrev pub answer_of : {X : Type 0} → Result X Why → Why
-answer_of (Ok x) = Ended
-answer_of (Err why) = why
-
 -- ---- exactly one answer is due
 
 -- the file consists of bytes, if there is one
@@ -162,11 +187,11 @@ abbrev pub AreBytes : Contents → Type 0
 AreBytes None = Unit {0}
 AreBytes (Some bytes) = (i : ℕ) → slice_index bytes i < 256
 
--- an answer that is due, and any other that is due is this one
+-- something is due, and what else is due is this
 pub record OneIsDue (c : Command) (contents : List Contents) : Type 0 where
-  pub answer : Why
-  pub due : IsDue c contents answer
-  pub only : (other : Why) → IsDue c contents other → other ≡ answer
+  pub what : Due
+  pub due : IsDue c contents what
+  pub only : (other : Due) → IsDue c contents other → other ≡ what
 
 -- ---- faults of the store
 

@@ -1,42 +1,79 @@
 -- What a call of the machine did, from the words to what the sinks took.
-use Rattle.std.specs.Prelude.{◌≡◌, ◌⊎◌, ℕ, ◌<◌, ◌≤◌, List, [], Option, Some, length, take}
+use Rattle.std.specs.Prelude.{◌≡◌, ◌⊎◌, ℕ, ◌+◌, ◌<◌, ◌≤◌, List, [], ◌++◌, Option, Some, None, length, take}
 use Rattle.std.specs.List.{AllByRecursion}
 use Rattle.jvm_edges.specs.Bytes.{Appends}
 use Rattle.jvm_edges.specs.Causes.{Rose}
 use Rattle.jvm_edges.specs.Files.{Files}
-use Rattle.plain_model.specs.declared.ending.Ending.TheVariants as endings
-use Rattle.plain_model.specs.Program.{Program}
-use Rattle.plain_model.specs.State.{State, ending}
 use Rattle.history.specs.Java.{java}
-use Rattle.plain_model.specs.Run.{run}
+use Rattle.ref_model.specs.declared.ending.Ending.{Ending}
+use Rattle.ref_model.specs.declared.ending.Ending.TheVariants as endings
+use Rattle.ref_model.specs.Setting.{Setting}
+use Rattle.ref_model.specs.State.{State}
+use Rattle.ref_model.specs.Ending.{ending}
+use Rattle.ref_model.specs.Run.{run}
+use Rattle.machine.specs.Runs.{IsMainEntry, entries_left}
+use Rattle.ref_model.specs.declared.ending.Which.TheVariants as machine
 use Rattle.java_cli.specs.declared.report.Report.{Report}
-use Rattle.java_cli.specs.declared.report.SinkName.TheVariants.{Out}
+use Rattle.java_cli.specs.declared.report.SinkName.TheVariants.{Out, Err}
+use Rattle.java_cli.specs.declared.report.Which.TheVariants.{Events}
 use Rattle.java_cli.specs.declared.report.Why.{Why}
-use Rattle.java_cli.specs.declared.report.Why.TheVariants.{Ended, SinkFault, NoMemory}
+use Rattle.java_cli.specs.declared.report.Why.TheVariants.{Ended, MainThrew, Exited, Limit, SinkFault, NoMemory}
 use Rattle.java_cli.specs.Words.{Command}
-use Rattle.plain_program.specs.Runs.{IsMainEntry}
 use Rattle.java_cli.specs.Runs.{IsGiven}
-use Rattle.java_cli.specs.Answers.{NamesSomething}
+use Rattle.machine.specs.declared.execution.Execution.{Execution}
+use Rattle.java_cli.specs.Answers.{NamesSomething, line_of, fault_line, memory_line}
+use Rattle.java_cli.specs.Causes.{IsOfRun}
 
--- how much the out sink took: all that the program printed, or less after a fault
+-- ---- the answer to a run
+
+-- The answer says how the program has ended; or, that it hasn't, and the history had room for fewer entries than one more step needs. A
+-- sink that failed is named in place of either.
+abbrev pub IsRunAnswer : Setting → ℕ → Option Ending → Why → Type 0
+IsRunAnswer p entries told Ended = told ≡ Some endings.Ended
+IsRunAnswer p entries told MainThrew = told ≡ Some endings.MainThrew
+IsRunAnswer p entries told (Exited status) = told ≡ Some (endings.Exited status)
+IsRunAnswer p entries told (Limit Events number) =
+    (told ≡ None) × (number ≡ p.limits.events) × (p.limits.events < entries + entries_left)
+IsRunAnswer p entries told (SinkFault which written) = Unit {0}
+IsRunAnswer p entries told why = ⊥
+
+-- ---- what the sinks took
+
+-- how much the out sink took of so many bytes: all, unless its fault is the answer
 abbrev pub IsTaken : Why → ℕ → ℕ → Type 0
-IsTaken Ended taken size = taken ≡ size
-IsTaken (SinkFault which written) taken size = (which ≡ Out) × (written ≡ taken) × (taken < size)
-IsTaken why taken size = ⊥
+IsTaken (SinkFault Out written) taken size = (written ≡ taken) × (taken < size)
+IsTaken why taken size = taken ≡ size
 
--- The history of the report, without its mount and unmount entries, is a history of the reference machine for the
--- program that the command's files are, up to the program's end; and what the out sink took is that history's
--- output, or its front after a fault of the sink.
-pub record Ran (c : Command) (known : Option Files) (before after : Option (List ℕ)) (r : Report) : Type 0 where
-  pub program : Program
+-- how much the err sink took of so many bytes: all, unless a sink's fault is the answer
+abbrev pub IsTold : Why → ℕ → ℕ → Type 0
+IsTold (SinkFault Out written) taken size = Unit {0}
+IsTold (SinkFault Err written) taken size = (written ≡ taken) × (taken < size)
+IsTold why taken size = taken ≡ size
+
+-- The err sink took the front of the program's fault output, and behind all of it the answer's line, or its front. Where it didn't take
+-- all, its count of faults rose; otherwise that is as before.
+pub record TakesLine {E : Type 0} (contents : E → Option (List ℕ)) (faults : E → ℕ) (old new : E) (line text : List ℕ) (written : ℕ)
+    : Type 0 where
+  pub taken : ℕ
+  pub takes : Appends (contents old) (take written text ++ take taken line) (contents new)
+  pub part : written < length text → (taken ≡ 0) × Rose (faults old) (faults new)
+  pub whole : length text ≤ written → taken < length line → Rose (faults old) (faults new)
+  pub kept : length text ≤ written → length line ≤ taken → faults new ≡ faults old
+
+-- The history of the report, without its mount and unmount entries, is a history of the reference machine for the program that the
+-- command's files are; the answer says how that history ends; and what the sinks took is that history's output and fault output, or
+-- their fronts after a fault of the sink. Of the err sink, `Tells` says what it took where the fault output is this.
+pub record Ran (c : Command) (known : Option Files) (before after : Option (List ℕ)) (Tells : List ℕ → Type 0) (r : Report) : Type 0 where
+  pub program : Setting
   pub state : State
   pub given : IsGiven known c program
   pub runs : run program (java r.history.items) ≡ Some state
-  pub ended : ending state ≡ Some endings.Ended
-  pub tells : state.err ≡ []
+  pub answer : IsRunAnswer program (length r.history.items) (ending state) r.why
   pub entries : AllByRecursion IsMainEntry r.history.items
   pub written : Appends before (take r.out_written state.out) after
   pub taken : IsTaken r.why r.out_written (length state.out)
+  pub told : IsTold r.why r.err_written (length state.err)
+  pub tells : Tells state.err
 
 -- nothing was run, and nothing was written to the out sink
 pub record IsIdle (before after : Option (List ℕ)) (r : Report) : Type 0 where
@@ -44,30 +81,73 @@ pub record IsIdle (before after : Option (List ℕ)) (r : Report) : Type 0 where
   pub out_written : r.out_written ≡ 0
   pub same : after ≡ before
 
--- the fact holds where the answer is the end of a run or a fault of the out sink in it
+-- the fact holds where the answer is that of a run
 abbrev pub OnRun : Why → Type 0 → Type 0
-OnRun Ended fact = fact
-OnRun (SinkFault which written) fact = fact
-OnRun why fact = Unit {0}
+OnRun why fact = IsOfRun why → fact
 
 -- the fact holds where nothing was run
 abbrev pub OnNoRun : Why → Type 0 → Type 0
-OnNoRun Ended fact = Unit {0}
-OnNoRun (SinkFault which written) fact = Unit {0}
-OnNoRun why fact = fact
+OnNoRun why fact = (IsOfRun why → ⊥) → fact
 
 -- the count of faults of the out sink rose exactly where the answer names its fault
 abbrev pub OutFaults : Why → ℕ → ℕ → Type 0
-OutFaults (SinkFault which written) before now = Rose before now
+OutFaults (SinkFault Out written) before now = Rose before now
 OutFaults why before now = now ≡ before
 
--- The err sink took no fault output of the program, which has none, and then the answer's line: all of it, unless the
--- sink failed. Its count of faults rose exactly where it didn't take all.
-pub record TakesLine {E : Type 0} (contents : E → Option (List ℕ)) (faults : E → ℕ) (old new : E) (line : List ℕ) : Type 0 where
-  pub taken : ℕ
-  pub written : Appends (contents old) (take taken line) (contents new)
-  pub whole : taken < length line → Rose (faults old) (faults new)
-  pub kept : length line ≤ taken → faults new ≡ faults old
+-- ---- a sink that takes all, or fails
+
+-- The sink took all the bytes; or it failed when it had taken so many.
+abbrev pub Takes : {S : Type 0} → (S → Option (List ℕ)) → (S → ℕ) → S → S → List ℕ → Option ℕ → Type 0
+Takes contents faults old new bytes None = Appends (contents old) bytes (contents new) × (faults new ≡ faults old)
+Takes contents faults old new bytes (Some n) =
+    Appends (contents old) (take n bytes) (contents new) × (n < length bytes) × Rose (faults old) (faults new)
+
+-- the answer to a run, where the out sink and the err sink failed behind so many bytes
+abbrev pub answer_with : Why → Option ℕ → Option ℕ → Why
+answer_with why (Some n) failed = SinkFault Out n
+answer_with why None (Some n) = SinkFault Err n
+answer_with why None None = why
+
+-- the line of that answer, where this is the line of the program's ending
+abbrev pub line_after : Option ℕ → List ℕ → List ℕ
+line_after None line = line
+line_after (Some n) line = fault_line
+
+-- how many bytes a sink took of so many
+abbrev pub taken_of : Option ℕ → ℕ → ℕ
+taken_of None size = size
+taken_of (Some n) size = n
+
+-- the answer to a program that ended so
+abbrev pub ending_answer : Ending → Why
+ending_answer endings.Ended = Ended
+ending_answer endings.MainThrew = MainThrew
+ending_answer (endings.Exited status) = Exited status
+ending_answer (endings.Limit machine.Events number) = Limit Events number
+ending_answer told = NoMemory
+
+-- A run was written: its answer, and what the sinks took.
+pub record Wrote {O E : Type 0} (bytes : O → Option (List ℕ)) (counts : O → ℕ) (old_out new_out : O) (contents : E → Option (List ℕ))
+    (faults : E → ℕ) (old new : E) (c : Command) (x : Execution) (why : Why) (r : Report) : Type 0 where
+  pub out_fault : Option ℕ
+  pub err_fault : Option ℕ
+  pub history : r.history.items ≡ x.history.items
+  pub why_is : r.why ≡ answer_with why out_fault err_fault
+  pub out : Takes bytes counts old_out new_out x.out.items out_fault
+  pub out_written : r.out_written ≡ taken_of out_fault (length x.out.items)
+  pub err_written : r.err_written ≡ taken_of err_fault (length x.err.items)
+  pub err_size : (n : ℕ) → err_fault ≡ Some n → n < length x.err.items
+  pub tells : TakesLine contents faults old new (line_of c r.why) x.err.items r.err_written
+
+-- Memory ran out for the line before anything was written.
+pub record Unwritten {O E : Type 0} (old_out new_out : O) (contents : E → Option (List ℕ)) (faults : E → ℕ) (old new : E) (r : Report)
+    : Type 0 where
+  pub why : r.why ≡ NoMemory
+  pub history : r.history.items ≡ []
+  pub out_written : r.out_written ≡ 0
+  pub err_written : r.err_written ≡ 0
+  pub same : new_out ≡ old_out
+  pub line : TakesLine contents faults old new memory_line [] 0
 
 -- an answer is as before, or its line names something and there was no memory for it
 abbrev pub IsKept : Why → Why → Type 0

@@ -2,8 +2,9 @@ pub mod Words
 pub mod Commands
 pub mod MainClass
 pub mod Linking
-pub mod Programs
+pub mod Supported
 pub mod Limits
+pub mod Programs
 pub mod Errors
 pub mod Answers
 pub mod Lines

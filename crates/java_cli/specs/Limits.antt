@@ -1,5 +1,6 @@
 -- The limits of a command.
 use Rattle.std.specs.Prelude.{ℕ}
+use Rattle.ref_model.specs.declared.limits.Limits.{Limits}
 
 -- the most FILE words
 abbrev pub most_files : ℕ
@@ -8,3 +9,7 @@ most_files = 256
 -- the most bytes of a class file (own)
 abbrev pub most_bytes : ℕ
 most_bytes = 4194304
+
+-- the limits of a run: cells of the heap, threads, and entries of the history (own)
+abbrev pub run_limits : Limits
+run_limits = record { heap_cells = 4194304; threads = 100000; events = 4194304 }

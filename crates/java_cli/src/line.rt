@@ -15,6 +15,9 @@ use verify_types::VerifyWhy;
 /// The line of `Why::Usage`.
 pub const USAGE: &[u8] = b"jvt: usage\n";
 
+/// The line of `Why::SinkFault`.
+pub const CANNOT_WRITE: &[u8] = b"jvt: cannot write\n";
+
 /// The line of `Why::NoMemory`.
 pub const NO_MEMORY: &[u8] = b"jvt: no memory\n";
 
@@ -43,9 +46,9 @@ pub fn make_line(alloc: Global, why: &Why, command: &Command) -> Result<Line, Al
     ensures memory { OnErr result (NamesSomething why.now) }
 {
     let bytes = match why {
-        Why::Ended => return Ok(Line::Fixed(b"")),
+        Why::Ended | Why::MainThrew | Why::Exited(_) => return Ok(Line::Fixed(b"")),
         Why::Usage => return Ok(Line::Fixed(USAGE)),
-        Why::SinkFault { .. } => return Ok(Line::Fixed(b"jvt: cannot write\n")),
+        Why::SinkFault { .. } => return Ok(Line::Fixed(CANNOT_WRITE)),
         Why::NoMemory => return Ok(Line::Fixed(NO_MEMORY)),
         Why::Limit { which, number } => limit(alloc, *which, *number)?,
         Why::Missing { file } => line_with_name(
@@ -158,6 +161,7 @@ fn which_name(which: Which) -> &'static [u8]
     match which {
         Which::Files => b"Files",
         Which::FileSize => b"FileSize",
+        Which::Events => b"Events",
     }
 }
 

@@ -1,8 +1,9 @@
 ghost use Rattle.std.specs.Prelude.{◌≡◌};
+ghost use Rattle.jvm_words.specs.Words.{low_bits};
 
 use class_file::ClassWhy;
 use history::Entry;
-use items::Items;
+use items::{Items, NoMemory};
 use linkage::LinkWhy;
 use std::alloc::AllocError;
 use verify_types::VerifyWhy;
@@ -21,6 +22,8 @@ pub enum Which {
     Files,
     /// The bytes of a file.
     FileSize,
+    /// The entries of the history.
+    Events,
 }
 
 /// Why the call returned. `file` is the index of a file among the FILE words, from 0.
@@ -28,6 +31,10 @@ pub enum Which {
 pub enum Why {
     /// The program ran to its end.
     Ended,
+    /// The same, and an exception that nothing caught ended the main thread (JLS 11.3).
+    MainThrew,
+    /// The program called `System.exit` with this status.
+    Exited(i32),
     /// The words are no command.
     Usage,
     /// A limit is passed. `number` is the limit.
@@ -72,6 +79,13 @@ pub enum Why {
     NoMemory,
 }
 
+// The low eight bits of a status.
+fn low_byte(status: i32) -> u8
+    ensures { result ≡ low_bits 8 status }
+{
+    status.rem_euclid(256) as u8
+}
+
 impl Why {
     ghost use Rattle.java_cli.specs.Answers.{status_of};
 
@@ -81,6 +95,8 @@ impl Why {
     {
         match self {
             Why::Ended => 0,
+            Why::MainThrew => 1,
+            Why::Exited(status) => low_byte(*status),
             Why::Usage => 64,
             Why::BadClass { .. } => 65,
             Why::Missing { .. } => 66,
@@ -101,6 +117,16 @@ impl From<AllocError> for Why {
     ghost from_gives = { λ _ e. e ≡ whys.NoMemory };
 
     fn from(_: AllocError) -> Self {
+        Why::NoMemory
+    }
+}
+
+impl From<NoMemory> for Why {
+    ghost use Rattle.java_cli.specs.declared.report.Why.TheVariants as whys;
+
+    ghost from_gives = { λ _ e. e ≡ whys.NoMemory };
+
+    fn from(_: NoMemory) -> Self {
         Why::NoMemory
     }
 }

@@ -197,6 +197,80 @@ fn the_smallest_program_prints_and_has_three_entries(rt: HostRuntime) -> Result<
 }
 
 #[test]
+fn the_class_that_the_word_names_runs(rt: HostRuntime) -> Result<(), Fail> {
+    // class B prints 43
+    let class_b = replaced(rt.alloc(), &A_CLASS, 241, &[(13, b'B'), (230, 43)])?;
+    let files = [
+        ("A.class", A_CLASS.as_slice()),
+        ("B.class", class_b.as_slice()),
+    ];
+    let table = [
+        ("run A A.class B.class", b"42\n".as_slice()),
+        ("run B A.class B.class", b"43\n".as_slice()),
+        ("run A B.class A.class", b"42\n".as_slice()),
+    ];
+    for (words, printed) in table {
+        let case = Case {
+            words,
+            files: &files,
+            store_fails: &[],
+            out_fails: &[],
+        };
+        let outcome = call(rt.alloc(), &case)?;
+        assert_eq!(rt; outcome.out.bytes(), printed);
+        assert_eq!(rt; outcome.report.why, Why::Ended);
+    }
+    Ok(())
+}
+
+/// `A.class`, whose main divides 0 by 0.
+fn dividing_main(alloc: Global) -> Result<Vec<u8>, AllocError> {
+    let code = [0x03, 0x03, 0x6c, 0x57, 0x00, 0x00, 0x00, 0x00];
+    let mut bytes = Vec::from_slice(alloc, &A_CLASS[..226])?;
+    bytes.extend_from_slice(&code)?;
+    bytes.extend_from_slice(&A_CLASS[234..])?;
+    Ok(bytes)
+}
+
+/// `A.class`, whose main calls `System.exit` with this status.
+fn exiting_main(alloc: Global, status: u8) -> Result<Vec<u8>, AllocError> {
+    let code = [0x10, status, 0xb8, 0x00, 0x13, 0x00, 0x00, 0x00];
+    let mut bytes = Vec::from_slice(alloc, &A_CLASS[..165])?;
+    bytes.extend_from_slice(b"\x01\x00\x04exit")?;
+    bytes.extend_from_slice(&A_CLASS[175..188])?;
+    bytes.extend_from_slice(b"\x00\x09")?;
+    bytes.extend_from_slice(&A_CLASS[190..226])?;
+    bytes.extend_from_slice(&code)?;
+    bytes.extend_from_slice(&A_CLASS[234..])?;
+    Ok(bytes)
+}
+
+#[test]
+fn what_nothing_catches_has_its_line(rt: HostRuntime) -> Result<(), Fail> {
+    let bytes = dividing_main(rt.alloc())?;
+    let outcome = call_on(rt.alloc(), &bytes)?;
+    let line = b"Exception in thread \"main\" java.lang.ArithmeticException\n".as_slice();
+    assert_eq!(rt; outcome.report.why, Why::MainThrew);
+    assert_eq!(rt; outcome.report.why.status(), 1);
+    assert_eq!(rt; outcome.out.bytes(), b"".as_slice());
+    assert_eq!(rt; outcome.err.bytes(), line);
+    assert_eq!(rt; outcome.report.err_written, line.len() as u64);
+    Ok(())
+}
+
+#[test]
+fn the_status_of_an_exit_is_its_low_byte(rt: HostRuntime) -> Result<(), Fail> {
+    for (status, told) in [(42, 42), (255, -1)] {
+        let bytes = exiting_main(rt.alloc(), status)?;
+        let outcome = call_on(rt.alloc(), &bytes)?;
+        assert_eq!(rt; outcome.report.why, Why::Exited(told));
+        assert_eq!(rt; outcome.report.why.status(), status);
+        assert_eq!(rt; outcome.err.bytes(), b"".as_slice());
+    }
+    Ok(())
+}
+
+#[test]
 fn the_gate_is_passed_before_each_run_of_local_instructions(rt: HostRuntime) -> Result<(), Fail> {
     let gate = CountingGate::new();
     let case = Case {
@@ -306,6 +380,7 @@ fn classes_that_make_no_program_are_refused(rt: HostRuntime) -> Result<(), Fail>
     // a main of instances has a local variable more
     let member_main = replaced(rt.alloc(), &A_CLASS, 241, &[(205, 0x01), (221, 2)])?;
     let no_local_for_this = replaced(rt.alloc(), &A_CLASS, 241, &[(205, 0x01)])?;
+    let synchronized_main = replaced(rt.alloc(), &A_CLASS, 241, &[(13, b'B'), (205, 0x29)])?;
     // null, and an instruction that does nothing, in place of the int that is printed
     let null_for_int = replaced(rt.alloc(), &A_CLASS, 241, &[(229, 0x01), (230, 0x00)])?;
     let files = [
@@ -313,6 +388,7 @@ fn classes_that_make_no_program_are_refused(rt: HostRuntime) -> Result<(), Fail>
         ("B.class", class_b.as_slice()),
         ("C.class", child.as_slice()),
         ("N.class", null_for_int.as_slice()),
+        ("S.class", synchronized_main.as_slice()),
         ("T.class", no_local_for_this.as_slice()),
         ("V.class", private_main.as_slice()),
         ("M.class", member_main.as_slice()),
@@ -323,9 +399,9 @@ fn classes_that_make_no_program_are_refused(rt: HostRuntime) -> Result<(), Fail>
         ("run A V.class", 70, "jvt: no main in A\n"),
         ("run A M.class", 70, "jvt: no main in A\n"),
         ("run C A.class B.class", 70, "jvt: no main in C\n"),
-        ("run A A.class B.class", 68, "jvt: link A: Unsupported\n"),
-        ("run A B.class A.class", 68, "jvt: link B: Unsupported\n"),
-        ("run A C.class B.class", 68, "jvt: link A: Unsupported\n"),
+        ("run A S.class", 70, "jvt: no main in A\n"),
+        ("run B S.class", 68, "jvt: link B: Unsupported\n"),
+        ("run A A.class S.class", 68, "jvt: link A: Unsupported\n"),
         ("run A C.class", 68, "jvt: link A: MissingClass\n"),
         ("run B C.class", 68, "jvt: link A: MissingClass\n"),
         ("run A A.class A.class", 68, "jvt: link A: Duplicate\n"),

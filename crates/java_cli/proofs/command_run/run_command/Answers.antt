@@ -1,24 +1,25 @@
-use Rattle.std.proofs.Common.{◌≡◌, ◌<◌, ◌≤◌, length, drop, List, String, ap, sym, subst, ◌∙◌, arith}
+use Rattle.std.proofs.Common.{◌≡◌, ◌<◌, ◌≤◌, length, List, String, refl, ap, sym, ◌∙◌, arith}
 use Rattle.std.specs.Global.{Global}
-use Rattle.std.specs.List.{AllByRecursion}
 use Rattle.std.proofs.lemmas.List.{length-map}
-use Rattle.class_model.specs.declared.class_file.ClassFile.{ClassFile}
 use Rattle.jvm_edges.specs.Causes.{Rose}
 use Rattle.world_model.specs.World.{World}
+use Rattle.linkage.specs.Program.{Program}
 use Rattle.java_cli.specs.Commands.{command_texts}
 use Rattle.java_cli.specs.declared.report.Why.TheVariants.{NoMemory}
 use Rattle.java_cli.specs.Errors.{load_answer, accept_answer, start_answer}
 use Rattle.java_cli.specs.Causes.{IsExact, StoreFaults}
-use Rattle.plain_program.specs.Programs.{IsSpelled}
 use Rattle.java_cli.specs.Words.{texts}
-use Rattle.plain_program.specs.Methods.{method_of}
+use Rattle.ref_model.specs.Setting.{Setting}
+use Rattle.java_cli.specs.Limits.{run_limits}
+use Rattle.java_cli.specs.MainClass.{class_named}
+use Rattle.java_cli.specs.Programs.{world_of_files, IsProgram}
 use Rattle.java_cli.proofs.LoadLaws.{answer_is, refusal_is}
-use Rattle.java_cli.proofs.AnswerLaws.{too_many_exact, stopped_exact, load_refusal, unaccepted_exact, accept_refusal, accept_faults, unstarted_exact, start_refusal, start_faults, memory_exact, ended_exact, ran_command, all_spelled}
+use Rattle.java_cli.proofs.AnswerLaws.{too_many_exact, stopped_exact, load_refusal, unaccepted_exact, accept_refusal, accept_faults, unstarted_exact, start_refusal, start_faults, memory_exact, run_due, ran_command, all_spelled}
 use Rattle.java_cli.proofs.command_run.run_command.Goals as goal
 
--- the files of a world
-abbrev files_of : World → List ClassFile
-files_of w = drop w.program.built_in w.program.classes
+-- the program of a world
+abbrev program_in_world : World → Program
+program_in_world w = w.program
 
 size : (names : List (String Global)) → length (texts names) ≡ length names
 size names = simp length-map
@@ -66,28 +67,25 @@ returns-in_err-checked-clause-faults g c =
     answer_is c.from_residual-in_err-checked.result (accept_answer c.in_err-checked.field-0.0) (λ why. StoreFaults why before after) c.from_residual-in_err-checked.ensures.1
     (accept_faults c.in_err-checked.field-0.0 before after c.in_ok-classes.ensures.faults)
 
-pub start-requires : goal.start-requires
-start-requires g c =
-    subst (λ (fs : List ClassFile). AllByRecursion IsSpelled fs) (sym (c.files.ensures ∙ ap files_of c.world.ensures.world ∙ c.in_ok-checked.ensures.files)) (all_spelled _ _ c.in_ok-classes.classes.items c.in_ok-classes.ensures.found)
-
-pub returns-in_err-method-clause-exact : goal.returns-in_err-method-clause-exact
-returns-in_err-method-clause-exact g c =
+pub returns-in_err-main-clause-exact : goal.returns-in_err-main-clause-exact
+returns-in_err-main-clause-exact g c =
     let known = g.S.Store.files c.args.store.now in
     let faulty = Rose (g.S.Store.faults c.args.store.now) (g.S.Store.faults c.read_files.new.store) in
-    answer_is c.from_residual-in_err-method.result (start_answer c.in_err-method.field-0.0) (IsExact known faulty (command_texts c.args.command.now)) c.from_residual-in_err-method.ensures.1
-    (unstarted_exact known faulty (command_texts c.args.command.now) c.in_ok-classes.classes.items c.in_err-method.field-0.0 (few_texts c.args.command.now.files.now c.if-command.false) c.in_ok-classes.ensures.found
-    c.in_ok-checked.ensures.accepted (rw (c.files.ensures ∙ ap files_of c.world.ensures.world ∙ c.in_ok-checked.ensures.files) at c.in_err-method.ensures.refused))
+    let classes = c.in_ok-classes.classes.items in
+    answer_is c.from_residual-in_err-main.result (start_answer c.in_err-main.field-0.0) (IsExact known faulty (command_texts c.args.command.now)) c.from_residual-in_err-main.ensures.1
+    (unstarted_exact known faulty (command_texts c.args.command.now) classes c.in_err-main.field-0.0 (few_texts c.args.command.now.files.now c.if-command.false) c.in_ok-classes.ensures.found
+    c.in_ok-checked.ensures.accepted (c.in_err-main.ensures.refused classes (ap program_in_world c.world.ensures.world ∙ c.in_ok-checked.ensures.program) (all_spelled _ _ classes c.in_ok-classes.ensures.found)))
 
-pub returns-in_err-method-clause-refusal : goal.returns-in_err-method-clause-refusal
-returns-in_err-method-clause-refusal g c =
-    refusal_is c.from_residual-in_err-method.result (start_answer c.in_err-method.field-0.0) c.from_residual-in_err-method.ensures.1 (start_refusal c.in_err-method.field-0.0)
+pub returns-in_err-main-clause-refusal : goal.returns-in_err-main-clause-refusal
+returns-in_err-main-clause-refusal g c =
+    refusal_is c.from_residual-in_err-main.result (start_answer c.in_err-main.field-0.0) c.from_residual-in_err-main.ensures.1 (start_refusal c.in_err-main.field-0.0)
 
-pub returns-in_err-method-clause-faults : goal.returns-in_err-method-clause-faults
-returns-in_err-method-clause-faults g c =
+pub returns-in_err-main-clause-faults : goal.returns-in_err-main-clause-faults
+returns-in_err-main-clause-faults g c =
     let before = g.S.Store.faults c.args.store.now in
     let after = g.S.Store.faults c.read_files.new.store in
-    answer_is c.from_residual-in_err-method.result (start_answer c.in_err-method.field-0.0) (λ why. StoreFaults why before after) c.from_residual-in_err-method.ensures.1
-    (start_faults c.in_err-method.field-0.0 before after c.in_ok-classes.ensures.faults)
+    answer_is c.from_residual-in_err-main.result (start_answer c.in_err-main.field-0.0) (λ why. StoreFaults why before after) c.from_residual-in_err-main.ensures.1
+    (start_faults c.in_err-main.field-0.0 before after c.in_ok-classes.ensures.faults)
 
 pub returns-in_err-run-clause-refusal : goal.returns-in_err-run-clause-refusal
 returns-in_err-run-clause-refusal g c = refusal_is c.from_residual-in_err-run.result NoMemory c.from_residual-in_err-run.ensures.1 tt
@@ -107,12 +105,17 @@ returns-in_err-run-clause-exact g c =
 
 pub returns-clause-ran : goal.returns-clause-ran
 returns-clause-ran g c =
-    let same = c.files.ensures ∙ ap files_of c.world.ensures.world ∙ c.in_ok-checked.ensures.files in
-    ran_command _ (command_texts c.args.command.now) c.in_ok-classes.classes.items (method_of c.in_ok-method.method) _ _ c.in_ok-classes.ensures.found c.in_ok-checked.ensures.accepted
-    (rw same at c.in_ok-method.ensures.main) (rw same at c.in_ok-method.ensures.plain) c.in_ok-run.ensures
+    let classes = c.in_ok-classes.classes.items in
+    let same = ap program_in_world c.world.ensures.world ∙ c.in_ok-checked.ensures.program in
+    let p : Setting = record { world = world_of_files classes; main = c.in_ok-main.main; limits = run_limits } in
+    let is : IsProgram (class_named c.args.command.now.main.now) classes p = record { accepted = c.in_ok-checked.ensures.accepted; main = c.in_ok-main.ensures.started classes same; world = refl; limits = refl } in
+    ran_command _ (command_texts c.args.command.now) classes p _ (few_texts c.args.command.now.files.now c.if-command.false) c.in_ok-classes.ensures.found is
+    (c.in_ok-run.ensures p (sym c.in_ok-checked.ensures.world) refl refl)
 
-pub returns-clause-exact : goal.returns-clause-exact
-returns-clause-exact g c =
-    let same = c.files.ensures ∙ ap files_of c.world.ensures.world ∙ c.in_ok-checked.ensures.files in
-    ended_exact _ _ (command_texts c.args.command.now) c.in_ok-classes.classes.items (method_of c.in_ok-method.method) (few_texts c.args.command.now.files.now c.if-command.false) c.in_ok-classes.ensures.found c.in_ok-checked.ensures.accepted
-    (rw same at c.in_ok-method.ensures.main) (rw same at c.in_ok-method.ensures.plain)
+pub returns-clause-due : goal.returns-clause-due
+returns-clause-due g c =
+    let classes = c.in_ok-classes.classes.items in
+    let same = ap program_in_world c.world.ensures.world ∙ c.in_ok-checked.ensures.program in
+    let p : Setting = record { world = world_of_files classes; main = c.in_ok-main.main; limits = run_limits } in
+    let is : IsProgram (class_named c.args.command.now.main.now) classes p = record { accepted = c.in_ok-checked.ensures.accepted; main = c.in_ok-main.ensures.started classes same; world = refl; limits = refl } in
+    run_due _ (command_texts c.args.command.now) classes p (few_texts c.args.command.now.files.now c.if-command.false) c.in_ok-classes.ensures.found is

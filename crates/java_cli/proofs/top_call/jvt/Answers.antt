@@ -1,23 +1,31 @@
 use Rattle.java_cli.specs.Commands.{command_texts}
-use Rattle.java_cli.proofs.AnswerLaws.{headline_is, of_command, ran_exact, ran_faults, ran_idle, refused_headline, refused_out, refused_store, line_named, takes, line_of_none}
+use Rattle.java_cli.proofs.AnswerLaws.{of_command, refused_headline, refused_out, refused_store}
+use Rattle.java_cli.proofs.LineLaws.{takes, line_named, line_of_none}
+use Rattle.java_cli.proofs.RunLaws.{headline_is, idle_is, line_is, out_faults_is, delivered_exact, delivered_store}
 use Rattle.java_cli.proofs.top_call.jvt.Goals as goal
 
 pub returns-in-Ok-clause-headline : goal.returns-in-Ok-clause-headline
 returns-in-Ok-clause-headline g c =
-    headline_is _ (command_texts c.in-Some.command) _ _ _ c.deliver.result _ _ c.in-Some.ensures c.in-Ok.ensures.ran c.deliver.ensures.history c.deliver.ensures.written c.deliver.ensures.taken
+    headline_is _ _ _ _ _ _ _ _ _ (command_texts c.in-Some.command) _ c.in-Ok.execution c.deliver.result c.in-Some.ensures c.in-Ok.ensures.ran c.deliver.ensures
 
 pub returns-in-Ok-clause-idle : goal.returns-in-Ok-clause-idle
-returns-in-Ok-clause-idle g c = ran_idle _ c.deliver.result.why _ _ c.deliver.ensures.taken
+returns-in-Ok-clause-idle g c = idle_is _ _ _ _ _ _ _ _ (command_texts c.in-Some.command) _ c.in-Ok.execution c.deliver.result c.in-Ok.ensures.ran c.deliver.ensures
 
 pub returns-in-Ok-clause-exact : goal.returns-in-Ok-clause-exact
 returns-in-Ok-clause-exact g c =
-    of_command _ (command_texts c.in-Some.command) _ c.in-Some.ensures (ran_exact _ _ (command_texts c.in-Some.command) c.deliver.result.why _ _ c.deliver.ensures.taken c.in-Ok.ensures.exact)
+    of_command _ (command_texts c.in-Some.command) _ c.in-Some.ensures
+    (delivered_exact _ _ _ _ _ _ _ _ (command_texts c.in-Some.command) _ _ c.in-Ok.execution c.deliver.result c.in-Ok.ensures.ran c.in-Ok.ensures.due c.deliver.ensures)
 
 pub returns-in-Ok-clause-store_faults : goal.returns-in-Ok-clause-store_faults
-returns-in-Ok-clause-store_faults g c = ran_faults c.deliver.result.why _ _ _ _ c.deliver.ensures.taken c.in-Ok.ensures.faults
+returns-in-Ok-clause-store_faults g c =
+    delivered_store _ _ _ _ _ _ _ _ (command_texts c.in-Some.command) _ c.in-Ok.execution c.deliver.result _ _ c.in-Ok.ensures.ran c.in-Ok.ensures.kept c.deliver.ensures
+
+pub returns-in-Ok-clause-out_faults : goal.returns-in-Ok-clause-out_faults
+returns-in-Ok-clause-out_faults g c = out_faults_is _ _ _ _ _ _ _ _ (command_texts c.in-Some.command) c.in-Ok.execution c.deliver.result c.deliver.ensures
 
 pub returns-in-Ok-clause-line : goal.returns-in-Ok-clause-line
-returns-in-Ok-clause-line g c = line_named _ _ _ _ _ (command_texts c.in-Some.command) c.deliver.result.why c.in-Some.ensures c.deliver.ensures.line
+returns-in-Ok-clause-line g c =
+    line_is _ _ _ _ _ _ _ _ _ (command_texts c.in-Some.command) _ c.in-Ok.execution c.deliver.result c.in-Some.ensures c.in-Ok.ensures.ran c.deliver.ensures
 
 pub returns-in-Err-clause-headline : goal.returns-in-Err-clause-headline
 returns-in-Err-clause-headline g c = refused_headline _ _ c.refuse.result.why c.refuse.ensures.why c.in-Err.ensures.refusal
@@ -29,8 +37,8 @@ pub returns-in-Err-clause-store_faults : goal.returns-in-Err-clause-store_faults
 returns-in-Err-clause-store_faults g c = refused_store _ c.refuse.result.why _ _ c.refuse.ensures.why c.in-Err.ensures.faults
 
 pub returns-in-Err-clause-line : goal.returns-in-Err-clause-line
-returns-in-Err-clause-line g c = line_named _ _ _ _ _ (command_texts c.in-Some.command) c.refuse.result.why c.in-Some.ensures c.refuse.ensures.line
+returns-in-Err-clause-line g c idle = line_named _ _ _ _ _ (command_texts c.in-Some.command) c.refuse.result.why _ c.in-Some.ensures c.refuse.ensures.no_faults c.refuse.ensures.line
 
 pub returns-in-None-clause-line : goal.returns-in-None-clause-line
-returns-in-None-clause-line g c =
-    line_of_none _ _ _ _ _ c.idle_report.result.why c.in-None.ensures (takes _ _ _ _ _ c.put_all.result c.put_all.ensures.ok c.put_all.ensures.part c.put_all.ensures.short c.put_all.ensures.cause c.put_all.ensures.kept)
+returns-in-None-clause-line g c idle =
+    line_of_none _ _ _ _ _ c.idle_report.result.why _ c.in-None.ensures c.idle_report.ensures.no_faults (takes _ _ _ _ _ c.put_all.result c.put_all.ensures.ok c.put_all.ensures.part c.put_all.ensures.short c.put_all.ensures.cause c.put_all.ensures.kept)

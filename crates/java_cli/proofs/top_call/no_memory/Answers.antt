@@ -1,4 +1,4 @@
-use Rattle.java_cli.proofs.AnswerLaws.{takes}
+use Rattle.java_cli.proofs.LineLaws.{takes}
 use Rattle.java_cli.proofs.top_call.no_memory.Goals as goal
 
 pub returns-clause-line : goal.returns-clause-line

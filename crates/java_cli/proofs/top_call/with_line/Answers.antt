@@ -1,5 +1,5 @@
 use Rattle.std.proofs.Common.{◌∙◌}
-use Rattle.java_cli.proofs.AnswerLaws.{takes}
+use Rattle.java_cli.proofs.LineLaws.{takes}
 use Rattle.java_cli.proofs.top_call.with_line.Goals as goal
 
 pub returns-in-Ok-clause-line : goal.returns-in-Ok-clause-line

@@ -1,0 +1,207 @@
+-- Invocations as steps.
+use Rattle.std.proofs.Common.{◌≡◌, ℕ, suc, ◌≤◌, true, false, Bool, List, [], ◌∷◌, length, drop, Option, Some, None, refl, ap, sym, ◌∙◌, subst}
+use Rattle.std.specs.Prelude.{is_none, not, nat_lt, ◌&&◌, ◌||◌, if◌then◌else◌, slice_get}
+use Rattle.items.specs.Options.{◌>>=◌}
+use Rattle.items.proofs.Binds.{bind_is, some_is}
+use Rattle.lib_table.specs.declared.native.Native.{Native}
+use Rattle.instruction_rows.specs.declared.value.Slot.{Slot}
+use Rattle.instruction_rows.specs.Rows.{Row, Invocation, local, constant, wide_constant, returns, invoke, event, refused, virtual, special, static, interface, dynamic}
+use Rattle.instruction_rows.specs.Table.{row as row_of}
+use Rattle.world_model.specs.declared.members.MethodCode.{MethodCode}
+use Rattle.world_model.specs.World.{World}
+use Rattle.world_model.specs.Decoded.{code_at}
+use Rattle.verify_types.specs.Environment.{Instruction}
+use Rattle.state_model.specs.Frames.{Frame}
+use Rattle.ref_model.specs.State.{State, with_frames}
+use Rattle.ref_model.specs.Fetch.{fetched, Named, named_method}
+use Rattle.ref_model.specs.Frames.{callee, caller}
+use Rattle.ref_model.specs.Kinds.{argument_slots}
+use Rattle.ref_model.specs.Members.{native_at, is_synchronized, is_hold}
+use Rattle.ref_model.specs.Effects.{Effect, invokes, throws}
+use Rattle.ref_model.specs.declared.exception.Exception.{Exception}
+use Rattle.ref_model.specs.declared.exception.Exception.TheVariants as exceptions
+use Rattle.ref_model.specs.Throwing.{raised}
+use Rattle.continuation.specs.Continuation.{Continuation}
+use Rattle.frames.specs.Frames.{with_stack, top_stack, top_room}
+use Rattle.object_events.specs.declared.outcome.Outcome.{Outcome}
+use Rattle.object_events.specs.declared.outcome.Outcome.TheVariants.{Done, Throws, ThrowsObject, Undefined}
+use Rattle.object_events.specs.Operands.{operands, ChangesOperands}
+use Rattle.object_events.specs.Outcomes.{Acts, IsEffect, KeptUnlessDone, with_heap}
+use Rattle.native_methods.specs.declared.state.NativeState.{NativeState}
+use Rattle.native_methods.specs.Arguments.{native_effect}
+use Rattle.native_methods.specs.NativeStates.{with_natives, StaysIfThrown}
+use Rattle.method_calls.specs.FrameSteps.{HasBegun}
+use Rattle.method_calls.specs.declared.target.Target.{Target}
+use Rattle.method_calls.specs.declared.target.Target.TheVariants as targets
+use Rattle.ref_model.specs.Calls.{invoked, native_entered, code_entered, method_entered}
+use Rattle.ref_model.specs.LocalRows.{row, local_act, has_local_call, static_called, frames_called, most_frames}
+use Rattle.ref_model.specs.Step.{after_effect, row_effect, row_or_event, event_step}
+use Rattle.method_calls.specs.Targets.{row_invoked, code_effect, IsInvoked}
+use Rattle.machine.specs.declared.parts.Parts.{Parts}
+use Rattle.machine.specs.States.{state_of, IsRunStep}
+use Rattle.machine.specs.Concluding.{Concludes, EffectSteps, Leads, Steps}
+use Rattle.machine.proofs.StepLaws.{effect_step, event_is_run}
+use Rattle.machine.proofs.EventLaws.{concluded, frames_kept}
+
+-- ---- a static call that is local is what it is as an event
+
+-- of three facts
+all_three : (a b c : Bool) → (a && b && c) ≡ true → (a ≡ true) × (b ≡ true) × (c ≡ true)
+all_three true true true e = (refl, refl, refl)
+all_three true true false e = absurd cc
+all_three true false c e = absurd cc
+all_three false b c e = absurd cc
+
+both : (a b : Bool) → (a && b) ≡ true → (a ≡ true) × (b ≡ true)
+both true b e = (refl, e)
+both false b e = absurd cc
+
+none_is : {A : Type 0} (o : Option A) → is_none o ≡ true → o ≡ None
+none_is None e = refl
+none_is (Some x) e = absurd cc
+
+taken : {A : Type 0} (b : Bool) (o : Option A) (x : A) → (if b then o else None) ≡ Some x → (b ≡ true) × (o ≡ Some x)
+taken true o x e = (refl, e)
+taken false o x e = absurd cc
+
+entered_so : (w : World) (r : State) (m : Named) (f : Frame) (below fs : List Frame) → static_called w m f below ≡ Some fs
+    → (g : Frame) × (fs ≡ g ∷ caller f (argument_slots m.method.signature) ∷ below) × (native_entered w r (suc (length below)) m (native_at w m.number) (argument_slots m.method.signature) f.stack ≡ Some (invokes g (drop (argument_slots m.method.signature) f.stack)))
+entered_so w r m f below fs e =
+    let slots = argument_slots m.method.signature in
+    let cond = taken (has_local_call w m && nat_lt (length (f ∷ below)) most_frames) (frames_called w m f below) fs e in
+    let facts = both (has_local_call w m) (nat_lt (length (f ∷ below)) most_frames) cond.0 in
+    let plain = all_three (is_none (native_at w m.number)) (not (is_synchronized m.method)) (not (is_hold w m.method)) facts.0 in
+    let code = some_is (code_at w m.number) (λ c. callee m.number c slots f.stack >>= λ g. Some (g ∷ caller f slots ∷ below)) fs cond.1 in
+    let frame = some_is (callee m.number code.0 slots f.stack) (λ g. Some (g ∷ caller f slots ∷ below)) fs code.2 in
+    let same : fs ≡ frame.0 ∷ caller f slots ∷ below = let x = frame.2 in cc in
+    let made : Option Effect = Some (invokes frame.0 (drop slots f.stack)) in
+    let begins : method_entered w (suc (length below)) m code.0 slots f.stack ≡ made =
+    ap (λ (b : Bool). if b then None else if nat_lt (suc (length below)) most_frames then (callee m.number code.0 slots f.stack >>= λ g. Some (invokes g (drop slots f.stack))) else Some (throws exceptions.StackOverflowError)) (neither (is_synchronized m.method) (is_hold w m.method) plain.1 plain.2)
+    ∙ ap (λ (b : Bool). if b then (callee m.number code.0 slots f.stack >>= λ g. Some (invokes g (drop slots f.stack))) else Some (throws exceptions.StackOverflowError)) facts.1
+    ∙ bind_is (callee m.number code.0 slots f.stack) (λ g. Some (invokes g (drop slots f.stack))) frame.0 made frame.1 refl in
+    (frame.0, same, ap (λ (n : Option Native). native_entered w r (suc (length below)) m n slots f.stack) (none_is (native_at w m.number) plain.0) ∙ ap (λ (c : Option MethodCode). code_entered w (suc (length below)) m c slots f.stack) code.1 ∙ begins)
+  where
+    neither : (a b : Bool) → not a ≡ true → not b ≡ true → (a || b) ≡ false
+    neither true b x y = absurd cc
+    neither false true x y = absurd cc
+    neither false false x y = refl
+
+-- what an invocation leads to, where it is a local instruction
+row_agrees : (w : World) (i : Instruction) (invocation : Invocation) (index : ℕ) (r : State) (t : ℕ) (f : Frame) (below fs : List Frame) (x : Effect) → local_act w i (invoke invocation index) f below ≡ Some fs
+    → invoked w i.naming invocation r (suc (length below)) f.stack ≡ Some x → after_effect w r t i.instr.next f below x ≡ Some (with_frames r t fs)
+row_agrees w i virtual index r t f below fs x made effect = absurd cc
+row_agrees w i special index r t f below fs x made effect = absurd cc
+row_agrees w i (interface count) index r t f below fs x made effect = absurd cc
+row_agrees w i dynamic index r t f below fs x made effect = absurd cc
+row_agrees w i static index r t f below fs x made effect =
+    let m = some_is (named_method w i.naming) (λ m. static_called w m f below) fs made in
+    let so = entered_so w r m.0 f below fs m.2 in
+    let slots = argument_slots m.0.method.signature in
+    let begins : Option Effect = Some (invokes so.0 (drop slots f.stack)) in
+    let called : invoked w i.naming static r (suc (length below)) f.stack ≡ begins =
+    bind_is (named_method w i.naming) (λ n. native_entered w r (suc (length below)) n (native_at w n.number) (argument_slots n.method.signature) f.stack) m.0 begins m.1 so.2 in
+    let same : invokes so.0 (drop slots f.stack) ≡ x = let e = sym called ∙ effect in cc in
+    let after : Option State = Some (with_frames r t fs) in
+    ap (after_effect w r t i.instr.next f below) (sym same) ∙ ap (λ (gs : List Frame). Some (with_frames r t gs)) (sym so.1)
+
+-- ---- the step of an invocation
+
+invocation_run : (w : World) (i : Instruction) (invocation : Invocation) (index : ℕ) (a b : Parts) (f : Frame) (below after : List Frame) → fetched w f ≡ Some i → row_of i.instr.op ≡ invoke invocation index
+    → Leads w a b f below after i.instr.next (invoked w i.naming invocation (state_of a (f ∷ below)) (suc (length below)) f.stack) → IsRunStep w (state_of a (f ∷ below)) (f ∷ below) (state_of b after)
+invocation_run w i invocation index a b f below after at is x = by (row w (f ∷ below)) refl
+  where
+    r : State
+    r = state_of a (f ∷ below)
+
+    by_row : row w (f ∷ below) ≡ local_act w i (invoke invocation index) f below
+    by_row = bind_is (fetched w f) (λ j. local_act w j (row_of j.instr.op) f below) i (local_act w i (invoke invocation index) f below) at (ap (λ (act : Row). local_act w i act f below) is)
+
+    by : (o : Option (List Frame)) → row w (f ∷ below) ≡ o → IsRunStep w r (f ∷ below) (state_of b after)
+    by None e = event_is_run w r (state_of b after) 0 (f ∷ below) e (effect_step w i (invoke invocation index) r (state_of b after) 0 f below x.effect_is at is tt x.is x.leads)
+    by (Some fs) e =
+        ap (row_or_event w r 0 (f ∷ below)) e ∙ sym (row_agrees w i invocation index r 0 f below fs x.effect_is (sym by_row ∙ e) x.is) ∙ x.leads
+
+pub invoked_stepped : (w : World) (i : Instruction) (a b : Parts) (f : Frame) (below after : List Frame) → fetched w f ≡ Some i
+    → Leads w a b f below after i.instr.next (row_invoked w i.naming (row_of i.instr.op) (state_of a (f ∷ below)) (suc (length below)) f.stack) → IsRunStep w (state_of a (f ∷ below)) (f ∷ below) (state_of b after)
+invoked_stepped w i a b f below after at x = by (row_of i.instr.op) refl x
+  where
+    by : (act : Row) → row_of i.instr.op ≡ act → Leads w a b f below after i.instr.next (row_invoked w i.naming act (state_of a (f ∷ below)) (suc (length below)) f.stack) → IsRunStep w (state_of a (f ∷ below)) (f ∷ below) (state_of b after)
+    by (invoke invocation index) is x = invocation_run w i invocation index a b f below after at is x
+    by (local act) is x = absurd (let e = x.is in cc)
+    by (constant index) is x = absurd (let e = x.is in cc)
+    by (wide_constant index) is x = absurd (let e = x.is in cc)
+    by (returns kind) is x = absurd (let e = x.is in cc)
+    by (event e) is x = absurd (let e = x.is in cc)
+    by refused is x = absurd (let e = x.is in cc)
+
+-- ---- what the code did
+
+-- an effect that is another one
+pub leads_too : (w : World) (a b : Parts) (f : Frame) (below after : List Frame) (next : ℕ) (effect other : Option Effect) → other ≡ effect → Leads w a b f below after next effect → Leads w a b f below after next other
+leads_too w a b f below after next effect other same x = record { effect_is = x.effect_is; is = same ∙ x.is; leads = x.leads }
+
+-- an exception of the machine, where the frames are as they were
+pub thrown_leads : (w : World) (a b : Parts) (f : Frame) (below after : List Frame) (next : ℕ) (e : Exception) → raised w (state_of a (f ∷ below)) 0 e ≡ Some (state_of b (f ∷ below)) → after ≡ f ∷ below
+    → Leads w a b f below after next (Some (throws e))
+thrown_leads w a b f below after next e raise same = record { effect_is = throws e; is = refl; leads = raise ∙ ap (λ (fs : List Frame). Some (state_of b fs)) (sym same) }
+
+-- the frame of a method that begins
+pub begun_leads : (w : World) (a : Parts) (n slots next : ℕ) (m new : Continuation) → HasBegun w n slots m new → EffectSteps w next (λ r depth stack. code_effect w depth n slots stack) a m.stack.frames a new.stack.frames
+begun_leads w a n slots next m new has f below top =
+    let r : State = state_of a (f ∷ below) in
+    let effect : code_effect w (suc (length below)) n slots f.stack ≡ Some (invokes has.callee has.rest) = sym (ap (λ (fs : List Frame). code_effect w (length fs) n slots (top_stack fs)) top) ∙ has.effect in
+    let frames : new.stack.frames ≡ has.callee ∷ record f { stack = has.rest } ∷ below = has.frames ∙ ap (λ (fs : List Frame). has.callee ∷ with_stack has.rest fs) top in
+    record { effect_is = invokes has.callee has.rest; is = effect; leads = ap (λ (fs : List Frame). Some (state_of a fs)) (sym frames) }
+
+pub deep_leads : (w : World) (a b : Parts) (n slots next : ℕ) (m : Continuation) (after : List Frame) (e : Exception) → code_effect w (length m.stack.frames) n slots (operands m) ≡ Some (throws e) → after ≡ m.stack.frames
+    → ((frames : List Frame) → raised w (state_of a frames) 0 e ≡ Some (state_of b frames)) → EffectSteps w next (λ r depth stack. code_effect w depth n slots stack) a m.stack.frames b after
+deep_leads w a b n slots next m after e effect same raise f below top =
+    leads_too w a b f below after next (Some (throws e)) (code_effect w (suc (length below)) n slots f.stack) (sym (ap (λ (fs : List Frame). code_effect w (length fs) n slots (top_stack fs)) top) ∙ effect)
+    (thrown_leads w a b f below after next e (raise (f ∷ below)) (same ∙ top))
+
+-- a native method
+pub native_leads : (w : World) (a b : Parts) (s : NativeState) (native : Native) (next : ℕ) (m new : Continuation) (after : List Frame) (o : Outcome) → Acts (native_effect w native) (with_natives a.natives) m (with_natives s) new o
+    → KeptUnlessDone o m new → StaysIfThrown o a.natives s → ChangesOperands m new → length (top_stack new.stack.frames) ≤ top_room new.stack.frames → Concludes w next o (record a { natives = s }) new.stack.frames b after
+    → EffectSteps w next (λ r depth stack. native_effect w native r stack) a m.stack.frames b after
+native_leads w a b s native next m new after o acts kept stays only held ends f below top =
+    concluded w a (record a { natives = s }) b f below new.stack.frames after (operands new) next o (native_effect w native (state_of a (f ∷ below)) f.stack)
+    (subst (λ (fs : List Frame). IsEffect o (native_effect w native (state_of a (f ∷ below)) (top_stack fs)) (state_of (record a { natives = s }) (f ∷ below)) (operands new)) top (acts (state_of a (f ∷ below))))
+    (subst (λ (n : ℕ). length (operands new) ≤ n) (ap top_room frames) held) frames (state_kept o stays ends) (frames_kept m new (f ∷ below) o top kept) ends
+  where
+    frames : new.stack.frames ≡ with_stack (operands new) (f ∷ below)
+    frames = only.frames ∙ ap (with_stack (operands new)) top
+
+    state_kept : (o : Outcome) → StaysIfThrown o a.natives s → Concludes w next o (record a { natives = s }) new.stack.frames b after → KeptUnlessDone o (state_of a (f ∷ below)) (state_of (record a { natives = s }) (f ∷ below))
+    state_kept Done x y = tt
+    state_kept (Throws e) x y = ap (λ (t : NativeState). state_of (record a { natives = t }) (f ∷ below)) x
+    state_kept (ThrowsObject n) x y = ap (λ (t : NativeState). state_of (record a { natives = t }) (f ∷ below)) x
+    state_kept Undefined x y = absurd y
+
+-- ---- the step by what the invocation comes to
+
+gives_stepped : (w : World) (i : Instruction) (a b : Parts) (m : Continuation) (after : List Frame) (other : State → ℕ → List Slot → Option Effect)
+    → ((r : State) (depth : ℕ) → row_invoked w i.naming (row_of i.instr.op) (with_heap a.natives.heap r) depth (operands m) ≡ other (with_heap a.natives.heap r) depth (operands m))
+    → EffectSteps w i.instr.next other a m.stack.frames b after → Steps w i a m.stack.frames b after
+gives_stepped w i a b m after other given effects f below top at =
+    let r : State = state_of a (f ∷ below) in
+    let same : row_invoked w i.naming (row_of i.instr.op) r (suc (length below)) f.stack ≡ other r (suc (length below)) f.stack =
+    subst (λ (fs : List Frame). row_invoked w i.naming (row_of i.instr.op) r (suc (length below)) (top_stack fs) ≡ other r (suc (length below)) (top_stack fs)) top (given r (suc (length below))) in
+    let step = invoked_stepped w i a b f below after at (leads_too w a b f below after i.instr.next _ _ same (effects f below top)) in
+    subst (λ (fs : List Frame). IsRunStep w (state_of a fs) fs (state_of b after)) (sym top) step
+
+-- it comes to this target
+abbrev pub ComesTo : World → Instruction → Parts → Continuation → Target → Type 0
+ComesTo w i a m target = IsInvoked w i.naming (row_of i.instr.op) a.natives.heap m target
+
+pub native_stepped : (w : World) (i : Instruction) (a b : Parts) (m : Continuation) (after : List Frame) (native : Native) → ComesTo w i a m (targets.Native native)
+    → EffectSteps w i.instr.next (λ r depth stack. native_effect w native r stack) a m.stack.frames b after → Steps w i a m.stack.frames b after
+native_stepped w i a b m after native comes effects = gives_stepped w i a b m after (λ r depth stack. native_effect w native r stack) comes effects
+
+pub code_stepped : (w : World) (i : Instruction) (a b : Parts) (m : Continuation) (after : List Frame) (n slots : ℕ) → ComesTo w i a m (targets.Code n slots)
+    → ((next : ℕ) → EffectSteps w next (λ r depth stack. code_effect w depth n slots stack) a m.stack.frames b after) → Steps w i a m.stack.frames b after
+code_stepped w i a b m after n slots comes effects = gives_stepped w i a b m after (λ r depth stack. code_effect w depth n slots stack) comes (effects i.instr.next)
+
+pub throws_stepped : (w : World) (i : Instruction) (a b : Parts) (m : Continuation) (e : Exception) → ComesTo w i a m (targets.Throws e)
+    → ((frames : List Frame) → raised w (state_of a frames) 0 e ≡ Some (state_of b frames)) → Steps w i a m.stack.frames b m.stack.frames
+throws_stepped w i a b m e comes raise =
+    gives_stepped w i a b m m.stack.frames (λ r depth stack. Some (throws e)) comes (λ f below top. thrown_leads w a b f below m.stack.frames i.instr.next e (raise (f ∷ below)) top)

@@ -1,0 +1,126 @@
+-- Steps of the main thread keep to the typing.
+use Rattle.std.proofs.Common.{◌≡◌, ℕ, zero, suc, ◌<◌, List, [], ◌∷◌, length, Option, Some, None, refl, ap, sym, ◌∙◌, subst, arith}
+use Rattle.std.specs.Prelude.{slice_get}
+use Rattle.instruction_rows.specs.Table.{row as row_of}
+use Rattle.vthread_state.specs.declared.phase.Phase.TheVariants.{Run, Throwing}
+use Rattle.vthread_state.specs.declared.thread.Status.{Status}
+use Rattle.vthread_state.specs.declared.thread.Status.TheVariants.{Live}
+use Rattle.world_model.specs.World.{World}
+use Rattle.verify_types.specs.Environment.{Instruction}
+use Rattle.verify_types.specs.Effects.{row_of as row_at}
+use Rattle.state_model.specs.Frames.{Frame}
+use Rattle.ref_model.specs.declared.limits.Limits.{Limits}
+use Rattle.ref_model.specs.Setting.{Setting}
+use Rattle.ref_model.specs.State.{JavaThread, State, with_frames}
+use Rattle.ref_model.specs.Ending.{ending}
+use Rattle.ref_model.specs.Entries.{frames_at, running_frames}
+use Rattle.ref_model.specs.Fetch.{fetched}
+use Rattle.ref_model.specs.LocalRows.{row, rows}
+use Rattle.ref_model.specs.Step.{step, row_or_event}
+use Rattle.ref_model.specs.Throwing.{throwing_step}
+use Rattle.typed_frames.specs.Typed.{Typed}
+use Rattle.typed_frames.specs.TypedStates.{IsTypedState}
+use Rattle.typed_frames.proofs.ThreadLaws.{frames_keep}
+use Rattle.typed_steps.specs.Namings.{IsRowNaming, IsStepNaming}
+use Rattle.typed_steps.proofs.Steps.{step_keeps, running_is_typed}
+use Rattle.naming_tests.specs.Rows.{FitsRow}
+use Rattle.frames.specs.Frames.{top_method, top_pc, top_stack}
+use Rattle.ready_program.specs.Instructions.{instruction_at}
+use Rattle.machine.specs.Concluding.{Steps}
+use Rattle.machine.specs.declared.parts.Parts.{Parts}
+use Rattle.machine.specs.Ready.{IsReady}
+use Rattle.machine.specs.Returning.{ThrowingSteps}
+use Rattle.machine.specs.States.{main_thread, state_of, IsStep, IsRunStep}
+use Rattle.machine.specs.Steps.{Advances, IsAhead, IsKept}
+use Rattle.machine.proofs.RunLaws.{run_is_step, throwing_is_step}
+
+-- ---- the frames of the main thread
+
+running_at : (a : Parts) (frames : List Frame) → a.status ≡ Live Run → frames_at (state_of a frames) 0 ≡ Some frames
+running_at a frames running = ap (running_frames frames) running
+
+pub main_is_typed : (w : World) (a : Parts) (frames : List Frame) → IsTypedState w (state_of a frames) → a.status ≡ Live Run → Typed w frames
+main_is_typed w a frames typed running = running_is_typed w (state_of a frames) 0 frames typed (running_at a frames running)
+
+pub main_keeps : (w : World) (a : Parts) (frames after : List Frame) → IsTypedState w (state_of a frames) → Typed w after → IsTypedState w (state_of a after)
+main_keeps w a frames after typed fits = frames_keep w (state_of a frames) 0 after typed fits
+
+-- ---- steps of any kind
+
+abbrev any_setting : World → Setting
+any_setting w = record { world = w; main = 0; limits = record { heap_cells = 0; threads = 0; events = 0 } }
+
+-- a step whose constant names what linking gives
+kept : (w : World) (r q : State) → IsReady w → IsTypedState w r → IsStepNaming w r 0 → ((p : Setting) → p.world ≡ w → step p r 0 None ≡ Some q) → IsKept w r q
+kept w r q ready typed names goes = record { step = goes; typed = step_keeps (any_setting w) r q 0 ready.linked typed names (goes (any_setting w) refl) }
+
+inside : {A : Type 0} (a b : A) → ◌≡◌ {A = Option A} (Some a) (Some b) → a ≡ b
+inside a b e = cc
+
+top_of : (f g : Frame) (below others : List Frame) → f ∷ below ≡ g ∷ others → f ≡ g
+top_of f g below others e = cc
+
+-- ---- a step of a thread that runs
+
+run_names : (w : World) (a : Parts) (f : Frame) (below : List Frame) (i : Instruction) → IsReady w → a.status ≡ Live Run → fetched w f ≡ Some i
+    → FitsRow w i.naming (row_of i.instr.op) a.natives.heap.objects f.stack → IsStepNaming w (state_of a (f ∷ below)) 0
+run_names w a f below i ready running at fits = record { top = λ g others e j found. by g others (inside (f ∷ below) (g ∷ others) (sym (running_at a (f ∷ below) running) ∙ e)) j found }
+  where
+    r : State
+    r = state_of a (f ∷ below)
+
+    here : IsRowNaming w i.naming (row_at i) r f.stack
+    here = fits ready.methods ready.natives r refl
+
+    by : (g : Frame) (others : List Frame) → f ∷ below ≡ g ∷ others → (j : Instruction) → fetched w g ≡ Some j → IsRowNaming w j.naming (row_at j) r g.stack
+    by g others same j found =
+        let top = top_of f g below others same in
+        let one = inside i j (sym at ∙ ap (fetched w) top ∙ found) in
+        subst (λ (x : Frame). IsRowNaming w j.naming (row_at j) r x.stack) top (subst (λ (x : Instruction). IsRowNaming w x.naming (row_at x) r f.stack) one here)
+
+run_goes : (w : World) (a b : Parts) (frames after : List Frame) → a.status ≡ Live Run → ending (state_of a frames) ≡ None → IsRunStep w (state_of a frames) frames (state_of b after) → IsStep w (state_of a frames) (state_of b after)
+run_goes w a b frames after running goes made = λ p same.
+    run_is_step p (state_of a frames) (state_of b after) 0 (main_thread a.status frames) refl running goes
+    (subst (λ (v : World). IsRunStep v (state_of a frames) frames (state_of b after)) (sym same) made)
+
+pub run_kept : (w : World) (a b : Parts) (f : Frame) (below after : List Frame) (i : Instruction) → IsReady w → IsTypedState w (state_of a (f ∷ below)) → a.status ≡ Live Run → ending (state_of a (f ∷ below)) ≡ None
+    → fetched w f ≡ Some i → FitsRow w i.naming (row_of i.instr.op) a.natives.heap.objects f.stack → IsRunStep w (state_of a (f ∷ below)) (f ∷ below) (state_of b after) → IsKept w (state_of a (f ∷ below)) (state_of b after)
+run_kept w a b f below after i ready typed running goes at fits made =
+    kept w (state_of a (f ∷ below)) (state_of b after) ready typed (run_names w a f below i ready running at fits) (run_goes w a b (f ∷ below) after running goes made)
+
+-- of whatever frames, by the instruction that is fetched
+pub frames_kept : (w : World) (a b : Parts) (frames after : List Frame) (i : Instruction) → 0 < length frames → IsReady w → IsTypedState w (state_of a frames) → a.status ≡ Live Run → ending (state_of a frames) ≡ None
+    → instruction_at w (top_method frames) (top_pc frames) ≡ Some i → FitsRow w i.naming (row_of i.instr.op) a.natives.heap.objects (top_stack frames) → Steps w i a frames b after → IsKept w (state_of a frames) (state_of b after)
+frames_kept w a b [] after i some ready typed running goes at fits steps = absurd (omega arith)
+frames_kept w a b (f ∷ below) after i some ready typed running goes at fits steps = run_kept w a b f below after i ready typed running goes at fits (steps f below refl at)
+
+-- a local instruction
+pub local_kept : (w : World) (a : Parts) (frames after : List Frame) → IsTypedState w (state_of a frames) → a.status ≡ Live Run → ending (state_of a frames) ≡ None → row w frames ≡ Some after → Typed w after
+    → IsKept w (state_of a frames) (state_of a after)
+local_kept w a frames after typed running goes made fits =
+    record { step = run_goes w a a frames after running goes (ap (row_or_event w (state_of a frames) 0 frames) made); typed = main_keeps w a frames after typed fits }
+
+-- ---- a step of a thread that throws
+
+throw_names : (w : World) (a : Parts) (o : ℕ) (frames : List Frame) → a.status ≡ Live (Throwing o) → IsStepNaming w (state_of a frames) 0
+throw_names w a o frames throws = record { top = λ g others e. absurd (none (sym (ap (running_frames frames) throws) ∙ e)) }
+  where
+    none : {A : Type 0} {x : A} → ◌≡◌ {A = Option A} None (Some x) → ⊥
+    none e = cc
+
+pub throw_kept : (w : World) (a b : Parts) (o : ℕ) (frames after : List Frame) → IsReady w → IsTypedState w (state_of a frames) → a.status ≡ Live (Throwing o) → ending (state_of a frames) ≡ None
+    → ThrowingSteps w o a frames b after → IsKept w (state_of a frames) (state_of b after)
+throw_kept w a b o frames after ready typed throws goes made =
+    kept w (state_of a frames) (state_of b after) ready typed (throw_names w a o frames throws) (λ p same.
+    throwing_is_step p (state_of a frames) (state_of b after) 0 o (main_thread a.status frames) refl throws goes
+    (subst (λ (v : World). throwing_step v (state_of a frames) 0 o frames ≡ Some (state_of b after)) (sym same) made))
+
+-- ---- entries
+
+pub run_advances : (w : World) (a b : Parts) (n : ℕ) (frames mid after : List Frame) → a.status ≡ Live Run → rows w n frames ≡ Some mid → IsKept w (state_of a mid) (state_of b after) → Advances w n (state_of a frames) (state_of b after)
+run_advances w a b n frames mid after running ahead step =
+    record { frames = mid; ahead = record { thread = main_thread a.status frames; at = refl; running = λ some. running; ahead = ahead }; kept = step }
+
+pub throw_advances : (w : World) (a b : Parts) (frames after : List Frame) → IsKept w (state_of a frames) (state_of b after) → Advances w 0 (state_of a frames) (state_of b after)
+throw_advances w a b frames after step =
+    record { frames = frames; ahead = record { thread = main_thread a.status frames; at = refl; running = λ some. absurd (omega arith); ahead = refl }; kept = step }

@@ -1,0 +1,41 @@
+-- What the machine throws.
+use Rattle.std.proofs.Common.{◌≡◌, ℕ, List, Option, Some, None, Result, Ok, Err, refl, ap, sym, ◌∙◌}
+use Rattle.std.specs.Prelude.{OnOk, unwrap_or}
+use Rattle.items.specs.Options.{◌>>=◌}
+use Rattle.items.proofs.Binds.{bind_is}
+use Rattle.instruction_rows.specs.declared.value.Value.{Value}
+use Rattle.heap_objs.specs.Heap.{Heap}
+use Rattle.world_model.specs.World.{World, name_number}
+use Rattle.vthread_state.specs.declared.phase.Phase.TheVariants.{Throwing}
+use Rattle.vthread_state.specs.declared.thread.Status.TheVariants.{Live}
+use Rattle.state_model.specs.Frames.{Frame}
+use Rattle.ref_model.specs.declared.exception.Exception.{Exception}
+use Rattle.ref_model.specs.State.{State}
+use Rattle.ref_model.specs.Heap.{with_instance}
+use Rattle.ref_model.specs.Members.{new_values}
+use Rattle.ref_model.specs.Throwing.{exception_name, raised, throwing_new}
+use Rattle.object_events.specs.HeapReads.{IsMade}
+use Rattle.machine.specs.declared.parts.Parts.{Parts}
+use Rattle.machine.specs.States.{state_of}
+
+-- what holds on success leads to another fact
+pub on_ok : {A E : Type 0} {X Y : Type 0} (r : Result A E) → OnOk r X → (X → Y) → OnOk r Y
+on_ok (Ok x) is f = f is
+on_ok (Err e) is f = tt
+
+-- the parts that throw an object, in a heap
+abbrev pub thrown : Parts → Heap → ℕ → Parts
+thrown a h o = record a { natives = record a.natives { heap = h }; status = Live (Throwing o) }
+
+pub raised_is : (w : World) (a : Parts) (h : Heap) (e : Exception) (class : ℕ) (values : List Value) (found : Option ℕ) (frames : List Frame) → name_number w (exception_name e) ≡ Some class → values ≡ new_values w class
+    → IsMade (λ (r : State). with_instance r class values) a.natives.heap h found → raised w (state_of a frames) 0 e ≡ Some (state_of (thrown a h (unwrap_or found 0)) frames)
+raised_is w a h e class values found frames named same made =
+    let r : State = state_of a frames in
+    let after : Option State = Some (state_of (thrown a h (unwrap_or found 0)) frames) in
+    bind_is (name_number w (exception_name e)) (λ c. Some (throwing_new r 0 (with_instance r c (new_values w c)))) class after named
+    (ap (λ (v : List Value). Some (throwing_new r 0 (with_instance r class v))) (sym same) ∙ by found made)
+  where
+    by : (found : Option ℕ) → IsMade (λ (r : State). with_instance r class values) a.natives.heap h found
+        → Some (throwing_new (state_of a frames) 0 (with_instance (state_of a frames) class values)) ≡ Some (state_of (thrown a h (unwrap_or found 0)) frames)
+    by (Some o) made = ap (λ x. Some (throwing_new (state_of a frames) 0 x)) (made (state_of a frames))
+    by None made = ap (λ x. Some (throwing_new (state_of a frames) 0 x)) (made.0 (state_of a frames)) ∙ ap (λ (g : Heap). Some (state_of (thrown a g 0) frames)) (sym made.1)

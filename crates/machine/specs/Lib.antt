@@ -1,0 +1,6 @@
+pub mod Runs
+pub mod Steps
+pub mod States
+pub mod Concluding
+pub mod Returning
+pub mod Ready

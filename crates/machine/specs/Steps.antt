@@ -1,0 +1,30 @@
+-- Steps of the main thread that leave a state which keeps to the typing.
+use Rattle.std.specs.Prelude.{◌≡◌, ℕ, ◌<◌, List, Some, None, slice_get}
+use Rattle.vthread_state.specs.declared.phase.Phase.TheVariants.{Run}
+use Rattle.vthread_state.specs.declared.thread.Status.TheVariants.{Live}
+use Rattle.world_model.specs.World.{World}
+use Rattle.state_model.specs.Frames.{Frame}
+use Rattle.typed_frames.specs.TypedStates.{IsTypedState}
+use Rattle.ref_model.specs.State.{JavaThread, State, with_frames}
+use Rattle.ref_model.specs.LocalRows.{rows}
+use Rattle.machine.specs.declared.parts.Parts.{Parts}
+use Rattle.machine.specs.States.{state_of, IsStep}
+
+-- A thread whose frames are those of the state after so many local instructions, which the history doesn't have yet. (own)
+-- One that isn't in phase Run has made none.
+pub record IsAhead (w : World) (r : State) (t n : ℕ) (frames : List Frame) : Type 0 where
+  pub thread : JavaThread
+  pub at : slice_get r.threads t ≡ Some thread
+  pub running : 0 < n → thread.thread.status ≡ Live Run
+  pub ahead : rows w n thread.frames ≡ Some frames
+
+-- a step
+pub record IsKept (w : World) (r q : State) : Type 0 where
+  pub step : IsStep w r q
+  pub typed : IsTypedState w q
+
+-- so many local instructions, and one more step
+pub record Advances (w : World) (n : ℕ) (r q : State) : Type 0 where
+  pub frames : List Frame
+  pub ahead : IsAhead w r 0 n frames
+  pub kept : IsKept w (with_frames r 0 frames) q

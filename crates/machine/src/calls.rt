@@ -1,0 +1,88 @@
+//! Invocations and returns, as steps of a thread.
+
+ghost use Rattle.std.specs.Prelude.{◌<◌, ℕ, length, OnOk};
+ghost use Rattle.native_methods.specs.Arguments.{native_effect};
+ghost use Rattle.method_calls.specs.Targets.{code_effect};
+ghost use Rattle.machine.specs.Concluding.{EffectSteps, Steps};
+
+use crate::concluding::{conclude, raise};
+use crate::parts::Parts;
+use crate::world::MachineWorld;
+use continuation::Mounted;
+use items::NoMemory;
+use lib_table::Native;
+use method_calls::{Entered, Target, enter, invoke};
+use native_methods::run_native;
+use opcodes::Instr;
+use std::alloc::Global;
+use world_model::Naming;
+
+// A native method runs in one step, and the frame goes on at the next instruction.
+fn native_step<W: MachineWorld>(
+    alloc: Global,
+    world: &W,
+    parts: &mut Parts,
+    mounted: &mut Mounted,
+    next: u32,
+    native: Native,
+) -> Result<(), NoMemory>
+    requires { 0 < length mounted.old.stack.frames }
+    ensures { OnOk result (EffectSteps (W.world world.now) next
+        (λ r depth stack. native_effect (W.world world.now) native r stack)
+        parts.old mounted.old.stack.frames parts.new mounted.new.stack.frames) }
+{
+    mounted.operands_fit();
+    let outcome = run_native(alloc, world, native, &mut parts.natives, mounted)?;
+    mounted.operands_fit();
+    conclude(world, parts, mounted, next, outcome)
+}
+
+// A method with code begins, or there are too many frames.
+fn code_step<W: MachineWorld>(
+    world: &W,
+    parts: &mut Parts,
+    mounted: &mut Mounted,
+    method: u32,
+    slots: u16,
+) -> Result<(), NoMemory>
+    requires { 0 < length mounted.old.stack.frames }
+    ensures { OnOk result ((next : ℕ) → EffectSteps (W.world world.now) next
+        (λ r depth stack. code_effect (W.world world.now) depth method slots stack)
+        parts.old mounted.old.stack.frames parts.new mounted.new.stack.frames) }
+{
+    match enter(world, method, slots, mounted)? {
+        Entered::Begun => Ok(()),
+        Entered::Throws(exception) => raise(world, parts, exception),
+        Entered::Undefined => Err(NoMemory),
+    }
+}
+
+/// The step of a thread whose top frame stands at an invocation.
+pub(crate) fn invocation_step<W: MachineWorld>(
+    alloc: Global,
+    world: &W,
+    parts: &mut Parts,
+    mounted: &mut Mounted,
+    instr: &Instr,
+    naming: Naming,
+) -> Result<(), NoMemory>
+    requires { 0 < length mounted.old.stack.frames }
+    ensures { OnOk result (Steps (W.world world.now) (record { instr = instr.now; naming = naming })
+        parts.old mounted.old.stack.frames parts.new mounted.new.stack.frames) }
+{
+    mounted.operands_fit();
+    let target = invoke(
+        alloc,
+        world,
+        &instr.op,
+        naming,
+        &parts.natives.heap,
+        mounted,
+    )?;
+    match target {
+        Target::Native(native) => native_step(alloc, world, parts, mounted, instr.next, native),
+        Target::Code { method, slots } => code_step(world, parts, mounted, method, slots),
+        Target::Throws(exception) => raise(world, parts, exception),
+        Target::Undefined => Err(NoMemory),
+    }
+}

@@ -1,0 +1,61 @@
+//! What the outcome of an instruction makes of the machine.
+
+ghost use Rattle.std.specs.Prelude.{◌≡◌, List, Some, OnOk};
+ghost use Rattle.state_model.specs.Frames.{Frame};
+ghost use Rattle.ref_model.specs.Throwing.{raised};
+ghost use Rattle.machine.specs.Concluding.{Concludes};
+ghost use Rattle.machine.specs.States.{state_of};
+
+use crate::parts::Parts;
+use crate::world::MachineWorld;
+use continuation::Mounted;
+use items::NoMemory;
+use object_events::{Outcome, make_object};
+use ref_model::Exception;
+use vthread_state::{Phase, Status};
+
+/// The OutOfMemoryError that is there from the start.
+const OUT_OF_MEMORY: u32 = 0;
+
+/// Throws a new exception of the machine: an object without a message, or the OutOfMemoryError of the start where there is no room for it
+/// (own).
+pub(crate) fn raise<W: MachineWorld>(
+    world: &W,
+    parts: &mut Parts,
+    exception: Exception,
+) -> Result<(), NoMemory>
+    ensures { OnOk result ((frames : List Frame) →
+        raised (W.world world.now) (state_of parts.old frames) 0 exception ≡ Some (state_of parts.new frames)) }
+{
+    let Some(class) = world.exception_class(exception) else {
+        return Err(NoMemory);
+    };
+    let made = make_object(&mut parts.natives.heap, class, world.new_values(class))?;
+    parts.status = Status::Live(Phase::Throwing(made.unwrap_or(OUT_OF_MEMORY)));
+    Ok(())
+}
+
+/// What an outcome makes of the thread that had it, whose next instruction is at a pc.
+pub(crate) fn conclude<W: MachineWorld>(
+    world: &W,
+    parts: &mut Parts,
+    mounted: &mut Mounted,
+    next: u32,
+    outcome: Outcome,
+) -> Result<(), NoMemory>
+    ensures { OnOk result (Concludes (W.world world.now) next outcome
+        parts.old mounted.old.stack.frames parts.new mounted.new.stack.frames) }
+{
+    match outcome {
+        Outcome::Done => {
+            mounted.set_pc(next);
+            Ok(())
+        }
+        Outcome::Throws(exception) => raise(world, parts, exception),
+        Outcome::ThrowsObject(o) => {
+            parts.status = Status::Live(Phase::Throwing(o));
+            Ok(())
+        }
+        Outcome::Undefined => Err(NoMemory),
+    }
+}

@@ -1,0 +1,11 @@
+use history::Entry;
+use ref_model::Ending;
+
+/// What a run leaves: the one history that it kept, what the program wrote to its two streams, and how the run ended.
+#[derive(Debug, Drop)]
+pub struct Execution {
+    pub history: Vec<Entry>,
+    pub out: Vec<u8>,
+    pub err: Vec<u8>,
+    pub ending: Ending,
+}

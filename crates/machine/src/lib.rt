@@ -1,0 +1,20 @@
+//! The machine: runs the main method of a linked program, and keeps the history of the run.
+#![tactic(auto)]
+
+mod calls;
+mod concluding;
+mod entries;
+mod events;
+mod execution;
+mod local;
+mod parts;
+mod program_run;
+mod returns;
+mod steps;
+mod throwing;
+mod world;
+
+pub use execution::Execution;
+pub use parts::Parts;
+pub use program_run::run;
+pub use world::MachineWorld;

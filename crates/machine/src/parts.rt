@@ -1,0 +1,48 @@
+//! The state of a program that runs, but for the frames of its thread.
+
+ghost use Rattle.std.specs.Prelude.{◌≡◌, List};
+ghost use Rattle.state_model.specs.Frames.{Frame};
+ghost use Rattle.ref_model.specs.Ending.{ending, threads_ending};
+ghost use Rattle.machine.specs.States.{state_of};
+
+use instruction_rows::Value;
+use native_methods::NativeState;
+use ref_model::Ending;
+use vthread_state::Status;
+
+/// The heap, the output and the static fields of a program, and how far its thread is.
+#[derive(Drop)]
+pub struct Parts {
+    pub natives: NativeState,
+    /// The values of the static fields, in the order of all fields.
+    pub statics: Vec<Value>,
+    pub status: Status,
+    /// Whether an exception that nothing caught ended the main thread.
+    pub main_threw: bool,
+}
+
+// How the program ends by its thread alone.
+fn thread_ending(parts: &Parts) -> Option<Ending>
+    ensures { (frames : List Frame) → result ≡ threads_ending (state_of parts.now frames) }
+{
+    match parts.status {
+        Status::Live(_) => None,
+        Status::New | Status::Done => {
+            if parts.main_threw {
+                Some(Ending::MainThrew)
+            } else {
+                Some(Ending::Ended)
+            }
+        }
+    }
+}
+
+/// How the program has ended, if it has (JLS 12.8).
+pub(crate) fn ending_of(parts: &Parts) -> Option<Ending>
+    ensures { (frames : List Frame) → result ≡ ending (state_of parts.now frames) }
+{
+    match parts.natives.exited {
+        Some(status) => Some(Ending::Exited(status)),
+        None => thread_ending(parts),
+    }
+}

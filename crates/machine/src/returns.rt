@@ -1,0 +1,49 @@
+//! Returns, as steps of a thread.
+
+ghost use Rattle.std.specs.Prelude.{◌≡◌, ◌<◌, length, OnOk};
+ghost use Rattle.machine.specs.Returning.{LeavesRoot, ReturnSteps, status_left};
+
+use crate::parts::Parts;
+use crate::world::MachineWorld;
+use continuation::Mounted;
+use items::NoMemory;
+use method_calls::{Left, leave};
+use opcodes::Kind;
+use vthread_state::Status;
+
+// The status of a thread with so many frames, which is done when it has none.
+fn status_over(depth: u32, status: Status) -> Status
+    ensures { result ≡ status_left depth status }
+{
+    if depth == 0 { Status::Done } else { status }
+}
+
+// Leaves a root frame: with the bottom frame the thread is done, and below the frame of a class initializer the next one begins (own).
+fn leave_root(parts: &mut Parts, mounted: &mut Mounted)
+    requires { 0 < length mounted.old.stack.frames }
+    ensures { LeavesRoot parts.old mounted.old.stack.frames parts.new mounted.new.stack.frames }
+{
+    mounted.pop_frame();
+    parts.status = status_over(mounted.depth(), parts.status);
+}
+
+/// The step of a thread whose top frame stands at a return.
+pub(crate) fn return_step<W: MachineWorld>(
+    world: &W,
+    parts: &mut Parts,
+    mounted: &mut Mounted,
+    kind: Option<Kind>,
+) -> Result<(), NoMemory>
+    requires { 0 < length mounted.old.stack.frames }
+    ensures { OnOk result (ReturnSteps (W.world world.now) kind
+        parts.old mounted.old.stack.frames parts.new mounted.new.stack.frames) }
+{
+    match leave(world, kind, mounted) {
+        Left::Returned => Ok(()),
+        Left::Root => {
+            leave_root(parts, mounted);
+            Ok(())
+        }
+        Left::Undefined => Err(NoMemory),
+    }
+}

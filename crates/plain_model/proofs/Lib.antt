@@ -1,3 +1,0 @@
-pub mod ReplayLaws
-pub mod Pcs
-pub mod Straight
