@@ -1,7 +1,7 @@
 #!/bin/sh
 # Compiles the programs in bench/programs with the javac of this machine for Java 8, 11 and 17, and has jvt judge the class files of
 # each. The first line of a program says what is to come: that it links, or the reasons of which one is given, and why. A program that
-# links is asked for a main that it doesn't have, so that it isn't taken for one that can't run yet. usage: bench/judge.sh
+# links is asked for a main that it doesn't have, so that it isn't run. usage: bench/judge.sh
 set -eu
 top=$(CDPATH='' cd -- "$(dirname -- "$0")/.." && pwd)
 work=$(mktemp -d)

@@ -1,6 +1,6 @@
 #!/bin/sh
 # Makes random Java programs, compiles them with the javac of this machine for Java 8, 11 and 17, and has jvt judge them: each links and is well
-# typed. jvt is asked for a main that they don't have, so that they aren't taken for programs that can't run yet. usage: bench/random.sh [COUNT [SEED]]
+# typed. jvt is asked for a main that they don't have, so that they aren't run. usage: bench/random.sh [COUNT [SEED]]
 set -eu
 top=$(CDPATH='' cd -- "$(dirname -- "$0")/.." && pwd)
 work=$(mktemp -d)

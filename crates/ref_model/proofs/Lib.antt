@@ -1,7 +1,7 @@
-mod StateLaws
+pub mod StateLaws
 mod RowLaws
-mod StepLaws
-mod ReplayLaws
+pub mod StepLaws
+pub mod ReplayLaws
 mod WorkedTexts
 mod WorkedWorld
 mod WorkedHeap

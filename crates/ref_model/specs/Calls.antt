@@ -7,19 +7,17 @@ use Rattle.lib_table.specs.declared.native.Native.{Native}
 use Rattle.linkage.specs.declared.choice.Choice.{Choice}
 use Rattle.linkage.specs.declared.choice.Choice.TheVariants.{Method, Abstract, Several}
 use Rattle.linkage.specs.Members.{method_number}
-use Rattle.linkage.specs.Selection.{select}
-use Rattle.class_grammar.specs.Names.{object_class}
 use Rattle.instruction_rows.specs.declared.value.Slot.{Slot}
 use Rattle.instruction_rows.specs.Rows.{Invocation, virtual, special, static, interface, dynamic}
 use Rattle.instruction_rows.specs.SlotEffect.{popped}
 use Rattle.world_model.specs.declared.members.MethodCode.{MethodCode}
 use Rattle.world_model.specs.declared.sites.Naming.{Naming}
-use Rattle.world_model.specs.World.{World, name_number}
+use Rattle.world_model.specs.World.{World}
+pub use Rattle.world_model.specs.Methods.{selecting_class, choice_of}
 use Rattle.world_model.specs.Decoded.{code_at}
 use Rattle.ref_model.specs.declared.exception.Exception.TheVariants as exceptions
-use Rattle.ref_model.specs.Classes.{is_array}
 use Rattle.ref_model.specs.Kinds.{argument_slots}
-use Rattle.ref_model.specs.Members.{method_place, native_at, is_synchronized, is_hold}
+use Rattle.ref_model.specs.Members.{native_at, is_synchronized, is_hold}
 use Rattle.ref_model.specs.State.{State}
 use Rattle.ref_model.specs.Fetch.{Named, named_method}
 use Rattle.ref_model.specs.Frames.{callee}
@@ -53,14 +51,6 @@ abbrev pub entered : World → State → ℕ → Named → ℕ → List Slot →
 entered w r depth m slots stack = native_entered w r depth m (native_at w m.number) slots stack
 
 -- ---- selection (JVMS 5.4.6)
-
--- the class in which selection begins: an array has the methods of Object (JVMS 4.4.1, 5.3.3)
-abbrev pub selecting_class : World → ℕ → Option ℕ
-selecting_class w class = if is_array w class then name_number w object_class else Some class
-
-abbrev pub choice_of : World → ℕ → ℕ → Option Choice
-choice_of w class n =
-    selecting_class w class >>= λ start. method_place w n >>= λ at. Some (select w.program start at)
 
 abbrev pub chosen : World → Choice → (ℕ → Option Effect) → Option Effect
 chosen w (Method at) act = act (method_number w.program at)

@@ -1,39 +1,11 @@
 -- Classes and array classes as the machine asks for them, by their numbers in the linked world.
-use Rattle.std.specs.Prelude.{ℕ, ◌-◌, Bool, true, false, List, [], ◌++◌, Option, Some, None, codes, length, map, position, replicate, is_some, nat_lt, unwrap_or, get_or, ◌==◌, ◌&&◌, ◌+◌, if◌then◌else◌}
+use Rattle.std.specs.Prelude.{ℕ, ◌-◌, Bool, true, false, List, [], ◌++◌, Option, Some, None, codes, length, map, position, replicate, get_or, ◌==◌, ◌&&◌, ◌+◌, if◌then◌else◌}
 use Rattle.std.specs.Option.{option_map}
-use Rattle.linkage.specs.Hierarchy.{is_below}
 use Rattle.stack_maps.specs.declared.types.Base.{Base}
 use Rattle.stack_maps.specs.declared.types.Base.TheVariants as bases
 use Rattle.world_model.specs.declared.sites.ArrayType.{ArrayType}
 use Rattle.world_model.specs.World.{World, array_type}
-use Rattle.verify_types.specs.Assignability.{base_assignable, is_array_super}
-
-abbrev pub is_array : World → ℕ → Bool
-is_array w class = is_some (array_type w class)
-
--- ---- instances (JVMS 6.5: checkcast, instanceof, aastore)
-
--- a class as the type of its objects: one that is no array class has no dimensions
-abbrev pub type_of : World → ℕ → ArrayType
-type_of w class = unwrap_or (array_type w class) (record { dimensions = 0; base = bases.Class class })
-
--- Of two types of last elements: a class is below itself, its superclasses and its superinterfaces; a primitive type is below itself
--- alone.
-abbrev pub base_below : World → Base → Base → Bool
-base_below w (bases.Class a) (bases.Class b) = is_below w.program a b
-base_below w (bases.Class a) b = false
-base_below w a b = base_assignable w a b
-
--- Of two types: with as many dimensions, where their last elements are below one another; with more dimensions, where the other has as
--- last elements what is above each array class: Object, Cloneable or Serializable.
-abbrev pub type_below : World → ArrayType → ArrayType → Bool
-type_below w a b =
-    if a.dimensions == b.dimensions then base_below w a.base b.base
-    else nat_lt b.dimensions a.dimensions && is_array_super w b.base
-
--- whether the objects of class a are instances of b
-abbrev pub is_sub : World → ℕ → ℕ → Bool
-is_sub w a b = type_below w (type_of w a) (type_of w b)
+pub use Rattle.world_model.specs.Subtypes.{is_array, type_of, base_below, type_below, is_sub}
 
 -- ---- elements
 

@@ -1,49 +1,24 @@
 -- Where the values of fields lie, and which methods are native, synchronized or class initializers (JVMS 2.5.1, 2.9.2, 4.5, 4.6).
-use Rattle.std.specs.Prelude.{ℕ, ◌-◌, Bool, false, not, List, ◌==◌, ◌&&◌, Option, Some, None, codes, filter, flat_map, length, map, position, reverse, slice_get, take}
+use Rattle.std.specs.Prelude.{ℕ, Bool, false, ◌&&◌, List, Option, None, codes, map, slice_get}
 use Rattle.std.specs.Option.{option_map_or}
-use Rattle.std.specs.List.{enumerate_from}
-use Rattle.class_model.specs.declared.access_flags.TheConstants.{ACC_STATIC}
 use Rattle.class_model.specs.declared.class_file.ClassFile.{ClassFile}
 use Rattle.class_model.specs.declared.member.Member.{Member}
 use Rattle.class_grammar.specs.Text.{same_text}
 use Rattle.items.specs.Options.{◌>>=◌}
 use Rattle.lib_table.specs.declared.native.Native.{Native}
 use Rattle.lib_table.specs.Natives.{native_of}
-use Rattle.linkage.specs.declared.place.Place.{Place}
 use Rattle.linkage.specs.Program.{has_flag, own_name, class_at}
-use Rattle.linkage.specs.Hierarchy.{superclasses}
-use Rattle.linkage.specs.Members.{place, methods_before}
 use Rattle.linkage.specs.Selection.{key_in}
 use Rattle.instruction_rows.specs.declared.value.Value.{Value}
 use Rattle.instruction_rows.specs.declared.value.Value.TheVariants as values
 use Rattle.world_model.specs.declared.members.FieldInfo.{FieldInfo}
 use Rattle.world_model.specs.declared.members.MethodInfo.{MethodInfo}
 use Rattle.world_model.specs.World.{World}
+pub use Rattle.world_model.specs.Fields.{is_static_field, own_fields, instance_fields, field_place, static_place}
+pub use Rattle.world_model.specs.Methods.{method_place}
 use Rattle.ref_model.specs.Kinds.{zero_of}
 
 -- ---- fields
-
-abbrev pub is_static_field : FieldInfo → Bool
-is_static_field f = has_flag ACC_STATIC f.flags
-
-abbrev pub is_field_of : ℕ → ℕ × FieldInfo → Bool
-is_field_of class x = (x.1.class == class) && not (is_static_field x.1)
-
--- the numbers of the instance fields that the class itself declares
-abbrev pub own_fields : World → ℕ → List ℕ
-own_fields w class = map (λ x. x.0) (filter (is_field_of class) (enumerate_from 0 w.fields))
-
--- the fields of an object of the class, those of the superclass first (own order)
-abbrev pub instance_fields : World → ℕ → List ℕ
-instance_fields w class = flat_map (own_fields w) (reverse (superclasses w.program class))
-
--- the place of an instance field among the values of an object, the same in each subclass
-abbrev pub field_place : World → ℕ → Option ℕ
-field_place w n = slice_get w.fields n >>= λ f. position (λ m. m == n) (instance_fields w f.class)
-
--- the place of a static field among all static fields
-abbrev pub static_place : World → ℕ → ℕ
-static_place w n = length (filter is_static_field (take n w.fields))
 
 -- the value that a field has in a new object
 abbrev pub field_zero : World → ℕ → Value
@@ -54,10 +29,6 @@ abbrev pub new_values : World → ℕ → List Value
 new_values w class = map (field_zero w) (instance_fields w class)
 
 -- ---- methods
-
--- where the method of a number is declared
-abbrev pub method_place : World → ℕ → Option Place
-method_place w n = slice_get w.methods n >>= λ m. Some (place m.class (n - methods_before w.program.classes m.class))
 
 abbrev pub native_of_member : ClassFile → Member → Option Native
 native_of_member f m = native_of (own_name f) (key_in f.pool m).name (key_in f.pool m).descriptor
