@@ -200,24 +200,20 @@ fn the_smallest_program_prints_and_has_three_entries(rt: HostRuntime) -> Result<
 fn the_class_that_the_word_names_runs(rt: HostRuntime) -> Result<(), Fail> {
     // class B prints 43
     let class_b = replaced(rt.alloc(), &A_CLASS, 241, &[(13, b'B'), (230, 43)])?;
-    let files = [
-        ("A.class", A_CLASS.as_slice()),
-        ("B.class", class_b.as_slice()),
-    ];
     let table = [
-        ("run A A.class B.class", b"42\n".as_slice()),
-        ("run B A.class B.class", b"43\n".as_slice()),
-        ("run A B.class A.class", b"42\n".as_slice()),
+        ("run A A.class B.class", b'2'),
+        ("run B A.class B.class", b'3'),
+        ("run A B.class A.class", b'2'),
     ];
-    for (words, printed) in table {
+    for (words, digit) in table {
         let case = Case {
             words,
-            files: &files,
+            files: &[("A.class", &A_CLASS), ("B.class", &class_b)],
             store_fails: &[],
             out_fails: &[],
         };
         let outcome = call(rt.alloc(), &case)?;
-        assert_eq!(rt; outcome.out.bytes(), printed);
+        assert_eq!(rt; outcome.out.bytes(), [b'4', digit, b'\n'].as_slice());
         assert_eq!(rt; outcome.report.why, Why::Ended);
     }
     Ok(())
