@@ -13,7 +13,7 @@ use items::NoMemory;
 use ready_program::ReadyProgram;
 use ref_model::Limits;
 use std::alloc::Global;
-use world_tables::{Names, all_strings};
+use world_numbers::{Names, all_strings};
 
 /// The state in which a program begins: its heap, its static fields, and the frames of main's thread, which has the number 0.
 #[derive(Drop)]

@@ -14,7 +14,7 @@ use instruction_rows::Value;
 use items::NoMemory;
 use ready_program::ReadyProgram;
 use std::alloc::Global;
-use world_tables::Names;
+use world_numbers::Names;
 
 /// The number of the String that is the name of the first state of a thread.
 const FIRST_STATE_NAME: u32 = 11;

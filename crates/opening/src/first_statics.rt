@@ -19,7 +19,8 @@ use items::NoMemory;
 use object_events::kept;
 use ready_program::zero_of;
 use std::alloc::Global;
-use world_tables::{Names, Tables, kind_of, string_number};
+use world_numbers::{Names, kind_of, string_number};
+use world_tables::Tables;
 
 /// The numbers of the streams, and of the first state of a thread.
 const OUT: u32 = 1;

@@ -1,9 +1,4 @@
-pub mod NameLaws
-pub mod FoldLaws
-pub mod StartLaws
-pub mod TableLaws
-pub mod CodeLaws
-pub mod DecodingLaws
+pub mod NamingLaws
 pub mod PcLaws
 pub mod InstanceLaws
 pub mod PlaceLaws

@@ -13,7 +13,7 @@ use Rattle.opcodes.specs.declared.op.Instr.{Instr}
 use Rattle.world_model.specs.declared.members.MethodCode.{MethodCode}
 use Rattle.world_model.specs.LookUps.{index_at, index_in}
 use Rattle.class_resolution.proofs.Positions.{position_push}
-use Rattle.world_tables.specs.Decodings.{instrs_in}
+use Rattle.world_numbers.specs.Decodings.{instrs_in}
 use Rattle.world_tables.specs.PcTables.{IsByPc, AreByPc}
 
 or_here : (o : Option ℕ) (b : Bool) (k : ℕ) → is_some o ≡ true → o ≡ option_or o (cond b (Some k) None)

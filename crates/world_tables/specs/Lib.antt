@@ -1,10 +1,5 @@
-pub mod Names
-pub mod Starts
-pub mod MemberNumbers
 pub mod Linkings
+pub mod Namings
 pub mod Tables
-pub mod Codes
-pub mod KnownClasses
-pub mod Decodings
 pub mod PcTables
 pub mod Places

@@ -7,7 +7,7 @@ use Rattle.world_model.specs.Infos.{fields_of}
 use Rattle.world_model.specs.Numbering.{numbering_of}
 use Rattle.world_tables.specs.PcTables.{AreByPc}
 use Rattle.world_tables.specs.Places.{place_by}
-use Rattle.world_tables.specs.KnownClasses.{known_in}
+use Rattle.world_numbers.specs.KnownClasses.{known_in}
 use Rattle.world_tables.specs.declared.tables.Tables.TheInside.{Inside}
 
 -- the known classes are those of the names, each method has a number, and the tables of pcs are those of the codes

@@ -6,11 +6,11 @@ ghost use Rattle.std.specs.Option.{option_to_list};
 ghost use Rattle.class_resolution.specs.Tables.{row_at, tabulate};
 ghost use Rattle.world_model.specs.InstanceFields as spec;
 
-use crate::member_numbers::MemberNumbers;
 use class_model::Member;
 use class_resolution::{Hierarchy, is_static};
 use items::{Items, NoMemory};
 use std::alloc::Global;
+use world_numbers::MemberNumbers;
 
 // Adds the number of a field, unless it is static. Numbers from 2^32 on count as memory run out.
 fn add_field(own: &mut Vec<u32>, first: u32, index: usize, field: &Member) -> Result<(), NoMemory>

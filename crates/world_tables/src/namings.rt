@@ -3,16 +3,16 @@
 ghost use Rattle.std.specs.Prelude.{◌≡◌, ◌++◌, map, OnOk, IfOk};
 ghost use Rattle.world_model.specs.Infos.{codes_in, codes_of};
 ghost use Rattle.world_model.specs.Sites as spec;
-ghost use Rattle.world_tables.specs.Decodings as decodings;
+ghost use Rattle.world_tables.specs.Namings.{namings_in};
 ghost use Rattle.world_tables.specs.Linkings.{linking_in};
 
-use crate::codes::{body_of, instrs_in};
 use crate::sites::{Linker, catch_of, naming_of};
 use class_model::{ClassFile, Const, Member, Row};
 use items::{Items, NoMemory};
 use opcodes::Instr;
 use std::alloc::Global;
 use world_model::{MethodCode, Naming};
+use world_numbers::{body_of, instrs_in};
 
 fn instr_namings(
     alloc: Global,
@@ -40,7 +40,7 @@ fn code_namings(
     namings: &mut Vec<Items<Naming>>,
 ) -> Result<(), NoMemory>
     ensures { OnOk result (namings.new.items ≡ namings.old.items
-        ++ map (decodings.namings_in (linking_in l.entry) class pool.now) codes.now) }
+        ++ map (namings_in (linking_in l.entry) class pool.now) codes.now) }
 {
     for code in codes {
         namings.push(instr_namings(alloc, l, class, pool, instrs_in(code))?)?;

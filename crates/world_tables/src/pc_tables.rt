@@ -4,11 +4,11 @@ ghost use Rattle.std.specs.Prelude.{◌≡◌, ◌<◌, ◌^◌, ℕ, None, Some
 ghost use Rattle.std.specs.Option.{option_or};
 ghost use Rattle.world_tables.specs.PcTables.{AreByPc, IsByPc};
 
-use crate::codes::instrs_in;
 use items::{Items, NoMemory};
 use opcodes::Instr;
 use std::alloc::Global;
 use world_model::MethodCode;
+use world_numbers::instrs_in;
 
 // Adds entries that tell of no instruction, up to that of a pc.
 fn reach(table: &mut Vec<Option<u32>>, pc: u32) -> Result<(), NoMemory>

@@ -6,11 +6,6 @@ ghost use Rattle.world_model.specs.Sites as spec;
 ghost use Rattle.class_resolution.specs.Keys.{key_of};
 ghost use Rattle.world_tables.specs.Linkings.{linking_in};
 
-use crate::array_numbers::ArrayNumbers;
-use crate::kinds::{array_of_kind, array_of_primitive, kind_named};
-use crate::member_numbers::MemberNumbers;
-use crate::names::Names;
-use crate::strings::string_number;
 use class_grammar::text_at;
 use class_model::{Const, Row};
 use class_resolution::{MemberKey, home_of, key_at, name_at, select_special};
@@ -21,6 +16,10 @@ use linkage::Place;
 use opcodes::Op;
 use std::alloc::Global;
 use world_model::{Naming, Site};
+use world_numbers::{
+    ArrayNumbers, MemberNumbers, Names, array_of_kind, array_of_primitive, kind_named,
+    string_number,
+};
 
 /// What sites are told by: the program with the numbers of its members, the numbers of classes, and the Strings.
 #[derive(Clone, Copy)]

@@ -12,19 +12,12 @@ ghost use Rattle.world_model.specs.Pools as pools;
 ghost use Rattle.world_model.specs.Worlds.{world_of};
 ghost use Rattle.world_model.specs.Decoded.{IsDecoded, code_at};
 
-use crate::array_numbers::{ArrayNumbers, all_arrays};
-use crate::codes::Codes;
-use crate::infos::{all_codes, all_fields, all_methods};
 use crate::instance_fields::{all_instance_fields, row_at};
-use crate::known_classes::KnownClasses;
 use crate::main_method::main_among;
-use crate::member_numbers::MemberNumbers;
 use crate::namings::{all_catches, all_namings};
-use crate::numbering::Numbering;
 use crate::pc_tables::{all_by_pc, index_by};
 use crate::places::{all_places, place_at};
 use crate::sites::Linker;
-use crate::strings::all_strings;
 use class_grammar::class_name_at;
 use class_resolution::{Hierarchy, dimensions_of, is_array_name, last_element, name_in};
 use descriptors::Kind;
@@ -34,6 +27,10 @@ use stack_maps::{Base, VType};
 use std::alloc::Global;
 use std::marker::Model;
 use world_model::{ArrayType, FieldInfo, MethodCode, MethodInfo, Naming, Site};
+use world_numbers::{
+    ArrayNumbers, Codes, KnownClasses, MemberNumbers, Numbering, all_arrays, all_codes, all_fields,
+    all_methods, all_strings,
+};
 
 /// A program and its tables.
 #[derive(Drop)]

@@ -1,8 +1,8 @@
 use Rattle.std.proofs.Common.{List, ◌++◌, map, ap, ◌∙◌}
 use Rattle.world_model.specs.declared.sites.Naming.{Naming}
 use Rattle.world_tables.specs.Linkings.{linking_in}
-use Rattle.world_tables.specs.Decodings.{namings_in}
-use Rattle.world_tables.proofs.DecodingLaws.{namings_are}
+use Rattle.world_tables.specs.Namings.{namings_in}
+use Rattle.world_tables.proofs.NamingLaws.{namings_are}
 use Rattle.world_tables.proofs.namings.add_namings.Goals as goal
 
 pub returns : goal.returns

@@ -1,6 +1,6 @@
 use Rattle.std.proofs.Common.{◌≡◌, ◌++◌, map, take}
 use Rattle.world_tables.specs.Linkings.{linking_in}
-use Rattle.world_tables.specs.Decodings.{namings_in}
+use Rattle.world_tables.specs.Namings.{namings_in}
 use Rattle.world_tables.proofs.namings.code_namings.Given as goal
 
 abbrev pub invariant-loop-code : goal.invariant-loop-code

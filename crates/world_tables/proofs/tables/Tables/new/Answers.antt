@@ -5,7 +5,7 @@ use Rattle.std.proofs.Common.{List, Option}
 use Rattle.world_model.specs.declared.members.MethodCode.{MethodCode}
 use Rattle.world_model.specs.Infos.{fields_of}
 use Rattle.world_model.specs.LookUps.{index_in}
-use Rattle.world_tables.specs.KnownClasses.{known_in}
+use Rattle.world_numbers.specs.KnownClasses.{known_in}
 use Rattle.world_tables.proofs.PlaceLaws.{places_along}
 use Rattle.world_tables.proofs.tables.Tables.new.Goals as goal
 

@@ -1,0 +1,6 @@
+pub mod Names
+pub mod Starts
+pub mod MemberNumbers
+pub mod Codes
+pub mod KnownClasses
+pub mod Decodings
