@@ -169,6 +169,8 @@ ran_is bytes counts old_out new_out contents faults old new c known x r ran wrot
       runs = rw wrote.history run_is.runs;
       answer = rw (wrote.history, wrote.why_is) answer;
       entries = rw wrote.history run_is.entries;
+      grouped = rw wrote.history run_is.grouped;
+      complete = run_is.complete;
       written = rw (run_is.prints, wrote.out_written) (takes_front bytes counts old_out new_out x.out.items wrote.out_fault wrote.out);
       taken = rw (wrote.why_is, run_is.prints, wrote.out_written) (taken_is (ending_answer x.ending) wrote.out_fault wrote.err_fault (length x.out.items) none short);
       told = rw (wrote.why_is, run_is.tells, wrote.err_written) (told_is (ending_answer x.ending) wrote.out_fault wrote.err_fault (length x.err.items) none wrote.err_size);

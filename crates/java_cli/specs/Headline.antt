@@ -11,7 +11,7 @@ use Rattle.ref_model.specs.Setting.{Setting}
 use Rattle.ref_model.specs.State.{State}
 use Rattle.ref_model.specs.Ending.{ending}
 use Rattle.ref_model.specs.Run.{run}
-use Rattle.machine.specs.Runs.{IsMainEntry, entries_left}
+use Rattle.machine.specs.Runs.{AreGrouped, IsComplete, IsMainEntry, entries_left}
 use Rattle.ref_model.specs.declared.ending.Which.TheVariants as machine
 use Rattle.java_cli.specs.declared.report.Report.{Report}
 use Rattle.java_cli.specs.declared.report.SinkName.TheVariants.{Out, Err}
@@ -62,7 +62,8 @@ pub record TakesLine {E : Type 0} (contents : E → Option (List ℕ)) (faults :
 
 -- The history of the report, without its mount and unmount entries, is a history of the reference machine for the program that the
 -- command's files are; the answer says how that history ends; and what the sinks took is that history's output and fault output, or
--- their fronts after a fault of the sink. Of the err sink, `Tells` says what it took where the fault output is this.
+-- their fronts after a fault of the sink. Of the err sink, `Tells` says what it took where the fault output is this. In each entry all steps
+-- but the last are local instructions; and a program whose main thread alone ends in time has ended.
 pub record Ran (c : Command) (known : Option Files) (before after : Option (List ℕ)) (Tells : List ℕ → Type 0) (r : Report) : Type 0 where
   pub program : Setting
   pub state : State
@@ -70,6 +71,8 @@ pub record Ran (c : Command) (known : Option Files) (before after : Option (List
   pub runs : run program (java r.history.items) ≡ Some state
   pub answer : IsRunAnswer program (length r.history.items) (ending state) r.why
   pub entries : AllByRecursion IsMainEntry r.history.items
+  pub grouped : AreGrouped program (java r.history.items)
+  pub complete : IsComplete program state
   pub written : Appends before (take r.out_written state.out) after
   pub taken : IsTaken r.why r.out_written (length state.out)
   pub told : IsTold r.why r.err_written (length state.err)

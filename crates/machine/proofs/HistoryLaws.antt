@@ -20,9 +20,12 @@ use Rattle.ref_model.specs.Opening.{opening}
 use Rattle.ref_model.specs.Run.{run, replay, first_outcome}
 use Rattle.typed_frames.specs.TypedStates.{IsTypedState}
 use Rattle.opening.specs.Openings.{setting}
-use Rattle.machine.specs.Runs.{IsMainEntry, IsMainStep, IsRun, IsTold, Ran, main_entry, told_of}
+use Rattle.machine.specs.Runs.{AreGrouped, IsMainEntry, IsMainStep, IsRun, IsTold, Ran, main_entry, told_of}
 use Rattle.machine.specs.Steps.{Advances, IsAhead}
+use Rattle.ref_model.specs.Entries.{are_grouped_from, is_grouped}
 use Rattle.machine.proofs.RunLaws.{run_step}
+use Rattle.machine.proofs.GroupLaws.{more_grouped}
+use Rattle.machine.proofs.AloneLaws.{complete}
 
 -- ---- its entries
 
@@ -49,12 +52,14 @@ java_same (e ∷ es) all = kept (is_java e.what) (main_is_java e.what all.0.1) �
 pub none_ran : (w : World) (r : State) → IsTypedState w r → Ran w r [] r
 none_ran w r typed =
     let state : Option State = Some r in
-    record { runs = λ p same opens. bind_is (opening p) (λ s. replay p [] (first_outcome s) >>= λ o. Some o.state) r state opens refl; entries = tt; typed = typed }
+    record { runs = λ p same opens. bind_is (opening p) (λ s. replay p [] (first_outcome s) >>= λ o. Some o.state) r state opens refl; entries = tt; grouped = λ p same opens. refl; typed = typed }
 
 pub more_ran : (w : World) (r s q : State) (h : List Entry) (n : ℕ) → Ran w r h s → ending s ≡ None → Advances w n s q → Ran w r (h ++ main_entry n ∷ []) q
 more_ran w r s q h n x goes one = record {
   runs = λ p same opens. run_step p h 0 s q 0 n one.frames (x.runs p same opens) (subst (λ (v : World). IsAhead v s 0 n one.frames) (sym same) one.ahead) goes (one.kept.step p same);
   entries = all_more IsMainEntry h (main_entry n) x.entries (refl, (refl, refl));
+  grouped = λ p same opens. more_grouped p h (main_entry n) r s opens (x.runs p same opens) (x.grouped p same opens)
+      (subst (λ (v : World). is_grouped v s 0 (suc n) ≡ true) (sym same) one.grouped);
   typed = one.kept.typed;
 }
 
@@ -85,11 +90,22 @@ told_is p n None told limits same is count =
 pub is_run : (w : World) (main : ℕ) (limits : Limits) (first last : State) (h : List Entry) (told : Ending) → opening (setting w main limits) ≡ Some first → Ran w first h last
     → (ending last ≡ None → length h ≡ limits.events - 2) → told ≡ told_of limits (ending last)
     → (p : Setting) → p.world ≡ w → p.main ≡ main → p.limits ≡ limits → IsRun p h last.out last.err told
-is_run w main limits first last h told opens x count tells p a b c = record {
-  state = last;
-  runs = ap (run p) (java_same h x.entries) ∙ x.runs p a (ap opening (sym (setting_is p w main limits a b c)) ∙ opens);
-  ended = told_is p (length h) (ending last) told limits c tells count;
-  prints = refl;
-  tells = refl;
-  entries = x.entries;
-}
+is_run w main limits first last h told opens x count tells p a b c =
+    let here : opening p ≡ Some first = ap opening (sym (setting_is p w main limits a b c)) ∙ opens in
+    let runs : run p h ≡ Some last = x.runs p a here in
+    let ended = told_is p (length h) (ending last) told limits c tells count in
+    record {
+      state = last;
+      runs = ap (run p) (java_same h x.entries) ∙ runs;
+      ended = ended;
+      prints = refl;
+      tells = refl;
+      entries = x.entries;
+      grouped = λ r opened.
+          ap (λ (es : List Entry). are_grouped_from p es (first_outcome r)) (java_same h x.entries)
+          ∙ ap (λ (q : State). are_grouped_from p h (first_outcome q)) (same_opening r first (sym opened ∙ here)) ∙ x.grouped p a here;
+      complete = complete p h last told x.entries runs ended;
+    }
+  where
+    same_opening : (r q : State) → ◌≡◌ {A = Option State} (Some r) (Some q) → r ≡ q
+    same_opening r q e = cc

@@ -13,7 +13,7 @@ use Rattle.ref_model.specs.declared.limits.Limits.{Limits}
 use Rattle.ref_model.specs.Setting.{Setting}
 use Rattle.ref_model.specs.State.{JavaThread, State, with_frames}
 use Rattle.ref_model.specs.Ending.{ending}
-use Rattle.ref_model.specs.Entries.{frames_at, running_frames}
+use Rattle.ref_model.specs.Entries.{are_grouped_steps, frames_at, running_frames}
 use Rattle.ref_model.specs.Fetch.{fetched}
 use Rattle.ref_model.specs.LocalRows.{row, rows}
 use Rattle.ref_model.specs.Step.{step, row_or_event}
@@ -32,6 +32,8 @@ use Rattle.machine.specs.Ready.{IsReady}
 use Rattle.machine.specs.Returning.{ThrowingSteps}
 use Rattle.machine.specs.States.{main_thread, state_of, IsStep, IsRunStep}
 use Rattle.machine.specs.Steps.{Advances, IsAhead, IsKept}
+use Rattle.machine.specs.LocalRuns.{IsLocalRun}
+use Rattle.machine.proofs.LocalLaws.{run_grouped}
 use Rattle.machine.proofs.RunLaws.{run_is_step, throwing_is_step}
 
 -- ---- the frames of the main thread
@@ -117,10 +119,18 @@ throw_kept w a b o frames after ready typed throws goes made =
 
 -- ---- entries
 
-pub run_advances : (w : World) (a b : Parts) (n : ℕ) (frames mid after : List Frame) → a.status ≡ Live Run → rows w n frames ≡ Some mid → IsKept w (state_of a mid) (state_of b after) → Advances w n (state_of a frames) (state_of b after)
-run_advances w a b n frames mid after running ahead step =
-    record { frames = mid; ahead = record { thread = main_thread a.status frames; at = refl; running = λ some. running; ahead = ahead }; kept = step }
+pub run_advances : (w : World) (a b : Parts) (n : ℕ) (frames mid after : List Frame) → a.status ≡ Live Run → IsLocalRun w n frames mid → IsKept w (state_of a mid) (state_of b after) → Advances w n (state_of a frames) (state_of b after)
+run_advances w a b n frames mid after running run step = record {
+  frames = mid;
+  ahead = record { thread = main_thread a.status frames; at = refl; running = λ some. running; ahead = run.rows };
+  grouped = run_grouped w (state_of a frames) n frames mid (running_at a frames running) run;
+  kept = step;
+}
 
-pub throw_advances : (w : World) (a b : Parts) (frames after : List Frame) → IsKept w (state_of a frames) (state_of b after) → Advances w 0 (state_of a frames) (state_of b after)
-throw_advances w a b frames after step =
-    record { frames = frames; ahead = record { thread = main_thread a.status frames; at = refl; running = λ some. absurd (omega arith); ahead = refl }; kept = step }
+pub throw_advances : (w : World) (a b : Parts) (o : ℕ) (frames after : List Frame) → a.status ≡ Live (Throwing o) → IsKept w (state_of a frames) (state_of b after) → Advances w 0 (state_of a frames) (state_of b after)
+throw_advances w a b o frames after throws step = record {
+  frames = frames;
+  ahead = record { thread = main_thread a.status frames; at = refl; running = λ some. absurd (omega arith); ahead = refl };
+  grouped = ap (are_grouped_steps w 0) (ap (running_frames frames) throws);
+  kept = step;
+}

@@ -1,4 +1,7 @@
 pub mod RunLaws
+pub mod LocalLaws
+pub mod GroupLaws
+pub mod AloneLaws
 pub mod StepLaws
 pub mod EventLaws
 pub mod ThrowLaws

@@ -1,5 +1,6 @@
 pub mod Runs
 pub mod Steps
+pub mod LocalRuns
 pub mod States
 pub mod Concluding
 pub mod Returning

@@ -1,5 +1,5 @@
 -- What a run of a program leaves.
-use Rattle.std.specs.Prelude.{◌≡◌, ◌+◌, ◌<◌, ℕ, suc, List, Option, Some, None, length}
+use Rattle.std.specs.Prelude.{◌≡◌, ◌+◌, ◌*◌, ◌<◌, ◌≤◌, ℕ, suc, true, List, Option, Some, None, length}
 use Rattle.std.specs.List.{AllByRecursion}
 use Rattle.history.specs.declared.entry.Entry.{Entry}
 use Rattle.history.specs.declared.entry.What.{What}
@@ -15,7 +15,9 @@ use Rattle.ref_model.specs.Setting.{Setting}
 use Rattle.ref_model.specs.Opening.{opening}
 use Rattle.ref_model.specs.State.{State}
 use Rattle.ref_model.specs.Ending.{ending}
-use Rattle.ref_model.specs.Run.{run}
+use Rattle.ref_model.specs.Alone.{alone}
+use Rattle.ref_model.specs.Entries.{are_grouped_from}
+use Rattle.ref_model.specs.Run.{run, first_outcome}
 
 -- steps of thread 0, none of which picks another
 abbrev pub IsMainStep : What → Type 0
@@ -44,14 +46,25 @@ abbrev pub told_of : Limits → Option Ending → Ending
 told_of limits (Some e) = e
 told_of limits None = Limit Events limits.events
 
+-- In each entry of the history all steps but the last are local instructions; the last is none, or it is an invokestatic, or the step behind
+-- 10,000 local instructions. (own)
+abbrev pub AreGrouped : Setting → List Entry → Type 0
+AreGrouped p history = (r : State) → opening p ≡ Some r → are_grouped_from p history (first_outcome r) ≡ true
+
+-- A program that ends in so many steps of the main thread alone, and whose history surely has room for them, has ended in that state: an
+-- entry has one step at least, and a step of a thread that is mounted and unmounted again takes three entries.
+abbrev pub IsComplete : Setting → State → Type 0
+IsComplete p last = (n : ℕ) (q : State) (e : Ending) → alone p n ≡ Some q → ending q ≡ Some e → 3 * n + 3 ≤ p.limits.events → last ≡ q
+
 -- the entries of the main thread lead from one state to the other, in which it may go on
 pub record Ran (w : World) (r : State) (history : List Entry) (q : State) : Type 0 where
   pub runs : (p : Setting) → p.world ≡ w → opening p ≡ Some r → run p history ≡ Some q
   pub entries : AllByRecursion IsMainEntry history
+  pub grouped : (p : Setting) → p.world ≡ w → opening p ≡ Some r → are_grouped_from p history (first_outcome r) ≡ true
   pub typed : IsTypedState w q
 
--- The history, without its mount and unmount entries, is one of the reference machine; the run ended so, and what the program wrote to
--- its two streams is the output of that history.
+-- The history, without its mount and unmount entries, is one of the reference machine, whose entries are grouped; the run ended so, and
+-- what the program wrote to its two streams is the output of that history. A program that ends in time has ended.
 pub record IsRun (p : Setting) (history : List Entry) (out err : List ℕ) (told : Ending) : Type 0 where
   pub state : State
   pub runs : run p (java history) ≡ Some state
@@ -59,3 +72,5 @@ pub record IsRun (p : Setting) (history : List Entry) (out err : List ℕ) (told
   pub prints : state.out ≡ out
   pub tells : state.err ≡ err
   pub entries : AllByRecursion IsMainEntry history
+  pub grouped : AreGrouped p (java history)
+  pub complete : IsComplete p state

@@ -1,5 +1,5 @@
 -- Steps of the main thread that leave a state which keeps to the typing.
-use Rattle.std.specs.Prelude.{◌≡◌, ℕ, ◌<◌, List, Some, None, slice_get}
+use Rattle.std.specs.Prelude.{◌≡◌, ℕ, suc, ◌<◌, true, List, Some, None, slice_get}
 use Rattle.vthread_state.specs.declared.phase.Phase.TheVariants.{Run}
 use Rattle.vthread_state.specs.declared.thread.Status.TheVariants.{Live}
 use Rattle.world_model.specs.World.{World}
@@ -7,6 +7,7 @@ use Rattle.state_model.specs.Frames.{Frame}
 use Rattle.typed_frames.specs.TypedStates.{IsTypedState}
 use Rattle.ref_model.specs.State.{JavaThread, State, with_frames}
 use Rattle.ref_model.specs.LocalRows.{rows}
+use Rattle.ref_model.specs.Entries.{is_grouped}
 use Rattle.machine.specs.declared.parts.Parts.{Parts}
 use Rattle.machine.specs.States.{state_of, IsStep}
 
@@ -23,8 +24,9 @@ pub record IsKept (w : World) (r q : State) : Type 0 where
   pub step : IsStep w r q
   pub typed : IsTypedState w q
 
--- so many local instructions, and one more step
+-- so many local instructions, and one more step, which an entry may end with
 pub record Advances (w : World) (n : ℕ) (r q : State) : Type 0 where
   pub frames : List Frame
   pub ahead : IsAhead w r 0 n frames
+  pub grouped : is_grouped w r 0 (suc n) ≡ true
   pub kept : IsKept w (with_frames r 0 frames) q

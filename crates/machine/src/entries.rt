@@ -1,27 +1,45 @@
 //! Entries of the history: local instructions, and one more step behind them.
 
-ghost use Rattle.std.specs.Prelude.{◌≡◌, ◌≤◌, None, IfOk};
+ghost use Rattle.std.specs.Prelude.{◌≡◌, ◌≤◌, None, IfOk, OnOk};
 ghost use Rattle.ref_model.specs.Ending.{ending};
 ghost use Rattle.typed_frames.specs.TypedStates.{IsTypedState};
 ghost use Rattle.vthread_state.specs.declared.phase.Phase.TheVariants.{Run};
 ghost use Rattle.vthread_state.specs.declared.thread.Status.TheVariants.{Live};
 ghost use Rattle.machine.specs.Ready.{IsReady};
 ghost use Rattle.machine.specs.States.{state_of};
-ghost use Rattle.machine.specs.Steps.{Advances};
+ghost use Rattle.machine.specs.Steps.{Advances, IsKept};
 
-use crate::local::count_of;
+use crate::local::{MOST_LOCAL, run_rows};
 use crate::parts::Parts;
-use crate::steps::{running_step, unwinding_step};
+use crate::steps::{fetched_step, running_step, unwinding_step};
 use continuation::Mounted;
-use interp_local::run_local;
 use items::NoMemory;
 use jvm_edges::Gate;
 use ready_program::ReadyProgram;
 use std::alloc::Global;
 use vthread_state::{Phase, Status};
 
-/// How many local instructions an entry has at most.
-const MOST_LOCAL: u32 = 10_000;
+// The step of a thread that runs behind so many local instructions: where they are fewer than they may be, it isn't one of them.
+fn last_step(
+    alloc: Global,
+    program: &ReadyProgram,
+    parts: &mut Parts,
+    mounted: &mut Mounted,
+    steps: u32,
+) -> Result<(), NoMemory>
+    requires ready { IsReady program.now }
+    requires typed { IsTypedState program.now (state_of parts.old mounted.old.stack.frames) }
+    requires running { parts.old.status ≡ Live Run }
+    requires going { ending (state_of parts.old mounted.old.stack.frames) ≡ None }
+    ensures { OnOk result (IsKept program.now (state_of parts.old mounted.old.stack.frames)
+        (state_of parts.new mounted.new.stack.frames)) }
+{
+    if steps == MOST_LOCAL {
+        running_step(alloc, program, parts, mounted)
+    } else {
+        fetched_step(alloc, program, parts, mounted)
+    }
+}
 
 // The local instructions of a thread that runs, and one more step. The answer is how many local ones there were.
 fn running_entry(
@@ -38,8 +56,8 @@ fn running_entry(
         (state_of parts.old mounted.old.stack.frames) (state_of parts.new mounted.new.stack.frames)) }
     ensures few { IfOk result (λ n. n ≤ 10000) }
 {
-    let steps = count_of(run_local(program.prepared(), mounted, MOST_LOCAL));
-    running_step(alloc, program, parts, mounted)?;
+    let steps = run_rows(program, mounted)?;
+    last_step(alloc, program, parts, mounted, steps)?;
     Ok(steps)
 }
 

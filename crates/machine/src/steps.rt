@@ -1,11 +1,7 @@
 //! Steps of a thread that runs.
 
-ghost use Rattle.std.specs.Prelude.{◌≡◌, ◌<◌, Some, None, false, true, length, IfSome, OnOk};
-ghost use Rattle.instruction_rows.specs.Rows.{returns};
-ghost use Rattle.instruction_rows.specs.Table.{row as row_of, simple_row};
-ghost use Rattle.ref_model.specs.LocalRows.{row};
+ghost use Rattle.std.specs.Prelude.{◌≡◌, ◌<◌, Some, None, false, true, length, OnOk};
 ghost use Rattle.ref_model.specs.Ending.{ending};
-ghost use Rattle.typed_frames.specs.Typed.{Typed};
 ghost use Rattle.typed_frames.specs.TypedStates.{IsTypedState};
 ghost use Rattle.vthread_state.specs.declared.phase.Phase.TheVariants.{Run, Throwing};
 ghost use Rattle.vthread_state.specs.declared.thread.Status.TheVariants.{Live};
@@ -16,45 +12,18 @@ ghost use Rattle.machine.specs.Steps.{IsKept};
 
 use crate::calls::invocation_step;
 use crate::events::event_step;
-use crate::local::count_of;
+use crate::local::{local_step, return_at};
 use crate::parts::Parts;
 use crate::returns::return_step;
 use crate::throwing::throwing_step;
 use crate::world::MachineWorld;
 use continuation::Mounted;
-use interp_local::run_local;
 use items::NoMemory;
 use naming_tests::fits_row;
-use opcodes::{Instr, Kind, Op, Simple};
+use opcodes::{Instr, Op};
 use ready_program::ReadyProgram;
 use std::alloc::Global;
 use world_model::Naming;
-
-// A return, with the kind of what it gives back.
-#[derive(Clone, Copy)]
-struct Return {
-    kind: Option<Kind>,
-}
-
-fn simple_return(simple: &Simple) -> Option<Return>
-    ensures { IfSome result (λ r. simple_row simple.now ≡ returns r.kind) }
-{
-    match simple {
-        Simple::Return => Some(Return { kind: None }),
-        Simple::ReturnValue(kind) => Some(Return { kind: Some(*kind) }),
-        _ => None,
-    }
-}
-
-// The return that an instruction is. `None`: it is none.
-fn return_at(op: &Op) -> Option<Return>
-    ensures { IfSome result (λ r. row_of op.now ≡ returns r.kind) }
-{
-    match op {
-        Op::Simple(simple) => simple_return(simple),
-        _ => None,
-    }
-}
 
 // The step of a thread whose top frame stands at this instruction.
 fn instruction_step<W: MachineWorld>(
@@ -83,8 +52,8 @@ fn instruction_step<W: MachineWorld>(
     }
 }
 
-// The step of a thread that runs, whose instruction isn't one that stays in its frame.
-fn fetched_step(
+/// The step of a thread that runs, whose instruction isn't one that stays in its frame.
+pub(crate) fn fetched_step(
     alloc: Global,
     program: &ReadyProgram,
     parts: &mut Parts,
@@ -117,17 +86,6 @@ fn fetched_step(
         fetched.instr,
         fetched.naming,
     )
-}
-
-// The next local instruction of a thread, if it stands at one that stays in its frame.
-fn local_step(program: &ReadyProgram, mounted: &mut Mounted) -> bool
-    requires { Typed program.now mounted.old.stack.frames }
-    ensures made { result ≡ true → row program.now mounted.old.stack.frames
-        ≡ Some mounted.new.stack.frames }
-    ensures kept { result ≡ false → mounted.new.stack.frames ≡ mounted.old.stack.frames }
-    ensures typed { Typed program.now mounted.new.stack.frames }
-{
-    count_of(run_local(program.prepared(), mounted, 1)) == 1
 }
 
 /// The next step of a thread that runs.

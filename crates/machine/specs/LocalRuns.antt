@@ -1,0 +1,30 @@
+-- Runs of local instructions of a thread, in its top frame and in those to which it returns.
+use Rattle.std.specs.Prelude.{◌≡◌, ℕ, ◌≤◌, Bool, true, false, not, List, Option, Some, None, is_some, ◌||◌}
+use Rattle.opcodes.specs.declared.op.Kind.{Kind}
+use Rattle.instruction_rows.specs.Rows.{Row, returns}
+use Rattle.world_model.specs.World.{World}
+use Rattle.state_model.specs.Frames.{Frame}
+use Rattle.ref_model.specs.LocalRows.{row, rows}
+use Rattle.ref_model.specs.Entries.{may_be_last, most_local_steps, stands_at_static_call}
+use Rattle.typed_frames.specs.Typed.{Typed}
+
+-- the kind of what a return gives back, where the row is that of a return
+abbrev pub returned_kind : Row → Option (Option Kind)
+returned_kind (returns kind) = Some kind
+returned_kind r = None
+
+-- A run of local instructions ends with these frames: the next instruction isn't local, or it is an invokestatic. (own)
+abbrev pub ends_run : World → List Frame → Bool
+ends_run w frames = not (is_some (row w frames)) || stands_at_static_call w frames
+
+-- a return to the caller was made; or the frames stay, and a run ends with them
+abbrev pub GoesBack : World → List Frame → List Frame → Bool → Type 0
+GoesBack w old new true = (row w old ≡ Some new) × Typed w new
+GoesBack w old new false = (new ≡ old) × (ends_run w old ≡ true)
+
+-- So many local instructions were made, after which an entry may end with the next step.
+pub record IsLocalRun (w : World) (n : ℕ) (old new : List Frame) : Type 0 where
+  pub rows : rows w n old ≡ Some new
+  pub typed : Typed w new
+  pub few : n ≤ most_local_steps
+  pub last : may_be_last w n new ≡ true
