@@ -7,6 +7,8 @@ pub mod FrameLaws
 pub mod KeepLaws
 pub mod ItselfLaws
 pub mod HandlerLaws
+pub mod OverwriteLaws
+pub mod StoreLaws
 pub mod StandingLaws
 pub mod InstructionLaws
 pub mod StackMapLaws

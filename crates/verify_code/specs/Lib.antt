@@ -2,6 +2,7 @@ pub mod PathFits
 pub mod FramePaths
 pub mod Entries
 pub mod Frames
+pub mod Overwrites
 pub mod Standings
 pub mod Environments
 pub mod Findings

@@ -135,7 +135,10 @@ impl<'a, L: Lookups> Environment<'a, L> {
         ensures { result ≡ caught_fits self.now (stood s.now) caught pc }
     {
         match self.shared(s, pc) {
-            Some(frame) => frame.fits_stack(self.world, &[caught]),
+            Some(frame) => {
+                let locals_fit = self.fits_where_overwritten(s);
+                frame.fits_stack(self.world, locals_fit, &[caught])
+            }
             None => self.fits_handler_whole(&s.state, caught, pc),
         }
     }

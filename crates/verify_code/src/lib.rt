@@ -12,9 +12,11 @@ mod frames;
 mod handlers;
 mod instructions;
 mod method_fault;
+mod overwritten;
 mod path_fits;
 mod stack_map;
 mod standing;
+mod switches;
 mod targets;
 mod walk;
 
