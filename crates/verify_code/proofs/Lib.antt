@@ -6,6 +6,7 @@ pub mod FrameFitLaws
 pub mod FrameLaws
 pub mod KeepLaws
 pub mod ItselfLaws
+pub mod GuardLaws
 pub mod HandlerLaws
 pub mod OverwriteLaws
 pub mod StoreLaws

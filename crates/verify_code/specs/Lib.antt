@@ -6,6 +6,7 @@ pub mod Overwrites
 pub mod Standings
 pub mod Environments
 pub mod Findings
+pub mod Guards
 pub mod Handlers
 pub mod Walks
 pub mod StackMaps

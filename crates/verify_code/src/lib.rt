@@ -9,6 +9,7 @@ mod frame;
 mod frame_paths;
 mod frame_state;
 mod frames;
+mod guards;
 mod handlers;
 mod instructions;
 mod method_fault;
