@@ -179,6 +179,39 @@ def many_stores(c):
     c.method(RETURN + step * 13106 + RETURN, [full_frame(1, [INTEGER] * LOCALS)] + [same(4)] * 13106)
 
 
+def far_stores(c):
+    """The same with stores into the first and the last local variable."""
+    step = ICONST_0 + ISTORE_0 + ICONST_0 + b"\xc4\x36" + u2(LOCALS - 1) + GOTO_NEXT
+    c.method(RETURN + step * 6552 + RETURN, [full_frame(1, [INTEGER] * LOCALS)] + [same(9)] * 6552)
+
+
+def frames_in_turn(c):
+    """21,844 jumps, each to a frame that names one local variable less or one more than the one before."""
+    chop, append = u1(250) + u2(2), u1(252) + u2(2) + u1(TOP)
+    c.method(RETURN + GOTO_NEXT * 21844 + RETURN, [full_frame(1, [INTEGER] * (LOCALS - 1) + [TOP])] + [chop, append] * 10922)
+
+
+def branches_ahead(c):
+    """8,000 branches to one frame of 65,535 local variables, before any frame."""
+    end = 4 * 8000
+    code = b"".join(ICONST_0 + b"\x99" + u2(end - at - 1) for at in range(0, end, 4))
+    c.method(code + RETURN, [full_frame(end, [TOP] * LOCALS)])
+
+
+def many_objects(c):
+    """16,000 times an object that is made and dropped, in a method of 65,535 local variables."""
+    c.method((b"\xbb" + u2(c.pool.of_class(b"java/lang/Object")) + b"\x57") * 16000 + RETURN)
+
+
+def many_handlers(c):
+    """3,000 rows of an exception table to 3,000 handlers, each of which covers 30,000 stores into a local variable."""
+    throwable = u1(7) + u2(c.pool.of_class(b"java/lang/Throwable"))
+    first = 60001
+    frames = [u1(247) + u2(first) + throwable] + [u1(64) + throwable] * 2999
+    rows = [(0, first, first + i, 0) for i in range(3000)]
+    c.method((ICONST_0 + ISTORE_0) * 30000 + RETURN + b"\xbf" * 3000, frames, rows, locals=1)
+
+
 def other_frames(c):
     """60 jumps, each to a frame of 65,535 local variables that is written out."""
     c.method(RETURN + GOTO_NEXT * 60 + RETURN, [full_frame(1, [INTEGER] * LOCALS)] + [full_frame(2, [INTEGER] * LOCALS)] * 60)
@@ -264,9 +297,14 @@ KINDS = {
     "many-frames": lambda: methods_of(many_frames, 20),
     "many-jumps": lambda: methods_of(many_jumps, 26),
     "many-stores": lambda: methods_of(many_stores, 28),
+    "far-stores": lambda: methods_of(far_stores, 28),
+    "frames-in-turn": lambda: methods_of(frames_in_turn, 18),
+    "branches-ahead": lambda: methods_of(branches_ahead, 40),
+    "many-objects": lambda: methods_of(many_objects, 60),
     "other-frames": lambda: methods_of(other_frames, 1),
     "many-rows": lambda: methods_of(many_rows, 6),
     "rows-and-stores": lambda: methods_of(rows_and_stores, 6),
+    "many-handlers": lambda: methods_of(many_handlers, 1),
     "many-targets": lambda: methods_of(many_targets, 29),
     "deep-casts": lambda: methods_of(deep_casts, 60),
     "one-constant": one_constant,

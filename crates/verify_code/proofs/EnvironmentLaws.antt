@@ -11,9 +11,11 @@ use Rattle.world_model.specs.declared.members.MethodCode.{MethodCode}
 use Rattle.world_model.specs.declared.sites.Naming.{Naming}
 use Rattle.world_model.specs.Decoded.{IsDecoded}
 use Rattle.world_model.specs.World.{World}
-use Rattle.verify_types.specs.Environment.{MapFrame, first_frame, map_frame, map_frames, environment_of}
+use Rattle.verify_types.specs.Environment.{MapFrame, first_frame, map_frame, map_frames, environment_of, with_catches}
 use Rattle.verify_code.specs.StackMaps.{mapped}
+use Rattle.verify_code.specs.declared.guards.Guard.{Guard}
 use Rattle.verify_code.specs.Environments.{HasFrames}
+use Rattle.verify_code.specs.Guards.{AskAlike, guard_in}
 use Rattle.verify_code.proofs.InstructionLaws.{decoded_in_order}
 
 abbrev Expanded : Type 0
@@ -25,10 +27,10 @@ is_map w m max (Ok list) frames e = let same : frames ≡ map (map_frame w m max
 is_map w m max (Err why) frames e = absurd cc
 
 pub has_frames : (w : World) (m : MethodInfo) (code : MethodCode) (ns : List Naming) (cs : List (Option ℕ)) (first : FrameTypes) (bytes : List ℕ) (frames : List MapFrame)
-    → first ≡ first_frame w m → bytes ≡ code.map → Some frames ≡ mapped w m code.max_locals first bytes → IsDecoded code
-    → HasFrames (environment_of w m code ns cs) frames
-has_frames w m code ns cs first bytes frames begins is e decoded =
+    → (guards : List Guard) → first ≡ first_frame w m → bytes ≡ code.map → Some frames ≡ mapped w m code.max_locals first bytes → IsDecoded code → AskAlike (map guard_in guards) (with_catches code.rows cs)
+    → HasFrames (environment_of w m code ns cs) frames guards
+has_frames w m code ns cs first bytes frames guards begins is e decoded guarded =
     let at : Some frames ≡ mapped w m code.max_locals (first_frame w m) code.map =
     e ∙ ap (λ (f : FrameTypes). mapped w m code.max_locals f bytes) begins ∙ ap (λ bs. mapped w m code.max_locals (first_frame w m) bs) is in
     let found = is_map w m code.max_locals (expansion (first_frame w m) code.map) frames at in
-    record { mapped = found.0; are = found.1; in_order = decoded_in_order code ns decoded }
+    record { mapped = found.0; are = found.1; in_order = decoded_in_order code ns decoded; guarded = guarded }

@@ -1,17 +1,17 @@
 -- Handlers that are satisfied at more than one pc.
-use Rattle.std.proofs.Common.{◌≡◌, ◌⊎◌, inl, inr, ℕ, ◌<◌, ◌≤◌, true, false, Bool, cond, get_or, List, [], ◌∷◌, Option, Some, None, refl, ap, sym, subst, ◌∙◌, arith}
-use Rattle.std.specs.Prelude.{IfSome, drop, not, nat_le, nat_lt, ◌&&◌, ◌||◌}
+use Rattle.std.proofs.Common.{◌≡◌, ◌⊎◌, inl, inr, ℕ, ◌<◌, ◌≤◌, true, false, Bool, cond, List, [], ◌∷◌, Option, Some, None, refl, ap, sym, subst, ◌∙◌, arith}
+use Rattle.std.specs.Prelude.{IfSome, not, nat_le, nat_lt, ◌&&◌, ◌||◌}
 use Rattle.std.specs.List.{list_all}
 use Rattle.std.specs.Option.{option_map}
 use Rattle.std.proofs.lemmas.Bool.{ltb-true, ltb-false, leb-true, le-leb, lt-ltb, and_parts, and_from, and_cases}
-use Rattle.class_model.specs.declared.attribute.Row.{Row}
 use Rattle.stack_maps.specs.declared.types.VType.{VType}
 use Rattle.verify_types.specs.TypeStates.{TypeState}
-use Rattle.verify_types.specs.Environment.{Handler, Environment, with_catches}
+use Rattle.verify_types.specs.Environment.{Handler, Environment}
 use Rattle.verify_types.specs.Calls.{covers}
 use Rattle.verify_types.specs.Handlers.{are_satisfied, is_satisfied}
 use Rattle.verify_code.specs.declared.standing.Judged.{Judged}
-use Rattle.verify_code.specs.Handlers.{handler, keeps_more, nearer, next_start}
+use Rattle.verify_code.specs.Guards.{AskAlike}
+use Rattle.verify_code.specs.Handlers.{catches_at, keeps_more, nearer, next_start}
 use Rattle.verify_code.specs.Standings.{IsJudged, holds_at}
 
 -- ---- states with the same local variables and the same flag
@@ -47,10 +47,14 @@ more_all env at pc s (h ∷ hs) e =
     ap (λ x. x && list_all (keeps_more env (Some at) pc s) hs) (at_one (covers pc h) (covers at h) (is_satisfied env s h) parts.0)
     ∙ ap (λ x. Asks env pc s h && x) (more_all env at pc s hs parts.1)
 
-pub more_is : (env : Environment) (pc : ℕ) (s : TypeState) (o : Option Judged) → IfSome o (IsJudged env s)
-    → list_all (keeps_more env (option_map (λ (j : Judged). j.at) o) pc s) env.handlers ≡ are_satisfied env pc s
-more_is env pc s None h = refl
-more_is env pc s (Some j) h = more_all env j.at pc s env.handlers h.at
+-- handlers that ask what those of the method do are satisfied where those are
+asked : (env : Environment) (pc : ℕ) (s : TypeState) (hs : List Handler) → AskAlike hs env.handlers → list_all (Asks env pc s) hs ≡ are_satisfied env pc s
+asked env pc s hs alike = alike.same pc (catches_at env s)
+
+more_is : (env : Environment) (pc : ℕ) (s : TypeState) (hs : List Handler) (o : Option Judged) → AskAlike hs env.handlers → IfSome o (IsJudged env s)
+    → list_all (keeps_more env (option_map (λ (j : Judged). j.at) o) pc s) hs ≡ are_satisfied env pc s
+more_is env pc s hs None alike h = asked env pc s hs alike
+more_is env pc s hs (Some j) alike h = more_all env j.at pc s hs (asked env j.at s hs alike ∙ h.at) ∙ asked env pc s hs alike
 
 -- ---- up to the next start of a row
 
@@ -71,13 +75,13 @@ nearer_high at n start h = by_test (Is_nearer at n start) refl
     by_test true e = ltb-true at start (and_parts (nat_lt at start) (nat_lt start n) e).0
     by_test false e = h
 
-next_low : (at n : ℕ) (rs : List Row) → next_start at n rs ≤ n
+next_low : (at n : ℕ) (hs : List Handler) → next_start at n hs ≤ n
 next_low at n [] = omega arith
-next_low at n (r ∷ rs) = omega (arith, next_low at (nearer at n r.start) rs, nearer_low at n r.start)
+next_low at n (h ∷ hs) = omega (arith, next_low at (nearer at n h.row.start) hs, nearer_low at n h.row.start)
 
-next_high : (at n : ℕ) (rs : List Row) → at < n → at < next_start at n rs
-next_high at n [] h = h
-next_high at n (r ∷ rs) h = next_high at (nearer at n r.start) rs (nearer_high at n r.start h)
+next_high : (at n : ℕ) (hs : List Handler) → at < n → at < next_start at n hs
+next_high at n [] low = low
+next_high at n (h ∷ hs) low = next_high at (nearer at n h.row.start) hs (nearer_high at n h.row.start low)
 
 starts_before : (at pc n start : ℕ) → pc < nearer at n start → start ≤ pc → start ≤ at
 starts_before at pc n start high low = by_test (Is_nearer at n start) refl high
@@ -101,30 +105,23 @@ asked_before : (x y c : Bool) → (x ≡ true → y ≡ true) → (not y || c) �
 asked_before false y c f h = refl
 asked_before true y c f h = subst (λ b. (not b || c) ≡ true) (f refl) h
 
-all_on : (env : Environment) (at pc n : ℕ) (s : TypeState) (rs : List Row) (cs : List (Option ℕ)) → at ≤ pc → pc < next_start at n rs
-    → list_all (Asks env at s) (with_catches rs cs) ≡ true → list_all (Asks env pc s) (with_catches rs cs) ≡ true
-all_on env at pc n s [] cs low high e = refl
-all_on env at pc n s (r ∷ rs) cs low high e =
-    let first : Handler = handler r (get_or cs 0 None) in
-    let behind = with_catches rs (drop 1 cs) in
-    let parts = and_parts (Asks env at s first) (list_all (Asks env at s) behind) e in
-    and_from (Asks env pc s first) (list_all (Asks env pc s) behind)
-    (asked_before (covers pc first) (covers at first) (is_satisfied env s first)
-    (λ is. covers_both at pc n first low (omega (arith, high, next_low at (nearer at n r.start) rs)) is) parts.0)
-    (all_on env at pc (nearer at n r.start) s rs (drop 1 cs) low high parts.1)
+all_on : (env : Environment) (at pc n : ℕ) (s : TypeState) (hs : List Handler) → at ≤ pc → pc < next_start at n hs → list_all (Asks env at s) hs ≡ true → list_all (Asks env pc s) hs ≡ true
+all_on env at pc n s [] low high e = refl
+all_on env at pc n s (h ∷ hs) low high e =
+    let parts = and_parts (Asks env at s h) (list_all (Asks env at s) hs) e in
+    and_from (Asks env pc s h) (list_all (Asks env pc s) hs)
+    (asked_before (covers pc h) (covers at h) (is_satisfied env s h) (λ is. covers_both at pc n h low (omega (arith, high, next_low at (nearer at n h.row.start) hs)) is) parts.0)
+    (all_on env at pc (nearer at n h.row.start) s hs low high parts.1)
 
-pub judged_here : (env : Environment) (s : TypeState) (pc until : ℕ) (rs : List Row) (cs : List (Option ℕ)) → env.handlers ≡ with_catches rs cs → until ≡ next_start pc 65536 rs → are_satisfied env pc s ≡ true
-    → IsJudged env s (record { at = pc; until = until })
-judged_here env s pc until rs cs are is satisfied = record {
+pub judged_here : (env : Environment) (s : TypeState) (pc until : ℕ) (hs : List Handler) → AskAlike hs env.handlers → until ≡ next_start pc 65536 hs → are_satisfied env pc s ≡ true → IsJudged env s (record { at = pc; until = until })
+judged_here env s pc until hs alike is satisfied = record {
   at = satisfied;
-  on = λ p low high.
-      ap (λ hs. list_all (Asks env p s) hs) are
-      ∙ all_on env pc p 65536 s rs cs low (subst (λ (n : ℕ). p < n) is high) (sym (ap (λ hs. list_all (Asks env pc s) hs) are) ∙ satisfied);
+  on = λ p low high. sym (asked env p s hs alike) ∙ all_on env pc p 65536 s hs low (subst (λ (n : ℕ). p < n) is high) (asked env pc s hs alike ∙ satisfied);
 }
 
-pub holds_here : (pc until : ℕ) (rs : List Row) → pc < 65536 → until ≡ next_start pc 65536 rs → holds_at pc (Some (record { at = pc; until = until })) ≡ true
-holds_here pc until rs low is =
-    and_from (nat_le pc pc) (nat_lt pc until) (le-leb pc pc (omega arith)) (lt-ltb pc until (subst (λ (n : ℕ). pc < n) (sym is) (next_high pc 65536 rs low)))
+pub holds_here : (pc until : ℕ) (hs : List Handler) → pc < 65536 → until ≡ next_start pc 65536 hs → holds_at pc (Some (record { at = pc; until = until })) ≡ true
+holds_here pc until hs low is =
+    and_from (nat_le pc pc) (nat_lt pc until) (le-leb pc pc (omega arith)) (lt-ltb pc until (subst (λ (n : ℕ). pc < n) (sym is) (next_high pc 65536 hs low)))
 
 pub held : (env : Environment) (pc : ℕ) (s : TypeState) (o : Option Judged) → IfSome o (IsJudged env s) → holds_at pc o ≡ true → are_satisfied env pc s ≡ true
 held env pc s None h e = absurd cc
@@ -132,7 +129,6 @@ held env pc s (Some j) h e =
     let parts = and_parts (nat_le j.at pc) (nat_lt pc j.until) e in
     h.on pc (leb-true j.at pc parts.0) (ltb-true pc j.until parts.1)
 
-pub satisfied_is : (env : Environment) (pc : ℕ) (s : TypeState) (o : Option Judged) (known : Option ℕ) (b : Bool) → b ≡ list_all (keeps_more env known pc s) env.handlers → known ≡ option_map (λ (j : Judged). j.at) o → IfSome o (IsJudged env s)
-    → b ≡ are_satisfied env pc s
-satisfied_is env pc s o known b is at h =
-    is ∙ ap (λ (k : Option ℕ). list_all (keeps_more env k pc s) env.handlers) at ∙ more_is env pc s o h
+pub satisfied_is : (env : Environment) (pc : ℕ) (s : TypeState) (hs : List Handler) (o : Option Judged) (known : Option ℕ) (b : Bool) → AskAlike hs env.handlers → b ≡ list_all (keeps_more env known pc s) hs
+    → known ≡ option_map (λ (j : Judged). j.at) o → IfSome o (IsJudged env s) → b ≡ are_satisfied env pc s
+satisfied_is env pc s hs o known b alike is at h = is ∙ ap (λ (k : Option ℕ). list_all (keeps_more env k pc s) hs) at ∙ more_is env pc s hs o alike h

@@ -26,7 +26,7 @@ use Rattle.verify_types.specs.Objects.{constant_type, event_state, named_class}
 use Rattle.verify_types.specs.Calls.{arguments_taken, called, instance_called, method_of, result_given}
 use Rattle.verify_types.specs.Environment.{Environment, Instruction}
 use Rattle.verify_types.specs.Effects.{row_state, state_after, constant_pushed}
-use Rattle.verify_code.specs.Standings.{keeps_locals}
+use Rattle.verify_code.specs.Overwrites.{keeps_locals}
 
 -- the same but for the operand stack
 pub record Kept (s after : TypeState) : Type 0 where

@@ -6,7 +6,10 @@ pub mod FrameFitLaws
 pub mod FrameLaws
 pub mod KeepLaws
 pub mod ItselfLaws
+pub mod GuardLaws
 pub mod HandlerLaws
+pub mod OverwriteLaws
+pub mod StoreLaws
 pub mod StandingLaws
 pub mod InstructionLaws
 pub mod StackMapLaws

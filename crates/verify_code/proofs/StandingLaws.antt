@@ -1,8 +1,9 @@
 -- States with the local variables of a frame of the map.
-use Rattle.std.proofs.Common.{◌≡◌, ℕ, Bool, true, false, cond, List, Option, Some, None, Ok, refl, ap, sym, subst, ◌∙◌}
-use Rattle.std.specs.Prelude.{◌&&◌, ◌||◌, not, reverse, IfSome}
+use Rattle.std.proofs.Common.{◌≡◌, ℕ, Bool, true, false, cond, List, [], Option, Some, None, Ok, refl, ap, sym, subst, ◌∙◌}
+use Rattle.std.specs.Prelude.{◌&&◌, ◌||◌, not, reverse, is_some, IfSome}
 use Rattle.std.specs.Option.{option_map, option_map_or}
 use Rattle.items.specs.Options.{◌>>=◌}
+use Rattle.stack_maps.specs.declared.types.FrameTypes.{FrameTypes}
 use Rattle.stack_maps.specs.declared.types.VType.{VType}
 use Rattle.instruction_rows.specs.Contents.{slot_types}
 use Rattle.type_paths.specs.Paths.{Path, path, types_on}
@@ -17,9 +18,15 @@ use Rattle.verify_code.specs.declared.frame.Frame.{Frame}
 use Rattle.verify_code.specs.declared.frame_paths.Entry.{Entry}
 use Rattle.verify_code.specs.declared.standing.Behind.{Behind}
 use Rattle.verify_code.specs.declared.standing.Standing.{Standing}
-use Rattle.verify_code.specs.FramePaths.{entry_in, state_where}
+use Rattle.verify_code.specs.FramePaths.{entry_in, frame_types, state_where}
 use Rattle.verify_code.specs.Frames.{frame_at, frame_in}
-use Rattle.verify_code.specs.Standings.{AllStand, BothStand, behind_one, behind_op, either_of, going, IsJudged, IsLike, IsOver, IsShared, IsStanding, keeps_locals, stood}
+use Rattle.verify_code.specs.declared.overwritten.Like.{Like}
+use Rattle.verify_code.specs.declared.overwritten.Overwritten.{Overwritten}
+use Rattle.verify_code.specs.Overwrites.{AreBut, IsRestored, NotedBehind, are_assignable, keeps_locals, overwritten_since}
+use Rattle.verify_code.specs.Overwrites.NotedBehind.{leaves, stores}
+use Rattle.verify_code.specs.Standings.{AllStand, BothStand, Compares, FitsLocals, MayBeLike, MayFit, behind_one, behind_op, either_of, going, IsJudged, IsLike, IsOver, IsShared, IsStanding, stood}
+use Rattle.verify_code.proofs.OverwriteLaws.{fits_but, none_left, none_noted}
+use Rattle.verify_code.proofs.StoreLaws.{after_stored}
 use Rattle.verify_code.specs.declared.standing.Judged.{Judged}
 use Rattle.verify_code.proofs.HandlerLaws.{judged_same}
 use Rattle.verify_code.proofs.KeepLaws.{after_kept}
@@ -60,49 +67,114 @@ all_over : (s t : TypeState) (o : Option (List VType)) → t.types.locals ≡ s.
 all_over s t None locals flag = refl
 all_over s t (Some ss) locals flag = ap Some (same_over s t (reverse (slot_types ss)) locals flag)
 
-like_itself : (env : Environment) (like : ℕ) (s : TypeState) (o : Option MapFrame) (f : MapFrame) (q : Option TypeState) (t : TypeState) → IfSome o (LocalsThemselves env.world) → o ≡ Some f → f.state ≡ q → q ≡ Some t → t.types.locals ≡ s.types.locals
-    → all_assignable env.world s.types.locals s.types.locals ≡ true
-like_itself env like s o f q t h at is found locals =
+like_itself : (env : Environment) (o : Option MapFrame) (f : MapFrame) (t : TypeState) → IfSome o (LocalsThemselves env.world) → o ≡ Some f → f.state ≡ Some t → all_assignable env.world t.types.locals t.types.locals ≡ true
+like_itself env o f t h at is =
     let known = subst (λ (x : Option MapFrame). IfSome x (LocalsThemselves env.world)) at h in
-    let one = subst (λ (x : Option TypeState). IfSome x (λ (u : TypeState). all_assignable env.world u.types.locals u.types.locals ≡ true)) (is ∙ found) known in
-    subst (λ (ls : List VType). all_assignable env.world ls ls ≡ true) locals one
+    subst (λ (x : Option TypeState). IfSome x (λ (u : TypeState). all_assignable env.world u.types.locals u.types.locals ≡ true)) is known
 
-over_from : (env : Environment) (fs : List MapFrame) (like pc : ℕ) (s : TypeState) (f : Frame) → fs ≡ env.map → IfSome (map_at env like) (LocalsThemselves env.world) → IsLike env like s → IsShared fs like pc f → IsOver env s pc f
-over_from env fs like pc s f same themselves l h = record {
+over_from : (env : Environment) (fs : List MapFrame) (like pc : ℕ) (os : List Overwritten) (s : TypeState) (f : Frame) → fs ≡ env.map → IfSome (map_at env like) (LocalsThemselves env.world) → IsLike env like os s → IsShared fs like pc f
+    → IsOver env os s pc f
+over_from env fs like pc os s f same themselves l h = record {
+  before = l.state;
   at = ap (λ ms. frame_at pc ms) (sym same) ∙ h.at;
-  over = h.over l.frame l.state (ap (λ ms. frame_at like ms) same ∙ l.at) l.is ∙ all_over s l.state (types_on (path f.paths.now f.entry.stack)) l.locals l.flag;
-  itself = like_itself env like s (map_at env like) l.frame l.frame.state l.state themselves l.at refl l.is l.locals;
+  over = h.over l.frame l.state (ap (λ ms. frame_at like ms) same ∙ l.at) l.is;
+  itself = like_itself env (map_at env like) l.frame l.state themselves l.at l.is;
+  but = l.but;
+  flag = l.flag;
 }
 
-pub over_some : (env : Environment) (fs : List MapFrame) (like pc : ℕ) (s : TypeState) (r : Option Frame) → fs ≡ env.map → IfSome (map_at env like) (LocalsThemselves env.world) → IsLike env like s → IfSome r (IsShared fs like pc)
-    → IfSome r (IsOver env s pc)
-over_some env fs like pc s None same themselves l h = tt
-over_some env fs like pc s (Some f) same themselves l h = over_from env fs like pc s f same themselves l h
+over_one : (env : Environment) (fs : List MapFrame) (like pc : ℕ) (os : List Overwritten) (s : TypeState) (r : Option Frame) → fs ≡ env.map → IfSome (map_at env like) (LocalsThemselves env.world) → IsLike env like os s → IfSome r (IsShared fs like pc)
+    → IfSome r (IsOver env os s pc)
+over_one env fs like pc os s None same themselves l h = tt
+over_one env fs like pc os s (Some f) same themselves l h = over_from env fs like pc os s f same themselves l h
+
+pub over_some : (env : Environment) (fs : List MapFrame) (like : Option Like) (l : Like) (pc : ℕ) (s : TypeState) (r : Option Frame) → fs ≡ env.map → IfSome (map_at env l.pc) (LocalsThemselves env.world) → MayBeLike env like s → like ≡ Some l
+    → IfSome r (IsShared fs l.pc pc) → IfSome r (IsOver env (overwritten_since like) s pc)
+over_some env fs like l pc s r same themselves may is h =
+    subst (λ (o : Option Like). IfSome r (IsOver env (overwritten_since o) s pc)) (sym is) (over_one env fs l.pc pc l.overwritten.items s r same themselves (may l is) h)
 
 -- ---- states that fit it
 
-and_kept : (b u : Bool) → b ≡ ((true && b) && (not u || u))
-and_kept true true = refl
-and_kept true false = refl
-and_kept false true = refl
-and_kept false false = refl
+with_flag : (fit flag : Bool) → flag ≡ true → fit ≡ (fit && flag)
+with_flag true true e = refl
+with_flag true false e = absurd cc
+with_flag false flag e = refl
 
-stack_alone : (w : World) (s : TypeState) (slots : List VType) (o : Option (List VType)) → s.types.stack ≡ reverse slots → all_assignable w s.types.locals s.types.locals ≡ true
-    → option_map_or (λ ss. all_assignable w slots (slot_types ss)) o true ≡ option_map_or (fits w s) (option_map (λ ss. with_stack s (reverse (slot_types ss))) o) true
-stack_alone w s slots None e h = refl
-stack_alone w s slots (Some ss) e h =
-    sym (pointwise_reverse (assignable w) slots (slot_types ss))
-    ∙ ap (λ st. all_assignable w st (reverse (slot_types ss))) (sym e)
-    ∙ and_kept (all_assignable w s.types.stack (reverse (slot_types ss))) s.this_uninit
-    ∙ ap (λ a. (a && all_assignable w s.types.stack (reverse (slot_types ss))) && (not s.this_uninit || s.this_uninit)) (sym h)
+stack_alone : (w : World) (s before : TypeState) (slots : List VType) (locals_fit : Bool) (o : Option (List VType)) → s.types.stack ≡ reverse slots → locals_fit ≡ all_assignable w s.types.locals before.types.locals
+    → (not s.this_uninit || before.this_uninit) ≡ true
+    → option_map_or (λ ss. locals_fit && all_assignable w slots (slot_types ss)) o true ≡ option_map_or (fits w s) (option_map (λ ss. with_stack before (reverse (slot_types ss))) o) true
+stack_alone w s before slots locals_fit None e fit flag = refl
+stack_alone w s before slots locals_fit (Some ss) e fit flag =
+    ap (λ a. a && all_assignable w slots (slot_types ss)) fit
+    ∙ ap (λ b. all_assignable w s.types.locals before.types.locals && b) (sym (pointwise_reverse (assignable w) slots (slot_types ss)) ∙ ap (λ st. all_assignable w st (reverse (slot_types ss))) (sym e))
+    ∙ with_flag (all_assignable w s.types.locals before.types.locals && all_assignable w s.types.stack (reverse (slot_types ss))) (not s.this_uninit || before.this_uninit) flag
 
-pub fits_over : (env : Environment) (w : World) (s : TypeState) (pc : ℕ) (f : Frame) (slots : List VType) (other : Bool) → w ≡ env.world → IsOver env s pc f
-    → option_map_or (λ ss. all_assignable w slots (slot_types ss)) (types_on (path f.paths.now f.entry.stack)) true ≡ option_map_or (fits_frame env (with_stack s (reverse slots))) (map_at env pc) other
-fits_over env w s pc f slots other same h =
-    ap (λ v. option_map_or (λ ss. all_assignable v slots (slot_types ss)) (types_on (path f.paths.now f.entry.stack)) true) same
-    ∙ stack_alone env.world (with_stack s (reverse slots)) slots (types_on (path f.paths.now f.entry.stack)) refl h.itself
+pub fits_compared : (env : Environment) (w : World) (s : TypeState) (pc : ℕ) (f : Frame) (slots : List VType) (locals_fit other : Bool) → w ≡ env.world → Compares env s pc f locals_fit
+    → option_map_or (λ ss. locals_fit && all_assignable w slots (slot_types ss)) (types_on (path f.paths.now f.entry.stack)) true ≡ option_map_or (fits_frame env (with_stack s (reverse slots))) (map_at env pc) other
+fits_compared env w s pc f slots locals_fit other same h =
+    ap (λ v. option_map_or (λ ss. locals_fit && all_assignable v slots (slot_types ss)) (types_on (path f.paths.now f.entry.stack)) true) same
+    ∙ stack_alone env.world (with_stack s (reverse slots)) h.before slots locals_fit (types_on (path f.paths.now f.entry.stack)) refl h.fit h.flag
     ∙ ap (λ o. option_map_or (fits env.world (with_stack s (reverse slots))) o true) (sym h.over)
     ∙ ap (λ o. option_map_or (fits_frame env (with_stack s (reverse slots))) o other) (sym h.at)
+
+same_flag : (u v : Bool) → v ≡ u → (not u || v) ≡ true
+same_flag true true e = refl
+same_flag true false e = absurd cc
+same_flag false v e = refl
+
+pub fits_over : (env : Environment) (w : World) (os : List Overwritten) (s : TypeState) (pc : ℕ) (f : Frame) (slots : List VType) (locals_fit other : Bool) → w ≡ env.world → IsOver env os s pc f → locals_fit ≡ are_assignable env.world os s.types.locals
+    → option_map_or (λ ss. locals_fit && all_assignable w slots (slot_types ss)) (types_on (path f.paths.now f.entry.stack)) true ≡ option_map_or (fits_frame env (with_stack s (reverse slots))) (map_at env pc) other
+fits_over env w os s pc f slots locals_fit other same h fit =
+    fits_compared env w s pc f slots locals_fit other same (record {
+      before = h.before;
+      at = h.at;
+      over = h.over;
+      fit = fit ∙ fits_but env.world os h.before.types.locals s.types.locals h.but h.itself;
+      flag = same_flag s.this_uninit h.before.this_uninit h.flag;
+    })
+
+compares_one : (env : Environment) (fs : List MapFrame) (other pc : ℕ) (s : TypeState) (r : Option Frame) → fs ≡ env.map → FitsLocals env s other → IfSome r (IsShared fs other pc) → IfSome r (λ f. Compares env s pc f true)
+compares_one env fs other pc s None same h shared = tt
+compares_one env fs other pc s (Some f) same h shared = record {
+  before = h.state;
+  at = ap (λ ms. frame_at pc ms) (sym same) ∙ shared.at;
+  over = shared.over h.frame h.state (ap (λ ms. frame_at other ms) same ∙ h.at) h.is;
+  fit = sym h.locals;
+  flag = h.flag;
+}
+
+pub compares_some : (env : Environment) (fs : List MapFrame) (fitted : Option ℕ) (other pc : ℕ) (s : TypeState) (r : Option Frame) → fs ≡ env.map → MayFit env s fitted → fitted ≡ Some other → IfSome r (IsShared fs other pc)
+    → IfSome r (λ f. Compares env s pc f true)
+compares_some env fs fitted other pc s r same h is shared =
+    compares_one env fs other pc s r same (subst (λ (o : Option ℕ). IfSome o (FitsLocals env s)) is h) shared
+
+pub compared_to : (env : Environment) (s : TypeState) (pc : ℕ) (o : Option Frame) (f : Frame) → IfSome o (λ x. Compares env s pc x true) → o ≡ Some f → Compares env s pc f true
+compared_to env s pc o f h is = subst (λ (x : Option Frame). IfSome x (λ y. Compares env s pc y true)) is h
+
+-- ---- a frame that a state fits
+
+first_two : (a b c : Bool) → ((a && b) && c) ≡ true → (a ≡ true) × (c ≡ true)
+first_two true true true e = (refl, refl)
+first_two true true false e = absurd cc
+first_two true false c e = absurd cc
+first_two false b c e = absurd cc
+
+known_state : (constructor : Bool) (max : ℕ) (o : Option FrameTypes) → is_some o ≡ true → is_some (option_map (state_where constructor max) o) ≡ true
+known_state constructor max None e = absurd cc
+known_state constructor max (Some ts) e = refl
+
+fits_known : (env : Environment) (s : TypeState) (pc : ℕ) (f : MapFrame) (q : Option TypeState) → map_at env pc ≡ Some f → f.state ≡ q → is_some q ≡ true → option_map_or (fits env.world s) q true ≡ true → FitsLocals env s pc
+fits_known env s pc f None at is some e = absurd cc
+fits_known env s pc f (Some t) at is some e =
+    let parts = first_two (all_assignable env.world s.types.locals t.types.locals) (all_assignable env.world s.types.stack t.types.stack) (not s.this_uninit || t.this_uninit) e in
+    record { frame = f; state = t; at = at; is = is; locals = parts.0; flag = parts.1 }
+
+pub fitted_now : (env : Environment) (s : TypeState) (pc : ℕ) (f : Frame) → map_at env pc ≡ Some (frame_in f)
+    → is_some (frame_types (path f.paths.now f.entry.locals) (path f.paths.now f.entry.stack)) ≡ true → option_map_or (fits_frame env s) (map_at env pc) true ≡ true → FitsLocals env s pc
+fitted_now env s pc f at some e =
+    fits_known env s pc (frame_in f) (frame_in f).state at refl
+    (known_state f.is_constructor f.max_locals (frame_types (path f.paths.now f.entry.locals) (path f.paths.now f.entry.stack)) some)
+    (ap (λ o. option_map_or (fits_frame env s) o true) (sym at) ∙ e)
 
 -- ---- the state that takes over local variables
 
@@ -112,27 +184,40 @@ taken s None (Some st) e = absurd cc
 taken s (Some ss) None e = absurd cc
 taken s (Some ss) (Some st) e = let same : st ≡ slot_types ss = cc in ap (λ x. Some (with_stack s (reverse x))) same
 
-pub taken_over : (env : Environment) (s : TypeState) (pc : ℕ) (f : Frame) (there : MapFrame) (v : Option (List VType)) → map_at env pc ≡ Some there → IsOver env s pc f → v ≡ option_map slot_types (types_on (path f.paths.now f.entry.stack))
-    → option_map (λ st. with_stack s (reverse st)) v ≡ there.state
-taken_over env s pc f there v at h e =
+pub taken_over : (env : Environment) (os : List Overwritten) (s restored : TypeState) (pc : ℕ) (f : Frame) (there : MapFrame) (v : Option (List VType)) → map_at env pc ≡ Some there → IsOver env os s pc f → IsRestored os s restored
+    → v ≡ option_map slot_types (types_on (path f.paths.now f.entry.stack)) → option_map (λ st. with_stack restored (reverse st)) v ≡ there.state
+taken_over env os s restored pc f there v at h r e =
     let same : frame_in f ≡ there = some_is (frame_in f) there (sym h.at ∙ at) in
-    taken s (types_on (path f.paths.now f.entry.stack)) v e ∙ sym h.over ∙ ap (λ (x : MapFrame). x.state) same
+    let stack = types_on (path f.paths.now f.entry.stack) in
+    taken restored stack v e
+    ∙ sym (all_over restored h.before stack (sym (r.locals h.before.types.locals h.but)) (h.flag ∙ sym r.flag))
+    ∙ sym h.over
+    ∙ ap (λ (x : MapFrame). x.state) same
   where
     some_is : (a b : MapFrame) → Some a ≡ Some b → a ≡ b
     some_is a b e = cc
 
 -- ---- states that stand
 
-stands_at : (env : Environment) (pc : ℕ) (f : MapFrame) (s : TypeState) → map_at env pc ≡ Some f → f.state ≡ Some s → IsLike env pc s
-stands_at env pc f s at is = record { frame = f; state = s; at = at; is = is; locals = refl; flag = refl }
+stands_at : (env : Environment) (pc : ℕ) (f : MapFrame) (s : TypeState) → map_at env pc ≡ Some f → f.state ≡ Some s → IsLike env pc [] s
+stands_at env pc f s at is = record { frame = f; state = s; at = at; is = is; but = none_noted s.types.locals; flag = refl }
 
-kept_like : (env : Environment) (i : Instruction) (like : Option ℕ) (s after : TypeState) (b : Bool) → keeps_locals i.instr.op ≡ b → ((pc : ℕ) → like ≡ Some pc → IsLike env pc s) → state_after env i s ≡ Ok after
-    → (pc : ℕ) → cond b like None ≡ Some pc → IsLike env pc after
-kept_like env i like s after false e stands h pc is = absurd cc
-kept_like env i like s after true e stands h pc is =
-    let l = stands pc is in
-    let kept = after_kept env i s after e h in
-    record { frame = l.frame; state = l.state; at = l.at; is = l.is; locals = l.locals ∙ kept.locals; flag = l.flag ∙ kept.flag }
+like_after : (env : Environment) (i : Instruction) (like : Option Like) (l : Like) (s after : TypeState) → MayBeLike env like s → state_after env i s ≡ Ok after → NotedBehind i.instr.op s.types.locals like l → IsLike env l.pc l.overwritten.items after
+like_after env i like l s after stands h (leaves keeps is) =
+    let b = stands l is in
+    let kept = after_kept env i s after keeps h in
+    record { frame = b.frame; state = b.state; at = b.at; is = b.is; but = subst (λ ls. AreBut l.overwritten.items b.state.types.locals ls) kept.locals b.but; flag = b.flag ∙ kept.flag }
+like_after env i like l s after stands h (stores kind n before op is now) =
+    let b = stands before is in
+    let stored = after_stored env i kind n s after op h in
+    record {
+      frame = b.frame;
+      state = b.state;
+      at = ap (λ pc. map_at env pc) now.at ∙ b.at;
+      is = b.is;
+      but = subst (λ os. AreBut os b.state.types.locals after.types.locals) (sym now.noted) (stored.but before.overwritten.items b.state.types.locals b.but);
+      flag = b.flag ∙ stored.flag;
+    }
 
 kept_judged : (env : Environment) (i : Instruction) (judged : Option Judged) (s after : TypeState) (b : Bool) → keeps_locals i.instr.op ≡ b → IfSome judged (IsJudged env s) → state_after env i s ≡ Ok after
     → IfSome (cond b judged None) (IsJudged env after)
@@ -142,9 +227,9 @@ kept_judged env i judged s after true e stands h =
     judged_same env s after judged kept.locals kept.flag stands
 
 pub stands_behind : (env : Environment) (i : Instruction) (s after : Standing) → IsStanding env s → state_after env i (stood s) ≡ Ok (stood after)
-    → after.like ≡ behind_op i.instr.op s.like → after.judged ≡ behind_op i.instr.op s.judged → IsStanding env after
-stands_behind env i s after stands h like judged = record {
-  like = λ pc is. kept_like env i s.like (stood s) (stood after) (keeps_locals i.instr.op) refl stands.like h pc (sym like ∙ is);
+    → IfSome after.like (NotedBehind i.instr.op (stood s).types.locals s.like) → after.judged ≡ behind_op i.instr.op s.judged → IsStanding env after
+stands_behind env i s after stands h noted judged = record {
+  like = λ l is. like_after env i s.like l (stood s) (stood after) stands.like h (subst (λ (o : Option Like). IfSome o (NotedBehind i.instr.op (stood s).types.locals s.like)) is noted);
   judged =
       subst (λ (o : Option Judged). IfSome o (IsJudged env (stood after))) (sym judged)
       (kept_judged env i s.judged (stood s) (stood after) (keeps_locals i.instr.op) refl stands.judged h);
@@ -156,23 +241,34 @@ none_stands env = λ s e. absurd cc
 pub one_stands : (env : Environment) (s : Standing) → IsStanding env s → AllStand env (Some s)
 one_stands env s h = λ t e. let same : s ≡ t = cc in subst (λ (x : Standing). IsStanding env x) same h
 
-pub new_stands : (env : Environment) (pc : ℕ) (f : MapFrame) (s : Standing) → map_at env pc ≡ Some f → f.state ≡ Some (stood s) → s.like ≡ Some pc → IfSome s.judged (IsJudged env (stood s)) → AllStand env (Some s)
-new_stands env pc f s at is like judged = one_stands env s (record {
-  like = λ other e. let same : pc ≡ other = cc in subst (λ (n : ℕ). IsLike env n (stood s)) same (stands_at env pc f (stood s) at is);
+like_new : (env : Environment) (pc : ℕ) (l other : Like) (s : TypeState) → IsLike env pc [] s → l.pc ≡ pc → l.overwritten.items ≡ [] → Some l ≡ Some other → IsLike env other.pc other.overwritten.items s
+like_new env pc l other s h at none e =
+    let same : l ≡ other = cc in
+    let here : IsLike env l.pc [] s = subst (λ (n : ℕ). IsLike env n [] s) (sym at) h in
+    let noted : IsLike env l.pc l.overwritten.items s = subst (λ (os : List Overwritten). IsLike env l.pc os s) (sym none) here in
+    subst (λ (x : Like). IsLike env x.pc x.overwritten.items s) same noted
+
+pub new_stands : (env : Environment) (pc : ℕ) (f : MapFrame) (l : Like) (s : Standing) → map_at env pc ≡ Some f → f.state ≡ Some (stood s) → s.like ≡ Some l → l.pc ≡ pc → l.overwritten.items ≡ [] → IfSome s.judged (IsJudged env (stood s))
+    → AllStand env (Some s)
+new_stands env pc f l s at is like new none judged = one_stands env s (record {
+  like = λ other e. like_new env pc l other (stood s) (stands_at env pc f (stood s) at is) new none (sym like ∙ e);
   judged = judged;
 })
 
 -- the state of a frame over another state satisfies the handlers where that does
-pub judged_over : (env : Environment) (s : TypeState) (pc : ℕ) (f : Frame) (there : MapFrame) (t : TypeState) (judged : Option Judged) → IsOver env s pc f → map_at env pc ≡ Some there → there.state ≡ Some t → IfSome judged (IsJudged env s)
-    → IfSome judged (IsJudged env t)
-judged_over env s pc f there t judged h at is known =
+pub judged_over : (env : Environment) (os : List Overwritten) (s : TypeState) (pc : ℕ) (f : Frame) (there : MapFrame) (t : TypeState) (judged : Option Judged) → os ≡ [] → IsOver env os s pc f → map_at env pc ≡ Some there → there.state ≡ Some t
+    → IfSome judged (IsJudged env s) → IfSome judged (IsJudged env t)
+judged_over env os s pc f there t judged none h at is known =
     over_stack (types_on (path f.paths.now f.entry.stack)) (sym h.over ∙ state_found (frame_in f) there (map_at env pc) t h.at at is)
   where
-    over_stack : (o : Option (List VType)) → option_map (λ ss. with_stack s (reverse (slot_types ss))) o ≡ Some t → IfSome judged (IsJudged env t)
+    whole : s.types.locals ≡ h.before.types.locals
+    whole = none_left h.before.types.locals s.types.locals (subst (λ (xs : List Overwritten). AreBut xs h.before.types.locals s.types.locals) none h.but)
+
+    over_stack : (o : Option (List VType)) → option_map (λ ss. with_stack h.before (reverse (slot_types ss))) o ≡ Some t → IfSome judged (IsJudged env t)
     over_stack None e = absurd cc
     over_stack (Some ss) e =
-        let same : with_stack s (reverse (slot_types ss)) ≡ t = cc in
-        judged_same env s t judged (ap (λ (x : TypeState). x.types.locals) same) (ap (λ (x : TypeState). x.this_uninit) same) known
+        let same : with_stack h.before (reverse (slot_types ss)) ≡ t = cc in
+        judged_same env s t judged (whole ∙ ap (λ (x : TypeState). x.types.locals) same) (sym h.flag ∙ ap (λ (x : TypeState). x.this_uninit) same) known
 
 pub either_stands : (env : Environment) (b : Behind) → BothStand env b → AllStand env (either_of b)
 either_stands env b h = of_these b.going b.spare h.going h.spare

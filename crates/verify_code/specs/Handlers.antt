@@ -7,7 +7,7 @@ use Rattle.verify_types.specs.Assignability.{assignable}
 use Rattle.verify_types.specs.ClassTypes.{throwable_type}
 use Rattle.verify_types.specs.TypeStates.{TypeState, with_stack}
 use Rattle.verify_types.specs.Environment.{Handler, Environment, map_at}
-use Rattle.verify_code.specs.declared.handlers.Caught.{Caught}
+use Rattle.verify_code.specs.declared.guards.Caught.{Caught}
 use Rattle.verify_types.specs.Calls.{covers}
 use Rattle.verify_types.specs.Handlers.{caught_type, fits_frame, is_satisfied}
 
@@ -47,6 +47,6 @@ abbrev pub nearer : ℕ → ℕ → ℕ → ℕ
 nearer pc next start = if nat_lt pc start && nat_lt start next then start else next
 
 -- the first pc behind this one at which one of the rows starts, or else this other
-abbrev pub next_start : ℕ → ℕ → List Row → ℕ
+abbrev pub next_start : ℕ → ℕ → List Handler → ℕ
 next_start pc next [] = next
-next_start pc next (r ∷ rs) = next_start pc (nearer pc next r.start) rs
+next_start pc next (h ∷ hs) = next_start pc (nearer pc next h.row.start) hs

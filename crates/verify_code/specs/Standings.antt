@@ -1,8 +1,7 @@
 -- States with the local variables of a frame of the map.
-use Rattle.std.specs.Prelude.{◌≡◌, ℕ, ◌<◌, ◌≤◌, Bool, true, false, IfSome, List, Option, Some, None, reverse, nat_le, nat_lt, ◌&&◌, if◌then◌else◌}
+use Rattle.std.specs.Prelude.{◌≡◌, ℕ, ◌<◌, ◌≤◌, Bool, true, false, IfSome, List, Option, Some, None, reverse, nat_le, nat_lt, ◌&&◌, ◌||◌, not, if◌then◌else◌}
 use Rattle.std.specs.Option.{option_map, option_map_or}
 use Rattle.opcodes.specs.declared.op.Op.{Op}
-use Rattle.opcodes.specs.declared.op.Op.TheVariants as ops
 use Rattle.instruction_rows.specs.Contents.{slot_types}
 use Rattle.type_paths.specs.Paths.{path, types_on}
 use Rattle.verify_types.specs.TypeStates.{TypeState, all_assignable, with_stack}
@@ -13,23 +12,26 @@ use Rattle.verify_code.specs.declared.frame.Frame.{Frame}
 use Rattle.verify_code.specs.declared.standing.Behind.{Behind}
 use Rattle.verify_code.specs.declared.standing.Judged.{Judged}
 use Rattle.verify_code.specs.declared.standing.Standing.{Standing}
+use Rattle.verify_code.specs.declared.overwritten.Like.{Like}
+use Rattle.verify_code.specs.declared.overwritten.Overwritten.{Overwritten}
 use Rattle.verify_code.specs.Frames.{frame_at, frame_in}
+use Rattle.verify_code.specs.Overwrites.{AreBut, keeps_locals}
 
 abbrev pub stood : Standing → TypeState
 stood s = state_in s.state
 
--- the frame of the map at this pc has a state with the same local variables and the same flag
-pub record IsLike (env : Environment) (pc : ℕ) (s : TypeState) : Type 0 where
+-- the frame of the map at this pc has a state with the same flag, and with the local variables from before these were overwritten
+pub record IsLike (env : Environment) (pc : ℕ) (os : List Overwritten) (s : TypeState) : Type 0 where
   pub frame : MapFrame
   pub state : TypeState
   pub at : map_at env pc ≡ Some frame
   pub is : frame.state ≡ Some state
-  pub locals : state.types.locals ≡ s.types.locals
+  pub but : AreBut os state.types.locals s.types.locals
   pub flag : state.this_uninit ≡ s.this_uninit
 
--- so has the frame at this pc, if there is one
-abbrev pub MayBeLike : Environment → Option ℕ → TypeState → Type 0
-MayBeLike env like s = (pc : ℕ) → like ≡ Some pc → IsLike env pc s
+-- so has this frame, if there is one
+abbrev pub MayBeLike : Environment → Option Like → TypeState → Type 0
+MayBeLike env like s = (l : Like) → like ≡ Some l → IsLike env l.pc l.overwritten.items s
 
 -- the handlers are satisfied at this pc, and up to the next at which a row of the exception table starts
 pub record IsJudged (env : Environment) (s : TypeState) (j : Judged) : Type 0 where
@@ -44,13 +46,6 @@ pub record IsStanding (env : Environment) (s : Standing) : Type 0 where
 -- whether the handlers are known to be satisfied at a pc
 abbrev pub holds_at : ℕ → Option Judged → Bool
 holds_at pc judged = option_map_or (λ (j : Judged). nat_le j.at pc && nat_lt pc j.until) judged false
-
--- whether an instruction changes the operand stack alone
-abbrev pub keeps_locals : Op → Bool
-keeps_locals (ops.Store kind n) = false
-keeps_locals (ops.InvokeSpecial index) = false
-keeps_locals (ops.New index) = false
-keeps_locals op = true
 
 -- what is kept of a state, behind an instruction
 abbrev pub behind_op : {A : Type 0} → Op → Option A → Option A
@@ -82,8 +77,33 @@ pub record IsShared (fs : List MapFrame) (like pc : ℕ) (f : Frame) : Type 0 wh
   pub at : frame_at pc fs ≡ Some (frame_in f)
   pub over : (g : MapFrame) (t : TypeState) → frame_at like fs ≡ Some g → g.state ≡ Some t → (frame_in f).state ≡ over_stack_of f t
 
--- this frame lies at a pc, and has the local variables and the flag of a state, which fit themselves
-pub record IsOver (env : Environment) (s : TypeState) (pc : ℕ) (f : Frame) : Type 0 where
+-- this frame lies at a pc, and has the flag of a state and its local variables from before these were overwritten, which fit
+-- themselves
+pub record IsOver (env : Environment) (os : List Overwritten) (s : TypeState) (pc : ℕ) (f : Frame) : Type 0 where
+  pub before : TypeState
   pub at : map_at env pc ≡ Some (frame_in f)
-  pub over : (frame_in f).state ≡ over_stack_of f s
-  pub itself : all_assignable env.world s.types.locals s.types.locals ≡ true
+  pub over : (frame_in f).state ≡ over_stack_of f before
+  pub itself : all_assignable env.world before.types.locals before.types.locals ≡ true
+  pub but : AreBut os before.types.locals s.types.locals
+  pub flag : before.this_uninit ≡ s.this_uninit
+
+-- the local variables and the flag of a state fit those of the frame at this pc
+pub record FitsLocals (env : Environment) (s : TypeState) (pc : ℕ) : Type 0 where
+  pub frame : MapFrame
+  pub state : TypeState
+  pub at : map_at env pc ≡ Some frame
+  pub is : frame.state ≡ Some state
+  pub locals : all_assignable env.world s.types.locals state.types.locals ≡ true
+  pub flag : (not s.this_uninit || state.this_uninit) ≡ true
+
+-- so they do at this pc, if there is one
+abbrev pub MayFit : Environment → TypeState → Option ℕ → Type 0
+MayFit env s fitted = IfSome fitted (FitsLocals env s)
+
+-- this frame lies at a pc, a state has its flag or needs none, and this says whether its local variables fit
+pub record Compares (env : Environment) (s : TypeState) (pc : ℕ) (f : Frame) (locals_fit : Bool) : Type 0 where
+  pub before : TypeState
+  pub at : map_at env pc ≡ Some (frame_in f)
+  pub over : (frame_in f).state ≡ over_stack_of f before
+  pub fit : locals_fit ≡ all_assignable env.world s.types.locals before.types.locals
+  pub flag : (not s.this_uninit || before.this_uninit) ≡ true

@@ -6,6 +6,7 @@ ghost use Rattle.world_model.specs.Decoded.{IsDecoded};
 
 use crate::frame_state::{first_frame, state_of};
 use crate::frames::Frames;
+use crate::guards::{Guard, guards_of};
 use crate::stack_map::frames_of;
 use items::NoMemory;
 use std::alloc::Global;
@@ -13,12 +14,13 @@ use std::marker::Model;
 use verify_instructions::{Method, State};
 use world_model::Lookups;
 
-/// A method with code in a world, and the frames of its stack map.
+/// A method with code in a world, the frames of its stack map, and the rows of its exception table.
 #[derive(Drop)]
 pub struct Environment<'a, L: Lookups> {
     pub world: &'a L,
     pub method: Method<'a>,
     pub frames: Frames,
+    pub guards: Vec<Guard>,
 }
 
 impl<'a, L: Lookups> Model for Environment<'a, L> {
@@ -30,7 +32,8 @@ impl<'a, L: Lookups> Model for Environment<'a, L> {
 
     ghost view = { λ a. environment_in (L.world a.world.now) a.method };
 
-    ghost invariant = { λ a. HasFrames (environment_in (L.world a.world.now) a.method) a.frames };
+    ghost invariant = { λ a.
+        HasFrames (environment_in (L.world a.world.now) a.method) a.frames a.guards.items };
 }
 
 impl<'a, L: Lookups> Environment<'a, L> {
@@ -43,6 +46,7 @@ impl<'a, L: Lookups> Environment<'a, L> {
     {
         let first = first_frame(alloc, world, method.info)?;
         let code = method.code;
+        let guards = guards_of(alloc, &code.rows, method.catches)?;
         match frames_of(
             alloc,
             world,
@@ -55,6 +59,7 @@ impl<'a, L: Lookups> Environment<'a, L> {
                 world,
                 method,
                 frames,
+                guards,
             })),
             None => Ok(None),
         }

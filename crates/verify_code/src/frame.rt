@@ -31,8 +31,8 @@ pub struct Frame<'a> {
 }
 
 impl<'a> Frame<'a> {
-    // Whether none of its types is a constant that is no class.
-    fn is_known(&self) -> bool
+    /// Whether none of its types is a constant that is no class.
+    pub fn is_known(&self) -> bool
         ensures { result ≡ is_some (frame_types (path self.now.paths.now self.now.entry.locals)
             (path self.now.paths.now self.now.entry.stack)) }
     {
@@ -91,14 +91,15 @@ impl<'a> Frame<'a> {
         self.fits_slots(w, s.types.locals(), &[caught], s.this_uninit)
     }
 
-    /// Whether an operand stack, its top last, fits that of the frame. One that names a constant that is no class isn't judged.
-    pub fn fits_stack<L: Lookups>(&self, w: &L, stack: &[VType]) -> bool
+    /// Whether the local variables fit, and an operand stack, its top last, fits that of the frame. One that names a constant that
+    /// is no class isn't judged.
+    pub fn fits_stack<L: Lookups>(&self, w: &L, locals_fit: bool, stack: &[VType]) -> bool
         ensures { result ≡ option_map_or
-            (λ ss. all_assignable (L.world w.now) stack.now (slot_types ss))
+            (λ ss. locals_fit && all_assignable (L.world w.now) stack.now (slot_types ss))
             (types_on (path self.now.paths.now self.now.entry.stack)) true }
     {
         self.paths.slot_count(self.entry.stack).is_none()
-            || fit_path(w, self.paths, self.entry.stack, stack)
+            || (locals_fit && fit_path(w, self.paths, self.entry.stack, stack))
     }
 
     /// Its operand stack slot by slot, the top last. `None`: it names a constant that is no class.

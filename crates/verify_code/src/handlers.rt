@@ -1,61 +1,25 @@
 //! Exception handlers (JVMS 4.10.1.6, instructionSatisfiesHandlers).
 
-ghost use Rattle.std.specs.Prelude.{◌≡◌, ◌<◌, ◌^◌, IfSome, MatchOption, None, Some, drop, false, get_or};
-ghost use Rattle.std.specs.Bool.{MatchBool};
+ghost use Rattle.std.specs.Prelude.{◌≡◌, ◌<◌, ◌^◌, IfSome, MatchOption, false, map};
 ghost use Rattle.std.specs.List.{list_all};
 ghost use Rattle.std.specs.Option.{option_map, option_map_or};
 ghost use Rattle.verify_types.specs.Environment.{map_at};
 ghost use Rattle.verify_types.specs.Handlers as spec;
 ghost use Rattle.verify_instructions.specs.Views.{state_in};
+ghost use Rattle.verify_code.specs.Guards.{guard_in};
 ghost use Rattle.verify_code.specs.Handlers as parts;
 ghost use Rattle.verify_code.specs.Handlers.{IsCatcher, IsRowKept, handler, caught_fits, keeps_more};
 ghost use Rattle.verify_code.specs.Standings.{IsJudged, IsStanding, holds_at, stood};
 ghost use Rattle.verify_code.specs.declared.standing.Judged.{Judged as JudgedAt};
 
 use crate::environment::Environment;
+use crate::guards::{Caught, Guard, is_last};
 use crate::standing::{Judged, Standing, holds_at};
 use class_model::Row;
 use stack_maps::VType;
 use verify_instructions::State;
 use verify_types::{assignable, throwable_type};
 use world_model::Lookups;
-
-// What the first row catches; every throwable where there is none.
-fn first_catch(catches: &[Option<u32>]) -> Option<u32>
-    ensures { result ≡ get_or catches.now 0 None }
-{
-    match catches.first() {
-        Some(catch) => *catch,
-        None => None,
-    }
-}
-
-// Those behind the first.
-fn behind_first(catches: &[Option<u32>]) -> &[Option<u32>]
-    ensures { result.now ≡ drop 1 catches.now }
-{
-    match catches.split_first() {
-        Some((_, behind)) => behind,
-        None => catches,
-    }
-}
-
-/// The pc of an exception handler, and the number of the class that it catches, if it names one.
-#[derive(Clone, Copy, Debug, PartialEq, Eq)]
-pub struct Caught {
-    pub handler: u16,
-    pub catch: Option<u32>,
-}
-
-// Whether the handler that is known is this one.
-fn is_last(last: Option<Caught>, here: Caught) -> bool
-    ensures { MatchBool result (last ≡ Some here) (Unit {0}) }
-{
-    match last {
-        Some(last) => last == here,
-        None => false,
-    }
-}
 
 // Whether a pc lies in the range of a row.
 fn is_covered(row: &Row, pc: u32) -> bool
@@ -86,13 +50,13 @@ fn nearer(pc: u32, next: u32, start: u32) -> u32
 }
 
 // The first pc behind this one at which a row starts; 65,536 where there is none.
-fn next_start(rows: &[Row], pc: u32) -> u32
-    ensures { result ≡ parts.next_start pc 65536 rows.now }
+fn next_start(guards: &[Guard], pc: u32) -> u32
+    ensures { result ≡ parts.next_start pc 65536 (map guard_in guards.now) }
 {
     let mut next = 65_536;
-    let mut rest = rows;
-    while let Some((row, behind)) = rest.split_first() {
-        next = nearer(pc, next, u32::from(row.start));
+    let mut rest = guards;
+    while let Some((guard, behind)) = rest.split_first() {
+        next = nearer(pc, next, u32::from(guard.row.start));
         rest = behind;
     }
     next
@@ -135,7 +99,10 @@ impl<'a, L: Lookups> Environment<'a, L> {
         ensures { result ≡ caught_fits self.now (stood s.now) caught pc }
     {
         match self.shared(s, pc) {
-            Some(frame) => frame.fits_stack(self.world, &[caught]),
+            Some(frame) => {
+                let locals_fit = self.fits_where_overwritten(s);
+                frame.fits_stack(self.world, locals_fit, &[caught])
+            }
             None => self.fits_handler_whole(&s.state, caught, pc),
         }
     }
@@ -183,26 +150,27 @@ impl<'a, L: Lookups> Environment<'a, L> {
         Some(Some(here))
     }
 
-    // Whether the handlers of the instruction at the pc are satisfied, but for those of the other pc.
-    fn are_more_satisfied(&self, known: Option<u32>, pc: u32, s: &Standing) -> bool
+    // Whether these handlers are satisfied at the pc, but for those of the other pc.
+    fn are_more_satisfied(
+        &self,
+        known: Option<u32>,
+        pc: u32,
+        s: &Standing,
+        guards: &[Guard],
+    ) -> bool
         requires { IsStanding self.now s.now }
-        ensures { result ≡
-            list_all (keeps_more self.now known pc (stood s.now)) self.now.handlers }
+        ensures { result ≡ list_all
+            (keeps_more self.now known pc (stood s.now)) (map guard_in guards.now) }
     {
-        let mut rows: &[Row] = &self.method.code.rows;
-        let mut catches = self.method.catches;
+        let mut rest = guards;
         let mut last = None;
-        while let Some((row, behind)) = rows.split_first() {
-            let here = Caught {
-                handler: row.handler,
-                catch: first_catch(catches),
-            };
-            let Some(kept) = self.judge_row(known, pc, s, last, here, row) else {
+        while let Some((guard, behind)) = rest.split_first() {
+            let here = guard.caught();
+            let Some(kept) = self.judge_row(known, pc, s, last, here, &guard.row) else {
                 return false;
             };
             last = kept;
-            rows = behind;
-            catches = behind_first(catches);
+            rest = behind;
         }
         true
     }
@@ -214,12 +182,12 @@ impl<'a, L: Lookups> Environment<'a, L> {
         ensures judged { IfSome result (IsJudged self.now (stood s.now)) }
         ensures found { holds_at pc result ≡ spec.are_satisfied self.now pc (stood s.now) }
     {
-        if !self.are_more_satisfied(at_of(s.judged), pc, s) {
+        if !self.are_more_satisfied(at_of(s.judged), pc, s, &self.guards) {
             return None;
         }
         Some(Judged {
             at: pc,
-            until: next_start(&self.method.code.rows, pc),
+            until: next_start(&self.guards, pc),
         })
     }
 

@@ -9,12 +9,15 @@ mod frame;
 mod frame_paths;
 mod frame_state;
 mod frames;
+mod guards;
 mod handlers;
 mod instructions;
 mod method_fault;
+mod overwritten;
 mod path_fits;
 mod stack_map;
 mod standing;
+mod switches;
 mod targets;
 mod walk;
 

@@ -1,8 +1,11 @@
 //! States with the local variables of a frame of the stack map.
 
 ghost use Rattle.std.specs.Prelude.{◌≡◌, None};
+ghost use Rattle.verify_instructions.specs.Views.{state_in};
+ghost use Rattle.verify_code.specs.Overwrites.{IsRestored, overwritten_since};
 ghost use Rattle.verify_code.specs.Standings as spec;
 
+use crate::overwritten::{Like, Overwritten, keeps_locals, overwritten_since, restored};
 use opcodes::Op;
 use verify_instructions::State;
 
@@ -19,10 +22,31 @@ pub struct Judged {
 #[derive(Drop)]
 pub struct Standing {
     pub state: State,
-    /// The pc of a frame of the stack map that has the same.
-    pub like: Option<u32>,
+    /// A frame of the stack map that has the same, but for local variables that were overwritten since.
+    pub like: Option<Like>,
     /// Where they satisfy the exception handlers.
     pub judged: Option<Judged>,
+}
+
+impl Standing {
+    /// The local variables that were overwritten since the frame that it is like.
+    pub fn overwritten(&self) -> &[Overwritten]
+        ensures { result.now ≡ overwritten_since self.now.like }
+    {
+        overwritten_since(&self.like)
+    }
+
+    /// The state with the local variables of the frame that it is like.
+    pub fn restored(self) -> State
+        ensures { IsRestored (overwritten_since self.like) (spec.stood self) (state_in result) }
+    {
+        let Standing {
+            state,
+            like,
+            judged: _,
+        } = self;
+        restored(state, overwritten_since(&like))
+    }
 }
 
 /// The state that goes on behind an instruction, or else one that doesn't, whose local variables may serve at the next frame.
@@ -70,25 +94,6 @@ impl Behind {
             None => spare,
         }
     }
-}
-
-// Whether an instruction changes the operand stack alone.
-fn keeps_locals(op: &Op) -> bool
-    ensures { result ≡ spec.keeps_locals op.now }
-{
-    match op {
-        Op::Store(_, _) => false,
-        Op::InvokeSpecial(_) => false,
-        Op::New(_) => false,
-        _ => true,
-    }
-}
-
-/// The pc of the frame that the state behind an instruction is like, where the one before it is like this.
-pub fn like_behind(op: &Op, like: Option<u32>) -> Option<u32>
-    ensures { result ≡ spec.behind_op op.now like }
-{
-    if keeps_locals(op) { like } else { None }
 }
 
 /// Where the state behind an instruction satisfies the exception handlers, where the one before it does so here.

@@ -12,18 +12,20 @@ ghost use Rattle.verify_types.specs.Faults as spec;
 ghost use Rattle.verify_types.specs.Handlers as handlers;
 ghost use Rattle.verify_instructions.specs.Views.{state_in};
 ghost use Rattle.verify_code.specs.Frames.{frame_in};
+ghost use Rattle.verify_code.specs.Overwrites.{are_assignable, overwritten_since};
 ghost use Rattle.verify_code.specs.Standings.{IsOver, IsStanding, stood};
 
 use crate::environment::Environment;
 use crate::frame::Frame;
 use crate::instructions::has_instruction;
+use crate::overwritten::are_assignable;
 use crate::standing::Standing;
 use opcodes::{Instr, LookupSwitch, Match, Op, TableSwitch};
 use verify_instructions::{State, goes_on};
 use world_model::Lookups;
 
-// The pc that a target is. `None`: no code has it.
-fn pc_of(target: i64) -> Option<u32>
+/// The pc that a target is. `None`: no code has it.
+pub fn pc_of(target: i64) -> Option<u32>
     ensures { result ≡ pcs.pc_of target }
 {
     if target < 0 || target > 65_535 {
@@ -119,15 +121,25 @@ impl<'a, L: Lookups> Environment<'a, L> {
         }
     }
 
-    /// The frame of the stack map at a pc, where it is known to have the local variables and the flag of a state.
+    /// The frame of the stack map at a pc, where it is known to have the flag of a state, and its local variables but for those
+    /// that were overwritten.
     pub fn shared(&self, s: &Standing, pc: u32) -> Option<Frame<'_>>
         requires { IsStanding self.now s.now }
-        ensures { IfSome result (IsOver self.now (stood s.now) pc) }
+        ensures { IfSome result
+            (IsOver self.now (overwritten_since s.now.like) (stood s.now) pc) }
     {
-        match s.like {
-            Some(like) => self.frames.shared(like, pc),
+        match &s.like {
+            Some(like) => self.frames.shared(like.pc, pc),
             None => None,
         }
+    }
+
+    /// Whether what overwrote local variables of a state fits the frame that it is like.
+    pub fn fits_where_overwritten(&self, s: &Standing) -> bool
+        ensures { result ≡ are_assignable self.now.world (overwritten_since s.now.like)
+            (stood s.now).types.locals }
+    {
+        are_assignable(self.world, s.overwritten(), s.state.types.locals())
     }
 
     /// Whether a state fits the frame of the stack map at a pc, if there is one.
@@ -137,13 +149,16 @@ impl<'a, L: Lookups> Environment<'a, L> {
             option_map_or (handlers.fits_frame self.now (stood s.now)) (map_at self.now pc) true }
     {
         match self.shared(s, pc) {
-            Some(frame) => frame.fits_stack(self.world, s.state.types.stack()),
+            Some(frame) => {
+                let locals_fit = self.fits_where_overwritten(s);
+                frame.fits_stack(self.world, locals_fit, s.state.types.stack())
+            }
             None => self.fits_whole(&s.state, pc),
         }
     }
 
-    // Whether a state fits the frame of the stack map at a target, if there is one.
-    fn fits_target(&self, s: &Standing, target: i64) -> bool
+    /// Whether a state fits the frame of the stack map at a target, if there is one.
+    pub fn fits_target(&self, s: &Standing, target: i64) -> bool
         requires { IsStanding self.now s.now }
         ensures { result ≡ spec.fits_target self.now (stood s.now) target }
     {
@@ -151,40 +166,6 @@ impl<'a, L: Lookups> Environment<'a, L> {
             Some(pc) => self.fits_at(s, pc),
             None => true,
         }
-    }
-
-    // Whether a state fits the frames at all targets of a tableswitch.
-    fn fits_table(&self, s: &Standing, switch: &TableSwitch) -> bool
-        requires { IsStanding self.now s.now }
-        ensures { result ≡
-            list_all (spec.fits_target self.now (stood s.now)) (table_targets switch.now) }
-    {
-        self.fits_target(s, switch.default) && self.fits_all(s, &switch.targets)
-    }
-
-    fn fits_all(&self, s: &Standing, targets: &[i64]) -> bool
-        requires { IsStanding self.now s.now }
-        ensures { result ≡ list_all (spec.fits_target self.now (stood s.now)) targets.now }
-    {
-        targets.iter().all(|target| self.fits_target(s, *target))
-    }
-
-    // Whether a state fits the frames at all targets of a lookupswitch.
-    #[tactic(auto, using(crate::proofs::InstructionLaws::all_matches))]
-    fn fits_lookup(&self, s: &Standing, switch: &LookupSwitch) -> bool
-        requires { IsStanding self.now s.now }
-        ensures { result ≡
-            list_all (spec.fits_target self.now (stood s.now)) (lookup_targets switch.now) }
-    {
-        self.fits_target(s, switch.default) && self.fits_matches(s, &switch.matches)
-    }
-
-    fn fits_matches(&self, s: &Standing, matches: &[Match]) -> bool
-        requires { IsStanding self.now s.now }
-        ensures { result ≡
-            list_all (λ m. spec.fits_target self.now (stood s.now) (match_target m)) matches.now }
-    {
-        matches.iter().all(|m| self.fits_target(s, m.target))
     }
 
     /// Whether the state after an instruction fits the frames at all of its targets.

@@ -18,7 +18,8 @@ ghost use Rattle.verify_code.specs.Walks.{IsAfter, IsPassage, IsStep, IsVerdict,
 use crate::environment::Environment;
 use crate::findings::Findings;
 use crate::frame::Frame;
-use crate::standing::{Behind, Judged, Standing, holds_at, judged_behind, like_behind};
+use crate::overwritten::{Like, like_behind};
+use crate::standing::{Behind, Judged, Standing, holds_at, judged_behind};
 use instruction_rows::RowWhy;
 use items::NoMemory;
 use opcodes::Instr;
@@ -90,7 +91,7 @@ impl<'a, L: Lookups> Environment<'a, L> {
         };
         match self.shared(&s, pc) {
             Some(shared) => match shared.stack_slots(alloc)? {
-                Some(stack) => Ok(Some(s.state.with_stack(stack))),
+                Some(stack) => Ok(Some(s.restored().with_stack(stack))),
                 None => Ok(None),
             },
             None => frame.state(alloc),
@@ -104,6 +105,9 @@ impl<'a, L: Lookups> Environment<'a, L> {
         ensures { (f : MapFrame) (t : TypeState) → map_at self.now pc ≡ Some f
             → f.state ≡ Some t → IfSome result (IsJudged self.now t) }
     {
+        if !s.overwritten().is_empty() {
+            return None;
+        }
         match self.shared(s, pc) {
             Some(_) => s.judged,
             None => None,
@@ -152,11 +156,12 @@ impl<'a, L: Lookups> Environment<'a, L> {
             None => true,
         };
         let judged = self.judged_there(&before, pc);
+        let like = Like::new(alloc, pc);
         match self.state_there(alloc, before.either(), &frame, pc)? {
             Some(state) => Ok(Arrival {
                 standing: Some(Standing {
                     state,
-                    like: Some(pc),
+                    like: Some(like),
                     judged,
                 }),
                 fits,
@@ -220,11 +225,12 @@ impl<'a, L: Lookups> Environment<'a, L> {
             like,
             judged,
         } = s;
+        let like = like_behind(&i.op, like, state.types.locals())?;
         let mut state = state;
         match state.apply(alloc, self.world, &self.method, i.pc as u16, naming, &i.op) {
             Ok(()) => Ok(After::Kept(Standing {
                 state,
-                like: like_behind(&i.op, like),
+                like,
                 judged: judged_behind(&i.op, judged),
             })),
             Err(stop) => Ok(After::Broken(broken_rule(stop)?)),

@@ -1,4 +1,4 @@
-ghost use Rattle.std.specs.Prelude.{◌≡◌, length, [], ◌∷◌, Ok, Err, IfOk, MatchOption, OnOk, OnErr, ok_or, reverse};
+ghost use Rattle.std.specs.Prelude.{◌≡◌, length, [], ◌∷◌, Ok, Err, IfOk, MatchOption, OnOk, OnErr, ok_or, reverse, slice_set};
 ghost use Rattle.instruction_rows.specs.Contents.{with_item};
 ghost use Rattle.instruction_rows.specs.Kinds.{is_kind, kind_of_type};
 ghost use Rattle.instruction_rows.specs.Rows as rows;
@@ -165,6 +165,16 @@ impl Types {
         }
         self.locals[n] = t;
         Ok(())
+    }
+
+    /// Writes the type of the local variable of a number, if there is one (own).
+    pub fn overwrite(&mut self, n: usize, t: VType)
+        ensures locals { self.new.locals ≡ slice_set self.old.locals n t }
+        ensures stack { self.new.stack ≡ self.old.stack }
+    {
+        if n < self.locals.len() {
+            self.locals[n] = t;
+        }
     }
 
     // A long before this local variable loses its second slot.

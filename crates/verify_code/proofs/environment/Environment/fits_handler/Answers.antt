@@ -1,5 +1,6 @@
 use Rattle.std.proofs.Common.{[], ◌∷◌, false, ap, ◌∙◌}
 use Rattle.verify_types.specs.Environment.{Environment}
+use Rattle.verify_code.specs.Overwrites.{overwritten_since}
 use Rattle.verify_code.specs.Standings.{stood}
 use Rattle.verify_code.proofs.StandingLaws.{fits_over}
 use Rattle.verify_code.proofs.environment.Environment.fits_handler.Goals as goal
@@ -7,4 +8,5 @@ use Rattle.verify_code.proofs.environment.Environment.fits_handler.Goals as goal
 pub returns-in-Some : goal.returns-in-Some
 returns-in-Some g c =
     c.fits_stack.ensures
-    ∙ fits_over c.args.self.now (g.L.Lookups.world c.self.inside.world.now) (stood c.args.s.now) c.args.pc c.in-Some.frame (c.args.caught ∷ []) false (ap (λ (e : Environment). e.world) c.self.view_is) c.in-Some.ensures
+    ∙ fits_over c.args.self.now (g.L.Lookups.world c.self.inside.world.now) (overwritten_since c.args.s.now.like) (stood c.args.s.now) c.args.pc c.in-Some.frame (c.args.caught ∷ []) c.fits_where_overwritten-locals_fit.result false
+    (ap (λ (e : Environment). e.world) c.self.view_is) c.in-Some.ensures c.fits_where_overwritten-locals_fit.ensures

@@ -1,31 +1,42 @@
-use Rattle.std.proofs.Common.{◌≡◌, List, true, ap, sym, ◌∙◌}
-use Rattle.class_model.specs.declared.attribute.Row.{Row}
-use Rattle.verify_types.specs.Environment.{Environment}
+use Rattle.std.proofs.Common.{◌≡◌, List, true, ap, subst, sym, ◌∙◌}
+use Rattle.std.specs.Prelude.{map}
+use Rattle.std.specs.List.{list_all}
+use Rattle.verify_types.specs.Environment.{Environment, Handler}
 use Rattle.verify_types.specs.Handlers.{are_satisfied}
-use Rattle.verify_code.specs.Handlers.{next_start}
+use Rattle.verify_code.specs.declared.guards.Guard.{Guard}
+use Rattle.verify_code.specs.Guards.{AskAlike, guard_in}
+use Rattle.verify_code.specs.Handlers.{keeps_more, next_start}
 use Rattle.verify_code.specs.Standings.{stood}
 use Rattle.verify_code.proofs.HandlerLaws.{holds_here, judged_here, satisfied_is}
 use Rattle.verify_code.proofs.environment.Environment.judge_handlers.Goals as goal
 
 pub returns-then-not-are_more_satisfied-clause-found : goal.returns-then-not-are_more_satisfied-clause-found
 returns-then-not-are_more_satisfied-clause-found g c =
+    let hs = map guard_in c.self.inside.guards.items in
+    let alike : AskAlike hs c.args.self.now.handlers = subst (λ (e : Environment). AskAlike hs e.handlers) c.self.view_is c.self.invariant.guarded in
     sym c.if-not-are_more_satisfied.true
-    ∙ satisfied_is c.args.self.now c.args.pc (stood c.args.s.now) c.args.s.now.judged c.at_of.result c.are_more_satisfied.result c.are_more_satisfied.ensures c.at_of.ensures c.requires.stands.judged
+    ∙ satisfied_is c.args.self.now c.args.pc (stood c.args.s.now) hs c.args.s.now.judged c.at_of.result c.are_more_satisfied.result alike
+    (c.are_more_satisfied.ensures ∙ ap (λ (gs : List Guard). list_all (keeps_more c.args.self.now c.at_of.result c.args.pc (stood c.args.s.now)) (map guard_in gs)) c.deref.ensures.value) c.at_of.ensures c.requires.stands.judged
 
 pub returns-clause-judged : goal.returns-clause-judged
 returns-clause-judged g c =
     let env = c.args.self.now in
     let s = stood c.args.s.now in
+    let hs = map guard_in c.self.inside.guards.items in
+    let alike : AskAlike hs env.handlers = subst (λ (e : Environment). AskAlike hs e.handlers) c.self.view_is c.self.invariant.guarded in
     let satisfied : are_satisfied env c.args.pc s ≡ true =
-    sym (satisfied_is env c.args.pc s c.args.s.now.judged c.at_of.result c.are_more_satisfied.result c.are_more_satisfied.ensures c.at_of.ensures c.requires.stands.judged)
+    sym (satisfied_is env c.args.pc s hs c.args.s.now.judged c.at_of.result c.are_more_satisfied.result alike
+    (c.are_more_satisfied.ensures ∙ ap (λ (gs : List Guard). list_all (keeps_more env c.at_of.result c.args.pc s) (map guard_in gs)) c.deref.ensures.value) c.at_of.ensures c.requires.stands.judged)
     ∙ c.if-not-are_more_satisfied.false in
-    judged_here env s c.args.pc c.next_start.result c.self.inside.method.code.now.rows c.self.inside.method.catches.now
-    (sym (ap (λ (e : Environment). e.handlers) c.self.view_is))
-    (c.next_start.ensures ∙ ap (λ (rs : List Row). next_start c.args.pc 65536 rs) c.deref.ensures)
+    judged_here env s c.args.pc c.next_start.result hs alike
+    (c.next_start.ensures ∙ ap (λ (gs : List Guard). next_start c.args.pc 65536 (map guard_in gs)) c.deref-2.ensures.value)
     satisfied
 
 pub returns-clause-found : goal.returns-clause-found
 returns-clause-found g c =
-    holds_here c.args.pc c.next_start.result c.deref.result.now c.requires.low c.next_start.ensures
+    let hs = map guard_in c.self.inside.guards.items in
+    let alike : AskAlike hs c.args.self.now.handlers = subst (λ (e : Environment). AskAlike hs e.handlers) c.self.view_is c.self.invariant.guarded in
+    holds_here c.args.pc c.next_start.result (map guard_in c.deref-2.result.now) c.requires.low c.next_start.ensures
     ∙ sym c.if-not-are_more_satisfied.false
-    ∙ satisfied_is c.args.self.now c.args.pc (stood c.args.s.now) c.args.s.now.judged c.at_of.result c.are_more_satisfied.result c.are_more_satisfied.ensures c.at_of.ensures c.requires.stands.judged
+    ∙ satisfied_is c.args.self.now c.args.pc (stood c.args.s.now) hs c.args.s.now.judged c.at_of.result c.are_more_satisfied.result alike
+    (c.are_more_satisfied.ensures ∙ ap (λ (gs : List Guard). list_all (keeps_more c.args.self.now c.at_of.result c.args.pc (stood c.args.s.now)) (map guard_in gs)) c.deref.ensures.value) c.at_of.ensures c.requires.stands.judged

@@ -11,7 +11,7 @@ returns-in-Some g c =
     let m = c.self.inside.method in
     let like = c.in-Some.like in
     let themselves =
-    subst (λ (env : Environment). IfSome (map_at env like) (LocalsThemselves env.world)) c.self.view_is
-    (map_itself (g.L.Lookups.world c.self.inside.world.now) m.info.now m.code.now m.namings.now m.catches.now like) in
-    over_some c.args.self.now c.self.inside.frames like c.args.pc (stood c.args.s.now) c.shared.result
-    (c.self.invariant.are ∙ ap (λ (env : Environment). env.map) c.self.view_is) themselves (c.requires.like like c.in-Some.is) c.shared.ensures
+    subst (λ (env : Environment). IfSome (map_at env like.pc) (LocalsThemselves env.world)) c.self.view_is
+    (map_itself (g.L.Lookups.world c.self.inside.world.now) m.info.now m.code.now m.namings.now m.catches.now like.pc) in
+    over_some c.args.self.now c.self.inside.frames c.args.s.now.like like c.args.pc (stood c.args.s.now) c.shared.result
+    (c.self.invariant.are ∙ ap (λ (env : Environment). env.map) c.self.view_is) themselves c.requires.like c.in-Some.is c.shared.ensures

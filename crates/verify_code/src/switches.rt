@@ -1,0 +1,136 @@
+//! The targets of a switch (JVMS 4.10.1.9): many frames may have the same local variables, which are then compared once.
+
+ghost use Rattle.std.specs.Prelude.{◌≡◌, IfSome, true};
+ghost use Rattle.std.specs.List.{list_all};
+ghost use Rattle.std.specs.Option.{option_map_or};
+ghost use Rattle.instruction_rows.specs.Switches.{lookup_targets, match_target, table_targets};
+ghost use Rattle.verify_types.specs.Environment.{map_at};
+ghost use Rattle.verify_types.specs.Faults as spec;
+ghost use Rattle.verify_types.specs.Handlers as handlers;
+ghost use Rattle.verify_types.specs.TypeStates.{TypeState};
+ghost use Rattle.verify_code.specs.Standings.{Compares, IsStanding, MayFit, stood};
+
+use crate::environment::Environment;
+use crate::frame::Frame;
+use crate::standing::Standing;
+use crate::targets::pc_of;
+use opcodes::{LookupSwitch, Match, TableSwitch};
+use world_model::Lookups;
+
+impl<'a, L: Lookups> Environment<'a, L> {
+    // The frame of the stack map at a pc, where it has the local variables of another, which a state fits.
+    fn fitted(&self, fitted: Option<u32>, pc: u32) -> Option<Frame<'_>>
+        ensures { (s : TypeState) → MayFit self.now s fitted
+            → IfSome result (λ f. Compares self.now s pc f true) }
+    {
+        match fitted {
+            Some(other) => self.frames.shared(other, pc),
+            None => None,
+        }
+    }
+
+    // Whether a state fits the frame of the stack map at a pc, if there is one, where it fits another, if that is known.
+    fn fits_as(&self, s: &Standing, fitted: Option<u32>, pc: u32) -> bool
+        requires stands { IsStanding self.now s.now }
+        requires fitted { MayFit self.now (stood s.now) fitted }
+        ensures { result ≡
+            option_map_or (handlers.fits_frame self.now (stood s.now)) (map_at self.now pc) true }
+    {
+        match self.fitted(fitted, pc) {
+            Some(frame) => frame.fits_stack(self.world, true, s.state.types.stack()),
+            None => self.fits_at(s, pc),
+        }
+    }
+
+    // Whether a state fits the frame at a target, if there is one, where it fits another, if that is known.
+    fn fits_target_as(&self, s: &Standing, fitted: Option<u32>, target: i64) -> bool
+        requires stands { IsStanding self.now s.now }
+        requires fitted { MayFit self.now (stood s.now) fitted }
+        ensures { result ≡ spec.fits_target self.now (stood s.now) target }
+    {
+        match pc_of(target) {
+            Some(pc) => self.fits_as(s, fitted, pc),
+            None => true,
+        }
+    }
+
+    // A frame whose local variables a state fits, where it fits the one at a pc.
+    fn fitted_at(&self, fitted: Option<u32>, pc: u32) -> Option<u32>
+        ensures { (s : TypeState) → MayFit self.now s fitted
+            → option_map_or (handlers.fits_frame self.now s) (map_at self.now pc) true ≡ true
+            → MayFit self.now s result }
+    {
+        if self.fitted(fitted, pc).is_some() {
+            return fitted;
+        }
+        match self.frames.at(pc) {
+            Some(frame) => { if frame.is_known() { Some(pc) } else { fitted } }
+            None => fitted,
+        }
+    }
+
+    // A frame whose local variables a state fits, where it fits the one at a target.
+    fn fitted_at_target(&self, fitted: Option<u32>, target: i64) -> Option<u32>
+        ensures { (s : TypeState) → MayFit self.now s fitted
+            → spec.fits_target self.now s target ≡ true → MayFit self.now s result }
+    {
+        match pc_of(target) {
+            Some(pc) => self.fitted_at(fitted, pc),
+            None => fitted,
+        }
+    }
+
+    // Whether a state fits the frames at all of these targets.
+    fn fits_all(&self, s: &Standing, targets: &[i64]) -> bool
+        requires { IsStanding self.now s.now }
+        ensures { result ≡ list_all (spec.fits_target self.now (stood s.now)) targets.now }
+    {
+        let mut fitted = None;
+        let mut rest = targets;
+        while let Some((target, behind)) = rest.split_first() {
+            if !self.fits_target_as(s, fitted, *target) {
+                return false;
+            }
+            fitted = self.fitted_at_target(fitted, *target);
+            rest = behind;
+        }
+        true
+    }
+
+    // Whether a state fits the frames at the targets of all of these matches.
+    fn fits_matches(&self, s: &Standing, matches: &[Match]) -> bool
+        requires { IsStanding self.now s.now }
+        ensures { result ≡
+            list_all (λ m. spec.fits_target self.now (stood s.now) (match_target m)) matches.now }
+    {
+        let mut fitted = None;
+        let mut rest = matches;
+        while let Some((m, behind)) = rest.split_first() {
+            if !self.fits_target_as(s, fitted, m.target) {
+                return false;
+            }
+            fitted = self.fitted_at_target(fitted, m.target);
+            rest = behind;
+        }
+        true
+    }
+
+    /// Whether a state fits the frames at all targets of a tableswitch.
+    pub fn fits_table(&self, s: &Standing, switch: &TableSwitch) -> bool
+        requires { IsStanding self.now s.now }
+        ensures { result ≡
+            list_all (spec.fits_target self.now (stood s.now)) (table_targets switch.now) }
+    {
+        self.fits_target(s, switch.default) && self.fits_all(s, &switch.targets)
+    }
+
+    /// Whether a state fits the frames at all targets of a lookupswitch.
+    #[tactic(auto, using(crate::proofs::InstructionLaws::all_matches))]
+    pub fn fits_lookup(&self, s: &Standing, switch: &LookupSwitch) -> bool
+        requires { IsStanding self.now s.now }
+        ensures { result ≡
+            list_all (spec.fits_target self.now (stood s.now)) (lookup_targets switch.now) }
+    {
+        self.fits_target(s, switch.default) && self.fits_matches(s, &switch.matches)
+    }
+}
