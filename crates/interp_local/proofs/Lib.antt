@@ -7,3 +7,5 @@ pub mod ReadyLaws
 pub mod LoopLaws
 pub mod Windows
 pub mod TopLaws
+pub mod DecodedLaws
+pub mod FormSteps

@@ -1,3 +1,4 @@
+pub mod DecodedRows
 pub mod FrameRows
 pub mod Places
 pub mod Runs
