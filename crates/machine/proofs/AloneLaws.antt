@@ -75,13 +75,13 @@ not_past : (p : Setting) (r q s : State) (e : Ending) (k m : ℕ) → steps p k 
 not_past p r q s e k zero first over all less = absurd (omega arith)
 not_past p r q s e k (suc m) first over all less =
     let parts = some_is (steps p m r 0) (λ x. step p x 0 None) s all in
-    by (at_or_before k m less) parts.0 parts.1 parts.2
+    by (at_or_before k m less) parts.0 parts.1 parts.2 (not_past p r q parts.0 e k m first over parts.1)
   where
-    by : (k ≡ m) ⊎ (k < m) → (x : State) → steps p m r 0 ≡ Some x → step p x 0 None ≡ Some s → ⊥
-    by (inl same) x at next =
+    by : (k ≡ m) ⊎ (k < m) → (x : State) → steps p m r 0 ≡ Some x → step p x 0 None ≡ Some s → (k < m → ⊥) → ⊥
+    by (inl same) x at next before =
         let here : q ≡ x = same_result (steps p m r 0) q x (ap (λ n. steps p n r 0) (sym same) ∙ first) at in
         ended (ending x) e (ap ending (sym here) ∙ over) (goes_on p x s next)
-    by (inr lower) x at next = not_past p r q x e k m first over at lower
+    by (inr lower) x at next before = before lower
 
 -- ---- the steps of a history
 
@@ -130,11 +130,11 @@ alone_steps : (p : Setting) (r : State) (n : ℕ) (q : State) → opening p ≡ 
 alone_steps p r zero q opens e = record { count = 0; is = sym opens ∙ e; few = omega arith }
 alone_steps p r (suc n) q opens e =
     let parts = some_is (alone p n) (stepped_alone p) q e in
-    by (is_some (ending parts.0)) (alone_steps p r n parts.0 opens parts.1) parts.2
+    by parts.0 (is_some (ending parts.0)) (alone_steps p r n parts.0 opens parts.1) parts.2
   where
-    by : {s : State} (b : Bool) → Few p r s n → (if b then Some s else step p s 0 None) ≡ Some q → Few p r q (suc n)
-    by {s} true h next = let few = h.few in record { count = h.count; is = h.is ∙ next; few = omega arith }
-    by {s} false h next =
+    by : (s : State) (b : Bool) → Few p r s n → (if b then Some s else step p s 0 None) ≡ Some q → Few p r q (suc n)
+    by s true h next = let few = h.few in record { count = h.count; is = h.is ∙ next; few = omega arith }
+    by s false h next =
         let few = h.few in
         record { count = suc h.count; is = bind_is (steps p h.count r 0) (λ x. step p x 0 None) s (Some q) h.is next; few = omega arith }
 

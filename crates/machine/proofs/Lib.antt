@@ -1,5 +1,6 @@
 pub mod RunLaws
 pub mod LocalLaws
+pub mod BackLaws
 pub mod GroupLaws
 pub mod AloneLaws
 pub mod StepLaws

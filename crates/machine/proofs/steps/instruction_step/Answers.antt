@@ -1,7 +1,11 @@
+use Rattle.std.proofs.Common.{sym}
+use Rattle.instruction_rows.specs.Table.{row as row_of}
+use Rattle.machine.proofs.LocalLaws.{kind_row}
 use Rattle.machine.proofs.ThrowLaws.{on_ok}
 use Rattle.machine.proofs.steps.instruction_step.Goals as goal
 
 pub returns-in-Some : goal.returns-in-Some
 returns-in-Some g c =
     on_ok c.return_step.result c.return_step.ensures
-    (λ steps f below top at. steps f below (record { instr = c.args.instr.now; naming = c.args.naming }) top at c.in-Some.ensures)
+    (λ steps f below top at. steps f below (record { instr = c.args.instr.now; naming = c.args.naming }) top at
+    (kind_row (row_of c.args.instr.now.op) c.in-Some.returns.kind (sym c.in-Some.ensures)))

@@ -1,0 +1,22 @@
+use Rattle.std.proofs.Common.{true, Bool, subst, arith}
+use Rattle.interp_local.specs.Runs.{stays_on}
+use Rattle.machine.specs.LocalRuns.{GoesBack}
+use Rattle.machine.proofs.BackLaws.{goes_again, stopped}
+use Rattle.machine.proofs.local.run_rows.Goals as goal
+
+pub loop-steps-preserved : goal.loop-steps-preserved
+loop-steps-preserved c =
+    let w = c.args.program.now in
+    let mid = c.loop-steps.mounted.stack.frames in
+    let back = c.go_back.new.mounted.stack.frames in
+    let last = c.run_top-more.new.mounted.stack.frames in
+    let returned = subst (λ (b : Bool). GoesBack w mid back b) c.if-not-branch.false c.in_ok-go_back.ensures in
+    let more = c.run_top-more.ensures in
+    let most = more.few in
+    let going = c.loop-steps-test.true in
+    record {
+      few = omega arith;
+      rows = goes_again w c.loop-steps.steps c.run_top-more.result c.args.mounted.now.stack.frames mid back last c.loop-steps.invariant.rows returned more.rows;
+      typed = more.typed;
+      stops = stopped (stays_on w last) c.loop-steps.steps c.run_top-more.result more.stops going;
+    }

@@ -1,0 +1,16 @@
+use Rattle.std.proofs.Common.{◌-◌, ◌≡◌, ◌≤◌, ◌<◌, Some, false}
+use Rattle.interp_local.specs.Runs.{stays_on}
+use Rattle.ref_model.specs.LocalRows.{rows}
+use Rattle.typed_frames.specs.Typed.{Typed}
+use Rattle.machine.proofs.local.run_rows.Given as goal
+
+abbrev pub invariant-loop-steps : goal.invariant-loop-steps
+invariant-loop-steps l = record {
+  few : l.steps ≤ 10000;
+  rows : rows l.program l.steps l.fn.mounted.stack.frames ≡ Some l.mounted.stack.frames;
+  typed : Typed l.program l.mounted.stack.frames;
+  stops : l.steps < 10000 → stays_on l.program l.mounted.stack.frames ≡ false;
+}
+
+abbrev pub decreases-loop-steps : goal.decreases-loop-steps
+decreases-loop-steps l = 10000 - l.steps
