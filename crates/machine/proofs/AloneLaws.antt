@@ -15,7 +15,7 @@ use Rattle.ref_model.specs.Run.{Outcome, outcome_after, after_steps, replay, fir
 use Rattle.ref_model.specs.Setting.{Setting}
 use Rattle.ref_model.specs.State.{State}
 use Rattle.ref_model.specs.Step.{step, enabled, thread_step}
-use Rattle.machine.specs.Runs.{IsMainEntry, IsMainStep, IsTold, IsComplete, entries_left}
+use Rattle.machine.specs.Runs.{IsMainEntry, IsMainStep, IsTold, IsComplete}
 
 same_state : (a b : State) → ◌≡◌ {A = Option State} (Some a) (Some b) → a ≡ b
 same_state a b e = cc

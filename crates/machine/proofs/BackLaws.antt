@@ -1,6 +1,5 @@
 -- Returns to callers, as local instructions, and where a run of them ends instead.
 use Rattle.std.proofs.Common.{◌≡◌, ℕ, ◌+◌, ◌-◌, ◌<◌, Bool, true, false, List, [], ◌∷◌, Option, Some, None, refl, ap, sym, ◌∙◌, arith}
-use Rattle.items.specs.Options.{◌>>=◌}
 use Rattle.items.proofs.Binds.{bind_is}
 use Rattle.opcodes.specs.declared.op.Kind.{Kind}
 use Rattle.instruction_rows.specs.Rows.{Row, returns, invoke, static}

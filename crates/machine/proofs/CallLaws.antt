@@ -1,6 +1,6 @@
 -- Invocations as steps.
-use Rattle.std.proofs.Common.{◌≡◌, ℕ, suc, ◌≤◌, true, false, Bool, List, [], ◌∷◌, length, drop, Option, Some, None, refl, ap, sym, ◌∙◌, subst}
-use Rattle.std.specs.Prelude.{is_none, not, nat_lt, ◌&&◌, ◌||◌, if◌then◌else◌, slice_get}
+use Rattle.std.proofs.Common.{◌≡◌, ℕ, suc, ◌≤◌, true, false, Bool, List, ◌∷◌, length, drop, Option, Some, None, refl, ap, sym, ◌∙◌, subst}
+use Rattle.std.specs.Prelude.{is_none, not, nat_lt, ◌&&◌, ◌||◌, if◌then◌else◌}
 use Rattle.items.specs.Options.{◌>>=◌}
 use Rattle.items.proofs.Binds.{bind_is, some_is}
 use Rattle.lib_table.specs.declared.native.Native.{Native}
@@ -35,7 +35,7 @@ use Rattle.method_calls.specs.declared.target.Target.{Target}
 use Rattle.method_calls.specs.declared.target.Target.TheVariants as targets
 use Rattle.ref_model.specs.Calls.{invoked, native_entered, code_entered, method_entered}
 use Rattle.ref_model.specs.LocalRows.{row, local_act, has_local_call, static_called, frames_called, most_frames}
-use Rattle.ref_model.specs.Step.{after_effect, row_effect, row_or_event, event_step}
+use Rattle.ref_model.specs.Step.{after_effect, row_or_event}
 use Rattle.method_calls.specs.Targets.{row_invoked, code_effect, IsInvoked}
 use Rattle.machine.specs.declared.parts.Parts.{Parts}
 use Rattle.machine.specs.States.{state_of, IsRunStep}

@@ -1,5 +1,5 @@
 -- From the outcome of an instruction on fields, arrays or objects, or of a division by 0, to the step of its thread.
-use Rattle.std.proofs.Common.{◌≡◌, ℕ, suc, ◌≤◌, true, false, Bool, List, [], ◌∷◌, length, Option, Some, None, refl, ap, sym, ◌∙◌, subst}
+use Rattle.std.proofs.Common.{◌≡◌, ℕ, ◌≤◌, true, false, Bool, List, ◌∷◌, length, Option, Some, None, refl, ap, sym, ◌∙◌, subst}
 use Rattle.std.specs.Prelude.{nat_le, if◌then◌else◌}
 use Rattle.std.proofs.lemmas.Bool.{le-leb}
 use Rattle.items.specs.Options.{◌>>=◌}
@@ -25,7 +25,7 @@ use Rattle.ref_model.specs.LocalRows.{local_act}
 use Rattle.ref_model.specs.declared.exception.Exception.TheVariants as exceptions
 use Rattle.ref_model.specs.Effects.{Effect, done, throws, throws_object}
 use Rattle.ref_model.specs.Throwing.{raised, throwing}
-use Rattle.ref_model.specs.Step.{after_effect, row_effect, division_effect}
+use Rattle.ref_model.specs.Step.{after_effect, division_effect}
 use Rattle.object_events.specs.declared.outcome.Outcome.{Outcome}
 use Rattle.object_events.specs.declared.outcome.Outcome.TheVariants.{Done, Throws, ThrowsObject, Undefined}
 use Rattle.object_events.specs.Outcomes.{IsEffect, KeptUnlessDone, with_heap, with_statics}

@@ -1,5 +1,5 @@
 -- The history of the main thread's entries.
-use Rattle.std.proofs.Common.{◌≡◌, ℕ, zero, suc, ◌<◌, ◌+◌, ◌-◌, true, false, Bool, List, [], ◌∷◌, ◌++◌, length, Option, Some, None, refl, ap, sym, ◌∙◌, subst, arith}
+use Rattle.std.proofs.Common.{◌≡◌, ℕ, suc, ◌+◌, ◌-◌, true, false, Bool, List, [], ◌∷◌, ◌++◌, length, Option, Some, None, refl, ap, sym, ◌∙◌, subst, arith}
 use Rattle.std.specs.List.{AllByRecursion}
 use Rattle.std.specs.Prelude.{is_some}
 use Rattle.items.specs.Options.{◌>>=◌}
@@ -20,7 +20,7 @@ use Rattle.ref_model.specs.Opening.{opening}
 use Rattle.ref_model.specs.Run.{run, replay, first_outcome}
 use Rattle.typed_frames.specs.TypedStates.{IsTypedState}
 use Rattle.opening.specs.Openings.{setting}
-use Rattle.machine.specs.Runs.{AreGrouped, IsMainEntry, IsMainStep, IsRun, IsTold, Ran, main_entry, told_of}
+use Rattle.machine.specs.Runs.{IsMainEntry, IsMainStep, IsRun, IsTold, Ran, main_entry, told_of}
 use Rattle.machine.specs.Steps.{Advances, IsAhead}
 use Rattle.ref_model.specs.Entries.{are_grouped_from, is_grouped}
 use Rattle.machine.proofs.RunLaws.{run_step}

@@ -1,21 +1,18 @@
 -- Steps of the main thread keep to the typing.
-use Rattle.std.proofs.Common.{◌≡◌, ℕ, zero, suc, ◌<◌, List, [], ◌∷◌, length, Option, Some, None, refl, ap, sym, ◌∙◌, subst, arith}
-use Rattle.std.specs.Prelude.{slice_get}
+use Rattle.std.proofs.Common.{◌≡◌, ℕ, ◌<◌, List, [], ◌∷◌, length, Option, Some, None, refl, ap, sym, ◌∙◌, subst, arith}
 use Rattle.instruction_rows.specs.Table.{row as row_of}
 use Rattle.vthread_state.specs.declared.phase.Phase.TheVariants.{Run, Throwing}
-use Rattle.vthread_state.specs.declared.thread.Status.{Status}
 use Rattle.vthread_state.specs.declared.thread.Status.TheVariants.{Live}
 use Rattle.world_model.specs.World.{World}
 use Rattle.verify_types.specs.Environment.{Instruction}
 use Rattle.verify_types.specs.Effects.{row_of as row_at}
 use Rattle.state_model.specs.Frames.{Frame}
-use Rattle.ref_model.specs.declared.limits.Limits.{Limits}
 use Rattle.ref_model.specs.Setting.{Setting}
-use Rattle.ref_model.specs.State.{JavaThread, State, with_frames}
+use Rattle.ref_model.specs.State.{State}
 use Rattle.ref_model.specs.Ending.{ending}
 use Rattle.ref_model.specs.Entries.{are_grouped_steps, frames_at, running_frames}
 use Rattle.ref_model.specs.Fetch.{fetched}
-use Rattle.ref_model.specs.LocalRows.{row, rows}
+use Rattle.ref_model.specs.LocalRows.{row}
 use Rattle.ref_model.specs.Step.{step, row_or_event}
 use Rattle.ref_model.specs.Throwing.{throwing_step}
 use Rattle.typed_frames.specs.Typed.{Typed}
@@ -31,7 +28,7 @@ use Rattle.machine.specs.declared.parts.Parts.{Parts}
 use Rattle.machine.specs.Ready.{IsReady}
 use Rattle.machine.specs.Returning.{ThrowingSteps}
 use Rattle.machine.specs.States.{main_thread, state_of, IsStep, IsRunStep}
-use Rattle.machine.specs.Steps.{Advances, IsAhead, IsKept}
+use Rattle.machine.specs.Steps.{Advances, IsKept}
 use Rattle.machine.specs.LocalRuns.{IsLocalRun}
 use Rattle.machine.proofs.LocalLaws.{run_grouped}
 use Rattle.machine.proofs.RunLaws.{run_is_step, throwing_is_step}

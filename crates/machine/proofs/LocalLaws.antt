@@ -1,12 +1,11 @@
 -- Runs of local instructions, and where they end.
-use Rattle.std.proofs.Common.{◌≡◌, ℕ, zero, suc, ◌+◌, ◌<◌, ◌≤◌, Bool, true, false, not, List, [], ◌∷◌, Option, Some, None, refl, ap, sym, ◌∙◌, subst, arith}
-use Rattle.std.specs.Prelude.{is_some, nat_le, ◌&&◌, ◌||◌, ◌==◌, if◌then◌else◌}
-use Rattle.std.specs.Option.{option_map, option_map_or}
+use Rattle.std.proofs.Common.{◌≡◌, ℕ, zero, suc, ◌+◌, ◌≤◌, Bool, true, false, not, List, [], ◌∷◌, Option, Some, None, refl, ap, sym, ◌∙◌, arith}
+use Rattle.std.specs.Prelude.{is_some, nat_le, ◌&&◌, ◌||◌, if◌then◌else◌}
+use Rattle.std.specs.Option.{option_map_or}
 use Rattle.std.proofs.lemmas.Bool.{le-leb}
 use Rattle.items.specs.Options.{◌>>=◌}
 use Rattle.items.proofs.Binds.{some_is, bind_is}
 use Rattle.opcodes.specs.declared.op.Kind.{Kind}
-use Rattle.opcodes.specs.declared.op.Op.{Op}
 use Rattle.instruction_rows.specs.Marks.{has_zero_divisor}
 use Rattle.instruction_rows.specs.Rows.{Row, LocalRow, local, constant, wide_constant, returns, invoke, event, refused, virtual, special, static, interface, dynamic}
 use Rattle.instruction_rows.specs.Table.{row as row_of}

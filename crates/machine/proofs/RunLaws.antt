@@ -1,22 +1,20 @@
 -- A history with one more entry, and an entry of local instructions and one more step.
-use Rattle.std.proofs.Common.{◌≡◌, ℕ, zero, suc, ◌<◌, ◌+◌, Bool, true, false, List, [], ◌∷◌, ◌++◌, Option, Some, None, refl, ap, ◌∙◌, sym, arith}
-use Rattle.std.specs.Prelude.{slice_get, slice_set, is_none, ◌&&◌, if◌then◌else◌}
+use Rattle.std.proofs.Common.{◌≡◌, ℕ, zero, suc, Bool, true, false, List, [], ◌∷◌, ◌++◌, Option, Some, None, refl, ap, ◌∙◌, sym, arith}
+use Rattle.std.specs.Prelude.{slice_get, if◌then◌else◌}
 use Rattle.items.specs.Options.{◌>>=◌}
 use Rattle.items.proofs.Binds.{some_is, bind_is}
 use Rattle.history.specs.declared.entry.Entry.{Entry}
 use Rattle.history.specs.declared.entry.What.TheVariants.{Step}
-use Rattle.vthread_state.specs.declared.phase.Phase.{Phase}
 use Rattle.vthread_state.specs.declared.phase.Phase.TheVariants.{Run, Throwing}
 use Rattle.vthread_state.specs.declared.thread.Status.TheVariants.{Live}
-use Rattle.world_model.specs.World.{World}
 use Rattle.state_model.specs.Frames.{Frame}
 use Rattle.ref_model.specs.Setting.{Setting}
 use Rattle.ref_model.specs.State.{JavaThread, State, with_frames}
 use Rattle.ref_model.specs.Opening.{opening}
 use Rattle.ref_model.specs.Ending.{ending}
-use Rattle.ref_model.specs.LocalRows.{row, rows}
+use Rattle.ref_model.specs.LocalRows.{row}
 use Rattle.ref_model.specs.Throwing.{throwing_step}
-use Rattle.ref_model.specs.Step.{step, enabled, thread_step, status_step, row_or_event, event_step}
+use Rattle.ref_model.specs.Step.{step, enabled, thread_step, status_step, row_or_event}
 use Rattle.ref_model.specs.Run.{Outcome, outcome_after, after_steps, replay, first_outcome, run, steps}
 use Rattle.ref_model.specs.Entries.{frames_at, running_frames}
 use Rattle.ref_model.proofs.StateLaws.{set_same, frames_is}

@@ -1,20 +1,16 @@
 -- The steps of a thread that are no local instructions.
-use Rattle.std.proofs.Common.{◌≡◌, ℕ, suc, true, false, Bool, List, [], ◌∷◌, length, Option, Some, None, refl, ap, sym, ◌∙◌, subst}
-use Rattle.std.specs.Prelude.{if◌then◌else◌}
-use Rattle.items.specs.Options.{◌>>=◌}
+use Rattle.std.proofs.Common.{◌≡◌, ℕ, suc, List, ◌∷◌, length, Option, Some, None, ap, ◌∙◌}
 use Rattle.items.proofs.Binds.{bind_is}
-use Rattle.instruction_rows.specs.Rows.{Row, local, constant, wide_constant, returns, invoke, event, refused, virtual, special, static, interface, dynamic}
+use Rattle.instruction_rows.specs.Rows.{Row, returns}
 use Rattle.instruction_rows.specs.Table.{row as row_of}
-use Rattle.opcodes.specs.declared.op.Kind.{Kind}
 use Rattle.world_model.specs.World.{World}
 use Rattle.verify_types.specs.Environment.{Instruction}
 use Rattle.state_model.specs.Frames.{Frame}
 use Rattle.ref_model.specs.State.{State}
 use Rattle.ref_model.specs.Fetch.{fetched}
-use Rattle.ref_model.specs.Frames.{is_root, returned}
 use Rattle.ref_model.specs.Effects.{Effect}
 use Rattle.ref_model.specs.LocalRows.{row, local_act}
-use Rattle.ref_model.specs.Step.{row_effect, row_event, after_effect, event_step, row_or_event, root_left, root_returned}
+use Rattle.ref_model.specs.Step.{row_effect, row_event, after_effect, event_step, row_or_event}
 
 -- an instruction that has an effect is no return
 abbrev pub IsEffective : Row → Type 0

@@ -1,5 +1,5 @@
 -- The parts of a machine as the state of the reference machine, which has one thread.
-use Rattle.std.specs.Prelude.{◌≡◌, ℕ, ◌-◌, false, List, [], ◌∷◌, Some, None}
+use Rattle.std.specs.Prelude.{◌≡◌, ◌-◌, false, List, [], ◌∷◌, Some, None}
 use Rattle.vthread_state.specs.declared.thread.Status.{Status}
 use Rattle.vthread_state.specs.declared.thread.ThreadKind.TheVariants.{Platform}
 use Rattle.world_model.specs.World.{World}

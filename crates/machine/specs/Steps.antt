@@ -1,5 +1,5 @@
 -- Steps of the main thread that leave a state which keeps to the typing.
-use Rattle.std.specs.Prelude.{◌≡◌, ℕ, suc, ◌<◌, true, List, Some, None, slice_get}
+use Rattle.std.specs.Prelude.{◌≡◌, ℕ, suc, ◌<◌, true, List, Some, slice_get}
 use Rattle.vthread_state.specs.declared.phase.Phase.TheVariants.{Run}
 use Rattle.vthread_state.specs.declared.thread.Status.TheVariants.{Live}
 use Rattle.world_model.specs.World.{World}
@@ -8,8 +8,7 @@ use Rattle.typed_frames.specs.TypedStates.{IsTypedState}
 use Rattle.ref_model.specs.State.{JavaThread, State, with_frames}
 use Rattle.ref_model.specs.LocalRows.{rows}
 use Rattle.ref_model.specs.Entries.{is_grouped}
-use Rattle.machine.specs.declared.parts.Parts.{Parts}
-use Rattle.machine.specs.States.{state_of, IsStep}
+use Rattle.machine.specs.States.{IsStep}
 
 -- A thread whose frames are those of the state after so many local instructions, which the history doesn't have yet. (own)
 -- One that isn't in phase Run has made none.

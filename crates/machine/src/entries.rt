@@ -3,7 +3,7 @@
 ghost use Rattle.std.specs.Prelude.{◌≡◌, ◌≤◌, None, IfOk, OnOk};
 ghost use Rattle.ref_model.specs.Ending.{ending};
 ghost use Rattle.typed_frames.specs.TypedStates.{IsTypedState};
-ghost use Rattle.vthread_state.specs.declared.phase.Phase.TheVariants.{Run};
+ghost use Rattle.vthread_state.specs.declared.phase.Phase.TheVariants.{Run, Throwing};
 ghost use Rattle.vthread_state.specs.declared.thread.Status.TheVariants.{Live};
 ghost use Rattle.machine.specs.Ready.{IsReady};
 ghost use Rattle.machine.specs.States.{state_of};
@@ -61,6 +61,26 @@ fn running_entry(
     Ok(steps)
 }
 
+// One step of a thread that throws an object. There are no local ones before it.
+fn throwing_entry(
+    alloc: Global,
+    program: &ReadyProgram,
+    parts: &mut Parts,
+    mounted: &mut Mounted,
+    o: u32,
+) -> Result<u32, NoMemory>
+    requires ready { IsReady program.now }
+    requires typed { IsTypedState program.now (state_of parts.old mounted.old.stack.frames) }
+    requires throws { parts.old.status ≡ Live (Throwing o) }
+    requires going { ending (state_of parts.old mounted.old.stack.frames) ≡ None }
+    ensures advances { IfOk result (λ n. Advances program.now n
+        (state_of parts.old mounted.old.stack.frames) (state_of parts.new mounted.new.stack.frames)) }
+    ensures few { IfOk result (λ n. n ≤ 10000) }
+{
+    unwinding_step(alloc, program, parts, mounted, o)?;
+    Ok(0)
+}
+
 /// The next entry of the main thread: the answer is how many local instructions come before its last step. The gate is passed before them.
 pub(crate) fn advance<G: Gate>(
     alloc: Global,
@@ -81,10 +101,7 @@ pub(crate) fn advance<G: Gate>(
             gate.local(0, 0);
             running_entry(alloc, program, parts, mounted)
         }
-        Status::Live(Phase::Throwing(o)) => {
-            unwinding_step(alloc, program, parts, mounted, o)?;
-            Ok(0)
-        }
+        Status::Live(Phase::Throwing(o)) => { throwing_entry(alloc, program, parts, mounted, o) }
         _ => Err(NoMemory),
     }
 }

@@ -1,4 +1,4 @@
-use Rattle.std.proofs.Common.{sym, ap, ◌∙◌}
+use Rattle.std.proofs.Common.{sym, ◌∙◌}
 use Rattle.machine.proofs.ThrowLaws.{raised_is}
 use Rattle.machine.proofs.concluding.raise.Goals as goal
 

@@ -2,7 +2,7 @@ use Rattle.std.proofs.Common.{ap, sym, ◌∙◌}
 use Rattle.std.specs.Option.{option_map}
 use Rattle.frames.specs.Frames.{top_pc}
 use Rattle.ready_program.specs.Instructions.{instruction_of, instruction_at}
-use Rattle.machine.proofs.BackLaws.{back_made, root_back, none_back}
+use Rattle.machine.proofs.BackLaws.{back_made}
 use Rattle.machine.proofs.local.go_back.Goals as goal
 
 pub returns-in-Returned : goal.returns-in-Returned

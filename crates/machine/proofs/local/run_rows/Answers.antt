@@ -1,4 +1,4 @@
-use Rattle.std.proofs.Common.{true, Bool, subst, arith}
+use Rattle.std.proofs.Common.{Bool, subst, arith}
 use Rattle.interp_local.specs.Runs.{stays_on}
 use Rattle.machine.specs.LocalRuns.{GoesBack}
 use Rattle.machine.proofs.BackLaws.{goes_again, stopped}

@@ -1,5 +1,4 @@
-use Rattle.std.proofs.Common.{◌≡◌, ℤ, Option, None, ap, sym, ◌∙◌}
-use Rattle.ref_model.specs.declared.ending.Ending.{Ending}
+use Rattle.std.proofs.Common.{ℤ, Option, ap, sym, ◌∙◌}
 use Rattle.ref_model.specs.Ending.{exit_or, threads_ending}
 use Rattle.machine.specs.States.{state_of}
 use Rattle.machine.proofs.parts.ending_of.Goals as goal

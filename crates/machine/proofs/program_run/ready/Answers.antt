@@ -1,6 +1,5 @@
-use Rattle.std.proofs.Common.{ap, sym, subst, ◌∙◌}
+use Rattle.std.proofs.Common.{ap, sym, subst}
 use Rattle.world_model.specs.World.{World}
-use Rattle.world_model.specs.Infos.{methods_of}
 use Rattle.typed_frames.specs.EventLaws.{HasDimensions}
 use Rattle.typed_frames.specs.StateKinds.{HasFieldKinds}
 use Rattle.machine.proofs.program_run.ready.Goals as goal
