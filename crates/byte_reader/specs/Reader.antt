@@ -1,4 +1,4 @@
--- Readers of bytes. A reader goes from left to right, and gives a value and the bytes behind it, or the first fault that
+-- Readers of bytes. A reader goes from left to right, and gives a value and the bytes after it, or the first fault that
 -- it meets. A fault says how many bytes were left in front of it, so that a reader needs no offset.
 use Rattle.std.specs.Prelude.{◌≡◌, ℕ, zero, suc, ◌-◌, ℤ, List, [], ◌∷◌, length, take, drop, Bool, Result, Ok, Err, nat_lt, if◌then◌else◌}
 use Rattle.std.specs.Borrow.{Bor}
@@ -42,11 +42,11 @@ GivesBy view (Err stop) read = Stops stop read
 abbrev pub Gives : {W X : Type 0} → Result X (Stop W) → Result X (Fault W) → Type 0
 Gives result read = GivesBy (λ x. x) result read
 
--- The same of a value and the bytes behind it.
+-- The same of a value and the bytes after it.
 abbrev pub Reads : {W A : Type 0} → Result (A × Bor (List ℕ)) (Stop W) → Result (A × List ℕ) (Fault W) → Type 0
 Reads result read = GivesBy (λ x. (x.0, x.1.now)) result read
 
--- The same of a run of bytes and the bytes behind it.
+-- The same of a run of bytes and the bytes after it.
 abbrev pub ReadsBytes : {W A : Type 0} → Result (Bor A × Bor (List ℕ)) (Stop W) → Result (A × List ℕ) (Fault W) → Type 0
 ReadsBytes result read = GivesBy (λ x. (x.0.now, x.1.now)) result read
 

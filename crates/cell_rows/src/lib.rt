@@ -1,5 +1,5 @@
 //! The local rows of instructions (JVMS 6.5) on the slots of a frame, which lie in a row of cells: its local variables first, and its
-//! operands behind them. Each call has as its condition that its row is defined there, and leaves what the row does.
+//! operands after them. Each call has as its condition that its row is defined there, and leaves what the row does.
 #![tactic(auto)]
 
 mod branches;

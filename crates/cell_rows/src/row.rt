@@ -15,7 +15,7 @@ pub(crate) fn cell_at(row: &[Cell], i: usize) -> Cell
     row[i]
 }
 
-// Slots one behind the other, from an index on.
+// Slots one after the other, from an index on.
 #[inline(always)]
 pub(crate) fn put_one(row: &mut [Cell], at: usize, a: Cell)
     requires { at + 1 ≤ length row.old }

@@ -15,12 +15,12 @@ same_part part pool pool' left left' xs xs' p l x =
     ap (λ (n : ℕ). left_after n (flat_map (part pool) xs)) l ∙ ap (λ ys. left_after left' (flat_map (part pool) ys)) x
     ∙ ap (λ (p : List Const). left_after left' (flat_map (part p) xs')) p
 
--- the methods, behind what is behind the fields
+-- the methods, after what is after the fields
 pub methods_behind : (f : ClassFile) (pool : List Const) (left front : ℕ) (methods : List Member) → pool ≡ f.pool → front ≡ left - 2 → methods ≡ f.methods
     → left_after front (flat_map (method_items pool) methods) ≡ left_after left (sound_bytes 2 ∷ flat_map (method_items f.pool) f.methods)
 methods_behind f pool left front methods p l m = same_part method_items pool f.pool front (left - 2) methods f.methods p l m
 
--- the fields, and what is behind them
+-- the fields, and what is after them
 pub fields_first : (f : ClassFile) (pool : List Const) (left front : ℕ) (fields : List Member) (r : Result ℕ (Fault ClassWhy)) → pool ≡ f.pool → front ≡ left - 2 → fields ≡ f.fields
     → r ≡ left_after front (flat_map (field_items pool) fields) → then_on r (sound_bytes 2 ∷ flat_map (method_items f.pool) f.methods) ≡ left_after left (member_items f)
 fields_first f pool left front fields r p l m one =
@@ -28,7 +28,7 @@ fields_first f pool left front fields r p l m one =
     ap (λ (q : Result ℕ (Fault ClassWhy)). then_on q behind) (one ∙ same_part field_items pool f.pool front (left - 2) fields f.fields p l m)
     ∙ sym (left_after_append (left - 2) (flat_map (field_items f.pool) f.fields) behind)
 
--- the pool, and what is behind it
+-- the pool, and what is after it
 pub pool_first : (f : ClassFile) (pool : List Const) (size front : ℕ) (constants : List Const) (r : Result ℕ (Fault ClassWhy)) → pool ≡ f.pool → front ≡ size - 10 → constants ≡ f.pool
     → r ≡ left_after front (flat_map (constant_items pool) constants) → then_on r (class_items f ++ member_items f) ≡ left_after size (items f)
 pool_first f pool size front constants r p l m one =

@@ -16,7 +16,7 @@ abbrev pub then_on : Result ℕ (Fault ClassWhy) → List Item → Result ℕ (F
 then_on (Ok left) is = left_after left is
 then_on (Err f) is = Err f
 
--- one item, and those behind it
+-- one item, and those after it
 abbrev first : ℕ → ℕ → List Item → Option ClassWhy → Result ℕ (Fault ClassWhy)
 first left size is fault = elim fault [ None ↦ left_after (left - size) is | Some why ↦ Err (record { left = left; why = why }) ]
 
@@ -24,7 +24,7 @@ one_more : (left size : ℕ) (is js : List Item) (fault : Option ClassWhy) → l
 one_more left size is js None more = more
 one_more left size is js (Some why) more = refl
 
--- items, and those behind them
+-- items, and those after them
 pub left_after_append : (left : ℕ) (is js : List Item) → left_after left (is ++ js) ≡ then_on (left_after left is) js
 left_after_append left [] js = refl
 left_after_append left (i ∷ is) js = one_more left i.size is js i.fault (left_after_append (left - i.size) is js)
@@ -51,7 +51,7 @@ looped f xs i x left r total lt is one so_far =
     ∙ sym (left_after_append left (f (get_or xs i x)) rest)
     ∙ sym (at_drop_more (λ more. left_after left (flat_map f more)) xs i x lt) ∙ so_far
 
--- numbers in two bytes, and what is behind them
+-- numbers in two bytes, and what is after them
 pub faults_first : (left : ℕ) (found wanted : List (Option ClassWhy)) (r : Result ℕ (Fault ClassWhy)) (is : List Item) → r ≡ left_after left (map u2_item found) → found ≡ wanted
     → then_on r is ≡ left_after left (map u2_item wanted ++ is)
 faults_first left found wanted r is one same =

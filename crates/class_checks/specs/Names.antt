@@ -8,7 +8,7 @@ use Rattle.class_checks.specs.declared.names.Names.{Names}
 abbrev pub names_of : List ℕ → Names
 names_of units = record { of_field = is_field_name units; of_method = is_method_name units; of_class = are_parts false units }
 
--- The same by units alone, behind units of which some was a slash, some an angle, and the last one began a part.
+-- The same by units alone, after units of which some was a slash, some an angle, and the last one began a part.
 abbrev pub names_by : Bool → Bool → Bool → List ℕ → Names
 names_by slashed angled begun units = record {
   of_field = not slashed && list_all is_name_unit units;

@@ -34,7 +34,7 @@ pub enum ClassWhy {
     #[error("a second attribute of its kind")]
     Duplicate,
     /// Bytes follow the last attribute.
-    #[error("bytes behind the end")]
+    #[error("bytes after the end")]
     Trailing,
     /// A class or member may not have this name.
     #[error("a bad name")]

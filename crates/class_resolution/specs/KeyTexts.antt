@@ -8,7 +8,7 @@ use Rattle.class_model.specs.declared.member.Member.{Member}
 use Rattle.linkage.specs.Members.{Key, has_key, index_of}
 use Rattle.class_resolution.specs.Names.{at_text}
 
--- a name, a 1 before each of its units and a 0 behind it, and then the rest
+-- a name, a 1 before each of its units and a 0 after it, and then the rest
 abbrev pub tagged : List ℕ → List ℕ → List ℕ
 tagged [] rest = 0 ∷ rest
 tagged (u ∷ us) rest = 1 ∷ (u ∷ tagged us rest)

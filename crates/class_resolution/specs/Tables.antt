@@ -1,4 +1,4 @@
--- Tables: the values of a function at 0 and at the numbers behind it.
+-- Tables: the values of a function at 0 and at the numbers after it.
 use Rattle.std.specs.Prelude.{ℕ, zero, suc, List, [], ◌∷◌, ◌++◌, reverse, slice_get, unwrap_or, Option, option_and_then}
 
 abbrev pub tabulate : {A : Type 0} → (ℕ → A) → ℕ → List A

@@ -65,7 +65,7 @@ impl ClassSet {
         }
     }
 
-    /// Adds a class behind all others.
+    /// Adds a class after all others.
     pub fn add(&mut self, class: u32) -> Result<(), NoMemory>
         ensures { OnOk result (self.new ≡ self.old ++ class ∷ []) }
     {

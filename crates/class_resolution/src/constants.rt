@@ -126,7 +126,7 @@ pub fn home_of(classes: &Classes, name: &[u16]) -> Option<u32>
     }
 }
 
-// Whether a class name is being read behind a unit of a descriptor.
+// Whether a class name is being read after a unit of a descriptor.
 fn is_in_name(inside: bool, unit: u16) -> bool
     ensures { result ≡ spec.is_in_name inside unit }
 {

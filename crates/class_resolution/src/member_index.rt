@@ -21,7 +21,7 @@ const FEW: usize = 32;
 /// The unit before each unit of a name.
 const MORE: u16 = 1;
 
-/// The unit behind a name.
+/// The unit after a name.
 const END: u16 = 0;
 
 /// The indices of the fields or of the methods of a class by the texts of their keys, in a map whose cost nobody can raise by

@@ -2,7 +2,7 @@
 
 use std::alloc::{AllocError, Global};
 
-/// Puts the units of a text behind those that are there.
+/// Puts the units of a text after those that are there.
 pub fn append(units: &mut Vec<u16>, text: &[u8]) -> Result<(), AllocError> {
     for byte in text {
         units.push(u16::from(*byte))?;

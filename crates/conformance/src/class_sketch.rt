@@ -109,7 +109,7 @@ impl Sketch {
         })
     }
 
-    // A type with its tag, behind these.
+    // A type with its tag, after these.
     fn push_type(
         &mut self,
         types: &mut Vec<u8>,

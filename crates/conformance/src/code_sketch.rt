@@ -17,7 +17,7 @@ pub struct CodeSketch {
     map: Vec<u8>,
 }
 
-/// Puts a number behind the bytes.
+/// Puts a number after the bytes.
 pub fn push_number(bytes: &mut Vec<u8>, number: u16) -> Result<(), NoMemory> {
     bytes.push((number >> 8) as u8)?;
     bytes.push((number & 0xff) as u8)?;
@@ -44,12 +44,12 @@ impl CodeSketch {
         self.max_locals = max_locals;
     }
 
-    /// Puts a byte behind the code.
+    /// Puts a byte after the code.
     pub fn byte(&mut self, byte: u8) -> Result<(), NoMemory> {
         Ok(self.code.push(byte)?)
     }
 
-    /// Puts the index of a constant behind the code.
+    /// Puts the index of a constant after the code.
     pub fn index(&mut self, index: u16) -> Result<(), NoMemory> {
         push_number(&mut self.code, index)
     }
@@ -58,7 +58,7 @@ impl CodeSketch {
         Ok(self.rows.push(row)?)
     }
 
-    /// Puts a byte behind the stack map.
+    /// Puts a byte after the stack map.
     pub fn map_byte(&mut self, byte: u8) -> Result<(), NoMemory> {
         Ok(self.map.push(byte)?)
     }

@@ -1,5 +1,5 @@
 //! Programs that are not well typed, by the first rule that each breaks (JVMS 4.10.1), and programs that are well typed. A
-//! program that isn't is a text of the class, the method and the pc where it breaks the rule, and behind a bar its classes.
+//! program that isn't is a text of the class, the method and the pc where it breaks the rule, and after a bar its classes.
 
 use crate::ascii::{is_text, units_of};
 use crate::class_sketch::class_files;
@@ -41,7 +41,7 @@ const TARGET: [&str; 9] = [
     "A f 0 | 33 A java/lang/Object method 9 f ()V goto_w 0 0 0 5 return end",
 ];
 
-// What arrives at a frame isn't assignable to it, or the frame behind an instruction that doesn't go on is missing.
+// What arrives at a frame isn't assignable to it, or the frame after an instruction that doesn't go on is missing.
 const FRAME: [&str; 20] = [
     "A f 2 | 33 A java/lang/Object method 9 f ()V max 2 2 lconst_0 lstore_0 goto 0 3 return frame 5 int / ; end",
     "A f 0 | 33 A java/lang/Object method 9 f ()V goto 0 4 nop return frame 4 / ; end",
@@ -170,7 +170,7 @@ const INIT: [&str; 13] = [
     "A <init> 1 | 33 A java/lang/Object method 1 <init> ()V aload_0 invokespecial Methodref java/lang/Object <init> ()V return athrow catch 0 4 5 any frame 5 this / java/lang/Throwable ; end",
 ];
 
-// The code goes on behind its last instruction.
+// The code goes on after its last instruction.
 const END: [&str; 5] = [
     "A f 0 | 33 A java/lang/Object method 9 f ()V nop end",
     "A f 1 | 33 A java/lang/Object method 1 f ()V lconst_0 pop2 end",

@@ -308,7 +308,7 @@ impl Mounted {
         unmark(&mut self.pinned, self.stack.frame_count());
     }
 
-    /// Lends the row in which the slots of all frames lie, from the lowest on, and behind them the spare ones.
+    /// Lends the row in which the slots of all frames lie, from the lowest on, and after them the spare ones.
     #[inline(always)]
     pub fn cells(&mut self) -> &mut [Cell]
         ensures* writes_back { sem 𝓛 (LendsCells self.entry result) }
@@ -327,7 +327,7 @@ impl Mounted {
         self.stack.base()
     }
 
-    /// Sets the top frame's pc and how many operands it has: those that lie in the row behind its local variables.
+    /// Sets the top frame's pc and how many operands it has: those that lie in the row after its local variables.
     #[inline(always)]
     pub fn settle(&mut self, pc: u32, operands: u16)
         requires { operands ≤ top_room self.old.stack.frames }

@@ -11,7 +11,7 @@ use Rattle.descriptors.specs.Descriptors.{brackets, element_spelling, spelling, 
 use Rattle.descriptors.specs.Refusal.{IsField, KindInFront, ElementInFront, NameInFront, IsResultText}
 use Rattle.descriptors.proofs.KindLaws.{element_text, same_behind, starts}
 
--- the first that passes is behind those that fail
+-- the first that passes is after those that fail
 or_len : (p : ℕ → Bool) (a : List ℕ) (u : ℕ) (x : List ℕ) → AllByRecursion (λ v. p v ≡ false) a → p u ≡ true → position_or_len p (a ++ u ∷ x) ≡ length a
 or_len p [] u x fail pass = rw pass refl
 or_len p (v ∷ a) u x fail pass = rw (fail.0, or_len p a u x fail.1 pass) (omega arith)

@@ -41,7 +41,7 @@ differ (suc m) (suc n) a b x y ne e =
 base_is : (u v : ℕ) → is_base u ≡ true → u ≡ v → is_base v ≡ true
 base_is u v e same = subst (λ (x : ℕ). is_base x ≡ true) same e
 
--- the first unit behind the brackets
+-- the first unit after the brackets
 pub record FirstUnit (kind : Kind) (tail : List ℕ) : Type 0 where
   pub dims : ℕ
   pub few : dims ≤ 255
@@ -108,7 +108,7 @@ pub no_semicolon : (begun : Bool) (a x : List ℕ) → are_parts begun (a ++ 59 
 no_semicolon begun [] x = refl
 no_semicolon begun (u ∷ a) x = both_false (eqb u 47) begun (is_name_unit u) _ _ (no_semicolon false a x) (no_semicolon true a x)
 
--- ---- what is behind a kind
+-- ---- what is after a kind
 
 one_name : (a b x y : List ℕ) → IsClassName a → IsClassName b → a ++ 59 ∷ x ≡ b ++ 59 ∷ y → (a ≡ b) × (x ≡ y)
 one_name a b x y is_a is_b e =

@@ -205,7 +205,7 @@ first_of_rest (Name begun) t c = of_name c.0 c.1 c.2
         let p = parts_of begun u name is_name in
         record { unit = u; behind = name ++ 59 ∷ []; parts = e; turns = inr (Name (not (eqb u 47)), name_goes begun u p.0, (name, p.1, refl)) }
 
--- what completes a kind, behind its first unit
+-- what completes a kind, after its first unit
 kind_steps : (front : Front) (u : ℕ) (t : List ℕ) → Completes front (u ∷ t) → ((turn front u ≡ Ends) × (t ≡ [])) ⊎ ((more : Front) × (turn front u ≡ GoesOn more) × Completes more t)
 kind_steps front u t c =
     let f = first_of_rest front (u ∷ t) c in
@@ -297,7 +297,7 @@ start_is : (front : Front) → is_start front ≡ true → front ≡ Brackets 0
 start_is (Brackets n) e = ap (λ (k : ℕ). Brackets k) (eqb-true n 0 e)
 start_is (Name begun) e = absurd cc
 
--- behind a unit that goes on something was read
+-- after a unit that goes on something was read
 not_start : (front more : Front) (u : ℕ) → turn front u ≡ GoesOn more → is_start more ≡ false
 not_start (Brackets n) more u e = elim (bracket_turn n u) [
   | inl p ↦ ap is_start (let same : more ≡ Brackets (n + 1) = cc in same) ∙ (grind (arith, nat_tests))
@@ -378,13 +378,13 @@ IsState (Field front) = HasFew front
 IsState (Args taken front) = HasFew front × (taken ≤ 255)
 IsState state = Unit {0}
 
--- the state behind a unit of an argument
+-- the state after a unit of an argument
 abbrev behind_arg : ℕ → Turn → Option State
 behind_arg taken t = elim t [ Ends ↦ Some (Args taken (Brackets 0)) | GoesOn more ↦ Some (Args taken more) | Stops ↦ None ]
 
 -- ---- a unit of what completes it
 
--- the state behind this unit, and what completes that
+-- the state after this unit, and what completes that
 abbrev StepsOn : Option State → List ℕ → Type 0
 StepsOn o t = (more : State) × (o ≡ Some more) × Rest more t
 
@@ -457,7 +457,7 @@ steps_on (Args taken front) u t r = args_step taken front u t (is_start front) (
 steps_on Result u t r = result_step u t r.0 r.1 r.2
 steps_on Whole u t e = absurd cc
 
--- ---- a unit before what completes the state behind it
+-- ---- a unit before what completes the state after it
 
 abbrev StepsBack : State → (List ℕ → Type 0) → ℕ → List ℕ → Type 0
 StepsBack more P u t = IsState more × (Rest more t → P (u ∷ t))

@@ -58,7 +58,7 @@ arguments_in (suc n) units =
     if begins_with close_parenthesis units then []
     else type_of (take (first_length false units) units) ∷ arguments_in n (drop (first_length false units) units)
 
--- the text behind the closing parenthesis, so many types before it at most
+-- the text after the closing parenthesis, so many types before it at most
 abbrev pub result_in : ℕ → List ℕ → List ℕ
 result_in zero units = []
 result_in (suc n) units =
@@ -68,7 +68,7 @@ result_in (suc n) units =
 abbrev pub result_of : List ℕ → Option Kind
 result_of units = if begins_with void_letter units then None else Some (type_of units)
 
--- Behind the opening parenthesis each type has a unit at least, which bounds their number.
+-- After the opening parenthesis each type has a unit at least, which bounds their number.
 abbrev pub signature_of : List ℕ → Signature
 signature_of units =
     if is_method units then record {

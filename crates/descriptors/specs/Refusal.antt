@@ -40,7 +40,7 @@ pub record ElementInFront (units : List ℕ) : Type 0 where
   pub rest : List ℕ
   pub parts : units ≡ element_spelling element ++ rest
 
--- they begin with a class name and the semicolon behind it
+-- they begin with a class name and the semicolon after it
 pub record NameInFront (units : List ℕ) : Type 0 where
   pub name : List ℕ
   pub fit : IsClassName name

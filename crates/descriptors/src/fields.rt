@@ -41,7 +41,7 @@ pub fn field_kind(alloc: Global, units: &[u16]) -> Result<Kind, DescriptorError>
     Ok(kind)
 }
 
-/// The kind whose descriptor is in front, and the units behind it.
+/// The kind whose descriptor is in front, and the units after it.
 pub fn kind_at(alloc: Global, units: &[u16]) -> Result<(Kind, &[u16]), AllocError>
     requires { KindInFront units.now }
     ensures { IfOk result (λ x. IsKind x.0 × (units.now ≡ spelling x.0 ++ x.1.now)) }
@@ -67,7 +67,7 @@ fn brackets_in(units: &[u16]) -> usize
     first_other(units, u16::from(b'[')).unwrap()
 }
 
-// The type in front, which is no array, and the units behind it.
+// The type in front, which is no array, and the units after it.
 fn element_at(alloc: Global, units: &[u16]) -> Result<(ElementType, &[u16]), AllocError>
     requires { ElementInFront units.now }
     ensures { IfOk result (λ x.

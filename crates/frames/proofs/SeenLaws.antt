@@ -51,7 +51,7 @@ bounds a v is e =
       most = ap (λ (x : Frames). top_room x.frames) (sym e) ∙ top_room_is (saved_of a) a.cells.len a.cells.items a.top is.placed;
     }
 
--- a record saved behind others comes first among those below
+-- a record saved after others comes first among those below
 pub reverse_push : {A : Type 0} (xs ys : List A) (x : A) → ys ≡ xs ++ x ∷ [] → reverse ys ≡ x ∷ reverse xs
 reverse_push xs ys x e = ap reverse e ∙ reverse-append xs (x ∷ [])
 

@@ -11,7 +11,7 @@ use Rattle.frames.specs.Frames.{Frames, slots_of, size_of, row_of, read_from, ov
 use Rattle.frames.proofs.RowLaws.{cons_is, reverse_descending, ascending_add, drop_ascending}
 use Rattle.frames.proofs.StackLaws.{kept, kept_is}
 
--- slots behind others
+-- slots after others
 pub ascending_behind : (n from at : ℕ) (front slots : List Slot) → at ≡ length front + from → ascending (front ++ slots) at n ≡ ascending slots from n
 ascending_behind zero from at front slots e = refl
 ascending_behind (suc n) from at front slots e =

@@ -6,7 +6,7 @@ use Rattle.instruction_rows.specs.declared.value.Slot.TheVariants.{Second}
 use Rattle.state_model.specs.Frames.{Frame}
 use Rattle.frames.specs.Rows.{ascending, descending}
 
--- The frames of a stack; the slots behind its top frame, as they were left; and how many frames it can take before it wants
+-- The frames of a stack; the slots after its top frame, as they were left; and how many frames it can take before it wants
 -- memory to save where they lie.
 pub record Frames : Type 0 where
   pub frames : List Frame
@@ -68,7 +68,7 @@ called method locals room args s = record { frames = entered method locals room 
 abbrev pub returned : ℕ → List Frame → List Frame
 returned slots frames = with_stack (take slots (top_stack frames) ++ top_stack (drop 1 frames)) (drop 1 frames)
 
--- what a stack has after a call: where a slot is pushed or popped, the slots behind the top frame change too
+-- what a stack has after a call: where a slot is pushed or popped, the slots after the top frame change too
 abbrev pub with_frames : List Frame → Frames → Frames
 with_frames frames s = record s { frames = frames }
 
@@ -87,7 +87,7 @@ cleared s = record s { frames = with_stack [] s.frames; spare = reverse (top_sta
 abbrev pub left : Frames → Frames
 left s = record { frames = drop 1 s.frames; spare = top_locals s.frames ++ (reverse (top_stack s.frames) ++ s.spare); calls = s.calls + 1 }
 
--- the top frame with another pc, and with so many operands, which lie behind its local variables
+-- the top frame with another pc, and with so many operands, which lie after its local variables
 abbrev pub settled : ℕ → ℕ → Frames → Frames
 settled pc used s =
     let row = reverse (top_stack s.frames) ++ s.spare in

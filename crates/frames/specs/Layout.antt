@@ -1,5 +1,5 @@
--- How frames lie in a stack: their slots one behind the other in one row, each frame's local variables first, and what else is
--- known of a frame in a record. What lies behind the top frame is spare.
+-- How frames lie in a stack: their slots one after the other in one row, each frame's local variables first, and what else is
+-- known of a frame in a record. What lies after the top frame is spare.
 use Rattle.std.specs.Prelude.{ℕ, ◌≡◌, ◌+◌, ◌-◌, ◌≤◌, List, [], ◌∷◌, drop, reverse, vec_len}
 use Rattle.std.specs.Vec.{vec_capacity}
 use Rattle.instruction_rows.specs.declared.value.Slot.{Slot}
@@ -9,7 +9,7 @@ use Rattle.frames.specs.Frames.{Frames}
 use Rattle.frames.specs.declared.record.Record.{Record}
 use Rattle.frames.specs.declared.stack.Stack.TheInside.{Inside}
 
--- the index behind a frame's operands
+-- the index after a frame's operands
 abbrev pub end_of : Record → ℕ
 end_of r = r.base + r.locals + r.used
 
@@ -27,7 +27,7 @@ abbrev pub frames_of : List Slot → Record → List Record → List Frame
 frames_of row r [] = []
 frames_of row r (q ∷ qs) = frame_of row r ∷ frames_of row q qs
 
--- a frame lies right behind the one below, and has room for its operands in the row
+-- a frame lies right after the one below, and has room for its operands in the row
 pub record IsPlaced (len : ℕ) (r q : Record) : Type 0 where
   pub placed : r.base ≡ end_of q
   pub held : r.used ≤ r.room

@@ -1,4 +1,4 @@
--- Slots that lie one behind the other in a row.
+-- Slots that lie one after the other in a row.
 use Rattle.std.specs.Prelude.{ℕ, zero, suc, ◌+◌, List, [], ◌∷◌}
 use Rattle.std.specs.Prelude.{slice_index_or}
 use Rattle.instruction_rows.specs.declared.value.Slot.{Slot}

@@ -1,4 +1,4 @@
-//! The frames of a thread (JVMS 2.5.2, 2.6), one behind the other in one row of slots: an invoked method's first local variables are
+//! The frames of a thread (JVMS 2.5.2, 2.6), one after the other in one row of slots: an invoked method's first local variables are
 //! its caller's last operands, where they lie.
 #![tactic(auto)]
 

@@ -26,7 +26,7 @@ impl Record {
         }
     }
 
-    // The index behind the frame's operands.
+    // The index after the frame's operands.
     #[inline(always)]
     pub(crate) fn end(&self) -> usize
         requires { self.now.base + self.now.locals + self.now.used < 2 ^ 64 }

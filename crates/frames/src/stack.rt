@@ -317,7 +317,7 @@ impl Stack {
         self.push(top);
     }
 
-    /// The row in which the slots of all frames lie, from the lowest on, and behind them the spare ones. What is written into it is in
+    /// The row in which the slots of all frames lie, from the lowest on, and after them the spare ones. What is written into it is in
     /// the frames. This is for code that runs many instructions of one frame.
     #[inline(always)]
     pub fn cells(&mut self) -> &mut [Cell]
@@ -327,7 +327,7 @@ impl Stack {
         self.cells.as_mut_slice()
     }
 
-    /// The index in that row at which the top frame's local variables begin. Its operands lie behind them, and the row has room for as
+    /// The index in that row at which the top frame's local variables begin. Its operands lie after them, and the row has room for as
     /// many as it may have.
     #[inline(always)]
     pub fn base(&self) -> usize
@@ -338,7 +338,7 @@ impl Stack {
         self.top.base
     }
 
-    /// Sets the top frame's pc and how many operands it has: those that lie in the row behind its local variables.
+    /// Sets the top frame's pc and how many operands it has: those that lie in the row after its local variables.
     #[inline(always)]
     pub fn settle(&mut self, pc: u32, operands: u16)
         requires { operands ≤ top_room self.old.frames }

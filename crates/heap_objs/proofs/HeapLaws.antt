@@ -43,7 +43,7 @@ objects_grown (e ∷ es) n m values units vs ws us xs laid v u more_values more_
     cons_is (object_grown e.class e.start e.len n m vs ws us xs laid.0 (omega arith) (omega arith) more_values more_units)
     (objects_grown es (next_value e.class e.len n) (next_unit e.class e.len m) values units vs ws us xs laid.1 v u more_values more_units)
 
--- one more object, behind the others
+-- one more object, after the others
 laid_from : (c : Option ℕ) (start n m n' m' : ℕ) → n ≡ n' → m ≡ m' → IsLaid c start n' m' → IsLaid c start n m
 laid_from (Some k) start n m n' m' a b laid = laid ∙ sym a
 laid_from None start n m n' m' a b laid = laid ∙ sym b
@@ -105,7 +105,7 @@ value_read (Some k) start len i vs us h =
     (omega arith, get_taken len (drop start vs) i (omega arith) ∙ get_dropped start vs i (start + i) refl)
 value_read None start len i vs us h = absurd (omega arith)
 
--- where an object lies: it ends within its row, and begins behind those before it
+-- where an object lies: it ends within its row, and begins after those before it
 abbrev pub EndsIn : Option ℕ → ℕ → ℕ → ℕ → Type 0
 EndsIn (Some k) end values units = end ≤ values
 EndsIn None end values units = end ≤ units

@@ -1,4 +1,4 @@
--- How objects lie in the heap's memory: the values of all in one row and the units of all Strings in another, each object's behind
+-- How objects lie in the heap's memory: the values of all in one row and the units of all Strings in another, each object's after
 -- those of the one before, and for each object an entry that says where.
 use Rattle.std.specs.Prelude.{ℕ, ◌≡◌, ◌+◌, ◌≤◌, List, [], ◌∷◌, take, drop, Option, Some, None, vec_len}
 use Rattle.instruction_rows.specs.declared.value.Value.{Value}

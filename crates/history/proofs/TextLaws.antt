@@ -26,7 +26,7 @@ pub lines_long : (es : List Entry) → length es ≤ length (flat_map line es)
 lines_long [] = omega arith
 lines_long (e ∷ es) = omega (arith, lines_long es, line_long e, length-append (line e) (flat_map line es))
 
--- two lists of lines, behind each of which no entry's line stands
+-- two lists of lines, after each of which no entry's line stands
 pub lines_same : (xs es : List Entry) (a b : List ℕ) → AreEntries xs → AreEntries es → flat_map line xs ++ a ≡ flat_map line es ++ b
     → entry_at a ≡ None → entry_at b ≡ None → (xs ≡ es) × (a ≡ b)
 lines_same [] [] a b p q e f g = (refl, e)
@@ -49,7 +49,7 @@ lines_same (x ∷ xs) (y ∷ es) a b p q e f g =
 pub line_more : (es : List Entry) (e : Entry) (rest : List ℕ) → flat_map line (es ++ e ∷ []) ++ rest ≡ flat_map line es ++ (line e ++ rest)
 line_more es e rest = simp (flat_map-append, append_assoc)
 
--- behind the first line of a trace text
+-- after the first line of a trace text
 pub trace_parts : (carriers : ℕ) (es : List Entry) (rest : List ℕ) → trace_text carriers es ++ rest ≡ first_line carriers ++ (flat_map line es ++ (last_line (length es) ++ rest))
 trace_parts carriers es rest = regroup (first_line carriers) (flat_map line es) (last_line (length es)) rest
   where

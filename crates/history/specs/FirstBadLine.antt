@@ -8,7 +8,7 @@ use Rattle.history.specs.TraceText.{line, first_line, last_line, trace_text, IsE
 pub record NoFirstLine (text : List ℕ) : Type 0 where
   pub none : (carriers : ℕ) (rest : List ℕ) → carriers < 2 ^ 32 → text ≡ first_line carriers ++ rest → ⊥
 
--- behind the first line and some lines of entries stands neither an entry nor the last line
+-- after the first line and some lines of entries stands neither an entry nor the last line
 pub record NoNextLine (text : List ℕ) (at : ℕ) : Type 0 where
   pub carriers : ℕ
   pub entries : List Entry
@@ -20,7 +20,7 @@ pub record NoNextLine (text : List ℕ) (at : ℕ) : Type 0 where
   pub no_entry : (e : Entry) (behind : List ℕ) → IsEntry e → rest ≡ line e ++ behind → ⊥
   pub no_end : (behind : List ℕ) → rest ≡ last_line (length entries) ++ behind → ⊥
 
--- a trace text goes on behind its last line
+-- a trace text goes on after its last line
 pub record GoesOn (text : List ℕ) (at : ℕ) : Type 0 where
   pub carriers : ℕ
   pub entries : List Entry

@@ -1,4 +1,4 @@
--- The parts of a trace text, each read at the front of the bytes. What is read is answered with the bytes behind it.
+-- The parts of a trace text, each read at the front of the bytes. What is read is answered with the bytes after it.
 use Rattle.std.specs.Prelude.{ℕ, ◌+◌, ◌-◌, ◌*◌, List, [], ◌∷◌, length, take, drop, Bool, Option, Some, None, nat_eq, nat_le, ◌==◌, if◌then◌else◌, codes}
 use Rattle.std.specs.Int.{is_in_range}
 use Rattle.std.specs.Cmp.Lexicographic.{pointwise}
@@ -42,7 +42,7 @@ field_at most bytes = do
   rest ← after (codes " ") bytes
   number_at most rest
 
--- none, where these bytes are left behind its mark, or else a thread
+-- none, where these bytes are left after its mark, or else a thread
 abbrev pub pick_by : Option (List ℕ) → List ℕ → Option (Option ℕ × List ℕ)
 pick_by (Some rest) bytes = Some (None, rest)
 pick_by None bytes = field_at most32 bytes >>= λ t. Some (Some t.0, t.1)
@@ -59,7 +59,7 @@ step_at bytes = do
   pick ← pick_at steps.1
   if steps.0 == 0 then None else Some (Step thread.0 steps.0 pick.0, pick.1)
 
--- the fields behind the carrier, by the entry's letter
+-- the fields after the carrier, by the entry's letter
 abbrev pub what_at : ℕ → List ℕ → Option (What × List ℕ)
 what_at letter bytes =
     if letter == 77 then (field_at most32 bytes >>= λ t. Some (Mount t.0, t.1))

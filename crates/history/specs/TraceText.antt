@@ -24,7 +24,7 @@ abbrev pub pick_field : Option ℕ → List ℕ
 pick_field None = codes " -"
 pick_field (Some t) = field t
 
--- what stands behind the carrier
+-- what comes after the carrier
 abbrev pub fields : What → List ℕ
 fields (Mount t) = field t
 fields (Unmount t) = field t

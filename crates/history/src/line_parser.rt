@@ -1,4 +1,4 @@
-//! The parts of a trace text, each at the front of the bytes. What is read is answered with the bytes behind it.
+//! The parts of a trace text, each at the front of the bytes. What is read is answered with the bytes after it.
 
 ghost use Rattle.std.specs.Prelude.{◌≡◌, ◌≤◌, true, IfSome};
 ghost use Rattle.std.specs.Option.{option_map};
@@ -6,7 +6,7 @@ ghost use Rattle.history.specs.Parsing as parsing;
 
 use crate::entry::{Entry, What};
 
-/// The bytes behind these at the front.
+/// The bytes after these at the front.
 pub fn after<'a>(front: &[u8], bytes: &'a [u8]) -> Option<&'a [u8]>
     ensures { option_map (λ rest. rest.now) result ≡ parsing.after front.now bytes.now }
 {
@@ -110,7 +110,7 @@ fn step_at(bytes: &[u8]) -> Option<(What, &[u8])>
     Some((what, rest))
 }
 
-/// The fields behind the carrier, by the entry's letter.
+/// The fields after the carrier, by the entry's letter.
 fn what_at(letter: u8, bytes: &[u8]) -> Option<(What, &[u8])>
     ensures { option_map (λ x. (x.0, x.1.now)) result ≡ parsing.what_at letter bytes.now }
 {

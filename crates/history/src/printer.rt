@@ -46,7 +46,7 @@ fn print_line(text: &mut Vec<u8>, entry: Entry) -> Result<(), AllocError>
     text.extend_from_slice(b"\n")
 }
 
-/// What stands behind the carrier.
+/// What comes after the carrier.
 fn print_fields(text: &mut Vec<u8>, what: What) -> Result<(), AllocError>
     ensures { OnOk result (text.new.items ≡ text.old.items ++ fields what) }
 {

@@ -42,7 +42,7 @@ pub fn read(alloc: Global, text: &[u8]) -> Result<(u32, Vec<Entry>), TraceError>
     Ok((carriers, entries))
 }
 
-/// The entries whose lines stand at the front, and the bytes behind them.
+/// The entries whose lines stand at the front, and the bytes after them.
 fn entries_at(alloc: Global, lines: &[u8]) -> Result<(Vec<Entry>, &[u8]), AllocError>
     ensures { IfOk result (λ r. TakesEntries lines.now r.0.items r.1.now) }
 {

@@ -1,6 +1,6 @@
 -- What a frame holds, slot by slot (JVMS 2.6): the local variables by index, and the operand stack with the top
 -- first. Slots and their types lie in the same way, so this serves both. A long or a double takes two slots: in local
--- variables its own and the one behind, on the operand stack its own and the one above (JVMS 2.6.1, 2.6.2, 4.10.1.2).
+-- variables its own and the one after, on the operand stack its own and the one above (JVMS 2.6.1, 2.6.2, 4.10.1.2).
 use Rattle.std.specs.Prelude.{ℕ, suc, Bool, true, false, List, [], ◌∷◌, reverse, length, slice_set, nat_lt, Option, Some, None, if◌then◌else◌}
 use Rattle.std.specs.List.{flat_map}
 use Rattle.stack_maps.specs.declared.types.FrameTypes.{FrameTypes}
@@ -42,7 +42,7 @@ types_of t = if is_wide t then t ∷ types.Top ∷ [] else t ∷ []
 abbrev pub slot_types : List VType → List VType
 slot_types ts = flat_map types_of ts
 
--- the types at a frame of a map, without the local variables behind the last that it names
+-- the types at a frame of a map, without the local variables after the last that it names
 abbrev pub contents_of : FrameTypes → Contents VType
 contents_of f = record { locals = slot_types f.locals; stack = reverse (slot_types f.stack) }
 

@@ -11,7 +11,7 @@ use crate::prepared::Prepared;
 use continuation::Mounted;
 use world_model::Lookups;
 
-/// Where a run of local instructions stopped, behind how many.
+/// Where a run of local instructions stopped, after how many.
 #[derive(Clone, Copy, Debug, PartialEq, Eq)]
 pub enum Local {
     /// Before an instruction that doesn't stay in its frame: an event, an invocation, a return, or a division by 0.

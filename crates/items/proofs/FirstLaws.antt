@@ -53,7 +53,7 @@ first_append [] ys = refl
 first_append (None ∷ xs) ys = first_append xs ys
 first_append (Some x ∷ xs) ys = refl
 
--- of lists one behind the other, one for each item
+-- of lists one after the other, one for each item
 pub first_flat : {A B : Type 0} (f : A → List (Option B)) (xs : List A) → first_some (flat_map f xs) ≡ first_in (λ x. first_some (f x)) xs
 first_flat f [] = refl
 first_flat f (x ∷ xs) = first_append (f x) (flat_map f xs) ∙ ap (option_or (first_some (f x))) (first_flat f xs)

@@ -37,7 +37,7 @@ pub takes_part : {S : Type 0} (contents : S → Option (List ℕ)) (faults : S �
     → Takes contents faults old new bytes (Some n)
 takes_part contents faults old new bytes n part short rose = (part, short, rose)
 
--- ---- the fault output, and the line behind it
+-- ---- the fault output, and the line after it
 
 appends_both : (a b c : Option (List ℕ)) (xs ys : List ℕ) → Appends a xs b → Appends b ys c → Appends a (xs ++ ys) c
 appends_both a b c xs ys first second = second ∙ ap (option_map (λ (bytes : List ℕ). bytes ++ ys)) first ∙ both a
@@ -74,7 +74,7 @@ all_told contents faults old mid new line text (Some n) first second = record {
   kept = λ all le. absurd (omega (arith, second.1, le));
 }
 
--- of a line that comes behind a fault nothing was taken, so it is as any other
+-- of a line that comes after a fault nothing was taken, so it is as any other
 any_line : {E : Type 0} (contents : E → Option (List ℕ)) (faults : E → ℕ) (old new : E) (line other text : List ℕ) (n : ℕ) → n < length text → TakesLine contents faults old new line text n → TakesLine contents faults old new other text n
 any_line contents faults old new line other text n short told =
     let none : taken_line (told.taken) ≡ [] = ap taken_line (told.part short).0 in

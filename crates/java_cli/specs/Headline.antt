@@ -50,7 +50,7 @@ IsTold (SinkFault Out written) taken size = Unit {0}
 IsTold (SinkFault Err written) taken size = (written ≡ taken) × (taken < size)
 IsTold why taken size = taken ≡ size
 
--- The err sink took the front of the program's fault output, and behind all of it the answer's line, or its front. Where it didn't take
+-- The err sink took the front of the program's fault output, and after all of it the answer's line, or its front. Where it didn't take
 -- all, its count of faults rose; otherwise that is as before.
 pub record TakesLine {E : Type 0} (contents : E → Option (List ℕ)) (faults : E → ℕ) (old new : E) (line text : List ℕ) (written : ℕ)
     : Type 0 where
@@ -105,7 +105,7 @@ Takes contents faults old new bytes None = Appends (contents old) bytes (content
 Takes contents faults old new bytes (Some n) =
     Appends (contents old) (take n bytes) (contents new) × (n < length bytes) × Rose (faults old) (faults new)
 
--- the answer to a run, where the out sink and the err sink failed behind so many bytes
+-- the answer to a run, where the out sink and the err sink failed after so many bytes
 abbrev pub answer_with : Why → Option ℕ → Option ℕ → Why
 answer_with why (Some n) failed = SinkFault Out n
 answer_with why None (Some n) = SinkFault Err n

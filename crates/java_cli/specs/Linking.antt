@@ -1,4 +1,4 @@
--- Which class files are accepted as a program, behind the built-in classes: they link (JVMS 5.3, 5.4), and the world that they are is
+-- Which class files are accepted as a program, after the built-in classes: they link (JVMS 5.3, 5.4), and the world that they are is
 -- well typed (JVMS 4.10.1).
 use Rattle.std.specs.Prelude.{◌≡◌, ℕ, ◌-◌, List, [], ◌∷◌, ◌++◌, Some, length, nat_lt, slice_get, unwrap_or, if◌then◌else◌}
 use Rattle.std.specs.Option.{option_map_or}
@@ -32,7 +32,7 @@ IsLinkFault classes class reason = link_fault (program_of classes) ≡ Some (rec
 abbrev pub class_text : Program → ℕ → List ℕ
 class_text p class = class_at own_name [] p class
 
--- the name of a member, and behind it its descriptor
+-- the name of a member, and after it its descriptor
 abbrev pub member_text : ClassFile → Member → List ℕ
 member_text f m = unwrap_or (text_at f.pool m.name) [] ++ unwrap_or (text_at f.pool m.descriptor) []
 

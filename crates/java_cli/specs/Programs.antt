@@ -15,7 +15,7 @@ use Rattle.java_cli.specs.Supported.{is_supported}
 abbrev pub IsSpelled : ClassFile → Type 0
 IsSpelled f = (bytes : List ℕ) × Spells bytes f
 
--- the linked world of class files, behind the built-in classes
+-- the linked world of class files, after the built-in classes
 abbrev pub world_of_files : List ClassFile → World
 world_of_files classes = world_of (program_of classes)
 

@@ -20,7 +20,7 @@ pub fn class_text(alloc: Global, world: &World, class: u32) -> Result<Vec<u16>, 
     }
 }
 
-// The name of a member, and behind it its descriptor.
+// The name of a member, and after it its descriptor.
 fn member_text(alloc: Global, file: &ClassFile, member: &Member) -> Result<Vec<u16>, AllocError>
     ensures { IfOk result (λ v. v.items ≡ spec.member_text file.now member.now) }
 {
@@ -40,7 +40,7 @@ fn method_at(alloc: Global, file: &ClassFile, index: usize) -> Result<Vec<u16>, 
     }
 }
 
-/// The name of the method with this number, counted over the classes in their order, and behind it its descriptor.
+/// The name of the method with this number, counted over the classes in their order, and after it its descriptor.
 pub fn method_text(alloc: Global, classes: &[ClassFile], n: u32) -> Result<Vec<u16>, AllocError>
     ensures { IfOk result (λ v. v.items ≡ spec.method_text classes.now n) }
 {

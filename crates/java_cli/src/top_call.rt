@@ -94,7 +94,7 @@ fn answer_to(ending: Ending) -> Why
     }
 }
 
-// The answer to a run, where the out sink and the err sink failed behind so many bytes.
+// The answer to a run, where the out sink and the err sink failed after so many bytes.
 fn answer_with(why: Why, out_fault: Option<u64>, err_fault: Option<u64>) -> Why
     ensures { result ≡ spec.answer_with why out_fault err_fault }
 {
@@ -111,7 +111,7 @@ fn answer_with(why: Why, out_fault: Option<u64>, err_fault: Option<u64>) -> Why
     }
 }
 
-// The line of the answer, where this is the line of the program's ending, and the out sink failed behind so many bytes.
+// The line of the answer, where this is the line of the program's ending, and the out sink failed after so many bytes.
 fn line_after<'a>(out_fault: Option<u64>, line: &'a [u8]) -> &'a [u8]
     ensures { result.now ≡ spec.line_after out_fault line.now }
 {
@@ -121,7 +121,7 @@ fn line_after<'a>(out_fault: Option<u64>, line: &'a [u8]) -> &'a [u8]
     }
 }
 
-// Puts the program's fault output, and behind all of it the line. Where the sink fails in the former: how many bytes of it it took.
+// Puts the program's fault output, and after all of it the line. Where the sink fails in the former: how many bytes of it it took.
 fn put_faults<E: Sink>(err: &mut E, text: &[u8], line: &[u8]) -> Option<u64>
     ensures told { TakesLine E.contents E.faults err.old err.new line.now text.now
         (spec.taken_of result (length text.now)) }

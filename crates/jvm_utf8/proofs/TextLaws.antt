@@ -192,7 +192,7 @@ first_bad bytes at e =
 
 -- ---- reading in a loop
 
--- so far: the units that were read, and the bytes behind them
+-- so far: the units that were read, and the bytes after them
 pub record IsRead (bytes units rest : List ℕ) : Type 0 where
   pub are_units : AreUnits units
   pub parts : bytes ≡ text units ++ rest

@@ -17,7 +17,7 @@ two_again u rest low high = grind (arith, nat_tests)
 three_again : (u : ℕ) (rest : List ℕ) → 2048 ≤ u → u < 2 ^ 16 → unit_at (unit u ++ rest) ≡ Some (u, rest)
 three_again u rest low high = grind (arith, nat_tests)
 
--- a unit and the bytes behind it
+-- a unit and the bytes after it
 pub record Takes (bytes : List ℕ) (x : ℕ × List ℕ) : Type 0 where
   pub parts : bytes ≡ unit x.0 ++ x.1
   pub is_unit : x.0 < 2 ^ 16

@@ -2,7 +2,7 @@
 use Rattle.std.specs.Prelude.{◌≡◌, ℕ, ◌<◌, ◌^◌, List, ◌++◌, length, take, drop}
 use Rattle.jvm_utf8.specs.Text.{unit, text, AreUnits}
 
--- The bytes before this offset are a text, there are bytes behind it, and these begin with no unit.
+-- The bytes before this offset are a text, there are bytes after it, and these begin with no unit.
 pub record IsFirstBad (bytes : List ℕ) (at : ℕ) : Type 0 where
   pub inside : at < length bytes
   pub units : List ℕ

@@ -2,25 +2,25 @@
 use Rattle.std.specs.Prelude.{ℕ, zero, suc, ◌+◌, ◌-◌, ◌*◌, List, [], ◌∷◌, length, Bool, Option, Some, None, Result, Ok, Err, nat_lt, ◌==◌, ◌||◌, ◌&&◌, if◌then◌else◌}
 use Rattle.std.specs.Int.{is_in_range}
 
--- a byte behind the first one of a unit
+-- a byte after the first one of a unit
 abbrev pub is_later : ℕ → Bool
 is_later b = is_in_range 128 191 b
 
--- the unit of two bytes, of which this is the first, and the bytes behind it
+-- the unit of two bytes, of which this is the first, and the bytes after it
 abbrev pub two_at : ℕ → List ℕ → Option (ℕ × List ℕ)
 two_at a [] = None
 two_at a (b ∷ rest) =
     let u = (a - 192) * 64 + (b - 128) in
     if is_later b && (u == 0 || nat_lt 127 u) then Some (u, rest) else None
 
--- the unit of three bytes, of which this is the first, and the bytes behind it
+-- the unit of three bytes, of which this is the first, and the bytes after it
 abbrev pub three_at : ℕ → List ℕ → Option (ℕ × List ℕ)
 three_at a (b ∷ c ∷ rest) =
     let u = ((a - 224) * 64 + (b - 128)) * 64 + (c - 128) in
     if is_later b && is_later c && nat_lt 2047 u then Some (u, rest) else None
 three_at a short = None
 
--- the unit at the front, and the bytes behind it
+-- the unit at the front, and the bytes after it
 abbrev pub unit_at : List ℕ → Option (ℕ × List ℕ)
 unit_at [] = None
 unit_at (a ∷ rest) =

@@ -48,7 +48,7 @@ fn units_of(alloc: Global, bytes: &[u8]) -> Result<Vec<u16>, Utf8Error>
     Ok(units)
 }
 
-// The unit at the front, and the bytes behind it.
+// The unit at the front, and the bytes after it.
 fn unit_at(bytes: &[u8]) -> Option<(u16, &[u8])>
     ensures { option_map (λ x. (x.0, x.1.now)) result ≡ spec.unit_at bytes.now }
 {
@@ -61,7 +61,7 @@ fn unit_at(bytes: &[u8]) -> Option<(u16, &[u8])>
     }
 }
 
-// The unit of two bytes, and the bytes behind it.
+// The unit of two bytes, and the bytes after it.
 fn two_at(first: u8, bytes: &[u8]) -> Option<(u16, &[u8])>
     requires { IsTrue (is_in_range 192 223 first) }
     ensures { option_map (λ x. (x.0, x.1.now)) result ≡ spec.two_at first bytes.now }
@@ -79,7 +79,7 @@ fn two_at(first: u8, bytes: &[u8]) -> Option<(u16, &[u8])>
     }
 }
 
-// The unit of three bytes, and the bytes behind it.
+// The unit of three bytes, and the bytes after it.
 fn three_at(first: u8, bytes: &[u8]) -> Option<(u16, &[u8])>
     requires { IsTrue (is_in_range 224 239 first) }
     ensures { option_map (λ x. (x.0, x.1.now)) result ≡ spec.three_at first bytes.now }

@@ -29,7 +29,7 @@ all build xs pool = fold (with_next build) ([], pool) xs
 abbrev pub u2 : ℕ → List ℕ
 u2 n = to_be_bytes w16 n
 
--- code with what stands behind the opcode of the instruction at a pc
+-- code with what comes after the opcode of the instruction at a pc
 abbrev pub with_operand : ℕ → Operand → List ℕ → List Const → List ℕ × List Const
 with_operand pc nothing code pool = (code, pool)
 with_operand pc (text_index units) code pool = pools.string units pool then λ index pool. (code ++ u2 index, pool)

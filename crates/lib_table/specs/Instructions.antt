@@ -5,7 +5,7 @@ use Rattle.lib_table.specs.declared.instruction.Instruction.TheVariants as ops
 use Rattle.lib_table.specs.declared.instruction.Operand as behind
 use Rattle.lib_table.specs.declared.instruction.Operand.TheVariants as operands
 
--- what stands behind an opcode (JVMS 6.5)
+-- what comes after an opcode (JVMS 6.5)
 pub data Operand : Type 0 where
   nothing : Operand
   text_index : List ℕ → Operand
@@ -15,7 +15,7 @@ pub data Operand : Type 0 where
   method_index : List ℕ → List ℕ → List ℕ → Operand
   -- and by the number of argument slots with the receiver
   interface_index : List ℕ → List ℕ → List ℕ → ℕ → Operand
-  -- the pc that a branch goes to, which is behind it
+  -- the pc that a branch goes to, which is after it
   offset_to : ℕ → Operand
 
 pub record Instruction : Type 0 where
@@ -57,7 +57,7 @@ pop = op 87 nothing
 abbrev pub dup : Instruction
 dup = op 89 nothing
 
--- a branch by the pc that it goes to, which is behind it
+-- a branch by the pc that it goes to, which is after it
 abbrev pub ifeq : ℕ → Instruction
 ifeq target = op 153 (offset_to target)
 

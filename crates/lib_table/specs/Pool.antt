@@ -1,5 +1,5 @@
 -- The constant pool of a class file that is made of a declaration (JVMS 4.4): a constant stands in it once, at the place where it is
--- mentioned first, behind the constants that it names. (own)
+-- mentioned first, after the constants that it names. (own)
 use Rattle.std.specs.Prelude.{ℕ, Bool, false, List, [], ◌∷◌, ◌++◌, Option, Some, None, length, position, ◌==◌, ◌&&◌}
 use Rattle.class_model.specs.declared.constant.Const.{Const}
 use Rattle.class_model.specs.declared.constant.Const.TheVariants.{Utf8, Class, Text, Fieldref, Methodref, InterfaceMethodref, NameAndType}
@@ -57,7 +57,7 @@ abbrev pub placed_at : Option ℕ → Const → List Const → ℕ × List Const
 placed_at (Some index) constant pool = (index, pool)
 placed_at None constant pool = (length pool, pool ++ constant ∷ [])
 
--- Where the pool has the constant it stays as it is; else the constant goes behind the others.
+-- Where the pool has the constant it stays as it is; else the constant goes after the others.
 unfoldable pub placed : Const → List Const → ℕ × List Const
 placed constant pool = placed_at (position (is_entry constant) pool) constant pool
 

@@ -30,7 +30,7 @@ fn push_u2(code: &mut Vec<u8>, n: u16) -> Result<(), NoMemory>
     Ok(())
 }
 
-// The count of an invokeinterface, and the byte behind it.
+// The count of an invokeinterface, and the byte after it.
 fn push_count(code: &mut Vec<u8>, count: u8) -> Result<(), NoMemory>
     ensures { OnOk result (code.new.items ≡ code.old.items ++ count ∷ 0 ∷ []) }
 {
@@ -38,7 +38,7 @@ fn push_count(code: &mut Vec<u8>, count: u8) -> Result<(), NoMemory>
     Ok(())
 }
 
-// What stands behind the opcode of the instruction at a pc.
+// What comes after the opcode of the instruction at a pc.
 fn push_operand(
     code: &mut Vec<u8>,
     pool: &mut ConstantPool,

@@ -2,7 +2,7 @@ ghost use Rattle.std.specs.Prelude.{◌≡◌};
 ghost use Rattle.lib_table.specs.Instructions.{meaning, operand_of};
 
 /// An instruction by its mnemonic (JVMS 6.5). Fields and methods are given by class, name and descriptor, and branches by the pc that
-/// they go to, which is behind them.
+/// they go to, which is after them.
 #[derive(Clone, Copy)]
 pub enum Instruction {
     AconstNull,
@@ -32,7 +32,7 @@ pub enum Instruction {
     Athrow,
 }
 
-/// What stands behind an opcode.
+/// What comes after an opcode.
 #[derive(Clone, Copy)]
 pub enum Operand {
     Nothing,
@@ -77,7 +77,7 @@ pub fn opcode_of(instruction: &Instruction) -> u8
     }
 }
 
-/// What stands behind its opcode.
+/// What comes after its opcode.
 pub fn operand_in(instruction: &Instruction) -> Operand
     ensures { operand_of result ≡ (meaning instruction.now).operand }
 {

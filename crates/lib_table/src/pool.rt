@@ -163,7 +163,7 @@ impl ConstantPool {
         entries.into()
     }
 
-    // The index at which the constant was found, or its index behind the others.
+    // The index at which the constant was found, or its index after the others.
     fn place_at(&mut self, found: Option<usize>, constant: Const) -> Result<u16, NoMemory>
         ensures { IfOk result
             (λ index. (index, self.new) ≡ spec.placed_at found constant self.old) }

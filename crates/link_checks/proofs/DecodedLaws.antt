@@ -37,7 +37,7 @@ one_read n pc (b ∷ code) h = refl
 pub record IsRest (pc : ℕ) (rest : List ℕ) (d : Decoded) : Type 0 where
   pub is : (n : ℕ) → length rest ≤ n → decoded_from n pc rest ≡ d
 
--- the pc behind instructions
+-- the pc after instructions
 abbrev behind : ℕ → List Instr → ℕ
 behind pc [] = pc
 behind pc (i ∷ is) = behind i.next is
@@ -73,7 +73,7 @@ nothing_left pc = record { is = λ n h. empty n }
 pub whole : (code : List ℕ) (is : List Instr) → IsCode code is → decoded code ≡ (let d : Decoded = record { instrs = is; is_bad = false } in d)
 whole code is c = all_read (length code) 0 code is [] (record { instrs = []; is_bad = false }) (omega arith) c (nothing_left (behind 0 is)) ∙ all_instrs is false
 
--- the pc behind instructions at the front of a code
+-- the pc after instructions at the front of a code
 behind_is : (pc : ℕ) (code : List ℕ) (is : List Instr) (rest : List ℕ) → BeginsWithAll pc code is rest → behind pc is + length rest ≡ pc + length code
 behind_is pc code [] rest a = ap (λ (c : List ℕ). pc + length c) (sym a)
 behind_is pc code (i ∷ is) rest a =

@@ -1,4 +1,4 @@
--- The first rule that is broken in lists of rules one behind the other.
+-- The first rule that is broken in lists of rules one after the other.
 use Rattle.std.proofs.Common.{◌≡◌, ℕ, Bool, true, false, not, cond, List, [], ◌∷◌, ◌++◌, Option, Some, refl, ap, ◌∙◌}
 use Rattle.std.specs.Option.{option_or}
 use Rattle.std.specs.List.{flat_map, enumerate_from}

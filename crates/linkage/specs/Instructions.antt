@@ -148,7 +148,7 @@ is_floating_primitive primitives.Float = true
 is_floating_primitive primitives.Double = true
 is_floating_primitive primitive = false
 
--- what the function says of the constant at an index; there is no constant behind the pool
+-- what the function says of the constant at an index; there is no constant after the pool
 abbrev pub const_faults : List Const → ℕ → (Const → Faults) → Faults
 const_faults pool index of = option_map_or of (slice_get pool index) (Some BadCode ∷ [])
 

@@ -23,7 +23,7 @@ same_state a b e = cc
 same_result : (o : Option State) (a b : State) → o ≡ Some a → o ≡ Some b → a ≡ b
 same_result o a b x y = cc
 
--- ---- steps of the main thread, one behind the other
+-- ---- steps of the main thread, one after the other
 
 no_steps : (n : ℕ) → 0 + n ≡ n
 no_steps n = omega arith
@@ -40,7 +40,7 @@ steps_join p a (suc b) c r s q e first behind =
     let mid = steps_join p a b (b + a) r s parts.0 refl first parts.1 in
     ap (λ n. steps p n r 0) (e ∙ one_more b a) ∙ bind_is (steps p (b + a) r 0) (λ x. step p x 0 None) parts.0 (Some q) mid parts.2
 
--- ---- no step behind the ending
+-- ---- no step after the ending
 
 if_some : (b : Bool) (o : Option State) (x : State) → (if b then o else None) ≡ Some x → b ≡ true
 if_some true o x e = refl

@@ -58,7 +58,7 @@ pub none_back : (w : World) (frames : List Frame) (i : Instruction) → Typed w 
 none_back w [] i fits at leaves none = absurd fits
 none_back w (f ∷ below) i fits at leaves none = (refl, not_back w f below i at leaves none)
 
--- ---- a run goes on behind a return
+-- ---- a run goes on after a return
 
 turned : (a b : ℕ) → a + (1 + b) ≡ b + (1 + a)
 turned a b = omega arith

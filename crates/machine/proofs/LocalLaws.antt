@@ -22,7 +22,7 @@ use Rattle.interp_local.specs.FrameRows.{stays, stays_by}
 use Rattle.interp_local.specs.Runs.{stays_on}
 use Rattle.machine.specs.LocalRuns.{ends_run, returned_kind, IsLocalRun}
 
--- ---- rows behind rows
+-- ---- rows after rows
 
 pub rows_join : (w : World) (a b c : ℕ) (x y z : List Frame) → c ≡ b + a → rows w a x ≡ Some y → rows w b y ≡ Some z → rows w c x ≡ Some z
 rows_join w a zero c x y z e first behind =

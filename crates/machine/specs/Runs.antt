@@ -46,7 +46,7 @@ abbrev pub told_of : Limits → Option Ending → Ending
 told_of limits (Some e) = e
 told_of limits None = Limit Events limits.events
 
--- In each entry of the history all steps but the last are local instructions; the last is none, or it is an invokestatic, or the step behind
+-- In each entry of the history all steps but the last are local instructions; the last is none, or it is an invokestatic, or the step after
 -- 10,000 local instructions. (own)
 abbrev pub AreGrouped : Setting → List Entry → Type 0
 AreGrouped p history = (r : State) → opening p ≡ Some r → are_grouped_from p history (first_outcome r) ≡ true

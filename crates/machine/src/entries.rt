@@ -1,4 +1,4 @@
-//! Entries of the history: local instructions, and one more step behind them.
+//! Entries of the history: local instructions, and one more step after them.
 
 ghost use Rattle.std.specs.Prelude.{◌≡◌, ◌≤◌, None, IfOk, OnOk};
 ghost use Rattle.ref_model.specs.Ending.{ending};
@@ -19,7 +19,7 @@ use ready_program::ReadyProgram;
 use std::alloc::Global;
 use vthread_state::{Phase, Status};
 
-// The step of a thread that runs behind so many local instructions: where they are fewer than they may be, it isn't one of them.
+// The step of a thread that runs after so many local instructions: where they are fewer than they may be, it isn't one of them.
 fn last_step(
     alloc: Global,
     program: &ReadyProgram,

@@ -71,7 +71,7 @@ HasPushed back old new true =
     (new.stack.frames ≡ with_stack (pushed_back back (operands old)) old.stack.frames) × (length (pushed_back back (operands old)) ≤ top_room old.stack.frames)
 HasPushed back old new false = Unit {0}
 
--- the frames where the top one goes on behind its call, with what comes back
+-- the frames where the top one goes on after its call, with what comes back
 abbrev pub top_behind : World → Option Value → List Frame → Option (List Frame)
 top_behind w back [] = None
 top_behind w back (g ∷ rest) = returned_to w g (pushed_back back g.stack) >>= λ caller. Some (caller ∷ rest)

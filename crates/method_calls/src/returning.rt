@@ -14,7 +14,7 @@ use world_model::MethodInfo;
 /// What became of a return.
 #[derive(Clone, Copy, Debug, PartialEq, Eq)]
 pub enum Left {
-    /// The frame below is the top one, behind its call.
+    /// The frame below is the top one, after its call.
     Returned,
     /// It is from a root frame, and nothing has changed.
     Root,
@@ -65,7 +65,7 @@ fn push_back(mounted: &mut Mounted, back: Option<Value>) -> bool
     true
 }
 
-// The top frame goes on behind its call, with what comes back: whether it can.
+// The top frame goes on after its call, with what comes back: whether it can.
 fn go_on<W: CallWorld>(world: &W, back: Option<Value>, mounted: &mut Mounted) -> bool
     requires { 0 < length mounted.old.stack.frames }
     ensures behind { IsBehind (W.world world.now) back mounted.old mounted.new result }
@@ -83,7 +83,7 @@ fn go_on<W: CallWorld>(world: &W, back: Option<Value>, mounted: &mut Mounted) ->
     true
 }
 
-/// Leaves the top frame, with a value of a kind or without one: the frame below goes on behind its call.
+/// Leaves the top frame, with a value of a kind or without one: the frame below goes on after its call.
 pub fn leave<W: CallWorld>(world: &W, kind: Option<Kind>, mounted: &mut Mounted) -> Left
     requires { 0 < length mounted.old.stack.frames }
     ensures left { IsLeft (W.world world.now) kind mounted.old mounted.new result }

@@ -46,7 +46,7 @@ pub trait CallWorld: EventWorld {
     fn is_initializer(&self, n: u32) -> bool
         ensures { result ≡ option_map_or members.is_initializer (slice_get (Self.world self.now).methods n) false };
 
-    /// The pc behind the instruction at a pc of a method. `None`: there is no instruction.
+    /// The pc after the instruction at a pc of a method. `None`: there is no instruction.
     fn next(&self, method: u32, pc: u32) -> Option<u32>
         ensures { result ≡ option_map (λ (i : Instruction). i.instr.next)
             (fetched (Self.world self.now) (frame_at method pc)) };

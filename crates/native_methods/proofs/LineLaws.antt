@@ -25,7 +25,7 @@ line_behind (Some high) (u ∷ us) =
 pub line_bytes : (units : List ℕ) → text_bytes (units ++ 10 ∷ []) ≡ text_bytes units ++ 10 ∷ []
 line_bytes units = line_behind None units
 
--- a line's end behind a text that was written
+-- a line's end after a text that was written
 pub line_written : (old new end : List ℕ) (units : List ℕ) → new ≡ old ++ text_bytes units → end ≡ new ++ 10 ∷ [] →
     end ≡ old ++ text_bytes (units ++ 10 ∷ [])
 line_written old new end units e f =

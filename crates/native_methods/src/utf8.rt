@@ -66,7 +66,7 @@ fn push_pair(out: &mut Vec<u8>, high: u16, low: u16) -> Result<(), NoMemory>
     }
 }
 
-// Appends the bytes of a unit behind a high surrogate that has no partner yet, if there is one: the high surrogate that has none now.
+// Appends the bytes of a unit after a high surrogate that has no partner yet, if there is one: the high surrogate that has none now.
 fn push_next(out: &mut Vec<u8>, before: Option<u16>, unit: u16) -> Result<Option<u16>, NoMemory>
     requires { IfSome before (λ high. spec.is_high high ≡ true) }
     ensures high { IfOk result (λ next. IfSome next (λ high. spec.is_high high ≡ true)) }

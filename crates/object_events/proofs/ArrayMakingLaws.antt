@@ -31,7 +31,7 @@ all_joined_more (Some u ∷ xs) b y e =
     bind_is (all_joined (xs ++ Some y ∷ [])) (λ zs. Some (u ++ zs)) (parts.0 ++ y) (Some (b ++ y)) (all_joined_more xs parts.0 y parts.1)
     (ap Some (sym (append_assoc u parts.0 y)) ∙ ap (λ z. Some (z ++ y)) is)
 
--- ---- more objects behind more objects
+-- ---- more objects after more objects
 
 pub objects_twice : (xs ys : List Object) (a b c : ℕ) (h : Heap) → a + b ≡ c → with_objects ys b (with_objects xs a h) ≡ with_objects (xs ++ ys) c h
 objects_twice xs ys a b c h e =

@@ -18,7 +18,7 @@ abbrev pub IsCounted : Option ℕ → ℕ → Type 0
 IsCounted (Some n) number = n ≡ number
 IsCounted None number = 4294967295 < number
 
--- references to so many objects, of which each comes so many numbers behind the one before it
+-- references to so many objects, of which each comes so many numbers after the one before it
 abbrev pub references : ℕ → ℕ → ℕ → List Value
 references first step n = map (λ index. values.Ref (first + index * step)) (range_with_len 0 n)
 

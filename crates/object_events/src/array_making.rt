@@ -95,14 +95,14 @@ fn count_of(lengths: &[u32]) -> Option<u32>
     }
 }
 
-// The number that comes so many steps behind another.
+// The number that comes so many steps after another.
 fn number_behind(first: u32, step: u32, index: u32) -> Option<u32>
     ensures { IfSome result (λ o. o ≡ first + index * step) }
 {
     first.checked_add(index.checked_mul(step)?)
 }
 
-// References to so many objects, of which each comes so many numbers behind the one before it.
+// References to so many objects, of which each comes so many numbers after the one before it.
 #[tactic(auto, using(crate::proofs::ArrayMakingLaws::references_more))]
 fn references_to(alloc: Global, first: u32, step: u32, n: u32) -> Result<Items<Value>, NoMemory>
     ensures { IfOk result (λ values. values ≡ references first step n) }

@@ -19,7 +19,7 @@ use Rattle.opcodes.proofs.RowLaws.{op_exact}
 begins_read : (pc : ℕ) (code : List ℕ) (i : Instr) (rest : List ℕ) → BeginsWith pc code i rest → op_at pc code ≡ Ok (i.op, rest)
 begins_read pc code i rest b = ap (op_at pc) b.parts ∙ (op_exact pc).again b.bytes i.op rest b.encoding
 
--- where an instruction begins it is one alone, and so is what is behind it
+-- where an instruction begins it is one alone, and so is what is after it
 same_first : (pc : ℕ) (code : List ℕ) (i j : Instr) (rest rest' : List ℕ) → BeginsWith pc code i rest → BeginsWith pc code j rest' → (i ≡ j) × (rest ≡ rest')
 same_first pc code i j rest rest' a b =
     let both = ok_is {W = CodeWhy} (i.op, rest) (j.op, rest') (sym (begins_read pc code i rest a) ∙ begins_read pc code j rest' b) in
@@ -76,7 +76,7 @@ begins_with_none pc code fault e op bytes rest parts encoded = refused (op, rest
 
 -- ---- the loop
 
--- so far: the instructions at the front, and the bytes behind them
+-- so far: the instructions at the front, and the bytes after them
 pub record IsFront (code : List ℕ) (is : List Instr) (rest : List ℕ) (pc : ℕ) : Type 0 where
   pub begins : BeginsWithAll 0 code is rest
   pub at : pc + length rest ≡ length code

@@ -1,4 +1,4 @@
--- A code is a list of instructions, one behind the other (JVMS 4.9), each with its pc.
+-- A code is a list of instructions, one after the other (JVMS 4.9), each with its pc.
 use Rattle.std.specs.Prelude.{◌≡◌, ℕ, ◌+◌, ◌<◌, List, [], ◌∷◌, ◌++◌, length, Err}
 use Rattle.byte_reader.specs.declared.fault.Fault.{Fault}
 use Rattle.byte_reader.specs.declared.fault.Stop.{Stop}
@@ -11,7 +11,7 @@ use Rattle.opcodes.specs.declared.op.Instr.{Instr}
 use Rattle.opcodes.specs.Encoding.{IsEncoded}
 use Rattle.opcodes.specs.Operands.{op_at}
 
--- the code from pc on begins with the instruction, and behind it is the rest
+-- the code from pc on begins with the instruction, and after it is the rest
 pub record BeginsWith (pc : ℕ) (code : List ℕ) (i : Instr) (rest : List ℕ) : Type 0 where
   pub bytes : List ℕ
   pub parts : code ≡ bytes ++ rest
@@ -19,7 +19,7 @@ pub record BeginsWith (pc : ℕ) (code : List ℕ) (i : Instr) (rest : List ℕ)
   pub here : i.pc ≡ pc
   pub next : i.next ≡ pc + length bytes
 
--- the code from pc on begins with these instructions, one behind the other, and behind them is the rest
+-- the code from pc on begins with these instructions, one after the other, and after them is the rest
 abbrev pub BeginsWithAll : ℕ → List ℕ → List Instr → List ℕ → Type 0
 BeginsWithAll pc code [] rest = code ≡ rest
 BeginsWithAll pc code (i ∷ is) rest =

@@ -162,14 +162,14 @@ dimensions_op x = MultiANewArray x.0 x.1
 abbrev pub primitive_op : ℕ → Op
 primitive_op code = NewArray (primitive_of code)
 
--- the operands of an opcode behind wide
+-- the operands of an opcode after wide
 abbrev pub AreWideOperands : Row → List ℕ → Op → Type 0
 AreWideOperands (local op_of) bytes op = IsOf IsU2 u2 op_of bytes op
 AreWideOperands increment bytes op =
     IsOf AreWideIncrement (λ x. u2 x.0 ++ s2 x.1) increment_op bytes op
 AreWideOperands other bytes op = ⊥
 
--- an opcode, and its operands behind it
+-- an opcode, and its operands after it
 abbrev pub BehindOpcode : (ℕ → List ℕ → Op → Type 0) → List ℕ → Op → Type 0
 BehindOpcode Are [] op = ⊥
 BehindOpcode Are (opcode ∷ bytes) op = Are opcode bytes op

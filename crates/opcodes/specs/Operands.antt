@@ -37,7 +37,7 @@ target_at pc = map_value (target pc) s4_at
 abbrev pub zero_at : Reader CodeWhy (Unit {0})
 zero_at = map_value (λ byte. tt) (verify (λ byte. byte == 0) Operand u1_at)
 
--- a value, and a byte of 0 behind it
+-- a value, and a byte of 0 after it
 abbrev pub before_zero : {A : Type 0} → Reader CodeWhy A → Reader CodeWhy A
 before_zero reader = map_value (λ x. x.0) (both reader zero_at)
 
@@ -85,13 +85,13 @@ lookup_at pc bytes = do
 abbrev pub is_primitive : ℕ → Bool
 is_primitive code = nat_le 4 code && nat_lt code 12
 
--- the operands of an opcode behind wide
+-- the operands of an opcode after wide
 abbrev pub wide_operands_at : Row → Reader CodeWhy Op
 wide_operands_at (local op_of) bytes = map_value op_of u2_at bytes
 wide_operands_at increment bytes = map_value increment_op (both u2_at s2_at) bytes
 wide_operands_at other bytes = Err (fault_at bytes Operand)
 
--- an opcode behind wide, and its operands
+-- an opcode after wide, and its operands
 abbrev pub wide_at : Reader CodeWhy Op
 wide_at bytes = do
   opcode ← u1_at bytes

@@ -27,7 +27,7 @@ pub data Row : Type 0 where
   constant : Row
   -- the index of an entry of the constant pool in two bytes
   index : (ℕ → Op) → Row
-  -- the index of a local variable in one byte, or in two behind wide
+  -- the index of a local variable in one byte, or in two after wide
   local : (ℕ → Op) → Row
   -- the index of a local variable, and what is added to it
   increment : Row

@@ -65,7 +65,7 @@ pub enum Form {
     Ldc,
     /// The index of an entry of the constant pool in two bytes.
     Index(IndexForm),
-    /// The index of a local variable in one byte, or in two behind wide.
+    /// The index of a local variable in one byte, or in two after wide.
     Local(LocalForm),
     Increment,
     /// The offset of a target in two bytes, and in four.

@@ -160,7 +160,7 @@ pub enum Op {
     Floating(u8),
 }
 
-/// An instruction, its pc and the pc of the instruction behind it (JVMS 4.9).
+/// An instruction, its pc and the pc of the instruction after it (JVMS 4.9).
 #[derive(Debug, Drop)]
 pub struct Instr {
     pub pc: u32,

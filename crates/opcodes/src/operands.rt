@@ -1,4 +1,4 @@
-//! The operands behind each opcode.
+//! The operands after each opcode.
 
 ghost use Rattle.std.specs.Prelude.{◌≡◌, ℕ, ◌≤◌, ◌<◌};
 ghost use Rattle.byte_reader.specs.Reader.{Reads, GivesBy};
@@ -183,7 +183,7 @@ fn invoke_dynamic_of(rest: &[u8]) -> Result<(Op, &[u8]), Stop<CodeWhy>>
     Ok((Op::InvokeDynamic(index), rest))
 }
 
-// The bytes behind a byte that is 0.
+// The bytes after a byte that is 0.
 fn skip_zero(bytes: &[u8]) -> Result<&[u8], Stop<CodeWhy>>
     ensures { GivesBy (λ x. (tt, x.now)) result (zero_at bytes.now) }
 {
@@ -233,7 +233,7 @@ fn multi_a_new_array_of(rest: &[u8]) -> Result<(Op, &[u8]), Stop<CodeWhy>>
     Ok((Op::MultiANewArray(index, count), behind))
 }
 
-// The opcode behind wide and its operands.
+// The opcode after wide and its operands.
 fn wide_of(rest: &[u8]) -> Result<(Op, &[u8]), Stop<CodeWhy>>
     ensures { Reads result (wide_at rest.now) }
 {

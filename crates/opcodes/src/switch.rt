@@ -1,6 +1,6 @@
 use items::Items;
 
-/// The operands of `tableswitch` (JVMS 6.5): the targets are those for `low` and the ints behind it, so that the highest
+/// The operands of `tableswitch` (JVMS 6.5): the targets are those for `low` and the ints after it, so that the highest
 /// is `low` plus their number less 1. A target is a pc.
 #[derive(Debug, Drop)]
 pub struct TableSwitch {

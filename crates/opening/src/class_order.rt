@@ -18,7 +18,7 @@ const INITIALIZER_NAME: [u16; 8] = [60, 99, 108, 105, 110, 105, 116, 62];
 
 const INITIALIZER_DESCRIPTOR: [u16; 3] = [40, 41, 86];
 
-// Adds a class behind the others, unless it is among them.
+// Adds a class after the others, unless it is among them.
 fn add_class(order: &mut ClassSet, class: u32) -> Result<(), NoMemory>
     ensures { OnOk result (order.new ≡ spec.with_class order.old class) }
 {
@@ -51,7 +51,7 @@ fn add_with_superclasses(
     add_classes(order, &line)
 }
 
-// All classes, each behind its superclass.
+// All classes, each after its superclass.
 fn class_order(alloc: Global, hierarchy: &Hierarchy) -> Result<ClassSet, NoMemory>
     ensures { IfOk result (λ order. order ≡ spec.class_order hierarchy.now) }
 {

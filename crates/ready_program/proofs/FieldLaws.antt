@@ -37,7 +37,7 @@ kept_lacks : (n k : ℕ) (b : Bool) (f : FieldInfo) (xs : List (ℕ × FieldInfo
 kept_lacks n k true f xs head rest = (head refl, rest)
 kept_lacks n k false f xs head rest = rest
 
--- those behind it
+-- those after it
 above : (c n k : ℕ) (fs : List FieldInfo) → n < k → Lacks n (own_from c k fs)
 unfolding own_from
 above c n k [] h = tt

@@ -22,6 +22,6 @@ instruction_by instrs namings index =
 abbrev pub instruction_at : World → ℕ → ℕ → Option Instruction
 instruction_at w method pc = code_at w method >>= instruction_in w method pc
 
--- the pc behind it
+-- the pc after it
 abbrev pub next_of : Instruction → ℕ
 next_of i = i.instr.next

@@ -40,7 +40,7 @@ fn same_type(a: ArrayType, b: ArrayType) -> bool
     a.dimensions == b.dimensions && same_base(a.base, b.base)
 }
 
-// The number at a place behind so many.
+// The number at a place after so many.
 fn behind(count: u32, place: usize) -> Result<u32, NoMemory>
     ensures { IfOk result (λ n. n ≡ count + place) }
 {

@@ -181,7 +181,7 @@ impl ReadyProgram {
         }
     }
 
-    /// The pc behind the instruction at a pc of a method. `None`: none begins there.
+    /// The pc after the instruction at a pc of a method. `None`: none begins there.
     #[inline(always)]
     pub fn next(&self, method: u32, pc: u32) -> Option<u32>
         ensures { result ≡ option_map next_of (instruction_at self.now method pc) }

@@ -219,7 +219,7 @@ no_length = refl
 too_long : Throws (array_made world (of_class 8) ready (int (pos 10) ∷ [])) exceptions.OutOfMemoryError
 too_long = refl
 
--- int[2][3]: the outer array, and its two elements behind it
+-- int[2][3]: the outer array, and its two elements after it
 eleven_cells : cells_of_lengths (2 ∷ 3 ∷ []) ≡ 11
 eleven_cells = refl
 

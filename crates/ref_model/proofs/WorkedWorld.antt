@@ -112,7 +112,7 @@ code max_stack max_locals instrs rows =
 abbrev pub covered : Row
 covered = record { start = 3; end = 4; handler = 4; catch_type = 0 }
 
--- a method of a byte, that pushes 200 and returns it; it is called by the method behind it
+-- a method of a byte, that pushes 200 and returns it; it is called by the method after it
 abbrev pub two_hundred : List Instr
 two_hundred = instr 0 3 (ops.PushInt (pos 200)) ∷ instr 3 4 (ops.Simple (simples.ReturnValue kinds.Int)) ∷ []
 

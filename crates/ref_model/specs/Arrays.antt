@@ -131,7 +131,7 @@ abbrev pub all_joined : {A : Type 0} → List (Option (List A)) → Option (List
 all_joined [] = Some []
 all_joined (x ∷ xs) = x >>= λ ys. all_joined xs >>= λ zs. Some (ys ++ zs)
 
--- The arrays of a class for these lengths, the outer one first with this number, and behind it those below it, element by element.
+-- The arrays of a class for these lengths, the outer one first with this number, and after it those below it, element by element.
 abbrev pub arrays_from : World → List ℕ → ℕ → ℕ → Option (List Object)
 arrays_from w [] number class = Some []
 arrays_from w (n ∷ []) number class = element_zero w class >>= λ v. Some (instance class (replicate n v) ∷ [])

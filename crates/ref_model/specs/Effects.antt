@@ -16,7 +16,7 @@ use Rattle.ref_model.specs.State.{State}
 use Rattle.ref_model.specs.Heap.{class_at}
 
 pub data Effect : Type 0 where
-  -- it is done: the state, and the operand stack with which the frame goes on behind it
+  -- it is done: the state, and the operand stack with which the frame goes on after it
   done : State → List Slot → Effect
   -- it invokes a method, whose frame this is, and the frame stays at it with this operand stack
   invokes : Frame → List Slot → Effect

@@ -1,5 +1,5 @@
 -- How steps lie in entries (own): all steps of an entry but the last are local instructions. The last is an event; or it is an invokestatic
--- that is local; or it is the step behind ten thousand local instructions, of whichever kind.
+-- that is local; or it is the step after ten thousand local instructions, of whichever kind.
 use Rattle.std.specs.Prelude.{ℕ, zero, suc, Bool, true, false, List, [], ◌∷◌, Option, Some, None, is_some, nat_le, not, slice_get, ◌==◌, ◌&&◌, ◌||◌}
 use Rattle.std.specs.Option.{option_map_or}
 use Rattle.items.specs.Options.{◌>>=◌}
@@ -45,7 +45,7 @@ stands_at_static_call w [] = false
 stands_at_static_call w (f ∷ below) =
     option_map_or (λ (i : Instruction). is_static_call (row_of i.instr.op)) (fetched w f) false
 
--- behind so many local instructions, with these frames, an entry may end with the next step
+-- after so many local instructions, with these frames, an entry may end with the next step
 abbrev pub may_be_last : World → ℕ → List Frame → Bool
 may_be_last w n frames =
     not (is_some (row w frames)) || stands_at_static_call w frames || n == most_local_steps
@@ -73,7 +73,7 @@ is_grouped_entry w r (Unmount t) = true
 is_grouped_entry w r (Step t n pick) = is_grouped w r t n
 is_grouped_entry w r (Clock now) = true
 
--- whether each entry of a history is such, from an outcome on; what lies behind an entry that isn't defined isn't looked at
+-- whether each entry of a history is such, from an outcome on; what lies after an entry that isn't defined isn't looked at
 abbrev pub are_grouped_from : Setting → List Entry → Outcome → Bool
 are_grouped_from p [] o = true
 are_grouped_from p (e ∷ es) o =

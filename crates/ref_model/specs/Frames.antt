@@ -79,7 +79,7 @@ stack_returned None m stack under = Some under
 stack_returned (Some k) m stack under =
     popped k stack >>= λ x. m.signature.result >>= λ result. Some (pushed (kept result (value k x.0)) under)
 
--- the caller behind its call
+-- the caller after its call
 abbrev pub returned_to : World → Frame → List Slot → Option Frame
 returned_to w g stack = fetched w g >>= λ call. behind g call.instr.next stack
 

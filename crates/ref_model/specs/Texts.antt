@@ -4,7 +4,7 @@ use Rattle.std.specs.Fmt.{signed_decimal, radix_digits}
 use Rattle.std.specs.Int.{w32, cast_unsigned, int_wrap}
 use Rattle.jvm_words.specs.Words.{is_zero, low_bits}
 
--- ---- UTF-8 (Unicode 3.9, D92). Two surrogates, a high one and a low one behind it, are one character.
+-- ---- UTF-8 (Unicode 3.9, D92). Two surrogates, a high one and a low one after it, are one character.
 
 abbrev pub is_high : ℕ → Bool
 is_high u = nat_le 0xd800 u && nat_le u 0xdbff
@@ -24,7 +24,7 @@ question_mark = codes "?"
 abbrev pub unit_bytes : ℕ → List ℕ
 unit_bytes u = if is_low u then question_mark else encode_utf8 u
 
--- the bytes of a text behind a high surrogate that has no partner yet, if there is one
+-- the bytes of a text after a high surrogate that has no partner yet, if there is one
 abbrev pub bytes_behind : Option ℕ → List ℕ → List ℕ
 bytes_behind None [] = []
 bytes_behind (Some high) [] = question_mark

@@ -72,7 +72,7 @@ pub fn put_int(row: &mut [Cell], i: usize, x: i32)
     };
 }
 
-/// Puts a long at an index, and its second half behind it.
+/// Puts a long at an index, and its second half after it.
 #[inline(always)]
 pub fn put_long(row: &mut [Cell], i: usize, x: i64)
     requires { i + 1 < length row.old }

@@ -4,7 +4,7 @@ use Rattle.byte_reader.specs.declared.fault.Fault.{Fault}
 use Rattle.byte_reader.specs.Reader.{◌>>=◌, Reader, map_value}
 use Rattle.byte_reader.proofs.ReaderLaws.{IsBytes, ok_of, ok_is, Takes, IsReader}
 
--- Behind these bytes, what was read took the text of a value that is so.
+-- After these bytes, what was read took the text of a value that is so.
 pub record TakesBehind {W T : Type 0} (text : T → List ℕ) (Is : T → Type 0) (front bytes : List ℕ) (read : Result (T × List ℕ) (Fault W)) : Type 0 where
   pub takes : (p : T × List ℕ) → read ≡ Ok p → Takes (front ++ bytes) (text p.0) p.1 × Is p.0
 

@@ -28,28 +28,28 @@ stack_of (Full delta locals stack) = stack
 abbrev pub change_of : Frame → FrameChange
 change_of f = record { locals = locals_change f; stack = stack_of f }
 
--- the locals behind a change of these
+-- the locals after a change of these
 abbrev pub locals_after : List VType → LocalsChange → List VType
 locals_after before changes.Same = before
 locals_after before (changes.Chop dropped) = take (length before - dropped) before
 locals_after before (changes.Append added) = before ++ added
 locals_after before (changes.Full locals) = locals
 
--- the types at a frame behind one with these locals
+-- the types at a frame after one with these locals
 abbrev pub types_after : List VType → FrameChange → FrameTypes
 types_after before c = record { locals = locals_after before c.locals; stack = c.stack }
 
--- The frames whole, each with its pc, the first of them behind these locals.
+-- The frames whole, each with its pc, the first of them after these locals.
 abbrev pub made_whole : List VType → List (ℕ × FrameChange) → List (ℕ × FrameTypes)
 made_whole before [] = []
 made_whole before (c ∷ cs) = (c.0, types_after before c.1) ∷ made_whole (locals_after before c.1.locals) cs
 
--- the locals behind all of these changes
+-- the locals after all of these changes
 abbrev pub locals_behind : List VType → List (ℕ × FrameChange) → List VType
 locals_behind before [] = before
 locals_behind before (c ∷ cs) = locals_behind (locals_after before c.1.locals) cs
 
--- the locals at the last of these frames, or those behind which the first lies
+-- the locals at the last of these frames, or those after which the first lies
 abbrev pub locals_before : List VType → List (ℕ × FrameTypes) → List VType
 locals_before first [] = first
 locals_before first (frame ∷ frames) = locals_before frame.1.locals frames

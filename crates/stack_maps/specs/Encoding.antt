@@ -12,7 +12,7 @@ u1 n = n ∷ []
 abbrev pub u2 : ℕ → List ℕ
 u2 n = to_be_bytes w16 n
 
--- a type: its tag, and behind 7 and 8 a number
+-- a type: its tag, and after 7 and 8 a number
 abbrev pub vtype : VType → List ℕ
 vtype Top = u1 0
 vtype Int = u1 1
@@ -59,7 +59,7 @@ frame (Append delta added) = u1 (251 + length added) ++ u2 delta ++ vtypes added
 frame (Full delta locals stack) =
     u1 255 ++ u2 delta ++ u2 (length locals) ++ vtypes locals ++ u2 (length stack) ++ vtypes stack
 
--- a frame that is allowed behind one with these locals
+-- a frame that is allowed after one with these locals
 abbrev pub IsFrame : List VType → Frame → Type 0
 IsFrame before (Same delta) = delta < 64
 IsFrame before (SameLocals1StackItem delta item) = (delta < 64) × IsMapped item
@@ -81,7 +81,7 @@ delta_of (SameExtended delta) = delta
 delta_of (Append delta added) = delta
 delta_of (Full delta locals stack) = delta
 
--- the types at a frame behind one with these locals
+-- the types at a frame after one with these locals
 abbrev pub types_of : List VType → Frame → FrameTypes
 types_of before (Same delta) = record { locals = before; stack = [] }
 types_of before (SameLocals1StackItem delta item) = record { locals = before; stack = item ∷ [] }
@@ -91,13 +91,13 @@ types_of before (SameExtended delta) = record { locals = before; stack = [] }
 types_of before (Append delta added) = record { locals = before ++ added; stack = [] }
 types_of before (Full delta locals stack) = record { locals = locals; stack = stack }
 
--- each is allowed behind the one before it, the first of them behind one with these locals
+-- each is allowed after the one before it, the first of them after one with these locals
 abbrev pub AreFrames : List VType → List Frame → Type 0
 AreFrames before [] = Unit {0}
 AreFrames before (f ∷ fs) = IsFrame before f × AreFrames (types_of before f).locals fs
 
 -- The frames whole, each with its pc. `next` is the pc of the first of them if its delta is 0: the
--- start of the code, or else the pc behind that of the frame before.
+-- start of the code, or else the pc after that of the frame before.
 abbrev pub whole_frames : ℕ → List VType → List Frame → List (ℕ × FrameTypes)
 whole_frames next before [] = []
 whole_frames next before (f ∷ fs) =

@@ -20,7 +20,7 @@ u1_at bytes = number_at whys.Short 1 bytes
 abbrev pub u2_at : Reader MapWhy ℕ
 u2_at bytes = number_at whys.Short 2 bytes
 
--- a type: its tag, and behind 7 and 8 a number
+-- a type: its tag, and after 7 and 8 a number
 unfoldable pub type_at : Reader MapWhy VType
 type_at bytes = do
   tag ← u1_at bytes
@@ -39,7 +39,7 @@ type_at bytes = do
 abbrev pub types_at : Reader MapWhy (List VType)
 types_at bytes = count_then whys.Short 2 (many type_at) bytes
 
--- a frame of a type from 247 on, behind this type
+-- a frame of a type from 247 on, after this type
 unfoldable pub wide_frame_at : ℕ → Reader MapWhy Frame
 wide_frame_at kind bytes = do
   delta ← u2_at bytes
@@ -49,7 +49,7 @@ wide_frame_at kind bytes = do
       else if nat_lt kind 255 then map_value (Append delta.0) (many type_at (kind - 251)) delta.1
       else map_value (λ (x : List VType × List VType). Full delta.0 x.0 x.1) (both types_at types_at) delta.1
 
--- a frame behind one with that many locals
+-- a frame after one with that many locals
 unfoldable pub frame_at : ℕ → Reader MapWhy Frame
 frame_at locals bytes = do
   kind ← u1_at bytes
@@ -63,7 +63,7 @@ frame_at locals bytes = do
 abbrev pub delta_frame : Frame → DeltaFrame
 delta_frame f = record { delta = delta_of f; change = change_of f }
 
--- What a frame is read behind: its pc is `next` if its delta is 0, and `locals` are those of the
+-- What a frame is read after: its pc is `next` if its delta is 0, and `locals` are those of the
 -- frame before.
 pub record Before : Type 0 where
   pub next : ℕ
@@ -75,7 +75,7 @@ change_at before more bytes =
     map_value (λ (d : DeltaFrame). (before.next + d.delta, d.change))
     (map_value delta_frame (frame_at (length before.locals))) bytes
 
--- what the frame behind that one is read behind
+-- what the frame after that one is read after
 abbrev pub behind : Before → ℕ × FrameChange → Before
 behind before c = record { next = c.0 + 1; locals = locals_after before.locals c.1.locals }
 

@@ -20,8 +20,8 @@ pub enum MapWhy {
     /// A frame drops more locals than there are.
     #[error("more locals dropped than there are")]
     Chop,
-    /// There are bytes behind the last frame.
-    #[error("bytes behind the last frame")]
+    /// There are bytes after the last frame.
+    #[error("bytes after the last frame")]
     Trailing,
 }
 

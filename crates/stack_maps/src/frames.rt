@@ -14,7 +14,7 @@ use byte_reader::{Stop, u1_of, u2_of};
 use items::Items;
 use std::alloc::{AllocError, Global};
 
-/// A frame behind another: its delta, from which its pc follows, and what it changes.
+/// A frame after another: its delta, from which its pc follows, and what it changes.
 #[derive(Drop)]
 pub struct DeltaFrame {
     pub delta: u16,
@@ -46,7 +46,7 @@ fn with_item(alloc: Global, delta: u16, item: VType) -> Result<DeltaFrame, Alloc
     Ok(DeltaFrame { delta, change })
 }
 
-// A frame of a type from 247 on, behind its type.
+// A frame of a type from 247 on, after its type.
 #[tactic(auto, unfolding(crate::specs::Readers::wide_frame_at))]
 fn wide_frame(alloc: Global, kind: u8, bytes: &[u8]) -> Result<(DeltaFrame, &[u8]), Stop<MapWhy>>
     requires wide { 247 ≤ kind }
@@ -82,7 +82,7 @@ fn wide_frame(alloc: Global, kind: u8, bytes: &[u8]) -> Result<(DeltaFrame, &[u8
     }
 }
 
-/// A frame behind one with that many locals.
+/// A frame after one with that many locals.
 #[tactic(auto, unfolding(crate::specs::Readers::frame_at))]
 pub fn frame_of(
     alloc: Global,

@@ -22,7 +22,7 @@ pub enum LocalsChange {
     Same,
     /// The last so many are dropped.
     Chop(u8),
-    /// Behind them come these.
+    /// After them come these.
     Append(Items<VType>),
     /// There are these alone.
     Full(Items<VType>),

@@ -36,7 +36,7 @@ pub fn type_of(bytes: &[u8]) -> Result<(VType, &[u8]), Stop<MapWhy>>
     }
 }
 
-/// That many verification types, behind those that there are.
+/// That many verification types, after those that there are.
 pub fn more_types(
     mut types: Items<VType>,
     count: u16,

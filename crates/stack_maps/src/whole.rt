@@ -21,7 +21,7 @@ fn without_last(types: &[VType], dropped: u8) -> &[VType]
     &types[..types.len().saturating_sub(usize::from(dropped))]
 }
 
-// The locals behind a change of these.
+// The locals after a change of these.
 fn locals_after(
     alloc: Global,
     before: &[VType],
@@ -41,7 +41,7 @@ fn locals_after(
     }
 }
 
-// The types at a frame behind one with these locals.
+// The types at a frame after one with these locals.
 fn types_after(
     alloc: Global,
     before: &[VType],
@@ -55,7 +55,7 @@ fn types_after(
     })
 }
 
-// The locals at the last of these frames, or those behind which the first lies.
+// The locals at the last of these frames, or those after which the first lies.
 fn locals_before<'a>(first: &'a [VType], frames: &'a [(u32, FrameTypes)]) -> &'a [VType]
     ensures { result.now ≡ spec.locals_before first.now frames.now }
 {
@@ -65,7 +65,7 @@ fn locals_before<'a>(first: &'a [VType], frames: &'a [(u32, FrameTypes)]) -> &'a
     }
 }
 
-// The frame behind these whole ones.
+// The frame after these whole ones.
 fn whole_frame(
     alloc: Global,
     first: &[VType],
@@ -79,7 +79,7 @@ fn whole_frame(
     Ok((change.0, types))
 }
 
-/// The frames whole, each with its pc, the first of them behind these locals.
+/// The frames whole, each with its pc, the first of them after these locals.
 pub fn made_whole(
     alloc: Global,
     first: &[VType],

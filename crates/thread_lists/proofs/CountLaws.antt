@@ -128,7 +128,7 @@ found t (xs ∷ lists) h =
 pub total-one_more : (t : ℕ) (lists : List (List ℕ)) → total (count t) (lists ++ [] ∷ []) ≡ total (count t) lists
 total-one_more t lists = sum_by-append (count t) lists ([] ∷ []) ∙ add-zero (total (count t) lists)
 
--- a list that is moved behind another leaves each thread in as many lists
+-- a list that is moved after another leaves each thread in as many lists
 pub total-append : (t : ℕ) (lists : List (List ℕ)) (from to : ℕ) → from < length lists → to < length lists → (from ≡ to → ⊥) → total (count t) (append lists from to) ≡ total (count t) lists
 total-append t lists from to hf ht ne =
     let pushed = push lists to (list_at lists from) in

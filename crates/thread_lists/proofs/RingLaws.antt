@@ -37,7 +37,7 @@ Leads-last f g a b [] r = inl r.1
 Leads-last f g a b (x ∷ xs) r =
     elim (Leads-last f g (Thread x) b xs r.2) [ inl e ↦ inr (x, count-here x xs, e) | inr w ↦ inr (w.0, count-there w.0 x xs w.1, w.2) ]
 
--- c takes the place of b behind a list
+-- c takes the place of b after a list
 pub Leads-turned : (f g f' g' : Place → Place) (a b c : Place) (xs : List ℕ) → Leads f g a xs b → Follows f g f' g' (g b) c → f (g b) ≡ b → ((x : ℕ) → 0 < count x xs → Thread x ≡ b → ⊥) → ((x : ℕ) → 0 < count x xs → Thread x ≡ c → ⊥) → Leads f' g' a xs c
 Leads-turned f g f' g' a b c [] r j e nb nc = (ap f' (sym r.1) ∙ j.next, j.previous ∙ r.1)
 Leads-turned f g f' g' a b c (x ∷ xs) r j e nb nc = (
@@ -136,7 +136,7 @@ start-head k (x ∷ xs) (suc n) j e =
     let w = start-head k xs n j e in
     (w.0, omega (arith, w.1))
 
--- the threads of one list come behind those of another
+-- the threads of one list come after those of another
 pub Leads-append : (f g f1 g1 f2 g2 f3 g3 : Place → Place) (from to : ℕ) (ys : List ℕ) (x : ℕ) (xs : List ℕ) → (from ≡ to → ⊥) → ((z : ℕ) → 0 < count z ys → 0 < count z (x ∷ xs) → ⊥) → ((z : ℕ) → count z (x ∷ xs) ≤ 1) → Follows f g f1 g1 (g (Head to)) (f (Head from)) → Follows f1 g1 f2 g2 (g (Head from)) (Head to) → Follows f2 g2 f3 g3 (Head from) (Head from) → Leads f g (Head to) ys (Head to) → Leads f g (Head from) (x ∷ xs) (Head from) → Leads f3 g3 (Head to) (ys ++ x ∷ xs) (Head to)
 Leads-append f g f1 g1 f2 g2 f3 g3 from to ys x xs ne other once j1 j2 j3 r s =
     let turned = Leads-turned f g f1 g1 (Head to) (Head to) (Thread x) ys r join (Leads-end f g (Head to) (Head to) ys r) (λ y c e. cc) (λ y c e. let i : y ≡ x = cc in other x (subst (λ z. 0 < count z ys) i c) (count-here x xs)) in

@@ -303,7 +303,7 @@ append-none lists from to e =
     ∙ ap (set lists from) (sym e)
     ∙ set-get_or lists from []
 
--- the threads of one list come behind those of another
+-- the threads of one list come after those of another
 module _ (h s h1 s1 h2 s2 h3 s3 : List Link) (lists : List (List ℕ)) (from to : ℕ) (same : length h3 ≡ length h) (same_threads : length s3 ≡ length s) (spells : Spells h s lists) (from_in : from < length h) (to_in : to < length h) (ne : from ≡ to → ⊥) where
   pub Spells-append : (x : ℕ) (xs : List ℕ) → list_at lists from ≡ x ∷ xs → Joined h s h1 s1 (previous_of h s (Head to)) (next_of h s (Head from)) → Joined h1 s1 h2 s2 (previous_of h s (Head from)) (Head to) → Joined h2 s2 h3 s3 (Head from) (Head from) → Spells h3 s3 (append lists from to)
   Spells-append x xs is j1 j2 j3 =
@@ -436,7 +436,7 @@ pub IsPlace-same : (h s h' s' : List Link) (p : Place) → length h' ≡ length 
 IsPlace-same h s h' s' (Head k) eh es i = omega arith
 IsPlace-same h s h' s' (Thread t) eh es i = omega arith
 
--- the place behind a list's head is in its ring
+-- the place after a list's head is in its ring
 pub first_in_ring : (heads threads : List Link) (lists : List (List ℕ)) → Spells heads threads lists → (k t : ℕ) → k < length heads → next_of heads threads (Head k) ≡ Thread t → (xs : List ℕ) × (list_at lists k ≡ t ∷ xs)
 first_in_ring heads threads lists s k t h e = begins_with (next_of heads threads) (previous_of heads threads) k (list_at lists k) t (s.rings k h) e
 

@@ -51,7 +51,7 @@ abbrev pub Leads : (Place → Place) → (Place → Place) → Place → List �
 Leads next previous a [] b = (next a ≡ b) × (previous b ≡ a)
 Leads next previous a (x ∷ xs) b = (next a ≡ Thread x) × (previous (Thread x) ≡ a) × Leads next previous (Thread x) xs b
 
--- the place in front of these threads of list k, where its head comes behind the last
+-- the place in front of these threads of list k, where its head comes after the last
 abbrev pub start_of : ℕ → List ℕ → Place
 start_of k [] = Head k
 start_of k (t ∷ ts) = Thread t

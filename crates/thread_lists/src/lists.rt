@@ -179,7 +179,7 @@ impl ThreadLists {
         self.push(to, thread);
     }
 
-    /// Puts all threads of one list, in their order, behind the last of another.
+    /// Puts all threads of one list, in their order, after the last of another.
     pub fn append(&mut self, from: u32, to: u32)
         requires from { from < length self.old.lists }
         requires to { to < length self.old.lists }

@@ -9,7 +9,7 @@ use std::alloc::{AllocError, Global};
 /// The lists have numbers of 32 bits.
 const MOST_LISTS: usize = 1 << 32;
 
-/// A place of a ring. Behind a head comes the first thread of its list, and before it the last.
+/// A place of a ring. After a head comes the first thread of its list, and before it the last.
 #[derive(Clone, Copy, Debug)]
 pub enum Place {
     Head(u32),
@@ -96,7 +96,7 @@ pub fn add_heads(heads: &mut Vec<Link>, count: u32) -> Result<(), NoMemory>
     Ok(())
 }
 
-/// Puts a thread that is in no list behind the last of a list.
+/// Puts a thread that is in no list after the last of a list.
 pub fn link_last(heads: &mut [Link], threads: &mut [Link], list: u32, thread: u32)
     requires linked { IsLinked heads.old threads.old }
     requires list { list < length heads.old }
@@ -122,7 +122,7 @@ pub fn unlink(heads: &mut [Link], threads: &mut [Link], list: u32, thread: u32)
     join(heads, threads, Place::Thread(thread), Place::Thread(thread));
 }
 
-/// Puts all threads of one list, in their order, behind the last of another.
+/// Puts all threads of one list, in their order, after the last of another.
 pub fn link_all(heads: &mut [Link], threads: &mut [Link], from: u32, to: u32)
     requires linked { IsLinked heads.old threads.old }
     requires from { from < length heads.old }

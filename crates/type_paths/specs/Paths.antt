@@ -13,7 +13,7 @@ Path = List (Option VType)
 abbrev pub path : List Path → ℕ → Path
 path paths n = get_or paths n []
 
--- behind these the paths of nodes, each of which lies on one before it
+-- after these the paths of nodes, each of which lies on one before it
 abbrev pub paths_from : List Path → List Node → List Path
 paths_from paths [] = paths
 paths_from paths (n ∷ ns) = paths_from (paths ++ (n.item ∷ path paths n.below) ∷ []) ns

@@ -27,7 +27,7 @@ unset : (n : ℕ) → AreOf (replicate n types.Top) (replicate n Second)
 unset zero = tt
 unset (suc n) = (tt, unset n)
 
--- the arguments, and behind them what is unset
+-- the arguments, and after them what is unset
 padded_of : (n : ℕ) (ts : List VType) (xs : List Slot) → AreOf ts xs → AreOf (padded n ts) (xs ++ replicate (n - length xs) Second)
 padded_of n ts xs of =
     append_of ts (replicate (n - length ts) types.Top) xs (replicate (n - length xs) Second) of

@@ -156,13 +156,13 @@ event_kept w own pc naming (new index) r f s after effect linked fits names loca
 event_kept w own pc naming e r f s after effect linked fits names locals stack typed made =
     other_kept w own pc naming e r f s after effect linked fits names locals stack typed made (λ index same. cc)
 
--- ---- the frame behind it
+-- ---- the frame after it
 
 never_done : (reference : Option ℕ) (q : State) (stack : List Slot) → not_null reference (λ o. Some (throws_object o)) ≡ Some (done q stack) → ⊥
 never_done None q stack e = cc
 never_done (Some o) q stack e = cc
 
--- what is done goes on behind the instruction
+-- what is done goes on after the instruction
 goes_on : (w : World) (naming : Naming) (e : Event) (r q : State) (xs stack : List Slot)
     → event_effect w naming e r xs ≡ Some (done q stack) → row_goes_on (event e) ≡ true
 goes_on w naming throw r q xs stack made =

@@ -123,7 +123,7 @@ constant_is w (sites.Value v) t e =
     inside a b same = cc
 constant_is w site t e = absurd cc
 
--- the frame behind its instruction, with a constant pushed
+-- the frame after its instruction, with a constant pushed
 constant_goes : (w : World) (f : Frame) (below : List Frame) (r : Row) → AreTyped w → (t : Typed w (f ∷ below))
     → row_of t.0.at.place.instruction ≡ r → row_goes_on r ≡ true
     → ((env : Environment) (i : Instruction) (s : TypeState) → row_state env i.instr.pc i.naming r s ≡ constant_state env.world i.naming s)

@@ -63,7 +63,7 @@ taken_by w s receiver n takes ts rest left fits e taken below =
       gives = h.1;
     }
 
--- what the typing says of the state behind the call, apart from frames
+-- what the typing says of the state after the call, apart from frames
 pub record Leaves (w : World) (s after : TypeState) (m : Named) : Type 0 where
   pub left : List VType
   pub under : List VType

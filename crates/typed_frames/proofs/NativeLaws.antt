@@ -135,7 +135,7 @@ object_set w r q o place old new (instance c ys) vs fits at has old_at kind e =
     subst (IsTypedState w) (same_state (record r { heap = slice_set r.heap o (instance c others.0) }) q others.2)
     (changed_fits w r o (instance c others.0) fits object)
 
--- an object of the heap is that of the heap with more behind it
+-- an object of the heap is that of the heap with more after it
 front_at : {A : Type 0} (xs ys : List A) (p : ℕ) (x : A) → slice_get xs p ≡ Some x → slice_get (xs ++ ys) p ≡ Some x
 front_at [] ys p x e = absurd cc
 front_at (y ∷ xs) ys zero x e = e

@@ -28,7 +28,7 @@ use Rattle.ref_model.specs.Instances.{object_made, object_cast, object_judged}
 use Rattle.typed_frames.specs.StateKinds.{HasFieldKinds}
 use Rattle.typed_frames.specs.TypedStates.{IsTypedState}
 
--- What an effect leaves, where the operands behind the instruction have these types: values of their kinds, in the state and on the operand
+-- What an effect leaves, where the operands after the instruction have these types: values of their kinds, in the state and on the operand
 -- stack. An exception changes nothing.
 abbrev pub IsKept : World → List VType → Effect → Type 0
 IsKept w rest (done q stack) = IsTypedState w q × AreOf rest stack

@@ -34,7 +34,7 @@ IsEventNaming w naming e r stack = Unit {0}
 
 -- ---- what an event leaves
 
--- it is done: the frame goes on behind it
+-- it is done: the frame goes on after it
 pub record GoesOnBehind (w : World) (f : Frame) (below : List Frame) (next : ℕ) (q : State) (stack : List Slot) : Type 0 where
   pub frame : Frame
   pub is : behind f next stack ≡ Some frame

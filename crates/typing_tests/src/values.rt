@@ -48,7 +48,7 @@ pub fn kinds_of_fields<L: Lookups>(
     Ok(kinds)
 }
 
-// The kind of a field behind others, where it is static.
+// The kind of a field after others, where it is static.
 fn add_static(kinds: &mut Vec<Kind>, field: &FieldInfo) -> Result<(), NoMemory>
     ensures { OnOk result (kinds.new.items ≡ kinds.old.items
         ++ map fields.kind_of_field (filter is_static_field (field.now ∷ []))) }

@@ -55,7 +55,7 @@ stray_pc ps constructor max pc next is_last es =
 
 -- ---- frames that are kept one after the other
 
--- these are kept of the frames of a map, and the rest of its changes comes behind local variables of these paths
+-- these are kept of the frames of a map, and the rest of its changes comes after local variables of these paths
 pub record Built (w : World) (class : ℕ) (first : List VType) (changes : List (ℕ × FrameChange)) (paths : List Path) (entries : List Entry) (locals : ℕ) (rest : List (ℕ × FrameChange)) : Type 0 where
   pub before : List VType
   pub whole : List (ℕ × FrameTypes)

@@ -99,7 +99,7 @@ join_alike a b g one other of_a of_b same meet start end handler catch = record 
       ∙ ap (λ (x : Caught). (not (In a.row.start a.row.end pc) || test a.row.handler a.catch) && ((not (In b.row.start b.row.end pc) || test x.handler x.catch) && true)) alike;
 }
 
--- ---- behind others
+-- ---- after others
 
 pub put_none : (hs : List Handler) (g : Handler) → AskAlike (hs ++ g ∷ []) ((hs ++ []) ++ g ∷ [])
 put_none hs g = subst (λ (xs : List Handler). AskAlike (hs ++ g ∷ []) (xs ++ g ∷ [])) (sym (append-nil hs)) (alike_itself (hs ++ g ∷ []))

@@ -221,6 +221,6 @@ op_keeps (ops.Jsr t) h = refl
 op_keeps (ops.Ret n) h = refl
 op_keeps (ops.Floating o) h = refl
 
--- the state behind an instruction that keeps the local variables has those of the state before it
+-- the state after an instruction that keeps the local variables has those of the state before it
 pub after_kept : (env : Environment) (i : Instruction) (s after : TypeState) → keeps_locals i.instr.op ≡ true → state_after env i s ≡ Ok after → Kept s after
 after_kept env i s after h e = subst (λ r. Keeps s r) e (row_kept env i.instr.pc i.naming (row i.instr.op) s (op_keeps i.instr.op h))

@@ -29,7 +29,7 @@ fault_from_number w n ms = first_some (flat_map (numbered_faults w) (enumerate_f
 after_is : (n : ℕ) → suc n ≡ n + 1
 after_is n = omega arith
 
--- what is at a place, and what lies behind it
+-- what is at a place, and what lies after it
 drop_cons : {A : Type 0} (n : ℕ) (xs : List A) → n < length xs → (x : A) × (rest : List A) × (drop n xs ≡ x ∷ rest) × (drop (suc n) xs ≡ rest)
 drop_cons n [] low = absurd (omega arith)
 drop_cons zero (x ∷ xs) low = (x, xs, refl, refl)

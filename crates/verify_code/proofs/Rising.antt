@@ -49,7 +49,7 @@ pub found_from : {A : Type 0} (pc : A → ℕ) (n low : ℕ) (xs : List A) → R
 found_from pc n low [] h = refl
 found_from pc n low (x ∷ xs) h = step_from pc n x xs h.1 (ltb (pc x) n) refl (found_from pc n (pc x + 1) xs h.1)
 
--- ---- the first behind a pc
+-- ---- the first after a pc
 
 past : (pc next m n : ℕ) (is_last : Bool) → (is_last || ltb m next) ≡ false → m < n → (ltb pc n && (is_last || ltb n next)) ≡ false
 past pc next m n true h up = absurd cc
@@ -80,7 +80,7 @@ step_behind pc next is_last e es h false low again =
     ap (λ t. cond (t && (is_last || nat_lt e.pc next)) (Some e) (stray_entry pc next is_last es)) (lt-ltb pc e.pc (omega arith))
     ∙ head_behind pc next is_last e es (is_last || nat_lt e.pc next) (λ test. none_past pc next e.pc (e.pc + 1) is_last es h test (omega arith))
 
--- the first that lies behind a pc, and before the next instruction, is the first of those behind the pc
+-- the first that lies after a pc, and before the next instruction, is the first of those after the pc
 pub stray_behind : (pc next : ℕ) (is_last : Bool) (low : ℕ) (es : List Entry) → Rises pc_of low es → stray_entry pc next is_last es ≡ first_stray next is_last (entries_behind pc es)
 stray_behind pc next is_last low [] h = refl
 stray_behind pc next is_last low (e ∷ es) h = step_behind pc next is_last e es h.1 (leb e.pc pc) refl (stray_behind pc next is_last (e.pc + 1) es h.1)

@@ -81,7 +81,7 @@ unknown_missing env i naming entry is_last h = missing (map_at env i.pc) h
     missing None h = refl
     missing (Some f) h = absurd cc
 
--- what goes on behind it, where no rule is broken
+-- what goes on after it, where no rule is broken
 pub passed_unknown : (env : Environment) (p : Placed) (b : Behind) → b ≡ record { going = None; spare = None } → first_some (whys_at env p) ≡ None → behind env p.instruction p.state ≡ None → IsPassed env p b
 passed_unknown env p b e none at = subst (IsPassed env p) (sym e) (record { none = none; is = sym at; stands = record { going = none_stands env; spare = none_stands env } })
 
@@ -122,7 +122,7 @@ first_filtered : {A B : Type 0} (g : A → B) (p : A → Bool) (xs : List A) →
 first_filtered g p [] = refl
 first_filtered g p (x ∷ xs) = filter_step g x (filter p xs) (find p xs) (p x) (first_filtered g p xs)
 
--- ---- an instruction and what lies behind it
+-- ---- an instruction and what lies after it
 
 pub broken_there : (env : Environment) (p : Placed) (why : VerifyWhy) → first_some (whys_at env p) ≡ Some why
     → first_some (placed_faults env p) ≡ Some (pc_fault p.instruction.instr.pc why)
@@ -167,7 +167,7 @@ fault_at_first env entry before i is ns naming is_last fault named last h =
     found_in_front (placed_faults env head) (flat_map (placed_faults env) (placed env None (behind env head.instruction here) (with_namings is (drop 1 ns)))) fault
     (ap (λ p. first_some (placed_faults env p)) (sym (head_is env entry before i is ns naming is_last named last)) ∙ h)
 
--- without one there, it is the first of those behind it
+-- without one there, it is the first of those after it
 pub fault_behind_first : (env : Environment) (entry before : Option TypeState) (after : Behind) (i : Instr) (is : List Instr) (ns : List Naming) (naming : Naming) (is_last : Bool)
     → naming ≡ Naming_at ns → is_last ≡ nat_eq (length is) 0
     → GoesOn env (place i naming (standing env i.pc before) entry is_last) after

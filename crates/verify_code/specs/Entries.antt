@@ -18,14 +18,14 @@ AreRising es = Rises pc_of 0 es
 abbrev pub entries_from : ℕ → List Entry → List Entry
 entries_from pc es = drop (prefix_len (λ (e : Entry). nat_lt e.pc pc) es) es
 
--- those behind a pc
+-- those after a pc
 abbrev pub entries_behind : ℕ → List Entry → List Entry
 entries_behind pc es = drop (prefix_len (λ (e : Entry). nat_le e.pc pc) es) es
 
 abbrev pub entry_at : ℕ → List Entry → Option Entry
 entry_at pc es = find (λ (e : Entry). e.pc == pc) es
 
--- the first behind a pc, and before the next instruction if there is one
+-- the first after a pc, and before the next instruction if there is one
 abbrev pub stray_entry : ℕ → ℕ → Bool → List Entry → Option Entry
 stray_entry pc next is_last es = find (λ (e : Entry). nat_lt pc e.pc && (is_last || nat_lt e.pc next)) es
 

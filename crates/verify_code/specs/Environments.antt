@@ -4,7 +4,7 @@ use Rattle.verify_types.specs.Environment.{MapFrame, Instruction, Environment}
 use Rattle.verify_code.specs.declared.guards.Guard.{Guard}
 use Rattle.verify_code.specs.Guards.{AskAlike, guard_in}
 
--- the instructions stand one behind the other, the first at this pc, in fewer than 65,536 bytes (JVMS 4.7.3)
+-- the instructions stand one after the other, the first at this pc, in fewer than 65,536 bytes (JVMS 4.7.3)
 abbrev pub AreInOrder : ℕ → List Instruction → Type 0
 AreInOrder pc [] = Unit {0}
 AreInOrder pc (i ∷ is) = (i.instr.pc ≡ pc) × (pc < i.instr.next) × (i.instr.next < 2 ^ 16) × AreInOrder i.instr.next is

@@ -13,7 +13,7 @@ use Rattle.verify_types.specs.Environment.{MapFrame}
 use Rattle.verify_types.specs.TypeStates.{TypeState, is_this, padded}
 use Rattle.verify_code.specs.declared.frame_paths.Entry.{Entry}
 
--- these are the paths of more nodes, behind those before
+-- these are the paths of more nodes, after those before
 pub record Grows (old new : List Path) : Type 0 where
   pub more : List Path
   pub is : new ≡ old ++ more

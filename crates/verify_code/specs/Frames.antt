@@ -18,6 +18,6 @@ AreRising a = entries.AreRising a.entries.items
 abbrev pub frame_at : ℕ → List MapFrame → Option MapFrame
 frame_at pc fs = find (λ (f : MapFrame). f.pc == pc) fs
 
--- the first frame behind a pc, and before the next instruction if there is one
+-- the first frame after a pc, and before the next instruction if there is one
 abbrev pub stray_frame : ℕ → ℕ → Bool → List MapFrame → Option MapFrame
 stray_frame pc next is_last fs = find (λ (f : MapFrame). nat_lt pc f.pc && (is_last || nat_lt f.pc next)) fs

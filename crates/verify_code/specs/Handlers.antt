@@ -42,11 +42,11 @@ pub record IsRowKept (env : Environment) (known : Option ℕ) (pc : ℕ) (s : Ty
   pub keeps : keeps_more env known pc s h ≡ true
   pub caught : IsCatcher env s last
 
--- the start of a row, where it lies behind this pc and before the next
+-- the start of a row, where it lies after this pc and before the next
 abbrev pub nearer : ℕ → ℕ → ℕ → ℕ
 nearer pc next start = if nat_lt pc start && nat_lt start next then start else next
 
--- the first pc behind this one at which one of the rows starts, or else this other
+-- the first pc after this one at which one of the rows starts, or else this other
 abbrev pub next_start : ℕ → ℕ → List Handler → ℕ
 next_start pc next [] = next
 next_start pc next (h ∷ hs) = next_start pc (nearer pc next h.row.start) hs

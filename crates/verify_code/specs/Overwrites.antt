@@ -20,7 +20,7 @@ type_at locals slot = get_or locals slot types.Top
 abbrev pub is_noted : List Overwritten → ℕ → Bool
 is_noted os slot = list_any (λ (o : Overwritten). o.slot == slot) os
 
--- behind these the local variable, where it isn't among them
+-- after these the local variable, where it isn't among them
 abbrev pub noting : List VType → ℕ → List Overwritten → List Overwritten
 noting locals slot os =
     if is_noted os slot then os else os ++ record { slot = slot; was = type_at locals slot } ∷ []
@@ -56,7 +56,7 @@ keeps_locals (ops.InvokeSpecial index) = false
 keeps_locals (ops.New index) = false
 keeps_locals op = true
 
--- what was overwritten since the same frame and behind an instruction, which changes no local variable, or stores to one
+-- what was overwritten since the same frame and after an instruction, which changes no local variable, or stores to one
 pub data NotedBehind (op : Op) (locals : List VType) (like : Option Like) (l : Like) : Type 0 where
   leaves : keeps_locals op ≡ true → like ≡ Some l → NotedBehind op locals like l
   stores : (kind : Kind) (n : ℕ) (before : Like) → op ≡ ops.Store kind n → like ≡ Some before

@@ -11,7 +11,7 @@ use Rattle.verify_types.specs.TypeStates.{TypeState, all_assignable, is_this, pa
 abbrev pub fit_path : World → List VType → Path → Bool
 fit_path w slots p = option_map_or (λ ts. all_assignable w slots (slot_types ts)) (types_on p) false
 
--- whether the local variables are assignable to those of the path and the unset ones behind them, where all types are known
+-- whether the local variables are assignable to those of the path and the unset ones after them, where all types are known
 abbrev pub fit_locals : World → ℕ → List VType → Path → Bool
 fit_locals w max_locals locals p = option_map_or (λ ts. all_assignable w locals (padded max_locals (slot_types ts))) (types_on p) true
 

@@ -47,7 +47,7 @@ pub record IsStanding (env : Environment) (s : Standing) : Type 0 where
 abbrev pub holds_at : ℕ → Option Judged → Bool
 holds_at pc judged = option_map_or (λ (j : Judged). nat_le j.at pc && nat_lt pc j.until) judged false
 
--- what is kept of a state, behind an instruction
+-- what is kept of a state, after an instruction
 abbrev pub behind_op : {A : Type 0} → Op → Option A → Option A
 behind_op op kept = if keeps_locals op then kept else None
 

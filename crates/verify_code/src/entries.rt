@@ -14,7 +14,7 @@ fn entries_from(entries: &[Entry], pc: u32) -> &[Entry]
     entries.split_at(n).1
 }
 
-// Those behind a pc.
+// Those after a pc.
 fn entries_behind(entries: &[Entry], pc: u32) -> &[Entry]
     requires { spec.AreRising entries.now }
     ensures { result.now ≡ spec.entries_behind pc entries.now }
@@ -51,7 +51,7 @@ pub fn entry_at(entries: &[Entry], pc: u32) -> Option<Entry>
     first_at(entries_from(entries, pc), pc)
 }
 
-/// That of the first frame behind a pc, and before the next instruction unless that is the last. `None`: there is none.
+/// That of the first frame after a pc, and before the next instruction unless that is the last. `None`: there is none.
 pub fn stray_entry(entries: &[Entry], pc: u32, next: u32, is_last: bool) -> Option<Entry>
     requires { spec.AreRising entries.now }
     ensures { result ≡ spec.stray_entry pc next is_last entries.now }

@@ -21,7 +21,7 @@ pub struct Findings {
     pub are_satisfied: bool,
     pub is_returned: bool,
     pub is_finished: bool,
-    /// The code goes on behind its last instruction.
+    /// The code goes on after its last instruction.
     pub passes_end: bool,
 }
 

@@ -58,7 +58,7 @@ pub fn put<L: Lookups>(
     append(paths, w, class, root, types)
 }
 
-// The path of the local variables behind a change.
+// The path of the local variables after a change.
 fn changed<L: Lookups>(
     paths: &mut Paths,
     w: &L,
@@ -79,7 +79,7 @@ fn changed<L: Lookups>(
     }
 }
 
-/// What is kept of a frame behind one whose local variables have this path.
+/// What is kept of a frame after one whose local variables have this path.
 pub fn entry_of<L: Lookups>(
     paths: &mut Paths,
     w: &L,

@@ -61,7 +61,7 @@ pub fn first_frame<L: Lookups>(alloc: Global, w: &L, m: &MethodInfo) -> Result<F
     })
 }
 
-// Appends a type, and behind a wide one the type of its second slot.
+// Appends a type, and after a wide one the type of its second slot.
 fn push_slots(slots: &mut Vec<VType>, t: VType) -> Result<(), AllocError>
     ensures { OnOk result (slots.new.items ≡ slots.old.items ++ types_of t) }
 {
@@ -85,7 +85,7 @@ pub fn slots(alloc: Global, types: &[VType]) -> Result<Vec<VType>, AllocError>
     Ok(slots)
 }
 
-// The local variables slot by slot, the unset ones behind them.
+// The local variables slot by slot, the unset ones after them.
 fn local_slots(alloc: Global, max_locals: u16, types: &[VType]) -> Result<Vec<VType>, NoMemory>
     ensures { IfOk result (λ v. v.items ≡ padded max_locals (slot_types types.now)) }
 {

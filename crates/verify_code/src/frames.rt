@@ -42,7 +42,7 @@ impl Model for Frames {
 }
 
 impl Frames {
-    /// The frames with these changes, the first of them behind local variables of these types.
+    /// The frames with these changes, the first of them after local variables of these types.
     pub fn new<L: Lookups>(
         alloc: Global,
         w: &L,
@@ -109,7 +109,7 @@ impl Frames {
         })
     }
 
-    /// The pc of the first frame behind a pc, and before the next instruction unless that is the last. `None`: there is none.
+    /// The pc of the first frame after a pc, and before the next instruction unless that is the last. `None`: there is none.
     pub fn stray(&self, pc: u32, next: u32, is_last: bool) -> Option<u32>
         ensures { result ≡ option_map (λ (f : MapFrame). f.pc)
             (stray_frame pc next is_last self.now) }

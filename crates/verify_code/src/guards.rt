@@ -1,4 +1,4 @@
-//! The rows of an exception table, those of one handler that stand one behind the other and meet taken together (JVMS 4.7.3).
+//! The rows of an exception table, those of one handler that stand one after the other and meet taken together (JVMS 4.7.3).
 
 ghost use Rattle.std.specs.Prelude.{◌≡◌, ◌++◌, ◌∷◌, [], IfOk, IfSome, MatchBool, Some, drop, get_or, map, None};
 ghost use Rattle.verify_types.specs.Environment.{with_catches};
@@ -32,7 +32,7 @@ fn first_catch(catches: &[Option<u32>]) -> Option<u32>
     }
 }
 
-// Those behind the first.
+// Those after the first.
 fn behind_first(catches: &[Option<u32>]) -> &[Option<u32>]
     ensures { result.now ≡ drop 1 catches.now }
 {
@@ -93,7 +93,7 @@ fn joined(a: Guard, b: Guard) -> Option<Guard>
     })
 }
 
-// Puts the last row behind the others, unless the next is joined to it: the one that is the last then.
+// Puts the last row after the others, unless the next is joined to it: the one that is the last then.
 fn put(guards: &mut Vec<Guard>, last: Option<Guard>, next: Guard) -> Result<Guard, AllocError>
     ensures { IfOk result (λ g. AskAlike (map guard_in guards.new.items ++ guard_in g ∷ [])
         ((map guard_in guards.old.items ++ opened last) ++ guard_in next ∷ [])) }

@@ -38,7 +38,7 @@ fn is_covered_there(row: &Row, pc: Option<u32>) -> bool
     }
 }
 
-// The start of a row, where it lies behind a pc and before the next.
+// The start of a row, where it lies after a pc and before the next.
 fn nearer(pc: u32, next: u32, start: u32) -> u32
     ensures { result ≡ parts.nearer pc next start }
 {
@@ -49,7 +49,7 @@ fn nearer(pc: u32, next: u32, start: u32) -> u32
     }
 }
 
-// The first pc behind this one at which a row starts; 65,536 where there is none.
+// The first pc after this one at which a row starts; 65,536 where there is none.
 fn next_start(guards: &[Guard], pc: u32) -> u32
     ensures { result ≡ parts.next_start pc 65536 (map guard_in guards.now) }
 {
@@ -117,7 +117,7 @@ impl<'a, L: Lookups> Environment<'a, L> {
             && self.fits_handler(s, caught, u32::from(row.handler))
     }
 
-    // The handler that is known to be satisfied behind a row, where one is known before it. `None`: the pc lies in the range of the
+    // The handler that is known to be satisfied after a row, where one is known before it. `None`: the pc lies in the range of the
     // row, the other pc doesn't, and its handler isn't satisfied.
     fn judge_row(
         &self,

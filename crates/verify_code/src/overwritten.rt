@@ -98,7 +98,7 @@ fn note_store(
     note(overwritten, locals, slot + 1)
 }
 
-// What a state is like behind a store into a local variable.
+// What a state is like after a store into a local variable.
 fn behind_store(like: Like, locals: &[VType], n: u16) -> Result<Option<Like>, NoMemory>
     ensures { IfOk result (λ o. IfSome o (IsNoted like.pc
         (noting_store locals.now n like.overwritten.items))) }
@@ -124,7 +124,7 @@ pub fn keeps_locals(op: &Op) -> bool
     }
 }
 
-/// What the state behind an instruction is like, where the one before it has these local variables and is like this.
+/// What the state after an instruction is like, where the one before it has these local variables and is like this.
 pub fn like_behind(op: &Op, like: Option<Like>, locals: &[VType]) -> Result<Option<Like>, NoMemory>
     ensures { IfOk result (λ o. IfSome o (NotedBehind op.now locals.now like)) }
 {

@@ -72,7 +72,7 @@ pub fn fit_path<L: Lookups>(w: &L, paths: &Paths, from: usize, slots: &[VType]) 
     left.is_empty()
 }
 
-/// Whether local variables are assignable to those of a path and the unset ones behind them. One that names a constant that is
+/// Whether local variables are assignable to those of a path and the unset ones after them. One that names a constant that is
 /// no class isn't judged here.
 pub fn fit_locals<L: Lookups>(
     w: &L,

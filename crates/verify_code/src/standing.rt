@@ -14,7 +14,7 @@ use verify_instructions::State;
 pub struct Judged {
     /// A pc at which they are.
     pub at: u32,
-    /// No row of the exception table starts behind that and before this pc.
+    /// No row of the exception table starts after that and before this pc.
     pub until: u32,
 }
 
@@ -49,7 +49,7 @@ impl Standing {
     }
 }
 
-/// The state that goes on behind an instruction, or else one that doesn't, whose local variables may serve at the next frame.
+/// The state that goes on after an instruction, or else one that doesn't, whose local variables may serve at the next frame.
 #[derive(Drop)]
 pub struct Behind {
     pub going: Option<Standing>,
@@ -57,7 +57,7 @@ pub struct Behind {
 }
 
 impl Behind {
-    /// Nothing is known behind an instruction.
+    /// Nothing is known after an instruction.
     pub fn unknown() -> Self
         ensures { result ≡ record { going = None; spare = None } }
     {
@@ -67,7 +67,7 @@ impl Behind {
         }
     }
 
-    /// This state stands behind an instruction, and goes on or not.
+    /// This is the state after an instruction, and goes on or not.
     pub fn new(after: Standing, goes_on: bool) -> Self
         ensures { result ≡ spec.behind_one after goes_on }
     {
@@ -96,7 +96,7 @@ impl Behind {
     }
 }
 
-/// Where the state behind an instruction satisfies the exception handlers, where the one before it does so here.
+/// Where the state after an instruction satisfies the exception handlers, where the one before it does so here.
 pub fn judged_behind(op: &Op, judged: Option<Judged>) -> Option<Judged>
     ensures { result ≡ spec.behind_op op.now judged }
 {

@@ -49,14 +49,14 @@ pub enum Verdict {
     Kept(Standing),
 }
 
-/// The first rule that is broken at an instruction, or else the state that goes on behind it.
+/// The first rule that is broken at an instruction, or else the state that goes on after it.
 #[derive(Drop)]
 pub enum Passage {
     Broken(VerifyWhy),
     On(Behind),
 }
 
-/// The first fault at an instruction or between it and the next, or else the state that goes on behind it.
+/// The first fault at an instruction or between it and the next, or else the state that goes on after it.
 #[derive(Drop)]
 pub enum Step {
     Fault(PcFault),
@@ -114,7 +114,7 @@ impl<'a, L: Lookups> Environment<'a, L> {
         }
     }
 
-    // The same, behind an instruction.
+    // The same, after an instruction.
     fn judged_there(&self, before: &Behind, pc: u32) -> Option<Judged>
         requires { BothStand self.now before.now }
         ensures { (f : MapFrame) (t : TypeState) → map_at self.now pc ≡ Some f

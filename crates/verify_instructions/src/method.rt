@@ -33,7 +33,7 @@ pub fn first_naming(namings: &[Naming]) -> Naming
     }
 }
 
-/// Those behind the first.
+/// Those after the first.
 pub fn behind_first(namings: &[Naming]) -> &[Naming]
     ensures { result.now ≡ drop 1 namings.now }
 {

@@ -17,7 +17,7 @@ use stack_maps::VType;
 use verify_types::{assignable, type_of_kind};
 use world_model::Lookups;
 
-// Whether the code goes on behind an instruction without operands.
+// Whether the code goes on after an instruction without operands.
 fn simple_goes_on(simple: Simple) -> bool
     ensures { result ≡ row_goes_on (simple_row simple) }
 {
@@ -29,7 +29,7 @@ fn simple_goes_on(simple: Simple) -> bool
     }
 }
 
-/// Whether the code goes on behind an instruction.
+/// Whether the code goes on after an instruction.
 pub fn goes_on(op: &Op) -> bool
     ensures { result ≡ row_goes_on (row op.now) }
 {

@@ -37,7 +37,7 @@ pub empty : {A B : Type 0} (f : A → B) (xs : List A) → AllNone (map (λ x. S
 empty f [] none = refl
 empty f (x ∷ xs) none = let e = none.0 in absurd cc
 
--- an item that a test finds, or one behind it
+-- an item that a test finds, or one after it
 found_by : {A : Type 0} (P : A → Type 0) (b : Bool) (y x : A) (below : Option A) → cond b (Some y) below ≡ Some x → P y → (below ≡ Some x → P x) → P x
 found_by P true y x below e here behind = let is : y ≡ x = cc in subst P is here
 found_by P false y x below e here behind = behind e

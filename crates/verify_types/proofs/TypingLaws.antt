@@ -38,7 +38,7 @@ pub record Suffix (env : Environment) (entry before : Option TypeState) (pc : �
   pub good : Each (KeepsRules env) (placed env entry before is)
   pub same : (n : ℕ) → pc ≤ n → placed_at env n ≡ find (stands_at n) (placed env entry before is)
 
--- what stands behind the first is found behind it
+-- what comes after the first is found after it
 skipped : {A : Type 0} (a b : ℕ) (x : A) (below : Option A) → a < b → cond (a == b) (Some x) below ≡ below
 skipped a b x below less =
     let other : a ≡ b → ⊥ = λ e. omega arith in

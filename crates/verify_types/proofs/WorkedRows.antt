@@ -161,7 +161,7 @@ too_deep : IsRefused (method static_method (at 0 1 (ops.PushInt (pos 0)) ∷ at 
 unfolding type_at wide_frame_at frame_at changes_at changes_of table_of
 too_deep = refl
 
--- a return behind which nothing stands
+-- a return after which nothing stands
 wrong_return : IsRefused (method static_method (at 0 1 (ops.PushInt (pos 0)) ∷ at 1 2 (ops.Simple (simples.ReturnValue kinds.Int)) ∷ []) [] (0 ∷ 0 ∷ [])) 1 whys.Return
 unfolding type_at wide_frame_at frame_at changes_at changes_of table_of
 wrong_return = refl

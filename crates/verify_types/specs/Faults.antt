@@ -35,7 +35,7 @@ frame_at env target = option_and_then (map_at env) (pc_of target)
 abbrev pub fits_target : Environment → TypeState → ℤ → Bool
 fits_target env s target = option_map_or (fits_frame env s) (frame_at env target) true
 
--- Whether the state fits the frame of the map at the next instruction. Behind an instruction that doesn't go on there is to be
+-- Whether the state fits the frame of the map at the next instruction. After an instruction that doesn't go on there is to be
 -- one.
 abbrev pub fits_next : Environment → Row → ℕ → TypeState → Bool
 fits_next env r next s =
@@ -94,7 +94,7 @@ whys_after env p s after =
 abbrev pub state_whys : Environment → Placed → TypeState → List (Option VerifyWhy)
 state_whys env p s = whys_after env p s (state_after env p.instruction s)
 
--- An instruction without a state has a frame of the map that names a constant that is no class, or stands behind a fault.
+-- An instruction without a state has a frame of the map that names a constant that is no class, or stands after a fault.
 abbrev pub whys_at : Environment → Placed → List (Option VerifyWhy)
 whys_at env p =
     option_map_or (state_whys env p) p.state (unless (is_none (map_at env p.instruction.instr.pc)) whys.Map ∷ [])
@@ -104,7 +104,7 @@ whys_at env p =
 abbrev pub pc_fault : ℕ → VerifyWhy → PcFault
 pc_fault pc why = record { pc = pc; why = why }
 
--- whether a pc lies behind that of the instruction, and before the next instruction, if there is one
+-- whether a pc lies after that of the instruction, and before the next instruction, if there is one
 abbrev pub is_inside : Placed → ℕ → Bool
 is_inside p pc = nat_lt p.instruction.instr.pc pc && (p.is_last || nat_lt pc p.instruction.instr.next)
 

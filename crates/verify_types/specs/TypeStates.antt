@@ -50,6 +50,6 @@ replaced test t ts = map (λ x. if test x then t else x) ts
 
 -- ---- unset local variables
 
--- the local variables, and behind them those that are unset, up to this many
+-- the local variables, and after them those that are unset, up to this many
 abbrev pub padded : ℕ → List VType → List VType
 padded n ts = ts ++ replicate (n - length ts) types.Top

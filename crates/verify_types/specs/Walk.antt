@@ -21,7 +21,7 @@ pub record Placed : Type 0 where
 abbrev pub standing : Environment → ℕ → Option TypeState → Option TypeState
 standing env pc before = option_map_or (λ (f : MapFrame). f.state) (map_at env pc) before
 
--- the state that goes on behind an instruction
+-- the state that goes on after an instruction
 abbrev pub behind : Environment → Instruction → Option TypeState → Option TypeState
 behind env i None = None
 behind env i (Some s) = if row_goes_on (row_of i) then result_ok (state_after env i s) else None

@@ -11,7 +11,7 @@ pub enum VerifyWhy {
     /// A branch goes to no instruction, or to one without a frame of the map.
     #[error("a bad branch target")]
     Target,
-    /// The types that arrive at a frame of the map aren't assignable to it, or the frame is missing behind an instruction that
+    /// The types that arrive at a frame of the map aren't assignable to it, or the frame is missing after an instruction that
     /// doesn't go on.
     #[error("types that do not fit a frame of the stack map")]
     Frame,

@@ -1,5 +1,5 @@
--- The numbers of classes and array types (own). A class of the program has the number of its place there. Behind these come the other
--- names of classes that a pool or a descriptor has, in the order in which they are met. Behind these come the array types: those that a
+-- The numbers of classes and array types (own). A class of the program has the number of its place there. After these come the other
+-- names of classes that a pool or a descriptor has, in the order in which they are met. After these come the array types: those that a
 -- pool or a descriptor has, those that newarray and anewarray make, and the types of their elements. They are grouped by the type of
 -- their last elements, and in a group those of fewer dimensions come first.
 use Rattle.std.specs.Prelude.{ℕ, zero, suc, ◌+◌, ◌-◌, List, [], ◌∷◌, ◌++◌, Option, Some, None, length, map, take, position, is_some, unwrap_or, get_or, slice_set, max, min, replicate, nat_lt, nat_le, ◌==◌, ◌&&◌, if◌then◌else◌}
@@ -106,7 +106,7 @@ with_name names name = if is_some (number_of names name) then names else names +
 
 -- ---- array types
 
--- The types that are no arrays in order: the eight primitive ones, and behind them the classes.
+-- The types that are no arrays in order: the eight primitive ones, and after them the classes.
 abbrev pub element_index : List (List ℕ) → ElementType → ℕ
 element_index names elements.Bool = 0
 element_index names elements.Byte = 1

@@ -1,5 +1,5 @@
--- A linked world: the classes of a program, and tables by number. Classes have the numbers of their places in the program; behind
--- them come the other names of classes that a pool or a descriptor has, and behind these the array types. Fields and methods are
+-- A linked world: the classes of a program, and tables by number. Classes have the numbers of their places in the program; after
+-- them come the other names of classes that a pool or a descriptor has, and after these the array types. Fields and methods are
 -- numbered in the order of the classes, and in a class in the order of its file. (own)
 use Rattle.std.specs.Prelude.{ℕ, ◌-◌, List, [], ◌∷◌, Option, Some, None, length, position, slice_get, nat_lt, nat_le, ◌==◌, if◌then◌else◌}
 use Rattle.std.specs.Option.{option_and_then, option_map, option_map_or}
@@ -20,7 +20,7 @@ pub record World : Type 0 where
   pub program : Program
   -- the names of classes by number, those of the program first
   pub names : List (List ℕ)
-  -- the array types behind them
+  -- the array types after them
   pub arrays : List ArrayType
   pub fields : List FieldInfo
   pub methods : List MethodInfo

@@ -36,7 +36,7 @@ pub trait Lookups {
     fn name_number(&self, name: &[u16]) -> Option<u32>
         ensures { result ≡ spec.name_number (world self.now) name.now };
 
-    /// How many names have a number. The array types have those behind them.
+    /// How many names have a number. The array types have those after them.
     fn name_count(&self) -> u32
         ensures { result ≡ length (world self.now).names };
 

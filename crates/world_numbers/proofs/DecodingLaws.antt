@@ -16,7 +16,7 @@ pub kinds_are : (pool : List Const) (methods : List Member) → flat_map (kinds_
 kinds_are pool [] = refl
 kinds_are pool (m ∷ methods) = ap (λ xs. kinds_in pool (code_of m) ++ xs) (kinds_are pool methods)
 
--- the codes of the files from one on are those of this file and of the files behind it
+-- the codes of the files from one on are those of this file and of the files after it
 next_file : (files : List ClassFile) (i : ℕ) (f : ClassFile) → i < length files → f ≡ get_or files i f
     → flat_map codes_in (drop i files) ≡ codes_in f ++ flat_map codes_in (drop (i + 1) files)
 next_file files i f h e =

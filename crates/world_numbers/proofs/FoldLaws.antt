@@ -1,4 +1,4 @@
--- Folds over lists one behind the other.
+-- Folds over lists one after the other.
 use Rattle.std.proofs.Common.{◌≡◌, List, ◌++◌, ap, ◌∙◌}
 use Rattle.std.specs.List.{fold}
 use Rattle.std.proofs.lemmas.List.Sums.{fold-append}

@@ -1,4 +1,4 @@
--- Where each of several groups begins that lie one behind the other.
+-- Where each of several groups begins that lie one after the other.
 use Rattle.std.specs.Prelude.{◌≡◌, ℕ, ◌+◌, ◌<◌, ◌^◌, List, [], ◌∷◌, length}
 use Rattle.std.specs.List.{sum}
 use Rattle.world_model.specs.Numbering.{Numbering}

@@ -31,7 +31,7 @@ impl Model for MemberNumbers {
     ghost invariant = { IsCounted };
 }
 
-// The number behind so many more members. Numbers from 2^32 on count as memory run out.
+// The number after so many more members. Numbers from 2^32 on count as memory run out.
 fn behind(number: u32, count: usize) -> Result<u32, NoMemory>
     ensures { IfOk result (λ n. n ≡ number + count) }
 {

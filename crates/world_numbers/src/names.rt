@@ -83,7 +83,7 @@ impl Names {
             }
         }
     }
-    /// Puts a text behind all others, also where it is among them. Where memory runs out, as it counts past 2^32 texts, nothing changes.
+    /// Puts a text after all others, also where it is among them. Where memory runs out, as it counts past 2^32 texts, nothing changes.
     pub fn push(&mut self, alloc: Global, text: &[u16]) -> Result<(), NoMemory>
         ensures ok { OnOk result (self.new ≡ self.old ++ text.now ∷ []) }
         ensures err { OnErr result (self.new ≡ self.old) }

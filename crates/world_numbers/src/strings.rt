@@ -16,7 +16,7 @@ use std::alloc::Global;
 /// How many objects of the machine stand before the first String.
 const OBJECTS_BEFORE: u32 = 10;
 
-// Puts an ASCII text behind all others.
+// Puts an ASCII text after all others.
 fn push_ascii(alloc: Global, strings: &mut Names, text: &[u8]) -> Result<(), NoMemory>
     ensures { OnOk result (strings.new ≡ strings.old ++ text.now ∷ []) }
 {

@@ -57,7 +57,7 @@ pub fn row_at(rows: &[Items<u32>], class: u32) -> &[u32]
     }
 }
 
-// The rows of classes one behind the other, from the last class on.
+// The rows of classes one after the other, from the last class on.
 fn joined_rows(alloc: Global, rows: &[Items<u32>], classes: &[u32]) -> Result<Items<u32>, NoMemory>
     ensures { IfOk result (λ v. v ≡ flat_map (row_at rows.now) (reverse classes.now)) }
 {

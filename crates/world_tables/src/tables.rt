@@ -132,7 +132,7 @@ impl Tables {
         self.numbers.names().number(name)
     }
 
-    /// How many names have a number. The array types have those behind them.
+    /// How many names have a number. The array types have those after them.
     pub fn name_count(&self) -> u32
         ensures { result ≡ length self.now.names }
     {
@@ -149,7 +149,7 @@ impl Tables {
         }
     }
 
-    /// The array types, in the order of their numbers behind those of the names.
+    /// The array types, in the order of their numbers after those of the names.
     pub fn arrays(&self) -> &[ArrayType]
         ensures { result.now ≡ self.now.arrays }
     {

@@ -10,7 +10,7 @@ use Rattle.lib_table.specs.Build as spec
 use Rattle.lib_table.proofs.Steps.{after_step}
 use Rattle.lib_table.proofs.build.class_file.Goals as goal
 
--- what comes behind each step
+-- what comes after each step
 abbrev behind_methods : Class → ℕ → ℕ → List ℕ → List Member → List Member → List Const → ClassFile × List Const
 behind_methods d own parent interfaces fields methods pool = (spec.file d.flags own parent interfaces fields methods pool, pool)
 
