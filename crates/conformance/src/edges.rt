@@ -8,7 +8,7 @@ use std::alloc::{AllocError, Global};
 use std::fs;
 use std::test::Fail;
 
-/// A store with a file `a` of the bytes 1, 2 and 3, and one `b` of the byte 4.
+// A store with a file `a` of the bytes 1, 2 and 3, and one `b` of the byte 4.
 fn two_files(alloc: Global, fail_at: Vec<u64>) -> Result<MapStore, AllocError> {
     let mut files = Vec::new(alloc);
     files.push((String::from_str(alloc, "a")?, vec![in alloc; 1, 2, 3]?))?;
@@ -16,7 +16,7 @@ fn two_files(alloc: Global, fail_at: Vec<u64>) -> Result<MapStore, AllocError> {
     Ok(MapStore::new(files, fail_at))
 }
 
-/// Whether the first bytes of this file, at most two, are these.
+// Whether the first bytes of this file, at most two, are these.
 fn finds<S: Store>(store: &mut S, alloc: Global, name: &str, wanted: &[u8]) -> bool {
     match store.read(alloc, name, 2) {
         Ok(Some(found)) => found.as_slice() == wanted,
@@ -24,7 +24,7 @@ fn finds<S: Store>(store: &mut S, alloc: Global, name: &str, wanted: &[u8]) -> b
     }
 }
 
-/// Whether a store has no file of that name.
+// Whether a store has no file of that name.
 fn misses<S: Store>(store: &mut S, alloc: Global, name: &str) -> bool {
     match store.read(alloc, name, 2) {
         Ok(found) => found.is_none(),
@@ -32,7 +32,7 @@ fn misses<S: Store>(store: &mut S, alloc: Global, name: &str) -> bool {
     }
 }
 
-/// A reading of a clock that carriers share.
+// A reading of a clock that carriers share.
 fn shared_reading<C: Clock + Sync>(clock: &C) -> u64 {
     clock.now()
 }

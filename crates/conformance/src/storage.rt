@@ -10,7 +10,7 @@ use std::test::Fail;
 
 const LONG: Slot = Slot::One(Value::Long(-7));
 
-/// The local variables of a method that gets a long, and what its caller has when it gave the long back.
+// The local variables of a method that gets a long, and what its caller has when it gave the long back.
 fn called(alloc: Global) -> Result<(Slot, Slot, Slot, Slot), StackError> {
     let mut stack = Stack::new(alloc);
     stack.push_frame(1, 0, 2, 0)?;
@@ -36,7 +36,7 @@ fn a_long_goes_to_a_callee_and_back(rt: HostRuntime) -> Result<(), Fail> {
     Ok(())
 }
 
-/// How many frames of a thread can be pushed one over the other, and why no more.
+// How many frames of a thread can be pushed one over the other, and why no more.
 fn deepest(mounted: &mut Mounted) -> Option<StackError> {
     for _ in 0..3000u32 {
         if let Err(why) = mounted.push_frame(1, 1, 1, 0, false) {
@@ -55,7 +55,7 @@ fn a_stack_has_2048_frames(rt: HostRuntime) -> Result<(), Fail> {
     Ok(())
 }
 
-/// The pins with a pinned frame under another, and without both.
+// The pins with a pinned frame under another, and without both.
 fn pins(alloc: Global) -> Result<(u32, u32), StackError> {
     let mut mounted = Mounted::new(alloc, 0);
     mounted.push_frame(1, 0, 0, 0, true)?;
@@ -74,7 +74,7 @@ fn a_pin_goes_with_its_frame(rt: HostRuntime) -> Result<(), Fail> {
     Ok(())
 }
 
-/// What a heap of so many cells answers to an object of two fields and then to a String of nine units.
+// What a heap of so many cells answers to an object of two fields and then to a String of nine units.
 fn filled(alloc: Global, cells: u32) -> (Result<u32, HeapError>, Result<u32, HeapError>, u32) {
     let mut heap = Heap::new(alloc, cells);
     let object = heap.object(3, &[Value::Null, Value::Long(1)]);

@@ -19,7 +19,7 @@ fn a_take_goes_round_the_deques(rt: HostRuntime) -> Result<(), Fail> {
     Ok(())
 }
 
-/// Monitors that so many threads may use, in so many calls.
+// Monitors that so many threads may use, in so many calls.
 fn monitors_for(alloc: Global, threads: u32, calls: u32) -> Result<Monitors, NoMemory>
     ensures threads { IfOk result (λ monitors. monitors.threads ≡ threads) }
     ensures spare { IfOk result (λ monitors. calls ≤ monitors.spare) }

@@ -11,7 +11,7 @@ use Rattle.descriptors.specs.States.{is_field, is_method}
 
 -- ---- fields
 
--- the type that is no array whose descriptor this is; a name stands between its letter and a semicolon
+-- the type that is no array whose descriptor this is; a name comes between its letter and a semicolon
 abbrev pub element_of : List ℕ → ElementType
 element_of [] = elements.Int
 element_of (u ∷ us) =

@@ -26,7 +26,7 @@ pub lines_long : (es : List Entry) → length es ≤ length (flat_map line es)
 lines_long [] = omega arith
 lines_long (e ∷ es) = omega (arith, lines_long es, line_long e, length-append (line e) (flat_map line es))
 
--- two lists of lines, after each of which no entry's line stands
+-- two lists of lines, after each of which there is no entry's line
 pub lines_same : (xs es : List Entry) (a b : List ℕ) → AreEntries xs → AreEntries es → flat_map line xs ++ a ≡ flat_map line es ++ b
     → entry_at a ≡ None → entry_at b ≡ None → (xs ≡ es) × (a ≡ b)
 lines_same [] [] a b p q e f g = (refl, e)

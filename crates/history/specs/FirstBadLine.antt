@@ -4,11 +4,11 @@ use Rattle.std.specs.List.{flat_map}
 use Rattle.history.specs.declared.entry.Entry.{Entry}
 use Rattle.history.specs.TraceText.{line, first_line, last_line, trace_text, IsEntry, AreEntries}
 
--- no first line stands at the front
+-- there is no first line at the front
 pub record NoFirstLine (text : List ℕ) : Type 0 where
   pub none : (carriers : ℕ) (rest : List ℕ) → carriers < 2 ^ 32 → text ≡ first_line carriers ++ rest → ⊥
 
--- after the first line and some lines of entries stands neither an entry nor the last line
+-- after the first line and some lines of entries comes neither an entry nor the last line
 pub record NoNextLine (text : List ℕ) (at : ℕ) : Type 0 where
   pub carriers : ℕ
   pub entries : List Entry

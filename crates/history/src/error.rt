@@ -7,7 +7,7 @@ use thiserror::Error;
 /// Why a text gave no history.
 #[derive(Clone, Copy, Debug, PartialEq, Eq, Error)]
 pub enum TraceError {
-    /// The text is no trace. `line` is the first line that can't stand where it stands, counted from 1.
+    /// The text is no trace. `line` is the first line that can't be where it is, counted from 1.
     #[error("bad trace at line {line}")]
     Bad { line: u32 },
     /// Memory ran out.

@@ -13,7 +13,7 @@ pub fn after<'a>(front: &[u8], bytes: &'a [u8]) -> Option<&'a [u8]>
     bytes.strip_prefix(front)
 }
 
-/// A number in decimal without leading zeros, which is at most `most`.
+// A number in decimal without leading zeros, which is at most `most`.
 fn number_at(most: u64, bytes: &[u8]) -> Option<(u64, &[u8])>
     ensures value { option_map (λ x. (x.0, x.1.now)) result ≡ parsing.number_at most bytes.now }
     ensures bound { IfSome result (λ x. x.0 ≤ most) }
@@ -26,7 +26,7 @@ fn number_at(most: u64, bytes: &[u8]) -> Option<(u64, &[u8])>
     }
 }
 
-/// The number that the digits at the front spell, which is at most `most`.
+// The number that the digits at the front spell, which is at most `most`.
 fn digits_at(most: u64, bytes: &[u8]) -> Option<(u64, &[u8])>
     ensures value { option_map (λ x. (x.0, x.1.now)) result ≡ parsing.digits_from most 0 bytes.now }
     ensures bound { IfSome result (λ x. x.0 ≤ most) }
@@ -49,7 +49,7 @@ fn is_digit(byte: u8) -> bool
     matches!(byte, b'0'..=b'9')
 }
 
-/// The number with one more digit at its end.
+// The number with one more digit at its end.
 fn with_digit(most: u64, number: u64, digit: u8) -> Option<u64>
     requires { parsing.is_digit digit ≡ true }
     ensures value { result ≡ parsing.with_digit most number digit }
@@ -64,14 +64,14 @@ fn with_digit(most: u64, number: u64, digit: u8) -> Option<u64>
     Some(next)
 }
 
-/// A space and a number of 64 bits.
+// A space and a number of 64 bits.
 fn long_field_at(bytes: &[u8]) -> Option<(u64, &[u8])>
     ensures { option_map (λ x. (x.0, x.1.now)) result ≡ parsing.field_at parsing.most64 bytes.now }
 {
     number_at(u64::MAX, after(b" ", bytes)?)
 }
 
-/// A space and a number of 32 bits.
+// A space and a number of 32 bits.
 fn field_at(bytes: &[u8]) -> Option<(u32, &[u8])>
     ensures { option_map (λ x. (x.0, x.1.now)) result ≡ parsing.field_at parsing.most32 bytes.now }
 {
@@ -79,7 +79,7 @@ fn field_at(bytes: &[u8]) -> Option<(u32, &[u8])>
     Some((number as u32, rest))
 }
 
-/// A space, and the number of a thread or a minus sign for none.
+// A space, and the number of a thread or a minus sign for none.
 fn pick_at(bytes: &[u8]) -> Option<(Option<u32>, &[u8])>
     ensures { option_map (λ x. (x.0, x.1.now)) result ≡ parsing.pick_at bytes.now }
 {
@@ -92,7 +92,7 @@ fn pick_at(bytes: &[u8]) -> Option<(Option<u32>, &[u8])>
     }
 }
 
-/// The fields of a step: the thread, the number of steps, and the pick.
+// The fields of a step: the thread, the number of steps, and the pick.
 fn step_at(bytes: &[u8]) -> Option<(What, &[u8])>
     ensures { option_map (λ x. (x.0, x.1.now)) result ≡ parsing.step_at bytes.now }
 {
@@ -110,7 +110,7 @@ fn step_at(bytes: &[u8]) -> Option<(What, &[u8])>
     Some((what, rest))
 }
 
-/// The fields after the carrier, by the entry's letter.
+// The fields after the carrier, by the entry's letter.
 fn what_at(letter: u8, bytes: &[u8]) -> Option<(What, &[u8])>
     ensures { option_map (λ x. (x.0, x.1.now)) result ≡ parsing.what_at letter bytes.now }
 {

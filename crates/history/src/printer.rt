@@ -46,7 +46,7 @@ fn print_line(text: &mut Vec<u8>, entry: Entry) -> Result<(), AllocError>
     text.extend_from_slice(b"\n")
 }
 
-/// What comes after the carrier.
+// What comes after the carrier.
 fn print_fields(text: &mut Vec<u8>, what: What) -> Result<(), AllocError>
     ensures { OnOk result (text.new.items ≡ text.old.items ++ fields what) }
 {
@@ -68,7 +68,7 @@ fn print_fields(text: &mut Vec<u8>, what: What) -> Result<(), AllocError>
     }
 }
 
-/// A space and a number.
+// A space and a number.
 fn print_field<I: Integer>(text: &mut Vec<u8>, number: I) -> Result<(), AllocError>
     ensures { OnOk result (text.new.items ≡ text.old.items ++ (codes " " ++ I.text number)) }
 {

@@ -21,7 +21,7 @@ pub fn read(alloc: Global, text: &[u8]) -> Result<(u32, Vec<Entry>), TraceError>
     ensures only { (carriers : ℕ) (entries : List OneEntry) → carriers < 2 ^ 32 → AreEntries entries
         → text.now ≡ trace_text carriers entries
         → OkUnless result errors.NoMemory (λ r. (r.0 ≡ carriers) × (r.1.items ≡ entries)) }
-    // A refusal names the first line that can't stand where it stands.
+    // A refusal names the first line that can't be where it is.
     ensures bad { (line : ℕ) → result ≡ Err (errors.Bad line) → IsFirstBadLine text.now line }
 {
     let Some((carriers, lines)) = first_line_at(text) else {
@@ -42,7 +42,7 @@ pub fn read(alloc: Global, text: &[u8]) -> Result<(u32, Vec<Entry>), TraceError>
     Ok((carriers, entries))
 }
 
-/// The entries whose lines stand at the front, and the bytes after them.
+// The entries whose lines are at the front, and the bytes after them.
 fn entries_at(alloc: Global, lines: &[u8]) -> Result<(Vec<Entry>, &[u8]), AllocError>
     ensures { IfOk result (λ r. TakesEntries lines.now r.0.items r.1.now) }
 {

@@ -27,7 +27,7 @@ none_first [] none = refl
 none_first (None ∷ xs) none = none_first xs none.1
 none_first (Some x ∷ xs) none = let e = none.0 in absurd cc
 
--- ---- x is first exactly where none stands before it
+-- ---- x is first exactly where none comes before it
 
 pub first_found : {A : Type 0} (xs : List (Option A)) (x : A) → first_some xs ≡ Some x → IsFirst xs x
 first_found [] x e = absurd cc

@@ -1,4 +1,4 @@
--- The constant pool of a class file that is made of a declaration (JVMS 4.4): a constant stands in it once, at the place where it is
+-- The constant pool of a class file that is made of a declaration (JVMS 4.4): a constant is in it once, at the place where it is
 -- mentioned first, after the constants that it names. (own)
 use Rattle.std.specs.Prelude.{ℕ, Bool, false, List, [], ◌∷◌, ◌++◌, Option, Some, None, length, position, ◌==◌, ◌&&◌}
 use Rattle.class_model.specs.declared.constant.Const.{Const}

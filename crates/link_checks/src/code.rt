@@ -98,7 +98,7 @@ fn rows_fault(namer: Namer, rows: &[Row]) -> Option<LinkWhy>
     None
 }
 
-/// What is wrong with a code.
+// What is wrong with a code.
 fn code_fault(alloc: Global, namer: Namer, body: &CodeBody) -> Result<Option<LinkWhy>, NoMemory>
     ensures { IfOk result (λ fault. fault ≡ first_some (spec.code_faults
         namer.entry.world.now namer.entry.class namer.entry.pool.now body.now)) }

@@ -1,6 +1,6 @@
 -- What may be wrong with a program (JVMS 5.3, 5.4), as one list in order: class by class its name, its superclass, its
 -- superinterfaces, its fields, its methods, and then method by method the instructions by rising pc and the rows of the exception
--- table. At one place the rules stand in the order of LinkWhy. (the order: own)
+-- table. At one place the rules are in the order of LinkWhy. (the order: own)
 use Rattle.std.specs.Prelude.{◌≡◌, ℕ, zero, suc, ◌+◌, ◌-◌, Bool, true, false, not, List, [], ◌∷◌, ◌++◌, Option, Some, None, Ok, Err, length, drop, map, ◌==◌, ◌&&◌, ◌||◌, if◌then◌else◌}
 use Rattle.std.specs.Option.{option_map, option_map_or}
 use Rattle.std.specs.List.{flat_map, list_any, enumerate_from}

@@ -68,7 +68,7 @@ pub goes_again : (w : World) (a b : ℕ) (first mid back last : List Frame) → 
 goes_again w a b first mid back last made returned more =
     rows_join w (1 + a) b (a + (1 + b)) first back last (turned a b) (row_behind w a (1 + a) first mid back refl made returned.0) more
 
--- a run that made fewer instructions than it might stands before none that stays in its frame
+-- a run that made fewer instructions than it might is at none that stays in its frame
 pub stopped : (stays : Bool) (steps more : ℕ) → (stays ≡ true → more ≡ 10000 - 1 - steps) → steps < 10000 → steps + (1 + more) < 10000 → stays ≡ false
 stopped true steps more all few less = let whole = all refl in absurd (omega arith)
 stopped false steps more all few less = refl

@@ -34,7 +34,7 @@ abbrev pub EffectSteps : World → ℕ → (State → ℕ → List Slot → Opti
 EffectSteps w next act a frames b after = (f : Frame) (below : List Frame) → frames ≡ f ∷ below →
     Leads w a b f below after next (act (state_of a (f ∷ below)) (suc (length below)) f.stack)
 
--- The instruction at which the top frame stands, where it is this one, leads from these parts and frames to those.
+-- The instruction at the top frame's pc, where it is this one, leads from these parts and frames to those.
 abbrev pub Steps : World → Instruction → Parts → List Frame → Parts → List Frame → Type 0
 Steps w i a frames b after = (f : Frame) (below : List Frame) → frames ≡ f ∷ below → fetched w f ≡ Some i →
     IsRunStep w (state_of a frames) frames (state_of b after)

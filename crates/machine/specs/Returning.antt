@@ -24,7 +24,7 @@ abbrev pub LeavesRoot : Parts → List Frame → Parts → List Frame → Type 0
 LeavesRoot a frames b after = (f : Frame) (below : List Frame) → frames ≡ f ∷ below →
     root_left (state_of a (f ∷ below)) 0 below ≡ state_of b after
 
--- The top frame, where it stands at such a return, was left.
+-- The top frame, where it is at such a return, was left.
 abbrev pub ReturnSteps : World → Option Kind → Parts → List Frame → Parts → List Frame → Type 0
 ReturnSteps w kind a frames b after = (f : Frame) (below : List Frame) (i : Instruction) → frames ≡ f ∷ below → fetched w f ≡ Some i →
     row_of i.instr.op ≡ returns kind → IsRunStep w (state_of a frames) frames (state_of b after)

@@ -37,6 +37,6 @@ state_of a frames = record {
 abbrev pub IsStep : World → State → State → Type 0
 IsStep w r q = (p : Setting) → p.world ≡ w → step p r 0 None ≡ Some q
 
--- The instruction at which the top frame stands leads from one state to the other.
+-- The instruction at the top frame's pc leads from one state to the other.
 abbrev pub IsRunStep : World → State → List Frame → State → Type 0
 IsRunStep w r frames q = row_or_event w r 0 frames (row w frames) ≡ Some q

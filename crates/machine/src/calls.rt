@@ -57,7 +57,7 @@ fn code_step<W: MachineWorld>(
     }
 }
 
-/// The step of a thread whose top frame stands at an invocation.
+/// The step of a thread whose top frame is at an invocation.
 pub(crate) fn invocation_step<W: MachineWorld>(
     alloc: Global,
     world: &W,

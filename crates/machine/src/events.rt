@@ -13,7 +13,7 @@ use opcodes::Instr;
 use std::alloc::Global;
 use world_model::Naming;
 
-/// The step of a thread whose top frame stands at such an instruction.
+/// The step of a thread whose top frame is at such an instruction.
 pub(crate) fn event_step<W: MachineWorld>(
     alloc: Global,
     world: &W,

@@ -68,7 +68,7 @@ fn run_top(program: &ReadyProgram, mounted: &mut Mounted, most: u32) -> u32
     count_of(run_local(program.prepared(), mounted, most))
 }
 
-/// The next local instruction of a thread, if it stands at one that stays in its frame: whether it was made.
+/// The next local instruction of a thread, if it is at one that stays in its frame: whether it was made.
 pub(crate) fn local_step(program: &ReadyProgram, mounted: &mut Mounted) -> bool
     requires { Typed program.now mounted.old.stack.frames }
     ensures made { result ≡ true → row program.now mounted.old.stack.frames
@@ -79,7 +79,7 @@ pub(crate) fn local_step(program: &ReadyProgram, mounted: &mut Mounted) -> bool
     run_top(program, mounted, 1) == 1
 }
 
-// Goes back to the caller, where the top frame, whose instruction doesn't stay in it, stands at a return that isn't from a root frame:
+// Goes back to the caller, where the top frame, whose instruction doesn't stay in it, is at a return that isn't from a root frame:
 // whether it did. A return that the definitions don't have counts as memory run out.
 fn go_back(program: &ReadyProgram, mounted: &mut Mounted) -> Result<bool, NoMemory>
     requires ready { IsReady program.now }

@@ -27,7 +27,7 @@ fn leave_root(parts: &mut Parts, mounted: &mut Mounted)
     parts.status = status_over(mounted.depth(), parts.status);
 }
 
-/// The step of a thread whose top frame stands at a return.
+/// The step of a thread whose top frame is at a return.
 pub(crate) fn return_step<W: MachineWorld>(
     world: &W,
     parts: &mut Parts,

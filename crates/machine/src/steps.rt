@@ -25,7 +25,7 @@ use ready_program::ReadyProgram;
 use std::alloc::Global;
 use world_model::Naming;
 
-// The step of a thread whose top frame stands at this instruction.
+// The step of a thread whose top frame is at this instruction.
 fn instruction_step<W: MachineWorld>(
     alloc: Global,
     world: &W,

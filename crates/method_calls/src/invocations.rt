@@ -139,7 +139,7 @@ fn invoke_special<W: CallWorld>(
     }
 }
 
-/// What the invocation at which the top frame of a thread stands comes to.
+/// What the invocation at the pc of a thread's top frame comes to.
 pub fn invoke<W: CallWorld>(
     alloc: Global,
     world: &W,

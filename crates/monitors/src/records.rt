@@ -281,7 +281,7 @@ pub fn take_pair(vacant: &mut Vec<u32>) -> u32
     pair
 }
 
-/// Makes one more pair of lists, which is vacant. After an error there are as many as before.
+// Makes one more pair of lists, which is vacant. After an error there are as many as before.
 fn add_pair(vacant: &mut Vec<u32>, pairs: &mut u32, lists: &mut ThreadLists) -> Result<(), NoMemory>
     requires pairs { 2 * pairs.old ≡ length lists.old.lists }
     requires capacity { pairs.old ≤ vec_capacity vacant.old }

@@ -72,7 +72,7 @@ fn new_primitive_array<W: EventWorld>(
     new_array(world, naming, heap, mounted)
 }
 
-/// An instruction on fields, arrays or objects, or a division by 0, in the thread whose top frame stands at it. Every other one is
+/// An instruction on fields, arrays or objects, or a division by 0, in the thread whose top frame is at it. Every other one is
 /// undefined.
 pub fn run_event<W: EventWorld>(
     alloc: Global,

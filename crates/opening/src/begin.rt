@@ -23,7 +23,7 @@ pub struct Opened {
     pub mounted: Mounted,
 }
 
-/// How many objects of the machine stand before the first String.
+/// How many objects of the machine come before the first String.
 const OBJECTS_BEFORE: u32 = 10;
 
 // The number of the array of words, the last object. Numbers from 2^32 on count as memory run out.

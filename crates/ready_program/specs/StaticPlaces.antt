@@ -1,4 +1,4 @@
--- How many static fields stand before each field.
+-- How many static fields come before each field.
 use Rattle.std.specs.Prelude.{◌≡◌, length}
 use Rattle.class_resolution.specs.Tables.{tabulate}
 use Rattle.world_model.specs.World.{World}

@@ -17,7 +17,7 @@ fn is_static(field: &FieldInfo) -> bool
     has_flag(field.flags, ACC_STATIC)
 }
 
-// How many static fields stand before the next field. Numbers from 2^32 on count as memory run out.
+// How many static fields come before the next field. Numbers from 2^32 on count as memory run out.
 fn behind(field: &FieldInfo, before: u32) -> Result<u32, NoMemory>
     ensures { IfOk result (λ n. n ≡ before + cond (is_static_field field.now) 1 0) }
 {
@@ -27,7 +27,7 @@ fn behind(field: &FieldInfo, before: u32) -> Result<u32, NoMemory>
     Ok(before)
 }
 
-/// How many static fields stand before each field, and how many there are.
+/// How many static fields come before each field, and how many there are.
 #[derive(Drop)]
 pub(crate) struct StaticPlaces {
     places: Vec<u32>,
@@ -50,7 +50,7 @@ pub(crate) fn all_static_places(alloc: Global, tables: &Tables) -> Result<Static
     })
 }
 
-/// How many static fields stand before a field; before one that isn't there all of them.
+/// How many static fields come before a field; before one that isn't there all of them.
 #[inline(always)]
 pub(crate) fn static_place_in(places: &StaticPlaces, field: u32) -> u32
     ensures { result ≡ unwrap_or (slice_get places.now.places.items field) places.now.count }

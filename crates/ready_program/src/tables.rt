@@ -17,7 +17,7 @@ use std::alloc::Global;
 use world_tables::Tables;
 
 /// By method: where it is declared, and what the machine does in place of its code. By class: the values of a new object. By field: how
-/// many static fields stand before it. By array class: the class of its elements.
+/// many static fields come before it. By array class: the class of its elements.
 #[derive(Drop)]
 pub(crate) struct ReadyTables {
     pub(crate) places: Vec<Option<Place>>,

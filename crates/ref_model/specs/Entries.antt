@@ -39,7 +39,7 @@ abbrev pub is_static_call : Row → Bool
 is_static_call (invoke static index) = true
 is_static_call r = false
 
--- whether the top frame stands at an invokestatic
+-- whether the top frame is at an invokestatic
 abbrev pub stands_at_static_call : World → List Frame → Bool
 stands_at_static_call w [] = false
 stands_at_static_call w (f ∷ below) =

@@ -1,4 +1,4 @@
--- The instruction at which a frame stands (JVMS 2.5.1, 2.6).
+-- The instruction at a frame's pc (JVMS 2.5.1, 2.6).
 use Rattle.std.specs.Prelude.{ℕ, List, [], Option, Some, None, find, get_or, slice_get, ◌==◌}
 use Rattle.items.specs.Options.{◌>>=◌}
 use Rattle.instruction_rows.specs.declared.value.Value.{Value}

@@ -83,14 +83,14 @@ row_event w i (returns kind) r t f below = root_returned w r t f below
 row_event w i act r t f below =
     row_effect w i act r (length (f ∷ below)) f >>= after_effect w r t i.instr.next f below
 
--- the event at which the top frame stands
+-- the event at the top frame's pc
 abbrev pub event_step : World → State → ℕ → List Frame → Option State
 event_step w r t [] = None
 event_step w r t (f ∷ below) = fetched w f >>= λ i. row_event w i (row_of i.instr.op) r t f below
 
 -- ---- steps
 
--- a local instruction where the top frame stands at one, and an event elsewhere
+-- a local instruction where the top frame is at one, and an event elsewhere
 abbrev pub row_or_event : World → State → ℕ → List Frame → Option (List Frame) → Option State
 row_or_event w r t frames (Some after) = Some (with_frames r t after)
 row_or_event w r t frames None = event_step w r t frames

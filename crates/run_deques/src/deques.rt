@@ -26,7 +26,7 @@ impl Model for Deques {
     ghost invariant = { λ a. a.carriers ≡ length a.lists.lists };
 }
 
-/// The first thread of the first deque that isn't empty, of those from one number up to another.
+// The first thread of the first deque that isn't empty, of those from one number up to another.
 fn front_between(lists: &ThreadLists, from: u32, to: u32) -> Option<(u32, u32)>
     requires { to ≤ length lists.now.lists }
     ensures { result ≡ front from (drop from (take to lists.now.lists)) }

@@ -71,7 +71,7 @@ pub fn make_compact(alarms: &mut BinaryHeap<Reverse<Alarm>>, sleepers: &Slab<Sle
     }
 }
 
-/// Puts one alarm for each sleeper into an empty heap.
+// Puts one alarm for each sleeper into an empty heap.
 fn rebuild(alarms: &mut BinaryHeap<Reverse<Alarm>>, sleepers: &Slab<Sleeper>)
     requires { slab_len sleepers.now ≤ heap_len alarms.old }
     ensures covers { Covers sleepers.now.slots (heap_items alarms.new) }

@@ -32,7 +32,7 @@ never t xs e h = omega arith
 pub apart : (x y : ℕ) (us vs : List ℕ) → ((z : ℕ) → count z (us ++ vs) ≤ 1) → 0 < count x us → 0 < count y vs → x ≡ y → ⊥
 apart x y us vs once h k e = omega (arith, once x, count-append x us vs, subst (λ z. 0 < count z vs) (sym e) k)
 
--- a list is what stands before one of its threads, the thread, and what stands after it
+-- a list is what comes before one of its threads, the thread, and what comes after it
 pub record Split (t : ℕ) (xs : List ℕ) : Type 0 where
   pub before : List ℕ
   pub after : List ℕ
@@ -110,7 +110,7 @@ pub total-push : (t : ℕ) (lists : List (List ℕ)) (k : ℕ) (ts : List ℕ) �
 total-push t lists k ts h =
     omega (arith, total-set (count t) lists k (list_at lists k ++ ts) h, count-append t (list_at lists k) ts)
 
--- a thread that leaves a list where it stands once
+-- a thread that leaves a list where it is once
 pub count-closed : (x t : ℕ) (us vs : List ℕ) → (x ≡ t → ⊥) → count x (us ++ t ∷ vs) ≡ count x (us ++ vs)
 count-closed x t us vs ne = count-append x us (t ∷ vs) ∙ ap (λ n. count x us + n) (count-other x t vs (λ e. ne (sym e))) ∙ sym (count-append x us vs)
 

@@ -1,7 +1,7 @@
 -- Lists of numbers by number.
 use Rattle.std.specs.Prelude.{◌==◌, ℕ, List, [], ◌++◌, Option, count_by, drop, filter, not, slice_get, slice_index_or, slice_set, sum_by}
 
--- what contracts see: the lists by number, each from its first thread on, and how many threads may stand in them
+-- what contracts see: the lists by number, each from its first thread on, and how many threads may be in them
 pub record Lists : Type 0 where
   pub lists : List (List ℕ)
   pub threads : ℕ

@@ -35,7 +35,7 @@ impl Link {
     }
 }
 
-/// The neighbours of a place.
+// The neighbours of a place.
 fn link_at(heads: &[Link], threads: &[Link], place: Place) -> Link
     requires { IsPlace heads.now threads.now place }
     ensures { result ≡ link_of heads.now threads.now place }
@@ -46,7 +46,7 @@ fn link_at(heads: &[Link], threads: &[Link], place: Place) -> Link
     }
 }
 
-/// Makes `place` lead to `to`.
+// Makes `place` lead to `to`.
 fn set_next(heads: &mut [Link], threads: &mut [Link], place: Place, to: Place)
     requires { IsPlace heads.old threads.old place }
     ensures { SetsNext heads.old threads.old heads.new threads.new place to }
@@ -57,7 +57,7 @@ fn set_next(heads: &mut [Link], threads: &mut [Link], place: Place, to: Place)
     }
 }
 
-/// Makes `place` lead back to `to`.
+// Makes `place` lead back to `to`.
 fn set_previous(heads: &mut [Link], threads: &mut [Link], place: Place, to: Place)
     requires { IsPlace heads.old threads.old place }
     ensures { SetsPrevious heads.old threads.old heads.new threads.new place to }

@@ -98,7 +98,7 @@ concatenated_is w r this units (u ∷ others) fits = text_fits w r (units ++ u �
 
 -- ---- builders
 
--- the value that a text stands in is a reference
+-- the value that a text is in is a reference
 text_kind : (r : State) (v : Value) (units : List ℕ) → text_in r v ≡ Some units → kind_of v ≡ kinds.Reference
 text_kind r values.Null units e = refl
 text_kind r (values.Ref o) units e = refl

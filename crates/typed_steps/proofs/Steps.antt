@@ -116,7 +116,7 @@ root_keeps w r q t f (g ∷ rest) typed top true root e =
     known_state w (with_frames r t (g ∷ rest)) q e (frames_keep w r t (g ∷ rest) typed (root_stands w f g rest top root))
 root_keeps w r q t f below typed top false root e = absurd cc
 
--- ---- the event at which the top frame stands
+-- ---- the event at the top frame's pc
 
 row_event_keeps : (w : World) (r q : State) (t : ℕ) (status : Status) (f : Frame) (below : List Frame) → IsLinkedWorld w → IsTypedState w r
     → Has r t status (f ∷ below) → (top : Typed w (f ∷ below)) → (act : Row) → row_of top.0.at.place.instruction ≡ act

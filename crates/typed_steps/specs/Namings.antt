@@ -65,7 +65,7 @@ IsRowNaming w naming (invoke invocation index) r stack =
 IsRowNaming w naming (event e) r stack = IsEventNaming w naming e r stack
 IsRowNaming w naming row r stack = Unit {0}
 
--- of the instruction at which a frame stands
+-- of the instruction at a frame's pc
 abbrev pub IsFrameNaming : World → State → Frame → Type 0
 IsFrameNaming w r f = (i : Instruction) → fetched w f ≡ Some i → IsRowNaming w i.naming (row_of i) r f.stack
 

@@ -38,7 +38,7 @@ is_found pc (i ∷ is) ns = found_step _ i _ _ (eqb i.pc pc) (is_found pc is (dr
 pub all_matches : (p : ℤ → Bool) (ms : List Match) → list_all p (map match_target ms) ≡ list_all (λ m. p (match_target m)) ms
 all_matches p ms = list_all-map p match_target ms
 
--- ---- decoded instructions stand in order
+-- ---- decoded instructions are in order
 
 in_order : (pc : ℕ) (code : List ℕ) (is : List Instr) (ns : List Naming) → BeginsWithAll pc code is [] → pc + length code < 2 ^ 16 → AreInOrder pc (with_namings is ns)
 in_order pc code [] ns b few = tt

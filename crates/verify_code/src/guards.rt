@@ -1,4 +1,4 @@
-//! The rows of an exception table, those of one handler that stand one after the other and meet taken together (JVMS 4.7.3).
+//! The rows of an exception table, those of one handler that follow one another and meet taken together (JVMS 4.7.3).
 
 ghost use Rattle.std.specs.Prelude.{◌≡◌, ◌++◌, ◌∷◌, [], IfOk, IfSome, MatchBool, Some, drop, get_or, map, None};
 ghost use Rattle.verify_types.specs.Environment.{with_catches};

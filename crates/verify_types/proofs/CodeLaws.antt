@@ -1,4 +1,4 @@
--- The instructions of a linked method stand one after the other.
+-- The instructions of a linked method follow one another.
 use Rattle.std.proofs.Common.{◌≡◌, ℕ, ◌<◌, List, [], ◌∷◌, length, Option, Some, None, refl, ap, sym, ◌∙◌, subst, arith}
 use Rattle.std.proofs.lemmas.List.{length-append}
 use Rattle.std.specs.Prelude.{get_or, drop, slice_get}
@@ -15,12 +15,12 @@ use Rattle.world_model.specs.World.{World}
 use Rattle.world_model.specs.Decoded.{code_at, AreDecoded}
 use Rattle.verify_types.specs.Environment.{Instruction, Environment, with_namings, environment_of, environment}
 
--- the instructions stand one after the other, the first at this pc
+-- the instructions follow one another, the first at this pc
 abbrev pub InOrder : ℕ → List Instruction → Type 0
 InOrder pc [] = Unit {0}
 InOrder pc (i ∷ is) = (i.instr.pc ≡ pc) × (pc < i.instr.next) × InOrder i.instr.next is
 
--- there is an instruction, and they stand in order
+-- there is an instruction, and they are in order
 pub record IsLinkedCode (env : Environment) : Type 0 where
   pub first : Instruction
   pub rest : List Instruction

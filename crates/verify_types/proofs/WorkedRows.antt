@@ -30,7 +30,7 @@ static_method = record { class = 3; flags = ACC_STATIC; name = codes "f"; signat
 abbrev constructor : MethodInfo
 constructor = record { class = 3; flags = 0; name = codes "<init>"; signature = record { args = []; result = None } }
 
--- a world of names, in which no class of a file stands, with a constructor, a method and a field of A
+-- a world of names, without a class of a file, with a constructor, a method and a field of A
 abbrev names : World
 names = record {
   program = record { classes = []; built_in = 0 };
@@ -161,7 +161,7 @@ too_deep : IsRefused (method static_method (at 0 1 (ops.PushInt (pos 0)) ∷ at 
 unfolding type_at wide_frame_at frame_at changes_at changes_of table_of
 too_deep = refl
 
--- a return after which nothing stands
+-- a return after which nothing comes
 wrong_return : IsRefused (method static_method (at 0 1 (ops.PushInt (pos 0)) ∷ at 1 2 (ops.Simple (simples.ReturnValue kinds.Int)) ∷ []) [] (0 ∷ 0 ∷ [])) 1 whys.Return
 unfolding type_at wide_frame_at frame_at changes_at changes_of table_of
 wrong_return = refl

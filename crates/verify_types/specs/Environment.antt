@@ -137,7 +137,7 @@ environment w n =
     code_at w n >>= λ code.
     Some (environment_of w m code (get_or w.namings n []) (get_or w.catches n []))
 
--- ---- what stands at a pc
+-- ---- what is at a pc
 
 abbrev pub map_at : Environment → ℕ → Option MapFrame
 map_at env pc = find (λ (f : MapFrame). f.pc == pc) env.map

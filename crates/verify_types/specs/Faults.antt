@@ -94,7 +94,7 @@ whys_after env p s after =
 abbrev pub state_whys : Environment → Placed → TypeState → List (Option VerifyWhy)
 state_whys env p s = whys_after env p s (state_after env p.instruction s)
 
--- An instruction without a state has a frame of the map that names a constant that is no class, or stands after a fault.
+-- An instruction without a state has a frame of the map that names a constant that is no class, or comes after a fault.
 abbrev pub whys_at : Environment → Placed → List (Option VerifyWhy)
 whys_at env p =
     option_map_or (state_whys env p) p.state (unless (is_none (map_at env p.instruction.instr.pc)) whys.Map ∷ [])

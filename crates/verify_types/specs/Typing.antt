@@ -15,7 +15,7 @@ use Rattle.verify_types.specs.Calls.{covers}
 use Rattle.verify_types.specs.Handlers.{caught, is_returned, is_finished}
 use Rattle.verify_types.specs.Walk.{Placed, placed_at}
 
--- An instruction stands at the pc, and slots that have the kinds of this state have those of the state before it.
+-- An instruction is at the pc, and slots that have the kinds of this state have those of the state before it.
 pub record Leads (env : Environment) (s : TypeState) (pc : ℕ) : Type 0 where
   pub place : Placed
   pub there : placed_at env pc ≡ Some place

@@ -15,7 +15,7 @@ ghost use Rattle.verify_types.specs.Faults.{world_faults, first_fault, IsWellTyp
 ghost use Rattle.verify_types.specs.Acceptance.{AreAccepted};
 ghost use Rattle.verify_types.specs.Typing.{AreTyped};
 
-/// The fault that is named is the first: it is there, and none stands before it in the order of classes, methods, pcs and
+/// The fault that is named is the first: it is there, and none comes before it in the order of classes, methods, pcs and
 /// reasons. None is named exactly where there is none, and this is where each instruction of each method keeps to every rule
 /// (JVMS 4.10.1).
 pub fn first_faults()

@@ -18,7 +18,7 @@ times_same t = let e : eqb t t ≡ true = eq-eqb t t refl in rw e refl
 times_other : (t k : ℕ) → k ≢ t → times (Some t) k ≡ 0
 times_other t k differ = elim (eqb_tells t k) [ inl (e, same) ↦ absurd (differ (sym same)) | inr (e, other) ↦ rw e refl ]
 
--- a list in which a thread stands is one of the lists
+-- a list that has a thread is one of the lists
 in_range : (lists : List (List ℕ)) (u k : ℕ) → 0 < count u (list_at lists k) → k < length lists
 in_range lists u k some =
     elim (cases_lt k (length lists)) [
@@ -107,7 +107,7 @@ pub own_times : {threads : List Thread} {lists : Lists} (t : ℕ) (thread : Thre
     → (k : ℕ) → count t (list_at lists.lists k) ≡ times (target_of_status thread.status) k
 own_times {threads} t thread j e k = j.each t k ∙ ap (λ (o : Option ℕ). times o k) (joins_here threads t thread e)
 
--- a thread stands in the list of the thread that it joins
+-- a thread is in the list of the thread that it joins
 pub held : (lists : List (List ℕ)) (t : ℕ) (a : Option ℕ) → ((k : ℕ) → count t (list_at lists k) ≡ times a k) → ForSome a (λ k. 0 < count t (list_at lists k))
 held lists t a h k is = let one : times a k ≡ 1 = ap (λ (o : Option ℕ). times o k) is ∙ times_same k in omega (arith, h k, one)
 

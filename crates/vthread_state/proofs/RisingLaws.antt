@@ -36,7 +36,7 @@ contained u (x ∷ xs) some =
           (suc at.0, omega (arith, at.1), at.2)
     ]
 
--- a number that stands twice in a row
+-- a number that is twice in a row
 twice : (xs : List ℕ) (k : ℕ) → suc k < length xs → get_or xs k 0 ≡ get_or xs (suc k) 0 → 2 ≤ count (get_or xs k 0) xs
 twice [] k low e = absurd (omega arith)
 twice (x ∷ []) k low e = absurd (omega arith)

@@ -5,12 +5,12 @@ use Rattle.thread_lists.specs.Lists.{Lists, count, leave, list_at, push}
 use Rattle.vthread_state.specs.declared.thread.Thread.{Thread}
 use Rattle.vthread_state.specs.Threads.{joins_in}
 
--- how often a thread that joins this one stands in another's list
+-- how often a thread that joins this one is in another's list
 abbrev pub times : Option ℕ → ℕ → ℕ
 times None target = 0
 times (Some t) target = if t == target then 1 else 0
 
--- each thread stands in the list of the thread that it joins, and in no other
+-- each thread is in the list of the thread that it joins, and in no other
 pub record IsJoined (threads : List Thread) (lists : Lists) : Type 0 where
   pub each : (u target : ℕ) → count u (list_at lists.lists target) ≡ times (joins_in threads u) target
   pub sizes : length lists.lists ≡ length threads

@@ -34,7 +34,7 @@ abbrev pub class_of_base : Base → Option ℕ
 class_of_base (bases.Class class) = Some class
 class_of_base base = None
 
--- the number of the class of an array's elements: that of an array of one dimension less stands before it
+-- the number of the class of an array's elements: that of an array of one dimension less comes before it
 abbrev pub element_of : ℕ → ArrayType → Option ℕ
 element_of n array = if array.dimensions == 1 then class_of_base array.base else Some (n - 1)
 

@@ -10,7 +10,7 @@ use Rattle.class_grammar.specs.Pool.{text_at}
 use Rattle.linkage.specs.Program.{Program}
 use Rattle.world_model.specs.Numbering.{number_of, with_name}
 
--- how many objects stand before the first String: the OutOfMemoryError, the streams out and err, main's Thread, the six states
+-- how many objects come before the first String: the OutOfMemoryError, the streams out and err, main's Thread, the six states
 abbrev pub objects_before : ℕ
 objects_before = 10
 

@@ -13,7 +13,7 @@ use class_resolution::Hierarchy;
 use items::NoMemory;
 use std::alloc::Global;
 
-/// How many objects of the machine stand before the first String.
+/// How many objects of the machine come before the first String.
 const OBJECTS_BEFORE: u32 = 10;
 
 // Puts an ASCII text after all others.

@@ -5,7 +5,7 @@ use Rattle.world_model.specs.declared.members.FieldInfo.{FieldInfo}
 use Rattle.world_model.specs.Fields.{declares, is_static_field}
 use Rattle.class_resolution.specs.Tables.{row_at}
 
--- the place of a field, where it is static and so many static fields stand before it
+-- the place of a field, where it is static and so many static fields come before it
 abbrev pub if_static : FieldInfo → ℕ → Option ℕ
 if_static f before = cond (is_static_field f) (Some before) None
 

@@ -19,14 +19,14 @@ fn is_static(field: &FieldInfo) -> bool
     has_flag(field.flags, ACC_STATIC)
 }
 
-// The place of a field, where it is static and so many static fields stand before it.
+// The place of a field, where it is static and so many static fields come before it.
 fn static_place(field: &FieldInfo, before: u32) -> Option<u32>
     ensures { result ≡ spec.if_static field.now before }
 {
     if is_static(field) { Some(before) } else { None }
 }
 
-// How many static fields stand before the next field. Numbers from 2^32 on count as memory run out.
+// How many static fields come before the next field. Numbers from 2^32 on count as memory run out.
 fn behind(field: &FieldInfo, before: u32) -> Result<u32, NoMemory>
     ensures { IfOk result (λ n. n ≡ before + cond (is_static_field field.now) 1 0) }
 {

@@ -1,4 +1,4 @@
--- What is left of the instructions has the first fault of all, and stands in order.
+-- What is left of the instructions has the first fault of all, and is in order.
 use Rattle.std.proofs.Common.{◌≡◌, ℕ, length}
 use Rattle.verify_types.specs.Environment.{with_namings}
 use Rattle.verify_code.specs.Environments.{AreInOrder}
