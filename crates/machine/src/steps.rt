@@ -19,7 +19,6 @@ use crate::throwing::throwing_step;
 use crate::world::MachineWorld;
 use continuation::Mounted;
 use items::NoMemory;
-use naming_tests::fits_row;
 use opcodes::{Instr, Op};
 use ready_program::ReadyProgram;
 use std::alloc::Global;
@@ -73,11 +72,6 @@ pub(crate) fn fetched_step(
     let Some(fetched) = program.instruction(top.method, top.pc) else {
         return Err(NoMemory);
     };
-    let heap = &parts.natives.heap;
-    mounted.operands_fit();
-    if !fits_row(program, &fetched.instr.op, fetched.naming, heap, mounted) {
-        return Err(NoMemory);
-    }
     instruction_step(
         alloc,
         program,

@@ -14,5 +14,4 @@ returns c =
     (frames_kept w c.args.parts.now c.instruction_step.new.parts frames c.instruction_step.new.mounted.stack.frames (instruction_of c.in-Some.fetched) (omega arith)
     c.requires.ready c.requires.typed c.requires.running c.requires.going
     (ap (λ m. instruction_at w m (top_pc frames)) (sym c.top-top.ensures.method) ∙ ap (instruction_at w c.top-top.result.method) (sym c.top-top.ensures.pc)
-    ∙ sym c.instruction.ensures ∙ ap (option_map instruction_of) c.in-Some.is)
-    (c.fits_row.ensures c.if-not-fits_row.false))
+    ∙ sym c.instruction.ensures ∙ ap (option_map instruction_of) c.in-Some.is))
