@@ -59,11 +59,11 @@ pub fn link(
     // A program that links is answered, unless memory ran out.
     ensures only { Links (spec.program built_in.items files.items)
         → OkUnless result LinkError.NoMemory
-            (λ world. world ≡ spec.program built_in.items files.items) }
+        (λ world. world ≡ spec.program built_in.items files.items) }
     // A refusal names the first fault.
     ensures bad { (class : List ℕ) (why : LinkWhy) → result ≡ Err (LinkError.Fault class why)
         → link_fault (spec.program built_in.items files.items)
-            ≡ Some (record { class = class; why = why }) }
+        ≡ Some (record { class = class; why = why }) }
 {
     let hierarchy = Hierarchy::new(alloc, Classes::new(alloc, built_in, files)?)?;
     match link_fault(alloc, &hierarchy)? {

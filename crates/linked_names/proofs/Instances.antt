@@ -221,9 +221,11 @@ instance_named p c name key class links settled none = λ n number at field_is_n
         joined : array_type w class ≡ None → is_below p class h ≡ true → IsAbove p (object_of p) class h → IsAbove p (object_of p) h x.class → Answer n at
         joined plain below (inr root) up = no root
         joined plain below (inl u) (inr root) = absurd (no_root p x has links settled flag root)
-        joined plain below (inl u) (inl v) =
-            (fields_first p class x.class n at settled (below_inside p class h below) (slice_get_within p.classes x.class has.file has.file_is)
-                (up_join (parent_of p) u.steps class h x.class u.is v) lies, plain)
+        joined plain below (inl u) (inl v) = (
+          fields_first p class x.class n at settled (below_inside p class h below) (slice_get_within p.classes x.class has.file has.file_is)
+              (up_join (parent_of p) u.steps class h x.class u.is v) lies,
+          plain,
+        )
 
         either : IsPlain w class h ⊎ (is_above_arrays w h ≡ true) → Answer n at
         either (inl plain) = joined plain.none plain.below (above p class h links settled plain.below) up
@@ -241,7 +243,7 @@ instance_named p c name key class links settled none = λ n number at field_is_n
         in_object None is e = absurd cc
         in_object (Some home) is e =
             absurd (no_root p x has links settled flag
-                (root_above p home x.class links settled (inr (named p home is)) (resolved_above p home key x links settled e)))
+            (root_above p home x.class links settled (inr (named p home is)) (resolved_above p home key x links settled e)))
     of_name n number at x has flag lies sub false resolved numbered = in_class (class_named p name) refl resolved
       where
         in_class : (o : Option ℕ) → class_named p name ≡ o → option_and_then (λ home. field_of p home key) o ≡ Some x → Answer n at

@@ -36,8 +36,8 @@ class_links p c f links file =
 methods_link : (p : Program) (c : ℕ) (f : ClassFile) → AllNone (class_faults_at p c f) → Each (λ m. AllNone (method_code_faults p c f.pool m)) f.methods
 methods_link p c f none =
     let front = name_faults p c f ++ parent_faults p c f ++ flat_map (interface_faults_at p c f) f.interfaces
-        ++ flat_map (λ x. field_faults_at p c f x.0 x.1) (enumerate_from 0 f.fields)
-        ++ flat_map (λ x. method_faults_at p c f x.0 x.1) (enumerate_from 0 f.methods) in
+    ++ flat_map (λ x. field_faults_at p c f x.0 x.1) (enumerate_from 0 f.fields)
+    ++ flat_map (λ x. method_faults_at p c f x.0 x.1) (enumerate_from 0 f.methods) in
     each_flat (λ x. x ≡ None) (method_code_faults p c f.pool) f.methods
     (each_split (λ x. x ≡ None) front (flat_map (method_code_faults p c f.pool) f.methods) none).1
 

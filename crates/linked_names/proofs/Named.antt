@@ -185,7 +185,7 @@ special_named p c of_interface name key m none e =
 
     by : (o : Option Place) → resolved_method p of_interface name key ≡ o → is_method_kind p false o ≡ true
         → named_method (world_of p)
-            (member_of (linking_of p) name (option_map (λ x. sites.Method (method_number p x)) (option_map (special_place (linking_of p) c name key) o))) ≡ Some m
+        (member_of (linking_of p) name (option_map (λ x. sites.Method (method_number p x)) (option_map (special_place (linking_of p) c name key) o))) ≡ Some m
         → has_flag ACC_STATIC m.method.flags ≡ false
     by None is kind e = absurd cc
     by (Some x) is kind e =

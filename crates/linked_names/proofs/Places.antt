@@ -144,7 +144,7 @@ interface_method_has p c key at e =
     either_has (HasMethod p) (declared_method p key c) (option_or (object_method p key) (from_interfaces p c key)) at
     (λ x is. declared_is p key c x is)
     (λ x is. either_has (HasMethod p) (object_method p key) (from_interfaces p c key) x
-        (λ y found. (object_method_has p key y found).has) (λ y found. from_interfaces_has p c key y found) is)
+    (λ y found. (object_method_has p key y found).has) (λ y found. from_interfaces_has p c key y found) is)
     e
 
 pub method_resolved : (p : Program) (of_interface : Bool) (name : List ℕ) (key : Key) (at : Place) → resolved_method p of_interface name key ≡ Some at → HasMethod p at
@@ -222,7 +222,7 @@ from_interface_has p key start at e =
     either_has (IsOfInstances p) (instance_method p key start) (option_or (object_method p key) (sole_from p key start)) at
     (λ x is. instance_has p key start x is)
     (λ x is. either_has (IsOfInstances p) (object_method p key) (sole_from p key start) x
-        (λ y found. of_object p y (object_method_has p key y found)) (λ y found. sole_has p key start y found) is)
+    (λ y found. of_object p y (object_method_has p key y found)) (λ y found. sole_has p key start y found) is)
     e
 
 special_has : (p : Program) (key : Key) (start : ℕ) (at : Place) → special_from p key start ≡ Some at → IsOfInstances p at
