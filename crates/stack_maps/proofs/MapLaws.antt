@@ -4,7 +4,9 @@ use Rattle.std.specs.List.{flat_map}
 use Rattle.std.proofs.lemmas.Bool.{eqb-true}
 use Rattle.std.proofs.lemmas.List.{append-nil, nil_from_length}
 use Rattle.byte_reader.specs.declared.fault.Fault.{Fault}
-use Rattle.byte_reader.specs.Reader.{◌>>=◌, Reader, fault_at, map_value, list_by, offset_of}
+use Rattle.byte_reader.specs.declared.fault.Stop.{Stop}
+use Rattle.byte_reader.specs.declared.fault.Stop.TheVariants as stops
+use Rattle.byte_reader.specs.Reader.{Stops, ◌>>=◌, Reader, fault_at, map_value, list_by, offset_of}
 use Rattle.byte_reader.proofs.ReaderLaws.{IsBytes, IsReader, ok_of, ok_is, passed, Takes-then, list_by_reads, same_reads, AllByState}
 use Rattle.stack_maps.specs.declared.types.FrameTypes.{FrameTypes}
 use Rattle.stack_maps.specs.declared.types.FrameChange.{FrameChange}
@@ -12,10 +14,11 @@ use Rattle.stack_maps.specs.declared.types.VType.{VType}
 use Rattle.stack_maps.specs.declared.frames.DeltaFrame.{DeltaFrame}
 use Rattle.stack_maps.specs.declared.error.MapWhy.{MapWhy}
 use Rattle.stack_maps.specs.declared.error.MapWhy.TheVariants as whys
+use Rattle.stack_maps.specs.declared.error.MapError.TheVariants as errors
 use Rattle.stack_maps.specs.Encoding.{u2, Frame, Same, SameLocals1StackItem, SameLocals1StackItemExtended, Chop, SameExtended, Append, Full, frame, delta_of, types_of, IsFrame, AreFrames, whole_frames, table}
 use Rattle.stack_maps.specs.Changes.{change_of, made_whole, types_after}
 use Rattle.stack_maps.specs.Readers.{u2_at, delta_frame, frame_at, Before, change_at, behind, changes_at, changes_of, table_of}
-use Rattle.stack_maps.specs.Expansion.{Expands, with_offset, expansion}
+use Rattle.stack_maps.specs.Expansion.{Expands, with_offset, expansion, error_of}
 use Rattle.stack_maps.proofs.TypeLaws.{u2_reads}
 use Rattle.stack_maps.proofs.FrameLaws.{frame_reads}
 
@@ -151,19 +154,27 @@ unfolding table_of
 changes_again first bytes changes frames e m =
     ok_is (made_whole first.locals changes) frames (sym (ap (λ (r : Result (List (ℕ × FrameChange)) (Fault MapWhy)). r >>= λ changes. Ok (made_whole first.locals changes)) e) ∙ table_again first bytes frames m)
 
-pub fault_is : (first : FrameTypes) (bytes : List ℕ) (f : Fault MapWhy) → changes_of first bytes ≡ Err f → table_of first bytes ≡ Err f
+fault_is : (first : FrameTypes) (bytes : List ℕ) (f : Fault MapWhy) → changes_of first bytes ≡ Err f → table_of first bytes ≡ Err f
 unfolding table_of
 fault_is first bytes f e = ap (λ (r : Result (List (ℕ × FrameChange)) (Fault MapWhy)). r >>= λ changes. Ok (made_whole first.locals changes)) e
 
-pub no_fault : {X : Type 0} (first : FrameTypes) (bytes : List ℕ) (frames : List (ℕ × FrameTypes)) (f : Fault MapWhy) → changes_of first bytes ≡ Err f → Expands first bytes frames → X
-no_fault first bytes frames f e m = let both = sym (fault_is first bytes f e) ∙ table_again first bytes frames m in absurd cc
-
 -- ---- with the offset of a fault
 
-pub bad_is : (first : FrameTypes) (bytes : List ℕ) (f : Fault MapWhy) (offset at : ℕ) (why : MapWhy) → changes_of first bytes ≡ Err f → offset ≡ offset_of (length bytes) f
-    → offset ≡ at → f.why ≡ why → expansion first bytes ≡ Err (at, why)
-bad_is first bytes f offset at why e is there cause =
-    ap (with_offset bytes) (fault_is first bytes f e) ∙ ap (λ (n : ℕ). Err (n, f.why)) (sym is ∙ there) ∙ ap (λ (w : MapWhy). Err (at, w)) cause
+pub stops_whole : (first : FrameTypes) (bytes : List ℕ) (stop : Stop MapWhy) → Stops stop (changes_of first bytes) → Stops stop (table_of first bytes)
+stops_whole first bytes stops.NoMemory e = tt
+stops_whole first bytes (stops.Fault f) e = fault_is first bytes f e
+
+-- only memory can stop the reading of a map
+pub stops_only : (first : FrameTypes) (bytes : List ℕ) (frames : List (ℕ × FrameTypes)) (stop : Stop MapWhy) → Stops stop (table_of first bytes) → Expands first bytes frames → error_of bytes stop ≡ errors.NoMemory
+stops_only first bytes frames stops.NoMemory e m = refl
+stops_only first bytes frames (stops.Fault f) e m = let both = sym e ∙ table_again first bytes frames m in absurd cc
+
+pub stops_bad : (first : FrameTypes) (bytes : List ℕ) (at : ℕ) (why : MapWhy) (stop : Stop MapWhy) → Stops stop (table_of first bytes) → error_of bytes stop ≡ errors.Bad at why → expansion first bytes ≡ Err (at, why)
+stops_bad first bytes at why stops.NoMemory e same = absurd cc
+stops_bad first bytes at why (stops.Fault f) e same =
+    let there : offset_of (length bytes) f ≡ at = cc in
+    let cause : f.why ≡ why = cc in
+    ap (with_offset bytes) e ∙ ap (λ (n : ℕ). Err (n, f.why)) there ∙ ap (λ (w : MapWhy). Err (at, w)) cause
 
 value_is : {A : Type 0} (bytes : List ℕ) (r : Result A (Fault MapWhy)) (x : A) → with_offset bytes r ≡ Ok x → r ≡ Ok x
 value_is bytes (Ok y) x e = cc

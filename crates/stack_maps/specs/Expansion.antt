@@ -1,9 +1,13 @@
 -- What the frames of a map are, and the first fault where the bytes are no map (JVMS 4.7.4).
 use Rattle.std.specs.Prelude.{◌≡◌, ℕ, ◌<◌, ◌^◌, List, length, Result, Ok, Err}
 use Rattle.byte_reader.specs.declared.fault.Fault.{Fault}
+use Rattle.byte_reader.specs.declared.fault.Stop.{Stop}
+use Rattle.byte_reader.specs.declared.fault.Stop.TheVariants as stops
 use Rattle.byte_reader.specs.Reader.{offset_of}
 use Rattle.stack_maps.specs.declared.types.FrameTypes.{FrameTypes}
 use Rattle.stack_maps.specs.declared.error.MapWhy.{MapWhy}
+use Rattle.stack_maps.specs.declared.error.MapError.{MapError}
+use Rattle.stack_maps.specs.declared.error.MapError.TheVariants as errors
 use Rattle.stack_maps.specs.Encoding.{Frame, AreFrames, table, whole_frames}
 use Rattle.stack_maps.specs.Readers.{table_of}
 
@@ -23,3 +27,8 @@ with_offset bytes (Err f) = Err (offset_of (length bytes) f, f.why)
 -- the frames, or the offset of the first fault from the left and its reason
 abbrev pub expansion : FrameTypes → List ℕ → Result (List (ℕ × FrameTypes)) (ℕ × MapWhy)
 expansion first bytes = with_offset bytes (table_of first bytes)
+
+-- why a map was not expanded, where reading these bytes stopped so
+abbrev pub error_of : List ℕ → Stop MapWhy → MapError
+error_of bytes (stops.Fault f) = errors.Bad (offset_of (length bytes) f) f.why
+error_of bytes stops.NoMemory = errors.NoMemory

@@ -83,6 +83,10 @@ behind before c = record { next = c.0 + 1; locals = locals_after before.locals c
 unfoldable pub changes_at : FrameTypes → ℕ → Reader MapWhy (List (ℕ × FrameChange))
 changes_at first count bytes = list_by change_at behind (record { next = 0; locals = first.locals }) count bytes
 
+-- that many frames, each with its pc and all of its types
+abbrev pub whole_frames_at : FrameTypes → ℕ → Reader MapWhy (List (ℕ × FrameTypes))
+whole_frames_at first count bytes = map_value (made_whole first.locals) (changes_at first count) bytes
+
 -- a count, that many frames, and no byte more
 unfoldable pub changes_of : FrameTypes → List ℕ → Result (List (ℕ × FrameChange)) (Fault MapWhy)
 changes_of first bytes = do

@@ -1,12 +1,20 @@
-use Rattle.std.proofs.Common.{ap, ◌∙◌}
-use Rattle.std.proofs.lemmas.Result.{err_from_is_err_and}
-use Rattle.stack_maps.specs.Changes.{made_whole}
+use Rattle.std.proofs.Common.{◌≡◌, sym, ◌∙◌, arith}
+use Rattle.byte_reader.proofs.ReaderLaws.{ok_is}
+use Rattle.stack_maps.specs.declared.error.MapError.TheVariants as errors
+use Rattle.stack_maps.proofs.MapLaws.{table_takes, table_again, stops_only, stops_bad}
 use Rattle.stack_maps.proofs.map.expand.Goals as goal
 
-pub returns-in_err-changes-clause-only : goal.returns-in_err-changes-clause-only
-returns-in_err-changes-clause-only c = λ frames m.
-    let p = err_from_is_err_and c.from_residual.result c.from_residual.ensures.1 in
-    rw (p.1, p.2) (c.in_err-changes.ensures.only frames m)
+pub returns-in-Ok-clause-found : goal.returns-in-Ok-clause-found
+returns-in-Ok-clause-found c = table_takes c.args.first.now c.args.bytes.now _ (λ i. omega (arith, c.type_inv.bytes i)) c.in-Ok.ensures
 
-pub returns-clause-only : goal.returns-clause-only
-returns-clause-only c = λ frames m. c.in_ok-made_whole.ensures ∙ ap (λ ls. made_whole ls c.deref-2.result.now) c.deref.ensures ∙ ap (made_whole c.args.first.now.locals) c.deref-2.ensures.value ∙ c.in_ok-changes.ensures.only frames m
+pub returns-in-Ok-clause-only : goal.returns-in-Ok-clause-only
+returns-in-Ok-clause-only c = λ frames m.
+    ok_is _ frames (sym c.in-Ok.ensures ∙ table_again c.args.first.now c.args.bytes.now frames m)
+
+pub returns-in-Err-clause-only : goal.returns-in-Err-clause-only
+returns-in-Err-clause-only c = λ frames m.
+    c.error_of.ensures ∙ stops_only c.args.first.now c.args.bytes.now frames c.in-Err.stop c.in-Err.ensures m
+
+pub returns-in-Err-clause-bad : goal.returns-in-Err-clause-bad
+returns-in-Err-clause-bad c = λ at why e.
+    stops_bad c.args.first.now c.args.bytes.now at why c.in-Err.stop c.in-Err.ensures (let same : c.error_of.result ≡ errors.Bad at why = cc in sym c.error_of.ensures ∙ same)
