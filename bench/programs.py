@@ -203,6 +203,40 @@ def many_objects(c):
     c.method((b"\xbb" + u2(c.pool.of_class(b"java/lang/Object")) + b"\x57") * 16000 + RETURN)
 
 
+def made_objects(c):
+    """8,000 times an object that is made, initialized and dropped, in a method of 65,535 local variables."""
+    make = b"\xbb" + u2(c.pool.of_class(b"java/lang/Object"))
+    init = b"\xb7" + u2(c.pool.member(10, b"java/lang/Object", b"<init>", b"()V"))
+    c.method((make + b"\x59" + init + b"\x57") * 8000 + RETURN)
+
+
+def kept_objects(c):
+    """21,000 objects that are made and left on the operand stack."""
+    c.method((b"\xbb" + u2(c.pool.of_class(b"java/lang/Object"))) * 21000 + RETURN, stack=21000, locals=0)
+
+
+def object_frames(c):
+    """9,000 times an object that is made and dropped, and a jump to a frame of 65,535 local variables."""
+    step = b"\xbb" + u2(c.pool.of_class(b"java/lang/Object")) + b"\x57" + GOTO_NEXT
+    c.method(RETURN + step * 9000 + RETURN, [full_frame(1, [INTEGER] * LOCALS)] + [same(6)] * 9000)
+
+
+def other_stores(c):
+    """3,000 rows of an exception table to 3,000 handlers, each of which covers 30,000 stores into a local variable of other types in turn."""
+    throwable = u1(7) + u2(c.pool.of_class(b"java/lang/Throwable"))
+    first = 60001
+    frames = [u1(247) + u2(first) + throwable] + [u1(64) + throwable] * 2999
+    rows = [(0, first, first + i, 0) for i in range(3000)]
+    c.method((ICONST_0 + ISTORE_0 + ACONST_NULL + b"\x4b") * 15000 + RETURN + b"\xbf" * 3000, frames, rows, locals=1)
+
+
+def branches_apart(c):
+    """8,000 branches from a frame of 65,535 ints to one of as many unset local variables."""
+    end = 4 * 8000 + 1
+    code = b"".join(ICONST_0 + b"\x99" + u2(end - at - 1) for at in range(1, end, 4))
+    c.method(RETURN + code + RETURN, [full_frame(1, [INTEGER] * LOCALS), full_frame(end - 2, [TOP] * LOCALS)])
+
+
 def many_handlers(c):
     """3,000 rows of an exception table to 3,000 handlers, each of which covers 30,000 stores into a local variable."""
     throwable = u1(7) + u2(c.pool.of_class(b"java/lang/Throwable"))
@@ -301,10 +335,15 @@ KINDS = {
     "frames-in-turn": lambda: methods_of(frames_in_turn, 18),
     "branches-ahead": lambda: methods_of(branches_ahead, 40),
     "many-objects": lambda: methods_of(many_objects, 60),
+    "made-objects": lambda: methods_of(made_objects, 60),
+    "kept-objects": lambda: methods_of(kept_objects, 60),
+    "object-frames": lambda: methods_of(object_frames, 28),
+    "branches-apart": lambda: methods_of(branches_apart, 23),
     "other-frames": lambda: methods_of(other_frames, 1),
     "many-rows": lambda: methods_of(many_rows, 6),
     "rows-and-stores": lambda: methods_of(rows_and_stores, 6),
     "many-handlers": lambda: methods_of(many_handlers, 1),
+    "other-stores": lambda: methods_of(other_stores, 1),
     "many-targets": lambda: methods_of(many_targets, 29),
     "deep-casts": lambda: methods_of(deep_casts, 60),
     "one-constant": one_constant,

@@ -1,5 +1,5 @@
 -- Paths that grow by nodes.
-use Rattle.std.proofs.Common.{◌≡◌, ℕ, zero, suc, ◌+◌, ◌<◌, ◌≤◌, List, [], ◌∷◌, ◌++◌, length, get_or, ltb, Option, Some, None, refl, ap, sym, subst, ◌∙◌, arith}
+use Rattle.std.proofs.Common.{◌≡◌, ℕ, zero, suc, ◌+◌, ◌<◌, ◌≤◌, List, [], ◌∷◌, ◌++◌, length, get_or, ltb, Option, Some, None, refl, ap, sym, subst, ◌∙◌, ◌⊎◌, inl, inr, append_assoc, arith}
 use Rattle.std.specs.Prelude.{◌-◌, drop, slice_get, is_some, IfSome, MatchOption}
 use Rattle.std.proofs.lemmas.List.{length-append, get_or_append_left}
 use Rattle.std.specs.Borrow.{Bor}
@@ -9,7 +9,7 @@ use Rattle.std.proofs.lemmas.Option.{same_Some, slice_get_past, slice_get_read}
 use Rattle.std.proofs.Math.Seq.{get_or-append_seam}
 use native.Mathlib.Numerals.{unary_clauses}
 use Rattle.type_paths.specs.declared.paths.Node.{Node}
-use Rattle.type_paths.specs.Paths.{Path, path, paths_from, root, AreAbove, IsPath, IsTop}
+use Rattle.type_paths.specs.Paths.{Path, path, paths_from, root, AreAbove, AreCounted, IsAbove, IsPath, IsTop, IsTree, count_on}
 
 abbrev above : List Path → Node → Path
 above paths n = n.item ∷ path paths n.below
@@ -54,10 +54,10 @@ top_from paths (m ∷ ns) (suc k) n h e =
     let far : length now + k ≡ length paths + suc k = omega arith in
     (omega (arith, more.0), ap (λ i. path (paths_from now ns) i) (sym far) ∙ more.1)
 
-pub top_is : (ns : List Node) (k : ℕ) (n : Node) → AreAbove 1 ns → slice_get ns k ≡ Some n → IsTop (paths_from root ns) (1 + k) n
+pub top_is : (ns : List Node) (k : ℕ) (n : Node) → IsTree ns → slice_get ns k ≡ Some n → IsTop (paths_from root ns) (1 + k) n
 top_is ns k n h e =
-    let found = top_from root ns k n h e in
-    record { is_node = omega (arith, found.0, count_is root ns); is = found.1 }
+    let found = top_from root ns k n h.above e in
+    record { is_node = omega (arith, found.0, count_is root ns); is = found.1; counted = h.counted.each k n e }
 
 pub is_known : (ns : List Node) (n : ℕ) → n ≤ length ns → n < length (paths_from root ns)
 is_known ns n low = omega (arith, count_is root ns)
@@ -82,12 +82,51 @@ not_within [] k e = omega arith
 not_within (m ∷ ns) zero e = absurd cc
 not_within (m ∷ ns) (suc k) e = omega (arith, not_within ns k e)
 
-pub top_or_none : (ns : List Node) (n : ℕ) (o : Option Node) → 0 < n → AreAbove 1 ns → o ≡ slice_get ns (n - 1) → MatchOption o (path (paths_from root ns) n ≡ []) (IsTop (paths_from root ns) n)
+pub top_or_none : (ns : List Node) (n : ℕ) (o : Option Node) → 0 < n → IsTree ns → o ≡ slice_get ns (n - 1) → MatchOption o (path (paths_from root ns) n ≡ []) (IsTop (paths_from root ns) n)
 top_or_none ns n None some h e =
     past ns n (omega (arith, not_within ns (n - 1) (sym e)))
 top_or_none ns n (Some top) some h e =
     let at : 1 + (n - 1) ≡ n = omega arith in
     subst (λ (i : ℕ). IsTop (paths_from root ns) i top) at (top_is ns (n - 1) top h (sym e))
+
+-- ---- one node more is counted
+
+got_last : (ns : List Node) (m n : Node) (k : ℕ) → slice_get (ns ++ m ∷ []) k ≡ Some n → ((slice_get ns k ≡ Some n) × (k < length ns)) ⊎ ((k ≡ length ns) × (m ≡ n))
+got_last [] m n zero e = inr (refl, same_Some m n e)
+got_last [] m n (suc k) e = absurd cc
+got_last (x ∷ ns) m n zero e = inl (e, omega arith)
+got_last (x ∷ ns) m n (suc k) e = after (got_last ns m n k e)
+  where
+    after : ((slice_get ns k ≡ Some n) × (k < length ns)) ⊎ ((k ≡ length ns) × (m ≡ n)) → ((slice_get ns k ≡ Some n) × (suc k < length (x ∷ ns))) ⊎ ((suc k ≡ length (x ∷ ns)) × (m ≡ n))
+    after (inl h) = inl (h.0, omega (arith, h.1))
+    after (inr h) = inr (omega (arith, h.0), h.1)
+
+pub all_counted : (ns : List Node) (m : Node) → AreCounted ns → m.slots ≡ count_on (above (paths_from root ns) m) → AreCounted (ns ++ m ∷ [])
+all_counted ns m h last = record { each = λ k n e. by_place k n (got_last ns m n k e) }
+  where
+    by_place : (k : ℕ) (n : Node) → ((slice_get ns k ≡ Some n) × (k < length ns)) ⊎ ((k ≡ length ns) × (m ≡ n)) → n.slots ≡ count_on (path (paths_from root (ns ++ m ∷ [])) (1 + k))
+    by_place k n (inl found) =
+        h.each k n found.0
+        ∙ ap count_on (sym (get_or_append_left (paths_from root ns) (above (paths_from root ns) m ∷ []) [] (1 + k) (omega (arith, found.1, count_is root ns))))
+        ∙ ap (λ (ps : List Path). count_on (path ps (1 + k))) (sym (grows root ns m))
+    by_place k n (inr found) =
+        let at : length (paths_from root ns) ≡ 1 + k = omega (arith, found.0, count_is root ns) in
+        ap (λ (x : Node). x.slots) (sym found.1)
+        ∙ last
+        ∙ ap count_on (sym (get_or-append_seam (paths_from root ns) (above (paths_from root ns) m) [] []))
+        ∙ ap (λ (i : ℕ). count_on (path (paths_from root ns ++ above (paths_from root ns) m ∷ []) i)) at
+        ∙ ap (λ (ps : List Path). count_on (path ps (1 + k))) (sym (grows root ns m))
+
+-- ---- nodes on a path
+
+pub above_itself : (paths : List Path) (n : ℕ) → IsAbove paths n n
+above_itself paths n = record { more = []; is = refl }
+
+pub above_top : (paths : List Path) (n : ℕ) (top : Node) → IsTop paths n top → IsAbove paths n top.below
+above_top paths n top h = record { more = top.item ∷ []; is = h.is }
+
+pub above_twice : (paths : List Path) (a b c : ℕ) → IsAbove paths a b → IsAbove paths b c → IsAbove paths a c
+above_twice paths a b c h g = record { more = h.more ++ g.more; is = h.is ∙ ap (λ (p : Path). h.more ++ p) g.is ∙ sym (append_assoc h.more g.more (path paths c)) }
 
 -- ---- no path is longer than there are nodes
 

@@ -1,14 +1,13 @@
 -- The types of a path, from its end on.
-use Rattle.std.proofs.Common.{◌≡◌, ℕ, ◌+◌, ◌≤◌, Bool, true, false, cond, List, [], ◌∷◌, ◌++◌, length, Option, Some, None, refl, ap, sym, ◌∙◌, append_assoc, arith}
+use Rattle.std.proofs.Common.{◌≡◌, ℕ, ◌+◌, List, [], ◌∷◌, ◌++◌, length, Option, Some, None, refl, ap, sym, ◌∙◌, append_assoc, arith}
 use Rattle.std.specs.Prelude.{reverse}
 use Rattle.std.specs.Option.{option_map}
 use Rattle.std.proofs.lemmas.List.{append-nil, length-append, reverse-append}
 use Rattle.std.proofs.lemmas.Grind.{flat_map-append}
 use Rattle.items.specs.Options.{◌>>=◌}
 use Rattle.stack_maps.specs.declared.types.VType.{VType}
-use Rattle.stack_maps.specs.declared.types.VType.TheVariants as types
-use Rattle.instruction_rows.specs.Contents.{is_wide, slot_types, types_of}
-use Rattle.type_paths.specs.Paths.{Path, types_on}
+use Rattle.instruction_rows.specs.Contents.{slot_types, types_of}
+use Rattle.type_paths.specs.Paths.{Path, count_on, types_on}
 
 -- the types below one, and that one
 abbrev with_last : Option (List VType) → Option VType → Option (List VType)
@@ -42,43 +41,31 @@ none_yet (Some ts) = ap Some (append-nil ts)
 
 -- ---- as a number of slots
 
-few : (t : VType) (b : Bool) → length (cond b (t ∷ types.Top ∷ []) (t ∷ [])) ≤ 2
-few t true = omega arith
-few t false = omega arith
-
-pub few_slots : (t : VType) → length (types_of t) ≤ 2
-few_slots t = few t (is_wide t)
-
-slots_of_last : (ts : List VType) (u : VType) → length (slot_types (ts ++ u ∷ [])) ≡ length (types_of u) + length (slot_types ts)
+slots_of_last : (ts : List VType) (u : VType) → length (slot_types (ts ++ u ∷ [])) ≡ length (slot_types ts) + length (types_of u)
 slots_of_last ts u =
     ap (λ (s : List VType). length s) (flat_map-append types_of ts (u ∷ []))
     ∙ length-append (slot_types ts) (slot_types (u ∷ []))
     ∙ ap (λ (s : List VType). length (slot_types ts) + length s) (append-nil (types_of u))
-    ∙ comm (length (slot_types ts)) (length (types_of u))
-  where
-    comm : (a b : ℕ) → a + b ≡ b + a
-    comm a b = omega arith
 
-under : (o : Option (List VType)) (u : VType) (c w : ℕ) → w ≡ length (types_of u) → option_map (λ ts. c + length (slot_types ts)) (with_last o (Some u)) ≡ option_map (λ ts. c + w + length (slot_types ts)) o
-under None u c w e = refl
-under (Some ts) u c w e = ap Some (omega (arith, e, slots_of_last ts u))
+counted : (o : Option (List VType)) (u : VType) (c all : ℕ) → Some c ≡ option_map (λ ts. length (slot_types ts)) o → all ≡ c + length (types_of u)
+    → Some all ≡ option_map (λ ts. length (slot_types ts)) (with_last o (Some u))
+counted None u c all e is = absurd cc
+counted (Some ts) u c all e is =
+    let here : c ≡ length (slot_types ts) = cc in
+    ap Some (omega (arith, here, is, slots_of_last ts u))
 
-pub more_slots : (p q : Path) (item : Option VType) (u : VType) (c w : ℕ) (all : Option ℕ) → p ≡ item ∷ q → item ≡ Some u → w ≡ length (types_of u)
-    → option_map (λ ts. c + length (slot_types ts)) (types_on p) ≡ all → option_map (λ ts. c + w + length (slot_types ts)) (types_on q) ≡ all
-more_slots p q item u c w all e is wide so_far =
-    sym (ap (λ (r : Path). option_map (λ ts. c + length (slot_types ts)) (types_on r)) e ∙ ap (λ i. option_map (λ ts. c + length (slot_types ts)) (with_last (types_on q) i)) is ∙ under (types_on q) u c w wide)
-    ∙ so_far
+uncounted : (o : Option (List VType)) (item : Option VType) → None ≡ option_map (λ ts. length (slot_types ts)) o → None ≡ option_map (λ ts. length (slot_types ts)) (with_last o item)
+uncounted None item e = refl
+uncounted (Some ts) item e = absurd cc
 
-none_counted : (o : Option (List VType)) → option_map (λ ts. 0 + length (slot_types ts)) o ≡ option_map (λ ts. length (slot_types ts)) o
-none_counted None = refl
-none_counted (Some ts) = ap Some (omega arith)
+pub more_slots : (p : Path) (item : Option VType) (u : VType) (c all : ℕ) → item ≡ Some u → Some c ≡ count_on p → all ≡ c + length (types_of u) → Some all ≡ count_on (item ∷ p)
+more_slots p item u c all is e sum = counted (types_on p) u c all e sum ∙ ap (λ i. option_map (λ ts. length (slot_types ts)) (with_last (types_on p) i)) (sym is)
 
-pub at_first : (p : Path) → option_map (λ ts. 0 + length (slot_types ts)) (types_on p) ≡ option_map (λ ts. length (slot_types ts)) (types_on p)
-at_first p = none_counted (types_on p)
+pub no_item : (p : Path) (item : Option VType) → item ≡ None → None ≡ count_on (item ∷ p)
+no_item p item is = ap (λ o. option_map (λ ts. length (slot_types ts)) o) (sym (known (types_on p))) ∙ ap (λ i. option_map (λ ts. length (slot_types ts)) (with_last (types_on p) i)) (sym is)
 
-counted : (c : ℕ) → c + 0 ≡ c
-counted c = omega arith
+pub no_count : (p : Path) (item : Option VType) → None ≡ count_on p → None ≡ count_on (item ∷ p)
+no_count p item e = uncounted (types_on p) item e
 
-pub no_more_slots : (p : Path) (c : ℕ) (all : Option ℕ) → p ≡ [] → option_map (λ ts. c + length (slot_types ts)) (types_on p) ≡ all → Some c ≡ all
-no_more_slots p c all e so_far =
-    ap Some (sym (counted c)) ∙ sym (ap (λ (r : Path). option_map (λ ts. c + length (slot_types ts)) (types_on r)) e) ∙ so_far
+pub no_slots : (p : Path) → p ≡ [] → Some 0 ≡ count_on p
+no_slots p e = ap count_on (sym e)

@@ -1,5 +1,7 @@
 -- Lists of types as paths in a tree.
-use Rattle.std.specs.Prelude.{◌≡◌, ℕ, ◌+◌, ◌<◌, List, [], ◌∷◌, ◌++◌, length, Option, Some, get_or}
+use Rattle.std.specs.Prelude.{◌≡◌, ℕ, ◌+◌, ◌<◌, List, [], ◌∷◌, ◌++◌, length, Option, Some, get_or, slice_get}
+use Rattle.std.specs.Option.{option_map}
+use Rattle.instruction_rows.specs.Contents.{slot_types}
 use Rattle.items.specs.Options.{◌>>=◌}
 use Rattle.stack_maps.specs.declared.types.VType.{VType}
 use Rattle.type_paths.specs.declared.paths.Node.{Node}
@@ -30,6 +32,28 @@ abbrev pub AreAbove : ℕ → List Node → Type 0
 AreAbove n [] = Unit {0}
 AreAbove n (node ∷ nodes) = (node.below < n) × AreAbove (n + 1) nodes
 
+-- the types from the first on, undefined where one of them isn't known
+abbrev pub types_on : Path → Option (List VType)
+types_on [] = Some []
+types_on (t ∷ p) = types_on p >>= λ ts. t >>= λ u. Some (ts ++ u ∷ [])
+
+-- the slots that the types of a path take, undefined where one of them isn't known
+abbrev pub count_on : Path → Option ℕ
+count_on p = option_map (λ ts. length (slot_types ts)) (types_on p)
+
+-- each node has the slots of its path
+pub record AreCounted (ns : List Node) : Type 0 where
+  pub each : (k : ℕ) (n : Node) → slice_get ns k ≡ Some n → n.slots ≡ count_on (path (paths_from root ns) (1 + k))
+
+pub record IsTree (ns : List Node) : Type 0 where
+  pub above : AreAbove 1 ns
+  pub counted : AreCounted ns
+
+-- the path of a node lies on that of another
+pub record IsAbove (paths : List Path) (n below : ℕ) : Type 0 where
+  pub more : Path
+  pub is : path paths n ≡ more ++ path paths below
+
 -- this is a node, and its path
 pub record IsPath (paths : List Path) (n : ℕ) (p : Path) : Type 0 where
   pub is_node : n < length paths
@@ -39,8 +63,4 @@ pub record IsPath (paths : List Path) (n : ℕ) (p : Path) : Type 0 where
 pub record IsTop (paths : List Path) (n : ℕ) (top : Node) : Type 0 where
   pub is_node : top.below < length paths
   pub is : path paths n ≡ top.item ∷ path paths top.below
-
--- the types from the first on, undefined where one of them isn't known
-abbrev pub types_on : Path → Option (List VType)
-types_on [] = Some []
-types_on (t ∷ p) = types_on p >>= λ ts. t >>= λ u. Some (ts ++ u ∷ [])
+  pub counted : top.slots ≡ count_on (path paths n)

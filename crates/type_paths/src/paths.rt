@@ -1,18 +1,24 @@
 //! Paths, and the nodes on them.
 
-ghost use Rattle.std.specs.Prelude.{◌≡◌, ◌<◌, [], ◌∷◌, ◌++◌, ◌^◌, drop, length, IfOk, MatchOption, OnOk};
-ghost use Rattle.type_paths.specs.Paths.{IsPath, IsTop, Path as Types, path, root};
+ghost use Rattle.std.specs.Prelude.{◌≡◌, ◌<◌, [], ◌∷◌, ◌++◌, ◌^◌, drop, length, IfOk, IfSome, MatchOption, OnOk};
+ghost use Rattle.type_paths.specs.Paths.{IsAbove, IsPath, IsTop, Path as Types, count_on, path, root};
 
+use crate::slots::width;
 use stack_maps::VType;
 use std::alloc::{AllocError, Global};
 use std::marker::Model;
 
-/// The last type of a path, `None` for one that isn't known, and the node at which the others end.
+/// The last type of a path, `None` for one that isn't known, the node at which the others end, and the slots that all of them take, `None`
+/// where one isn't known.
 #[derive(Clone, Copy, Debug, PartialEq, Eq)]
 pub struct Node {
     pub item: Option<VType>,
-    pub below: usize,
+    pub below: u32,
+    pub slots: Option<u32>,
 }
+
+// With more types on two paths that aren't on both, no common node is looked for.
+const NEAR: u8 = 16;
 
 /// Paths of types, each from a node down to the first, which has none. The nodes have numbers from 0 on (own).
 #[derive(Drop)]
@@ -22,13 +28,13 @@ pub struct Paths {
 
 impl Model for Paths {
     ghost use Rattle.std.specs.Prelude.{List};
-    ghost use Rattle.type_paths.specs.Paths.{AreAbove, Path, paths_in};
+    ghost use Rattle.type_paths.specs.Paths.{IsTree, Path, paths_in};
 
     ghost Value = { List Path };
 
     ghost view = { paths_in };
 
-    ghost invariant = { λ a. AreAbove 1 a.nodes.items };
+    ghost invariant = { λ a. IsTree a.nodes.items };
 }
 
 impl Paths {
@@ -60,14 +66,45 @@ impl Paths {
     }
 
     /// Puts a type on a path, and gives the node of both.
-    pub fn push(&mut self, below: usize, item: Option<VType>) -> Result<usize, AllocError>
+    pub fn push(&mut self, on: usize, item: Option<VType>) -> Result<usize, AllocError>
         ensures grown { OnOk result
-            (self.new ≡ self.old ++ (item ∷ path self.old below) ∷ []) }
+            (self.new ≡ self.old ++ (item ∷ path self.old on) ∷ []) }
         ensures node { IfOk result (λ n. n ≡ length self.old) }
     {
-        let below = self.node(below);
-        self.nodes.push(Node { item, below })?;
+        let node = self.node(on);
+        if node > u32::MAX as usize {
+            return Err(AllocError);
+        }
+        let slots = self.slots_with(node, item)?;
+        let below = node as u32;
+        self.nodes.push(Node { item, below, slots })?;
         Ok(self.nodes.len())
+    }
+
+    /// The slots of a path. `None`: one of its types isn't known.
+    pub fn slots(&self, n: usize) -> Option<u32>
+        ensures { result ≡ count_on (path self.now n) }
+    {
+        match self.top(n) {
+            Some(top) => top.slots,
+            None => Some(0),
+        }
+    }
+
+    // The slots of a path with another type at its end. From 2^32 on they count as memory run out.
+    fn slots_with(&self, n: usize, item: Option<VType>) -> Result<Option<u32>, AllocError>
+        ensures { IfOk result (λ slots. slots ≡ count_on (item ∷ path self.now n)) }
+    {
+        let Some(t) = item else {
+            return Ok(None);
+        };
+        let Some(slots) = self.slots(n) else {
+            return Ok(None);
+        };
+        match slots.checked_add(width(t)) {
+            Some(all) => Ok(Some(all)),
+            None => Err(AllocError),
+        }
     }
 
     /// The last type of a path. `None`: it has none.
@@ -83,11 +120,40 @@ impl Paths {
 
     // The node below one; the first is below itself.
     fn below(&self, n: usize) -> usize
-        ensures { (p : Types) → IsPath self.now n p → IsPath self.now result (drop 1 p) }
+        ensures node { (p : Types) → IsPath self.now n p → IsPath self.now result (drop 1 p) }
+        ensures above { IsAbove self.now n result }
     {
         match self.top(n) {
-            Some(top) => top.below,
+            Some(top) => top.below as usize,
             None => n,
+        }
+    }
+
+    /// A node that lies on both paths, where one is near. `None`: none was found.
+    pub fn common(&self, one: usize, other: usize) -> Option<usize>
+        ensures { IfSome result (λ n. IsAbove self.now one n × IsAbove self.now other n) }
+    {
+        let mut a = one;
+        let mut b = other;
+        for _ in 0..NEAR {
+            if a == b {
+                return Some(a);
+            }
+            let (lower, other) = self.lowered(a, b);
+            a = lower;
+            b = other;
+        }
+        None
+    }
+
+    // Two nodes, that of the greater number lowered to the one below it.
+    fn lowered(&self, a: usize, b: usize) -> (usize, usize)
+        ensures { IsAbove self.now a result.0 × IsAbove self.now b result.1 }
+    {
+        if a > b {
+            (self.below(a), b)
+        } else {
+            (a, self.below(b))
         }
     }
 

@@ -1,9 +1,8 @@
 //! The types of a path, and the slots that they take.
 
 ghost use Rattle.std.specs.Prelude.{◌≡◌, IfOk, length};
-ghost use Rattle.std.specs.Option.{option_map};
-ghost use Rattle.instruction_rows.specs.Contents.{slot_types, types_of};
-ghost use Rattle.type_paths.specs.Paths.{path, types_on};
+ghost use Rattle.instruction_rows.specs.Contents.{types_of};
+ghost use Rattle.type_paths.specs.Paths.{count_on, path, types_on};
 
 use crate::paths::Paths;
 use instruction_rows::is_wide;
@@ -11,8 +10,8 @@ use items::Items;
 use stack_maps::VType;
 use std::alloc::{AllocError, Global};
 
-// How many slots a value of the type takes.
-fn width(t: VType) -> usize
+/// How many slots a value of the type takes.
+pub fn width(t: VType) -> u32
     ensures { result ≡ length (types_of t) }
 {
     if is_wide(t) { 2 } else { 1 }
@@ -30,7 +29,7 @@ impl Paths {
                 return Ok(None);
             };
             types.push(t)?;
-            node = top.below;
+            node = top.below as usize;
         }
         types.reverse();
         Ok(Some(Items::from(types)))
@@ -38,17 +37,11 @@ impl Paths {
 
     /// How many slots the types of a path take. `None`: one of them isn't known.
     pub fn slot_count(&self, n: usize) -> Option<usize>
-        ensures { result ≡ option_map (λ ts. length (slot_types ts)) (types_on (path self.now n)) }
+        ensures { result ≡ count_on (path self.now n) }
     {
-        let mut count: usize = 0;
-        let mut node = self.node(n);
-        while let Some(top) = self.top(node) {
-            let Some(t) = top.item else {
-                return None;
-            };
-            count += width(t);
-            node = top.below;
+        match self.slots(n) {
+            Some(slots) => Some(slots as usize),
+            None => None,
         }
-        Some(count)
     }
 }

@@ -33,7 +33,7 @@ pub record Kept (s after : TypeState) : Type 0 where
   pub locals : s.types.locals ≡ after.types.locals
   pub flag : s.this_uninit ≡ after.this_uninit
 
-abbrev Keeps : TypeState → Result TypeState RowWhy → Type 0
+abbrev pub Keeps : TypeState → Result TypeState RowWhy → Type 0
 Keeps s r = IfOk r (Kept s)
 
 same : (s : TypeState) (stack : List VType) → Kept s (with_stack s stack)
@@ -85,7 +85,7 @@ with_kept s (Ok types) h = record { locals = h; flag = refl }
 given : (w : World) (m : MethodInfo) (s : TypeState) (rest : List VType) → Keeps s (result_given w m s rest)
 given w m s rest = tested s _ _ _
 
-on_instance : (w : World) (m : MethodInfo) (class : ℕ) (s : TypeState) → Keeps s (instance_called w m class s)
+pub on_instance : (w : World) (m : MethodInfo) (class : ℕ) (s : TypeState) → Keeps s (instance_called w m class s)
 on_instance w m class s = bound s (arguments_taken w m s.types.stack) (λ rest. wanted w (class_type w class) rest then λ below. result_given w m s below) (λ rest. bound s (wanted w (class_type w class) rest) (λ below. result_given w m s below) (λ below. given w m s below))
 
 abbrev keeps_call : Invocation → Bool

@@ -5,12 +5,15 @@ pub mod Rising
 pub mod FrameFitLaws
 pub mod FrameLaws
 pub mod KeepLaws
+pub mod FinishLaws
+pub mod WatchLaws
 pub mod ItselfLaws
 pub mod GuardLaws
 pub mod HandlerLaws
 pub mod OverwriteLaws
 pub mod StoreLaws
 pub mod StandingLaws
+pub mod NearLaws
 pub mod InstructionLaws
 pub mod StackMapLaws
 pub mod EnvironmentLaws

@@ -1,7 +1,6 @@
 -- Local variables that were overwritten since a frame: what compares a state with it, and what restores it.
-use Rattle.std.proofs.Common.{◌≡◌, ℕ, zero, suc, ◌+◌, ◌-◌, ◌<◌, ◌≤◌, Bool, true, false, cond, eqb, ltb, List, [], ◌∷◌, ◌++◌, length, get_or, set, Option, Some, None, refl, ap, sym, subst, ◌∙◌, arith}
+use Rattle.std.proofs.Common.{◌≡◌, ℕ, zero, suc, ◌≤◌, Bool, true, false, cond, eqb, ltb, List, [], ◌∷◌, ◌++◌, length, set, refl, ap, sym, subst, ◌∙◌, arith}
 use Rattle.std.specs.Prelude.{◌&&◌, ◌||◌}
-use Rattle.std.specs.List.{list_any, list_all}
 use Rattle.std.proofs.lemmas.Bool.{eq-eqb, eqb-true, eqb-false, ltb-true, ltb-false}
 use Rattle.std.proofs.lemmas.List.{length-set, get_or-set_same, get_or-set_other}
 use Rattle.std.proofs.lemmas.List.Folds.{list_any-append}
@@ -11,7 +10,8 @@ use Rattle.world_model.specs.World.{World}
 use Rattle.verify_types.specs.Assignability.{assignable}
 use Rattle.verify_types.specs.TypeStates.{TypeState, all_assignable}
 use Rattle.verify_code.specs.declared.overwritten.Overwritten.{Overwritten}
-use Rattle.verify_code.specs.Overwrites.{AllWere, AreBut, IsRestored, are_assignable, is_noted, noting, noting_store, type_at}
+use Rattle.verify_instructions.specs.Unfinished.{AreListed, is_listed, is_unfinished}
+use Rattle.verify_code.specs.Overwrites.{AllWere, AreBut, IsRestored, are_assignable, is_noted, noting, noting_all, type_at}
 
 -- ---- one by one, by their numbers
 
@@ -199,3 +199,42 @@ not_it ls n os i e same =
     let it : is_noted (noting ls n os) n ≡ true = is_now ls n os (is_noted os n) refl in
     let other : is_noted (noting ls n os) n ≡ false = subst (λ k. is_noted (noting ls n os) k ≡ false) same e in
     absurd cc
+
+-- ---- those of unfinished objects are noted
+
+noting_all_but : (ls before : List VType) (slots : List ℕ) (os : List Overwritten) → AreBut os before ls → AreBut (noting_all ls slots os) before ls
+noting_all_but ls before [] os h = h
+noting_all_but ls before (n ∷ slots) os h = noting_all_but ls before slots (noting ls n os) (noting_but ls before n os h)
+
+noted_before : (ls : List VType) (slots : List ℕ) (os : List Overwritten) (i : ℕ) → is_noted (noting_all ls slots os) i ≡ false → is_noted os i ≡ false
+noted_before ls [] os i e = e
+noted_before ls (n ∷ slots) os i e = still_noted ls n os i (noted_before ls slots (noting ls n os) i e)
+
+not_listed : (ls : List VType) (slots : List ℕ) (os : List Overwritten) (i : ℕ) → is_noted (noting_all ls slots os) i ≡ false → is_listed slots i ≡ false
+not_listed ls [] os i e = refl
+not_listed ls (n ∷ slots) os i e = neither (eqb n i) (is_listed slots i) (by_test (eqb n i) refl) (not_listed ls slots (noting ls n os) i e)
+  where
+    by_test : (b : Bool) → eqb n i ≡ b → b ≡ false
+    by_test true is = absurd (not_it ls n os i (noted_before ls slots (noting ls n os) i e) (sym (eqb-true n i is)))
+    by_test false is = refl
+
+pub is_finished : (slots : List ℕ) (ls : List VType) (k : ℕ) → AreListed slots ls → is_listed slots k ≡ false → is_unfinished (type_at ls k) ≡ false
+is_finished slots ls k h e = by_test (is_unfinished (type_at ls k)) refl
+  where
+    by_test : (b : Bool) → is_unfinished (type_at ls k) ≡ b → b ≡ false
+    by_test true is = let listed : is_listed slots k ≡ true = h.all k is in absurd cc
+    by_test false is = refl
+
+-- local variables that are others at the slots of unfinished objects alone
+pub objects_noted : (ls before after : List VType) (slots : List ℕ) (os : List Overwritten) → AreListed slots ls → AreBut os before ls → length ls ≡ length after
+    → ((k : ℕ) → is_unfinished (type_at ls k) ≡ false → type_at ls k ≡ type_at after k) → AreBut (noting_all ls slots os) before after
+objects_noted ls before after slots os listed h as_many same =
+    let noted = noting_all_but ls before slots os h in
+    record {
+      as_many = noted.as_many ∙ as_many;
+      kept = λ i e. noted.kept i e ∙ same i (is_finished slots ls i listed (not_listed ls slots os i e));
+      were = noted.were;
+    }
+
+pub all_same : (xs ys : List VType) → length xs ≡ length ys → ((i : ℕ) → type_at xs i ≡ type_at ys i) → xs ≡ ys
+all_same xs ys e h = same_by_number xs ys e h

@@ -22,14 +22,21 @@ use Rattle.verify_code.specs.FramePaths.{entry_in, frame_types, state_where}
 use Rattle.verify_code.specs.Frames.{frame_at, frame_in}
 use Rattle.verify_code.specs.declared.overwritten.Like.{Like}
 use Rattle.verify_code.specs.declared.overwritten.Overwritten.{Overwritten}
-use Rattle.verify_code.specs.Overwrites.{AreBut, IsRestored, NotedBehind, are_assignable, keeps_locals, overwritten_since}
-use Rattle.verify_code.specs.Overwrites.NotedBehind.{leaves, stores}
-use Rattle.verify_code.specs.Standings.{AllStand, BothStand, Compares, FitsLocals, MayBeLike, MayFit, behind_one, behind_op, either_of, going, IsJudged, IsLike, IsOver, IsShared, IsStanding, stood}
-use Rattle.verify_code.proofs.OverwriteLaws.{fits_but, none_left, none_noted}
+use Rattle.verify_instructions.specs.Views.{state_in}
+use Rattle.verify_instructions.specs.declared.state.State.{State}
+use Rattle.verify_code.specs.declared.watch.Watch.{Watch}
+use Rattle.verify_code.specs.Watches.{Watches}
+use Rattle.verify_code.specs.Overwrites.{AreBut, IsRestored, NotedBehind, are_assignable, overwritten_since}
+use Rattle.verify_code.specs.Overwrites.NotedBehind.{leaves, stores, objects}
+use Rattle.verify_code.specs.Standings.{AllStand, BothStand, Compares, FitsLocals, MayBeLike, MayFit, StandsAfter, behind_one, either_of, going, IsJudged, IsLike, IsOver, IsShared, IsStanding, stood}
+use Rattle.verify_code.specs.Standings.StandsAfter.{nothing, changed, kept}
+use Rattle.verify_code.proofs.OverwriteLaws.{fits_but, none_left, none_noted, objects_noted}
 use Rattle.verify_code.proofs.StoreLaws.{after_stored}
 use Rattle.verify_code.specs.declared.standing.Judged.{Judged}
 use Rattle.verify_code.proofs.HandlerLaws.{judged_same}
 use Rattle.verify_code.proofs.KeepLaws.{after_kept}
+use Rattle.verify_code.proofs.FinishLaws.{after_finished}
+use Rattle.verify_code.proofs.WatchLaws.{same_locals}
 use Rattle.verify_code.proofs.ItselfLaws.{LocalsThemselves}
 
 -- ---- frames with the same local variables
@@ -202,12 +209,13 @@ taken_over env os s restored pc f there v at h r e =
 stands_at : (env : Environment) (pc : ℕ) (f : MapFrame) (s : TypeState) → map_at env pc ≡ Some f → f.state ≡ Some s → IsLike env pc [] s
 stands_at env pc f s at is = record { frame = f; state = s; at = at; is = is; but = none_noted s.types.locals; flag = refl }
 
-like_after : (env : Environment) (i : Instruction) (like : Option Like) (l : Like) (s after : TypeState) → MayBeLike env like s → state_after env i s ≡ Ok after → NotedBehind i.instr.op s.types.locals like l → IsLike env l.pc l.overwritten.items after
-like_after env i like l s after stands h (leaves keeps is) =
+like_after : (env : Environment) (i : Instruction) (like : Option Like) (l : Like) (s after : TypeState) → MayBeLike env like s → s.this_uninit ≡ after.this_uninit → state_after env i s ≡ Ok after → NotedBehind i.instr.op s.types.locals like l
+    → IsLike env l.pc l.overwritten.items after
+like_after env i like l s after stands flag h (leaves keeps is) =
     let b = stands l is in
-    let kept = after_kept env i s after keeps h in
-    record { frame = b.frame; state = b.state; at = b.at; is = b.is; but = subst (λ ls. AreBut l.overwritten.items b.state.types.locals ls) kept.locals b.but; flag = b.flag ∙ kept.flag }
-like_after env i like l s after stands h (stores kind n before op is now) =
+    let same = after_kept env i s after keeps h in
+    record { frame = b.frame; state = b.state; at = b.at; is = b.is; but = subst (λ ls. AreBut l.overwritten.items b.state.types.locals ls) same.locals b.but; flag = b.flag ∙ flag }
+like_after env i like l s after stands flag h (stores kind n before op is now) =
     let b = stands before is in
     let stored = after_stored env i kind n s after op h in
     record {
@@ -216,24 +224,58 @@ like_after env i like l s after stands h (stores kind n before op is now) =
       at = ap (λ pc. map_at env pc) now.at ∙ b.at;
       is = b.is;
       but = subst (λ os. AreBut os b.state.types.locals after.types.locals) (sym now.noted) (stored.but before.overwritten.items b.state.types.locals b.but);
-      flag = b.flag ∙ stored.flag;
+      flag = b.flag ∙ flag;
+    }
+like_after env i like l s after stands flag h (objects before op is now) =
+    let b = stands before is in
+    let done = after_finished env i s after op h in
+    record {
+      frame = b.frame;
+      state = b.state;
+      at = ap (λ pc. map_at env pc) now.noted.at ∙ b.at;
+      is = b.is;
+      but =
+          subst (λ os. AreBut os b.state.types.locals after.types.locals) (sym now.noted.noted)
+          (objects_noted s.types.locals b.state.types.locals after.types.locals now.slots before.overwritten.items now.listed b.but done.as_many done.same);
+      flag = b.flag ∙ flag;
     }
 
-kept_judged : (env : Environment) (i : Instruction) (judged : Option Judged) (s after : TypeState) (b : Bool) → keeps_locals i.instr.op ≡ b → IfSome judged (IsJudged env s) → state_after env i s ≡ Ok after
-    → IfSome (cond b judged None) (IsJudged env after)
-kept_judged env i judged s after false e stands h = tt
-kept_judged env i judged s after true e stands h =
-    let kept = after_kept env i s after e h in
-    judged_same env s after judged kept.locals kept.flag stands
-
-pub stands_behind : (env : Environment) (i : Instruction) (s after : Standing) → IsStanding env s → state_after env i (stood s) ≡ Ok (stood after)
-    → IfSome after.like (NotedBehind i.instr.op (stood s).types.locals s.like) → after.judged ≡ behind_op i.instr.op s.judged → IsStanding env after
-stands_behind env i s after stands h noted judged = record {
-  like = λ l is. like_after env i s.like l (stood s) (stood after) stands.like h (subst (λ (o : Option Like). IfSome o (NotedBehind i.instr.op (stood s).types.locals s.like)) is noted);
-  judged =
-      subst (λ (o : Option Judged). IfSome o (IsJudged env (stood after))) (sym judged)
-      (kept_judged env i s.judged (stood s) (stood after) (keeps_locals i.instr.op) refl stands.judged h);
+fits_same : (env : Environment) (s t : TypeState) (o : Option ℕ) → s.types.locals ≡ t.types.locals → s.this_uninit ≡ t.this_uninit → MayFit env s o → MayFit env t o
+fits_same env s t None locals flag h = tt
+fits_same env s t (Some pc) locals flag h = record {
+  frame = h.frame;
+  state = h.state;
+  at = h.at;
+  is = h.is;
+  locals = ap (λ ls. all_assignable env.world ls h.state.types.locals) (sym locals) ∙ h.locals;
+  flag = ap (λ b. not b || h.state.this_uninit) (sym flag) ∙ h.flag;
 }
+
+-- what is known of the state after an instruction is true of it
+pub stands_behind : (env : Environment) (i : Instruction) (s after : Standing) (like : Option Like) (watch : Watch) (now : State) → IsStanding env s → state_after env i (stood s) ≡ Ok (state_in now)
+    → IfSome like (NotedBehind i.instr.op (stood s).types.locals s.like) → Watches i.instr.op (stood s).types.locals watch → StandsAfter (stood s).this_uninit watch like s.judged s.fitted now after
+    → (state_after env i (stood s) ≡ Ok (stood after)) × IsStanding env after
+stands_behind env i s after like watch now stands h noted watches (nothing e) =
+    subst (λ (x : Standing). (state_after env i (stood s) ≡ Ok (stood x)) × IsStanding env x) (sym e) (h, record { like = λ l is. absurd cc; judged = tt; fitted = tt })
+stands_behind env i s after like watch now stands h noted watches (changed flag e) =
+    subst (λ (x : Standing). (state_after env i (stood s) ≡ Ok (stood x)) × IsStanding env x) (sym e) (
+      h,
+      record {
+        like = λ l is. like_after env i s.like l (stood s) (state_in now) stands.like (sym flag) h (subst (λ (o : Option Like). IfSome o (NotedBehind i.instr.op (stood s).types.locals s.like)) is noted);
+        judged = tt;
+        fitted = tt;
+      },
+    )
+stands_behind env i s after like watch now stands h noted watches (kept flag shows e) =
+    let same = same_locals env i (stood s) (state_in now) watch watches shows h in
+    subst (λ (x : Standing). (state_after env i (stood s) ≡ Ok (stood x)) × IsStanding env x) (sym e) (
+      h,
+      record {
+        like = λ l is. like_after env i s.like l (stood s) (state_in now) stands.like (sym flag) h (subst (λ (o : Option Like). IfSome o (NotedBehind i.instr.op (stood s).types.locals s.like)) is noted);
+        judged = judged_same env (stood s) (state_in now) s.judged same (sym flag) stands.judged;
+        fitted = fits_same env (stood s) (state_in now) s.fitted same (sym flag) stands.fitted;
+      },
+    )
 
 pub none_stands : (env : Environment) → AllStand env None
 none_stands env = λ s e. absurd cc
@@ -248,11 +290,12 @@ like_new env pc l other s h at none e =
     let noted : IsLike env l.pc l.overwritten.items s = subst (λ (os : List Overwritten). IsLike env l.pc os s) (sym none) here in
     subst (λ (x : Like). IsLike env x.pc x.overwritten.items s) same noted
 
-pub new_stands : (env : Environment) (pc : ℕ) (f : MapFrame) (l : Like) (s : Standing) → map_at env pc ≡ Some f → f.state ≡ Some (stood s) → s.like ≡ Some l → l.pc ≡ pc → l.overwritten.items ≡ [] → IfSome s.judged (IsJudged env (stood s))
+pub new_stands : (env : Environment) (pc : ℕ) (f : MapFrame) (l : Like) (s : Standing) → map_at env pc ≡ Some f → f.state ≡ Some (stood s) → s.like ≡ Some l → l.pc ≡ pc → l.overwritten.items ≡ [] → IfSome s.judged (IsJudged env (stood s)) → s.fitted ≡ None
     → AllStand env (Some s)
-new_stands env pc f l s at is like new none judged = one_stands env s (record {
+new_stands env pc f l s at is like new none judged fits = one_stands env s (record {
   like = λ other e. like_new env pc l other (stood s) (stands_at env pc f (stood s) at is) new none (sym like ∙ e);
   judged = judged;
+  fitted = subst (λ (o : Option ℕ). MayFit env (stood s) o) (sym fits) tt;
 })
 
 -- the state of a frame over another state satisfies the handlers where that does

@@ -10,11 +10,10 @@ use Rattle.stack_maps.specs.declared.types.VType.{VType}
 use Rattle.stack_maps.specs.declared.types.VType.TheVariants as types
 use Rattle.instruction_rows.specs.declared.row_why.RowWhy.{RowWhy}
 use Rattle.instruction_rows.specs.declared.row_why.RowWhy.TheVariants as whys
-use Rattle.instruction_rows.specs.Contents.{Contents, is_wide, types_of, with_item, with_items}
+use Rattle.instruction_rows.specs.Contents.{is_wide, types_of, with_item, with_items}
 use Rattle.instruction_rows.specs.Results.{◌then◌}
-use Rattle.instruction_rows.specs.Rows.{store, local}
 use Rattle.instruction_rows.specs.Table.{row}
-use Rattle.instruction_rows.specs.TypeEffect.{type_popped, typed, types_on, with_type, without_half}
+use Rattle.instruction_rows.specs.TypeEffect.{type_popped, types_on, with_type, without_half}
 use Rattle.world_model.specs.declared.sites.Naming.{Naming}
 use Rattle.verify_types.specs.TypeStates.{TypeState, with_types}
 use Rattle.verify_types.specs.Environment.{Environment, Instruction}
@@ -22,8 +21,8 @@ use Rattle.verify_types.specs.Effects.{row_state, state_after}
 use Rattle.verify_code.specs.declared.overwritten.Overwritten.{Overwritten}
 use Rattle.items.specs.declared.no_memory.NoMemory.{NoMemory}
 use Rattle.verify_code.specs.declared.overwritten.Like.{Like}
-use Rattle.verify_code.specs.Overwrites.{AreBut, IsNoted, NotedBehind, is_noted, noting, noting_store, type_at}
-use Rattle.verify_code.specs.Overwrites.NotedBehind.{stores}
+use Rattle.verify_code.specs.Overwrites.{AreBut, IsNoted, NotedAll, NotedBehind, finishes, noting, noting_store, type_at}
+use Rattle.verify_code.specs.Overwrites.NotedBehind.{stores, objects}
 use Rattle.verify_code.proofs.OverwriteLaws.{noting_but, not_it, still_noted}
 
 -- ---- local variables that a store leaves as they are
@@ -106,11 +105,22 @@ type_noted ls after before os n t e h =
 pub record StoredAt (n : ℕ) (s after : TypeState) : Type 0 where
   pub but : (os : List Overwritten) (before : List VType) → AreBut os before s.types.locals → AreBut (noting_store s.types.locals n os) before after.types.locals
   pub flag : s.this_uninit ≡ after.this_uninit
+  pub as_many : length s.types.locals ≡ length after.types.locals
+  pub others : (i : ℕ) → (i ≡ n - 1 → ⊥) → (i ≡ n → ⊥) → (i ≡ n + 1 → ⊥) → type_at s.types.locals i ≡ type_at after.types.locals i
 
 put_noted : (n : ℕ) (s : TypeState) (stack : List VType) (t : VType) (r : Result (List VType) RowWhy) → with_type t n s.types.locals ≡ r
     → IfOk ((r then λ locals. types_on locals stack) then λ types. Ok (with_types s types)) (StoredAt n s)
 put_noted n s stack t (Err why) e = tt
-put_noted n s stack t (Ok after) e = record { but = λ os before h. type_noted s.types.locals after before os n t e h; flag = refl }
+put_noted n s stack t (Ok after) e =
+    let ls = s.types.locals in
+    let half = half_leaves ls n in
+    let items = items_leave (without_half n ls) after n t (is_wide t) (some_of (with_items n (types_of t) (without_half n ls)) after e) in
+    record {
+      but = λ os before h. type_noted ls after before os n t e h;
+      flag = refl;
+      as_many = half.as_many ∙ items.as_many;
+      others = λ i a b c. half.same i a ∙ items.same i b c;
+    }
 
 store_noted : (n : ℕ) (s : TypeState) (r : Result (VType × List VType) RowWhy)
     → IfOk ((r then λ x. with_type x.0 n s.types.locals then λ locals. types_on locals x.1) then λ types. Ok (with_types s types)) (StoredAt n s)
@@ -129,3 +139,9 @@ pub noted_behind : (op : Op) (locals : List VType) (like : Option Like) (before 
 noted_behind op locals like before kind n (Err why) is was h = tt
 noted_behind op locals like before kind n (Ok None) is was h = tt
 noted_behind op locals like before kind n (Ok (Some l)) is was h = stores kind n before is was h
+
+pub objects_behind : (op : Op) (locals : List VType) (like : Option Like) (before : Like) (r : Result (Option Like) NoMemory) → finishes op ≡ true → like ≡ Some before
+    → IfOk r (λ o. IfSome o (NotedAll before locals)) → IfOk r (λ o. IfSome o (NotedBehind op locals like))
+objects_behind op locals like before (Err why) is was h = tt
+objects_behind op locals like before (Ok None) is was h = tt
+objects_behind op locals like before (Ok (Some l)) is was h = objects before is was h

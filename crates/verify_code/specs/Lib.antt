@@ -3,6 +3,8 @@ pub mod FramePaths
 pub mod Entries
 pub mod Frames
 pub mod Overwrites
+pub mod Watches
+pub mod Near
 pub mod Standings
 pub mod Environments
 pub mod Findings

@@ -10,7 +10,9 @@ use Rattle.stack_maps.specs.declared.types.VType.TheVariants as types
 use Rattle.world_model.specs.World.{World}
 use Rattle.verify_types.specs.Assignability.{assignable}
 use Rattle.verify_types.specs.TypeStates.{TypeState}
+use Rattle.verify_instructions.specs.Unfinished.{AreListed}
 use Rattle.verify_code.specs.declared.overwritten.Overwritten.{Overwritten}
+use Rattle.verify_code.specs.declared.watch.Around.{Around}
 use Rattle.verify_code.specs.declared.overwritten.Like.{Like}
 
 -- the type of a local variable, that of an unset one where there is none of the number
@@ -44,6 +46,15 @@ pub record AreBut (os : List Overwritten) (before locals : List VType) : Type 0 
 abbrev pub overwritten_since : Option Like → List Overwritten
 overwritten_since like = option_map_or (λ (l : Like). l.overwritten.items) like []
 
+-- those that may be overwritten at these
+abbrev pub noting_all : List VType → List ℕ → List Overwritten → List Overwritten
+noting_all locals [] os = os
+noting_all locals (slot ∷ slots) os = noting_all locals slots (noting locals slot os)
+
+-- the types around a local variable
+abbrev pub around : List VType → ℕ → Around
+around locals n = record { before = type_at locals (n - 1); at = type_at locals n; next = type_at locals (n + 1) }
+
 -- these were overwritten since the frame at this pc
 pub record IsNoted (pc : ℕ) (os : List Overwritten) (l : Like) : Type 0 where
   pub at : l.pc ≡ pc
@@ -56,11 +67,25 @@ keeps_locals (ops.InvokeSpecial index) = false
 keeps_locals (ops.New index) = false
 keeps_locals op = true
 
--- what was overwritten since the same frame and after an instruction, which changes no local variable, or stores to one
+-- whether an instruction makes an object, or may finish one
+abbrev pub finishes : Op → Bool
+finishes (ops.InvokeSpecial index) = true
+finishes (ops.New index) = true
+finishes op = false
+
+-- what may be overwritten at the slots of unfinished objects is noted
+pub record NotedAll (before : Like) (locals : List VType) (l : Like) : Type 0 where
+  pub slots : List ℕ
+  pub listed : AreListed slots locals
+  pub noted : IsNoted before.pc (noting_all locals slots before.overwritten.items) l
+
+-- what was overwritten since the same frame and after an instruction, which changes no local variable, or stores to one, or changes
+-- the types of unfinished objects
 pub data NotedBehind (op : Op) (locals : List VType) (like : Option Like) (l : Like) : Type 0 where
   leaves : keeps_locals op ≡ true → like ≡ Some l → NotedBehind op locals like l
   stores : (kind : Kind) (n : ℕ) (before : Like) → op ≡ ops.Store kind n → like ≡ Some before
       → IsNoted before.pc (noting_store locals n before.overwritten.items) l → NotedBehind op locals like l
+  objects : (before : Like) → finishes op ≡ true → like ≡ Some before → NotedAll before locals l → NotedBehind op locals like l
 
 -- whether what overwrote the local variables is assignable to what they were
 abbrev pub are_assignable : World → List Overwritten → List VType → Bool

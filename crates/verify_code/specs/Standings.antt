@@ -1,13 +1,13 @@
 -- States with the local variables of a frame of the map.
 use Rattle.std.specs.Prelude.{◌≡◌, ℕ, ◌<◌, ◌≤◌, Bool, true, false, IfSome, List, Option, Some, None, reverse, nat_le, nat_lt, ◌&&◌, ◌||◌, not, if◌then◌else◌}
 use Rattle.std.specs.Option.{option_map, option_map_or}
-use Rattle.opcodes.specs.declared.op.Op.{Op}
 use Rattle.instruction_rows.specs.Contents.{slot_types}
 use Rattle.type_paths.specs.Paths.{path, types_on}
 use Rattle.verify_types.specs.TypeStates.{TypeState, all_assignable, with_stack}
 use Rattle.verify_types.specs.Environment.{MapFrame, Environment, map_at}
 use Rattle.verify_types.specs.Handlers.{are_satisfied}
 use Rattle.verify_instructions.specs.Views.{state_in}
+use Rattle.verify_instructions.specs.declared.state.State.{State}
 use Rattle.verify_code.specs.declared.frame.Frame.{Frame}
 use Rattle.verify_code.specs.declared.standing.Behind.{Behind}
 use Rattle.verify_code.specs.declared.standing.Judged.{Judged}
@@ -15,7 +15,9 @@ use Rattle.verify_code.specs.declared.standing.Standing.{Standing}
 use Rattle.verify_code.specs.declared.overwritten.Like.{Like}
 use Rattle.verify_code.specs.declared.overwritten.Overwritten.{Overwritten}
 use Rattle.verify_code.specs.Frames.{frame_at, frame_in}
-use Rattle.verify_code.specs.Overwrites.{AreBut, keeps_locals}
+use Rattle.verify_code.specs.declared.watch.Watch.{Watch}
+use Rattle.verify_code.specs.Overwrites.{AreBut}
+use Rattle.verify_code.specs.Watches.{ShowsKept}
 
 abbrev pub stood : Standing → TypeState
 stood s = state_in s.state
@@ -38,18 +40,35 @@ pub record IsJudged (env : Environment) (s : TypeState) (j : Judged) : Type 0 wh
   pub at : are_satisfied env j.at s ≡ true
   pub on : (pc : ℕ) → j.at ≤ pc → pc < j.until → are_satisfied env pc s ≡ true
 
+-- the local variables and the flag of a state fit those of the frame at this pc
+pub record FitsLocals (env : Environment) (s : TypeState) (pc : ℕ) : Type 0 where
+  pub frame : MapFrame
+  pub state : TypeState
+  pub at : map_at env pc ≡ Some frame
+  pub is : frame.state ≡ Some state
+  pub locals : all_assignable env.world s.types.locals state.types.locals ≡ true
+  pub flag : (not s.this_uninit || state.this_uninit) ≡ true
+
+-- so they do at this pc, if there is one
+abbrev pub MayFit : Environment → TypeState → Option ℕ → Type 0
+MayFit env s fitted = IfSome fitted (FitsLocals env s)
+
 -- what is kept with the state is true of it
 pub record IsStanding (env : Environment) (s : Standing) : Type 0 where
   pub like : MayBeLike env s.like (stood s)
   pub judged : IfSome s.judged (IsJudged env (stood s))
+  pub fitted : MayFit env (stood s) s.fitted
 
 -- whether the handlers are known to be satisfied at a pc
 abbrev pub holds_at : ℕ → Option Judged → Bool
 holds_at pc judged = option_map_or (λ (j : Judged). nat_le j.at pc && nat_lt pc j.until) judged false
 
--- what is kept of a state, after an instruction
-abbrev pub behind_op : {A : Type 0} → Op → Option A → Option A
-behind_op op kept = if keeps_locals op then kept else None
+-- what is known of a state after an instruction, where the one before it had this flag and these were known
+pub data StandsAfter (this_uninit : Bool) (watch : Watch) (like : Option Like) (judged : Option Judged) (fitted : Option ℕ) (s : State) (after : Standing) : Type 0 where
+  nothing : after ≡ record { state = s; like = None; judged = None; fitted = None } → StandsAfter this_uninit watch like judged fitted s after
+  changed : s.this_uninit ≡ this_uninit → after ≡ record { state = s; like = like; judged = None; fitted = None } → StandsAfter this_uninit watch like judged fitted s after
+  kept : s.this_uninit ≡ this_uninit → ShowsKept watch s.types.locals → after ≡ record { state = s; like = like; judged = judged; fitted = fitted }
+      → StandsAfter this_uninit watch like judged fitted s after
 
 abbrev pub AllStand : Environment → Option Standing → Type 0
 AllStand env o = (s : Standing) → o ≡ Some s → IsStanding env s
@@ -86,19 +105,6 @@ pub record IsOver (env : Environment) (os : List Overwritten) (s : TypeState) (p
   pub itself : all_assignable env.world before.types.locals before.types.locals ≡ true
   pub but : AreBut os before.types.locals s.types.locals
   pub flag : before.this_uninit ≡ s.this_uninit
-
--- the local variables and the flag of a state fit those of the frame at this pc
-pub record FitsLocals (env : Environment) (s : TypeState) (pc : ℕ) : Type 0 where
-  pub frame : MapFrame
-  pub state : TypeState
-  pub at : map_at env pc ≡ Some frame
-  pub is : frame.state ≡ Some state
-  pub locals : all_assignable env.world s.types.locals state.types.locals ≡ true
-  pub flag : (not s.this_uninit || state.this_uninit) ≡ true
-
--- so they do at this pc, if there is one
-abbrev pub MayFit : Environment → TypeState → Option ℕ → Type 0
-MayFit env s fitted = IfSome fitted (FitsLocals env s)
 
 -- this frame lies at a pc, a state has its flag or needs none, and this says whether its local variables fit
 pub record Compares (env : Environment) (s : TypeState) (pc : ℕ) (f : Frame) (locals_fit : Bool) : Type 0 where

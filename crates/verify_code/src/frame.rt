@@ -11,7 +11,7 @@ ghost use Rattle.verify_code.specs.FramePaths.{frame_types};
 ghost use Rattle.verify_code.specs.Frames.{frame_in};
 ghost use Rattle.verify_code.specs.PathFits.{is_this_item, state_of_slots};
 
-use crate::frame_paths::Entry;
+use crate::frame_paths::{Entry, is_known};
 use crate::frame_state::{slots, state_where};
 use crate::path_fits::{fit_locals, fit_path, has_this};
 use items::NoMemory;
@@ -36,8 +36,7 @@ impl<'a> Frame<'a> {
         ensures { result ≡ is_some (frame_types (path self.now.paths.now self.now.entry.locals)
             (path self.now.paths.now self.now.entry.stack)) }
     {
-        self.paths.slot_count(self.entry.locals).is_some()
-            && self.paths.slot_count(self.entry.stack).is_some()
+        is_known(self.paths, self.entry)
     }
 
     // Whether it lies in a constructor that has still to call another one, if the state does.

@@ -1,10 +1,10 @@
 //! The types of frames as paths.
 
-ghost use Rattle.std.specs.Prelude.{◌≡◌, IfOk, List, OnOk};
+ghost use Rattle.std.specs.Prelude.{◌≡◌, IfOk, List, OnOk, is_some};
 ghost use Rattle.stack_maps.specs.declared.types.VType.{VType as OneType};
 ghost use Rattle.stack_maps.specs.Changes.{locals_after, types_after};
-ghost use Rattle.type_paths.specs.Paths.{IsPath, Path};
-ghost use Rattle.verify_code.specs.FramePaths.{Grows, IsEntry, onto, path_of};
+ghost use Rattle.type_paths.specs.Paths.{IsPath, Path, path};
+ghost use Rattle.verify_code.specs.FramePaths.{Grows, IsEntry, frame_types, onto, path_of};
 
 use stack_maps::{FrameChange, LocalsChange, VType};
 use std::alloc::AllocError;
@@ -18,6 +18,15 @@ pub struct Entry {
     pub pc: u32,
     pub locals: usize,
     pub stack: usize,
+}
+
+/// Whether none of the types of a frame that is kept so is a constant that is no class.
+#[tactic(auto, using(crate::proofs::FrameFitLaws::known))]
+pub fn is_known(paths: &Paths, entry: Entry) -> bool
+    ensures { result ≡ is_some
+        (frame_types (path paths.now entry.locals) (path paths.now entry.stack)) }
+{
+    paths.slot_count(entry.locals).is_some() && paths.slot_count(entry.stack).is_some()
 }
 
 // Puts types on a path, each resolved in the code of a class.

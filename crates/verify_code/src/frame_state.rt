@@ -116,7 +116,7 @@ pub fn state_where(
     let locals = local_slots(alloc, max_locals, &frame.locals)?;
     let stack = slots(alloc, &frame.stack)?;
     Ok(State {
-        types: Types::new(locals, stack),
+        types: Types::new(alloc, locals, stack)?,
         this_uninit: is_constructor && has_this(&frame.locals),
     })
 }

@@ -7,11 +7,14 @@ ghost use Rattle.verify_types.specs.Environment.{MapFrame, map_frame};
 ghost use Rattle.verify_code.specs.Entries.{Rises};
 ghost use Rattle.verify_code.specs.StackMaps.{pc_of};
 ghost use Rattle.verify_code.specs.Frames.{frame_at, frame_in, stray_frame};
+ghost use Rattle.verify_code.specs.Near.{IsNear};
 ghost use Rattle.verify_code.specs.Standings.{IsShared};
 
 use crate::entries::{entry_at, stray_entry};
 use crate::frame::Frame;
-use crate::frame_paths::{Entry, entry_of, put};
+use crate::frame_paths::{Entry, entry_of, is_known, put};
+use crate::near::moved;
+use crate::overwritten::Like;
 use items::NoMemory;
 use stack_maps::{FrameChange, VType};
 use std::alloc::Global;
@@ -107,6 +110,41 @@ impl Frames {
             max_locals: self.max_locals,
             entry,
         })
+    }
+
+    /// What a state is like that is like a frame, where the one at a pc has the same local variables but for a few. `None`: it wasn't found.
+    pub fn near(&self, alloc: Global, like: &Like, pc: u32) -> Result<Option<Like>, NoMemory>
+        ensures { IfOk result (λ o. IfSome o (IsNear self.now like.now pc)) }
+    {
+        if self.is_constructor {
+            return Ok(None);
+        }
+        let Some(other) = entry_at(&self.entries, like.pc) else {
+            return Ok(None);
+        };
+        let Some(entry) = entry_at(&self.entries, pc) else {
+            return Ok(None);
+        };
+        if entry.locals == other.locals {
+            return Ok(None);
+        }
+        if !is_known(&self.paths, entry) {
+            return Ok(None);
+        }
+        let most = self.max_locals;
+        let overwritten = &like.overwritten;
+        let moved = moved(
+            alloc,
+            &self.paths,
+            most,
+            other.locals,
+            entry.locals,
+            overwritten,
+        )?;
+        match moved {
+            Some(overwritten) => Ok(Some(Like { pc, overwritten })),
+            None => Ok(None),
+        }
     }
 
     /// The pc of the first frame after a pc, and before the next instruction unless that is the last. `None`: there is none.

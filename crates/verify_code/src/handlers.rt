@@ -208,11 +208,13 @@ impl<'a, L: Lookups> Environment<'a, L> {
             state,
             like,
             judged: _,
+            fitted,
         } = s;
         Standing {
             state,
             like,
             judged,
+            fitted,
         }
     }
 }

@@ -2,6 +2,7 @@
 #![tactic(auto)]
 
 mod checked;
+mod comparisons;
 mod entries;
 mod environment;
 mod findings;
@@ -13,6 +14,7 @@ mod guards;
 mod handlers;
 mod instructions;
 mod method_fault;
+mod near;
 mod overwritten;
 mod path_fits;
 mod stack_map;
@@ -20,5 +22,6 @@ mod standing;
 mod switches;
 mod targets;
 mod walk;
+mod watch;
 
 pub use checked::{Checked, VerifyError, accept};

@@ -2,18 +2,21 @@
 
 ghost use Rattle.std.specs.Prelude.{◌≡◌, [], IfOk, IfSome, OnOk};
 ghost use Rattle.verify_instructions.specs.Views.{state_in};
-ghost use Rattle.verify_code.specs.Overwrites.{IsNoted, IsRestored, NotedBehind, are_assignable, is_noted, noting, keeps_locals, noting_store, overwritten_since, type_at};
+ghost use Rattle.verify_code.specs.Overwrites.{IsNoted, IsRestored, NotedAll, NotedBehind, are_assignable, finishes, is_noted, keeps_locals, noting, noting_all, noting_store, overwritten_since, type_at};
 
 use items::NoMemory;
 use opcodes::Op;
 use stack_maps::VType;
 use std::alloc::{AllocError, Global};
-use verify_instructions::State;
+use verify_instructions::{State, Types};
 use verify_types::assignable;
 use world_model::Lookups;
 
 // With more local variables overwritten, a state isn't compared by these any longer.
 const MOST: usize = 128;
+
+// With more unfinished objects in local variables, a state is like no frame after one is made or finished.
+const MOST_UNFINISHED: usize = 32;
 
 /// A local variable that was overwritten, and its type before.
 #[derive(Clone, Copy, Debug, PartialEq, Eq)]
@@ -53,15 +56,15 @@ pub fn overwritten_since(like: &Option<Like>) -> &[Overwritten]
     }
 }
 
-// Whether a local variable is among those that were overwritten.
-fn is_noted(overwritten: &[Overwritten], slot: usize) -> bool
+/// Whether a local variable is among those that were overwritten.
+pub fn is_noted(overwritten: &[Overwritten], slot: usize) -> bool
     ensures { result ≡ is_noted overwritten.now slot }
 {
     overwritten.iter().any(|o| o.slot == slot)
 }
 
-// The type of a local variable; that of an unset one where there is none of the number.
-fn type_at(locals: &[VType], slot: usize) -> VType
+/// The type of a local variable; that of an unset one where there is none of the number.
+pub fn type_at(locals: &[VType], slot: usize) -> VType
     ensures { result ≡ type_at locals.now slot }
 {
     match locals.get(slot) {
@@ -112,6 +115,48 @@ fn behind_store(like: Like, locals: &[VType], n: u16) -> Result<Option<Like>, No
     Ok(Some(Like { pc, overwritten }))
 }
 
+// Notes local variables that may be overwritten.
+fn note_all(
+    overwritten: &mut Vec<Overwritten>,
+    locals: &[VType],
+    slots: &[usize],
+) -> Result<(), AllocError>
+    ensures { OnOk result
+        (overwritten.new.items ≡ noting_all locals.now slots.now overwritten.old.items) }
+{
+    let mut rest = slots;
+    while let Some((slot, others)) = rest.split_first() {
+        note(overwritten, locals, *slot)?;
+        rest = others;
+    }
+    Ok(())
+}
+
+// What a state is like after an object is made or finished, which changes the types of unfinished objects alone.
+fn behind_object(like: Like, types: &Types) -> Result<Option<Like>, NoMemory>
+    ensures { IfOk result (λ o. IfSome o (NotedAll like types.now.locals)) }
+{
+    let slots = types.unfinished();
+    if slots.len() > MOST_UNFINISHED {
+        return Ok(None);
+    }
+    let Like { pc, overwritten } = like;
+    let mut overwritten = overwritten;
+    note_all(&mut overwritten, types.locals(), slots)?;
+    Ok(Some(Like { pc, overwritten }))
+}
+
+/// Whether an instruction makes an object, or may finish one.
+pub fn finishes(op: &Op) -> bool
+    ensures { result ≡ finishes op.now }
+{
+    match op {
+        Op::InvokeSpecial(_) => true,
+        Op::New(_) => true,
+        _ => false,
+    }
+}
+
 /// Whether an instruction changes the operand stack alone.
 pub fn keeps_locals(op: &Op) -> bool
     ensures { result ≡ keeps_locals op.now }
@@ -124,15 +169,19 @@ pub fn keeps_locals(op: &Op) -> bool
     }
 }
 
-/// What the state after an instruction is like, where the one before it has these local variables and is like this.
-pub fn like_behind(op: &Op, like: Option<Like>, locals: &[VType]) -> Result<Option<Like>, NoMemory>
-    ensures { IfOk result (λ o. IfSome o (NotedBehind op.now locals.now like)) }
+/// What the state after an instruction is like, where the one before it has these types and is like this, and both have the same
+/// flag.
+pub fn like_behind(op: &Op, like: Option<Like>, types: &Types) -> Result<Option<Like>, NoMemory>
+    ensures { IfOk result (λ o. IfSome o (NotedBehind op.now types.now.locals like)) }
 {
     let Some(like) = like else {
         return Ok(None);
     };
     if let Op::Store(_, n) = op {
-        return behind_store(like, locals, *n);
+        return behind_store(like, types.locals(), *n);
+    }
+    if finishes(op) {
+        return behind_object(like, types);
     }
     if keeps_locals(op) {
         Ok(Some(like))
@@ -151,14 +200,14 @@ pub fn are_assignable<L: Lookups>(w: &L, overwritten: &[Overwritten], locals: &[
 }
 
 /// The state with the local variables as they were before they were overwritten.
-pub fn restored(state: State, overwritten: &[Overwritten]) -> State
-    ensures { IsRestored overwritten.now (state_in state) (state_in result) }
+pub fn restored(state: State, overwritten: &[Overwritten]) -> Result<State, AllocError>
+    ensures { IfOk result (λ s. IsRestored overwritten.now (state_in state) (state_in s)) }
 {
     let mut state = state;
     let mut rest = overwritten;
     while let Some((o, behind)) = rest.split_first() {
-        state.types.overwrite(o.slot, o.was);
+        state.types.overwrite(o.slot, o.was)?;
         rest = behind;
     }
-    state
+    Ok(state)
 }

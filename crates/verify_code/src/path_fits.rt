@@ -67,7 +67,7 @@ pub fn fit_path<L: Lookups>(w: &L, paths: &Paths, from: usize, slots: &[VType]) 
             return false;
         };
         left = front;
-        node = top.below;
+        node = top.below as usize;
     }
     left.is_empty()
 }
@@ -103,7 +103,7 @@ pub fn has_this(paths: &Paths, from: usize) -> bool
         if matches!(top.item, Some(VType::UninitThis)) {
             return true;
         }
-        node = top.below;
+        node = top.below as usize;
     }
     false
 }

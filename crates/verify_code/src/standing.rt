@@ -1,12 +1,13 @@
 //! States with the local variables of a frame of the stack map.
 
-ghost use Rattle.std.specs.Prelude.{◌≡◌, None};
+ghost use Rattle.std.specs.Prelude.{◌≡◌, IfOk, MatchBool, None};
 ghost use Rattle.verify_instructions.specs.Views.{state_in};
 ghost use Rattle.verify_code.specs.Overwrites.{IsRestored, overwritten_since};
 ghost use Rattle.verify_code.specs.Standings as spec;
 
-use crate::overwritten::{Like, Overwritten, keeps_locals, overwritten_since, restored};
-use opcodes::Op;
+use crate::overwritten::{Like, Overwritten, overwritten_since, restored};
+use crate::watch::Watch;
+use std::alloc::AllocError;
 use verify_instructions::State;
 
 /// Where the exception handlers of a state are satisfied.
@@ -26,6 +27,8 @@ pub struct Standing {
     pub like: Option<Like>,
     /// Where they satisfy the exception handlers.
     pub judged: Option<Judged>,
+    /// The pc of a frame that they fit.
+    pub fitted: Option<u32>,
 }
 
 impl Standing {
@@ -37,13 +40,15 @@ impl Standing {
     }
 
     /// The state with the local variables of the frame that it is like.
-    pub fn restored(self) -> State
-        ensures { IsRestored (overwritten_since self.like) (spec.stood self) (state_in result) }
+    pub fn restored(self) -> Result<State, AllocError>
+        ensures { IfOk result (λ s.
+            IsRestored (overwritten_since self.like) (spec.stood self) (state_in s)) }
     {
         let Standing {
             state,
             like,
             judged: _,
+            fitted: _,
         } = self;
         restored(state, overwritten_since(&like))
     }
@@ -96,11 +101,47 @@ impl Behind {
     }
 }
 
-/// Where the state after an instruction satisfies the exception handlers, where the one before it does so here.
-pub fn judged_behind(op: &Op, judged: Option<Judged>) -> Option<Judged>
-    ensures { result ≡ spec.behind_op op.now judged }
+// Whether two flags are the same.
+fn is_same(a: bool, b: bool) -> bool
+    ensures { MatchBool result (a ≡ b) (Unit {0}) }
 {
-    if keeps_locals(op) { judged } else { None }
+    if a { b } else { !b }
+}
+
+/// A state after an instruction, and what is known of it where the one before it had this flag, was so judged and fitted this frame. It is
+/// like this frame if it has the same flag.
+pub fn standing_after(
+    state: State,
+    this_uninit: bool,
+    watch: Watch,
+    like: Option<Like>,
+    judged: Option<Judged>,
+    fitted: Option<u32>,
+) -> Standing
+    ensures { spec.StandsAfter this_uninit watch like judged fitted state result }
+{
+    if !is_same(state.this_uninit, this_uninit) {
+        return Standing {
+            state,
+            like: None,
+            judged: None,
+            fitted: None,
+        };
+    }
+    if watch.is_kept(state.types.locals()) {
+        return Standing {
+            state,
+            like,
+            judged,
+            fitted,
+        };
+    }
+    Standing {
+        state,
+        like,
+        judged: None,
+        fitted: None,
+    }
 }
 
 /// Whether the exception handlers are known to be satisfied at a pc.

@@ -1,9 +1,11 @@
-//! The targets of a switch (JVMS 4.10.1.9): many frames may have the same local variables, which are then compared once.
+//! Targets (JVMS 4.10.1.9): many frames may have the same local variables, which are then compared once.
 
-ghost use Rattle.std.specs.Prelude.{◌≡◌, IfSome, true};
+ghost use Rattle.std.specs.Prelude.{◌≡◌, [], ◌∷◌, IfSome, true};
 ghost use Rattle.std.specs.List.{list_all};
 ghost use Rattle.std.specs.Option.{option_map_or};
+ghost use Rattle.instruction_rows.specs.Rows.{targets_of_row};
 ghost use Rattle.instruction_rows.specs.Switches.{lookup_targets, match_target, table_targets};
+ghost use Rattle.instruction_rows.specs.Table.{row};
 ghost use Rattle.verify_types.specs.Environment.{map_at};
 ghost use Rattle.verify_types.specs.Faults as spec;
 ghost use Rattle.verify_types.specs.Handlers as handlers;
@@ -14,8 +16,25 @@ use crate::environment::Environment;
 use crate::frame::Frame;
 use crate::standing::Standing;
 use crate::targets::pc_of;
-use opcodes::{LookupSwitch, Match, TableSwitch};
+use opcodes::{LookupSwitch, Match, Op, TableSwitch};
 use world_model::Lookups;
+
+// With fewer local variables a comparison costs less than what is kept to save it.
+const MANY: u16 = 64;
+
+/// The target of a branch. `None`: the instruction is none.
+pub fn branch_target(op: &Op) -> Option<i64>
+    ensures { IfSome result (λ target. targets_of_row (row op.now) ≡ target ∷ []) }
+{
+    match op {
+        Op::IfZero(_, target) => Some(*target),
+        Op::IfInts(_, target) => Some(*target),
+        Op::IfReferences(_, target) => Some(*target),
+        Op::IfNull(_, target) => Some(*target),
+        Op::Goto(target) => Some(*target),
+        _ => None,
+    }
+}
 
 impl<'a, L: Lookups> Environment<'a, L> {
     // The frame of the stack map at a pc, where it has the local variables of another, which a state fits.
@@ -80,12 +99,61 @@ impl<'a, L: Lookups> Environment<'a, L> {
         }
     }
 
+    /// Whether a state fits the frame of the stack map at a pc, if there is one, where it may be known to fit another.
+    pub fn fits_there(&self, s: &Standing, pc: u32) -> bool
+        requires { IsStanding self.now s.now }
+        ensures { result ≡
+            option_map_or (handlers.fits_frame self.now (stood s.now)) (map_at self.now pc) true }
+    {
+        self.fits_as(s, s.fitted, pc)
+    }
+
+    /// Whether a state fits the frame at the target of a branch, if there is one.
+    pub fn fits_branch(&self, s: &Standing, target: i64) -> bool
+        requires { IsStanding self.now s.now }
+        ensures { result ≡ spec.fits_target self.now (stood s.now) target }
+    {
+        self.fits_target_as(s, s.fitted, target)
+    }
+
+    /// The same state after an instruction, and a frame that it is known to fit, where it fits those at all targets.
+    pub fn fitted_after(&self, s: Standing, op: &Op, fits: bool) -> Standing
+        requires stands { IsStanding self.now s }
+        requires fits { fits ≡ true
+            → list_all (spec.fits_target self.now (stood s)) (targets_of_row (row op.now)) ≡ true }
+        ensures same { stood result ≡ stood s }
+        ensures stands { IsStanding self.now result }
+    {
+        if !fits {
+            return s;
+        }
+        if self.method.code.max_locals < MANY {
+            return s;
+        }
+        let Some(target) = branch_target(op) else {
+            return s;
+        };
+        let Standing {
+            state,
+            like,
+            judged,
+            fitted,
+        } = s;
+        let fitted = self.fitted_at_target(fitted, target);
+        Standing {
+            state,
+            like,
+            judged,
+            fitted,
+        }
+    }
+
     // Whether a state fits the frames at all of these targets.
     fn fits_all(&self, s: &Standing, targets: &[i64]) -> bool
         requires { IsStanding self.now s.now }
         ensures { result ≡ list_all (spec.fits_target self.now (stood s.now)) targets.now }
     {
-        let mut fitted = None;
+        let mut fitted = s.fitted;
         let mut rest = targets;
         while let Some((target, behind)) = rest.split_first() {
             if !self.fits_target_as(s, fitted, *target) {
@@ -103,7 +171,7 @@ impl<'a, L: Lookups> Environment<'a, L> {
         ensures { result ≡
             list_all (λ m. spec.fits_target self.now (stood s.now) (match_target m)) matches.now }
     {
-        let mut fitted = None;
+        let mut fitted = s.fitted;
         let mut rest = matches;
         while let Some((m, behind)) = rest.split_first() {
             if !self.fits_target_as(s, fitted, m.target) {

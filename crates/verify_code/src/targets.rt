@@ -175,11 +175,11 @@ impl<'a, L: Lookups> Environment<'a, L> {
             list_all (spec.fits_target self.now (stood s.now)) (targets_of_row (row op.now)) }
     {
         match op {
-            Op::IfZero(_, target) => self.fits_target(s, *target),
-            Op::IfInts(_, target) => self.fits_target(s, *target),
-            Op::IfReferences(_, target) => self.fits_target(s, *target),
-            Op::IfNull(_, target) => self.fits_target(s, *target),
-            Op::Goto(target) => self.fits_target(s, *target),
+            Op::IfZero(_, target) => self.fits_branch(s, *target),
+            Op::IfInts(_, target) => self.fits_branch(s, *target),
+            Op::IfReferences(_, target) => self.fits_branch(s, *target),
+            Op::IfNull(_, target) => self.fits_branch(s, *target),
+            Op::Goto(target) => self.fits_branch(s, *target),
             Op::TableSwitch(switch) => self.fits_table(s, switch.get()),
             Op::LookupSwitch(switch) => self.fits_lookup(s, switch.get()),
             _ => true,
@@ -192,7 +192,7 @@ impl<'a, L: Lookups> Environment<'a, L> {
         ensures { result ≡ spec.fits_next self.now (row i.now.op) i.now.next (stood s.now) }
     {
         if goes_on(&i.op) {
-            self.fits_at(s, i.next)
+            self.fits_there(s, i.next)
         } else {
             self.has_frame(i.next)
         }

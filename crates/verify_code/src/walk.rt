@@ -13,13 +13,15 @@ ghost use Rattle.verify_instructions.specs.Views.{state_in};
 ghost use Rattle.verify_code.specs.Findings.{instruction_of, findings_at};
 ghost use Rattle.verify_code.specs.Frames.{frame_in};
 ghost use Rattle.verify_code.specs.Standings.{AllStand, BothStand, IsJudged, IsStanding, going, holds_at, stood};
-ghost use Rattle.verify_code.specs.Walks.{IsAfter, IsPassage, IsStep, IsVerdict, arrives, entry_of, goes_to, place, walk_fault};
+ghost use Rattle.verify_code.specs.Walks.{IsAfter, IsPassage, IsStep, IsVerdict, arrives, entry_of, place, walk_fault};
 
+use crate::comparisons::Compared;
 use crate::environment::Environment;
 use crate::findings::Findings;
 use crate::frame::Frame;
 use crate::overwritten::{Like, like_behind};
-use crate::standing::{Behind, Judged, Standing, holds_at, judged_behind};
+use crate::standing::{Behind, Judged, Standing, holds_at, standing_after};
+use crate::watch::watched;
 use instruction_rows::RowWhy;
 use items::NoMemory;
 use opcodes::Instr;
@@ -91,7 +93,7 @@ impl<'a, L: Lookups> Environment<'a, L> {
         };
         match self.shared(&s, pc) {
             Some(shared) => match shared.stack_slots(alloc)? {
-                Some(stack) => Ok(Some(s.restored().with_stack(stack))),
+                Some(stack) => Ok(Some(s.restored()?.with_stack(stack))),
                 None => Ok(None),
             },
             None => frame.state(alloc),
@@ -163,6 +165,7 @@ impl<'a, L: Lookups> Environment<'a, L> {
                     state,
                     like: Some(like),
                     judged,
+                    fitted: None,
                 }),
                 fits,
             }),
@@ -224,25 +227,19 @@ impl<'a, L: Lookups> Environment<'a, L> {
             state,
             like,
             judged,
+            fitted,
         } = s;
-        let like = like_behind(&i.op, like, state.types.locals())?;
+        let this_uninit = state.this_uninit;
+        let watch = watched(&i.op, &state.types);
+        let like = like_behind(&i.op, like, &state.types)?;
         let mut state = state;
         match state.apply(alloc, self.world, &self.method, i.pc as u16, naming, &i.op) {
-            Ok(()) => Ok(After::Kept(Standing {
-                state,
-                like,
-                judged: judged_behind(&i.op, judged),
-            })),
+            Ok(()) => {
+                let after = standing_after(state, this_uninit, watch, like, judged, fitted);
+                Ok(After::Kept(after))
+            }
             Err(stop) => Ok(After::Broken(broken_rule(stop)?)),
         }
-    }
-
-    // Whether the state after an instruction fits where it goes.
-    fn fits_on(&self, s: &Standing, i: &Instr, is_last: bool) -> bool
-        requires { IsStanding self.now s.now }
-        ensures { result ≡ goes_to self.now (row i.now.op) i.now.next is_last (stood s.now) }
-    {
-        self.fits_targets(s, &i.op) && (is_last || self.fits_next(s, i))
     }
 
     // Judges one instruction.
@@ -268,11 +265,12 @@ impl<'a, L: Lookups> Environment<'a, L> {
         match self.after(alloc, s, i, naming)? {
             After::Broken(why) => Ok(Verdict::Broken(findings.why_broken(why))),
             After::Kept(after) => {
-                let fits_on = self.fits_on(&after, i, is_last);
-                let is_shallow = self.is_shallow(&after.state);
-                match findings.why(fits_on, is_shallow) {
+                let compared = self.compared(alloc, after, i, is_last)?;
+                let Compared { standing, fits } = compared;
+                let is_shallow = self.is_shallow(&standing.state);
+                match findings.why(fits, is_shallow) {
                     Some(why) => Ok(Verdict::Broken(why)),
-                    None => Ok(Verdict::Kept(after)),
+                    None => Ok(Verdict::Kept(standing)),
                 }
             }
         }
@@ -354,6 +352,7 @@ impl<'a, L: Lookups> Environment<'a, L> {
             state: first,
             like: None,
             judged: None,
+            fitted: None,
         };
         let mut before = Behind::new(first, true);
         let mut is_entry = true;

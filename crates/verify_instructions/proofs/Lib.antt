@@ -1,3 +1,4 @@
 pub mod Lists
 pub mod TableLaws
 pub mod ResultLaws
+pub mod LocalLaws

@@ -2,3 +2,5 @@ pub mod Answers
 pub mod Views
 pub mod Rows
 pub mod Tables
+pub mod Unfinished
+pub mod LocalTypes

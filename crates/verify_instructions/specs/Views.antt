@@ -13,7 +13,7 @@ use Rattle.verify_instructions.specs.declared.state.Uninitialized.TheVariants as
 
 -- the last item of the vector is the top of the stack
 abbrev pub types_in : Inside → Contents VType
-types_in a = record { locals = a.locals.items; stack = reverse a.stack.items }
+types_in a = record { locals = a.locals; stack = reverse a.stack.items }
 
 abbrev pub state_in : State → TypeState
 state_in s = record { types = s.types; this_uninit = s.this_uninit }

@@ -206,7 +206,7 @@ impl State {
             Op::InvokeInterface(_, _) => self.invoke_virtual(w, m, pc, naming),
             Op::InvokeStatic(_) => self.invoke_static(w, m, pc, naming),
             Op::InvokeSpecial(_) => self.invoke_special(alloc, w, m, pc, naming),
-            Op::New(_) => self.make_new(alloc, pc),
+            Op::New(_) => self.make_new(pc),
             Op::NewArray(primitive) => self.make_array(*primitive),
             Op::GetStatic(_) => self.event(w, m.info.class, pc, naming, op),
             Op::PutStatic(_) => self.event(w, m.info.class, pc, naming, op),

@@ -4,6 +4,7 @@
 mod calls;
 mod effect;
 mod local_rows;
+mod locals;
 mod method;
 mod objects;
 mod operands;

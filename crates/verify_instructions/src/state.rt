@@ -56,14 +56,14 @@ impl State {
     }
 
     /// `new` at this pc.
-    pub fn make_new(&mut self, alloc: Global, pc: u16) -> Result<(), Stop>
+    pub fn make_new(&mut self, pc: u16) -> Result<(), Stop>
         ensures { Leaves result (state_in self.new) (objects.made_anew pc (state_in self.old)) }
     {
         let object = Uninitialized::New(pc);
         if self.types.has_operand(object) {
             return Err(Stop::Broken(RowWhy::Init));
         }
-        self.types.replace_locals(alloc, object, VType::Top)?;
+        self.types.replace_locals(object, VType::Top);
         self.types.push_slot(VType::Uninit(pc))
     }
 
@@ -73,7 +73,7 @@ impl State {
             initialized (is_object object) t self.old.this_uninit (state_in self.old)) }
         ensures full { OnErr result (result ≡ Err Stop.NoMemory) }
     {
-        self.types.replace_locals(alloc, object, t)?;
+        self.types.replace_locals(object, t);
         self.types.replace_operands(alloc, object, t)
     }
 }

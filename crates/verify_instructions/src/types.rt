@@ -9,8 +9,10 @@ ghost use Rattle.std.specs.Option.{option_map};
 ghost use Rattle.std.specs.Result.{result_ok};
 ghost use Rattle.verify_types.specs.TypeStates.{replaced};
 ghost use Rattle.verify_instructions.specs.Answers.{Gives, Leaves, Takes};
+ghost use Rattle.verify_instructions.specs.Unfinished.{AreListed};
 ghost use Rattle.verify_instructions.specs.Views.{is_object};
 
+use crate::locals::Locals;
 use crate::state::{Uninitialized, is_object};
 use crate::stop::Stop;
 use instruction_rows::{RowWhy, is_narrow, is_wide, kind_of_type};
@@ -22,7 +24,7 @@ use std::marker::Model;
 /// The types of a frame, slot by slot (JVMS 4.10.1.4).
 #[derive(Drop)]
 pub struct Types {
-    locals: Vec<VType>,
+    locals: Locals,
     stack: Vec<VType>,
 }
 
@@ -39,10 +41,12 @@ impl Model for Types {
 
 impl Types {
     /// The types of these slots. The last of the stack is its top.
-    pub fn new(locals: Vec<VType>, stack: Vec<VType>) -> Self
-        ensures { result ≡ record { locals = locals.items; stack = reverse stack.items } }
+    pub fn new(alloc: Global, locals: Vec<VType>, stack: Vec<VType>) -> Result<Self, AllocError>
+        ensures { IfOk result (λ types.
+            types ≡ record { locals = locals.items; stack = reverse stack.items }) }
     {
-        Types { locals, stack }
+        let locals = Locals::new(alloc, locals)?;
+        Ok(Types { locals, stack })
     }
 
     /// The same with another operand stack, the top of which is its last item.
@@ -58,7 +62,14 @@ impl Types {
     pub fn locals(&self) -> &[VType]
         ensures { result.now ≡ self.now.locals }
     {
-        &self.locals
+        self.locals.as_slice()
+    }
+
+    /// Slots of local variables, among them each whose type is that of an object that isn't initialized.
+    pub fn unfinished(&self) -> &[usize]
+        ensures { AreListed result.now self.now.locals }
+    {
+        self.locals.unfinished()
     }
 
     /// The types of the operand stack, its top last.
@@ -160,21 +171,19 @@ impl Types {
             (ok_or (with_item n t self.old.locals) RowWhy.Locals) }
         ensures stack { self.new.stack ≡ self.old.stack }
     {
-        if n >= self.locals.len() {
+        if n >= self.local_count() {
             return Err(Stop::Broken(RowWhy::Locals));
         }
-        self.locals[n] = t;
+        self.locals.set(n, t)?;
         Ok(())
     }
 
     /// Writes the type of the local variable of a number, if there is one (own).
-    pub fn overwrite(&mut self, n: usize, t: VType)
-        ensures locals { self.new.locals ≡ slice_set self.old.locals n t }
+    pub fn overwrite(&mut self, slot: usize, t: VType) -> Result<(), AllocError>
+        ensures locals { OnOk result (self.new.locals ≡ slice_set self.old.locals slot t) }
         ensures stack { self.new.stack ≡ self.old.stack }
     {
-        if n < self.locals.len() {
-            self.locals[n] = t;
-        }
+        self.locals.set(slot, t)
     }
 
     // A long before this local variable loses its second slot.
@@ -182,11 +191,14 @@ impl Types {
         ensures locals { self.new.locals ≡ spec.without_half n self.old.locals }
         ensures stack { self.new.stack ≡ self.old.stack }
     {
-        if n == 0 || n > self.locals.len() {
+        if n == 0 {
             return;
         }
-        if is_wide(self.locals[n - 1]) {
-            self.locals[n - 1] = VType::Top;
+        let Some(before) = self.locals().get(n - 1) else {
+            return;
+        };
+        if is_wide(*before) {
+            self.locals.unset(n - 1);
         }
     }
 
@@ -208,7 +220,7 @@ impl Types {
     fn local(&self, kind: Kind, n: u16) -> Result<VType, Stop>
         ensures { Gives result (λ t. t) (spec.local_type kind n self.now.locals) }
     {
-        let Some(t) = self.locals.get(usize::from(n)) else {
+        let Some(t) = self.locals().get(usize::from(n)) else {
             return Err(Stop::Broken(RowWhy::Locals));
         };
         if is_of_kind(*t, kind) {
@@ -268,7 +280,7 @@ impl Types {
     pub fn local_count(&self) -> usize
         ensures { result ≡ length self.now.locals }
     {
-        self.locals.len()
+        self.locals().len()
     }
 
     /// The type of the value of this kind on top. `None`: there is none.
@@ -308,19 +320,11 @@ impl Types {
     }
 
     /// Gives local variables that hold the object another type.
-    pub fn replace_locals(
-        &mut self,
-        alloc: Global,
-        object: Uninitialized,
-        t: VType,
-    ) -> Result<(), Stop>
-        ensures locals { OnOk result
-            (self.new.locals ≡ replaced (is_object object) t self.old.locals) }
+    pub fn replace_locals(&mut self, object: Uninitialized, t: VType)
+        ensures locals { self.new.locals ≡ replaced (is_object object) t self.old.locals }
         ensures stack { self.new.stack ≡ self.old.stack }
-        ensures full { OnErr result (result ≡ Err Stop.NoMemory) }
     {
-        self.locals = replaced(alloc, &self.locals, object, t)?;
-        Ok(())
+        self.locals.replace(object, t);
     }
 
     /// Gives operands that are the object another type.

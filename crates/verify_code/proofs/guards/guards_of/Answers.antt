@@ -1,5 +1,5 @@
 use Rattle.std.proofs.Common.{refl}
-use Rattle.verify_code.proofs.GuardLaws.{gather_one, gathered_all}
+use Rattle.verify_code.proofs.GuardLaws.{gather_one}
 use Rattle.verify_code.proofs.guards.guards_of.Goals as goal
 
 pub loop-row-preserved : goal.loop-row-preserved

@@ -6,7 +6,7 @@ use Rattle.type_paths.proofs.paths.Paths.chopped.Goals as goal
 
 pub loop-preserved : goal.loop-preserved
 loop-preserved c = λ p h.
-    subst (IsPath c.args.self.now c.below-node.result) (drop_more c.loop.counter p) (c.below-node.ensures (drop c.loop.counter p) (c.loop.invariant p h))
+    subst (IsPath c.args.self.now c.below-node.result) (drop_more c.loop.counter p) (c.below-node.ensures.node (drop c.loop.counter p) (c.loop.invariant p h))
 
 pub returns : goal.returns
 returns c = λ p h.

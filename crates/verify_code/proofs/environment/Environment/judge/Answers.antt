@@ -1,8 +1,8 @@
-use Rattle.std.proofs.Common.{◌≡◌, Bool, true, Option, ap, subst, sym, ◌∙◌}
+use Rattle.std.proofs.Common.{◌≡◌, Bool, true, Ok, Option, ap, subst, sym, ◌∙◌}
 use Rattle.std.specs.Prelude.{not}
 use Rattle.verify_types.specs.declared.why.VerifyWhy.{VerifyWhy}
 use Rattle.items.specs.First.{first_some}
-use Rattle.verify_types.specs.Faults.{is_why}
+use Rattle.verify_types.specs.Faults.{is_shallow, is_why}
 use Rattle.verify_code.specs.declared.findings.Findings.{Findings}
 use Rattle.verify_code.specs.Findings.{instruction_of, findings_whys}
 use Rattle.verify_code.specs.Standings.{stood}
@@ -32,7 +32,8 @@ returns-in-Some g c = λ entry arrived.
     kept env c.args.i.now c.args.naming entry c.args.is_last c.args.fits s (stood c.in-Kept.after) c.why.result
     after.0
     arrived
-    (answered c.findings-findings.result _ c.fits_on-fits_on.result _ c.is_shallow-is_shallow.result _ c.why.result c.why.ensures c.findings-findings.ensures c.fits_on-fits_on.ensures c.is_shallow-is_shallow.ensures)
+    (answered c.findings-findings.result _ c.in_ok-compared-in-Kept.compared.fits _ c.is_shallow-is_shallow.result _ c.why.result c.why.ensures c.findings-findings.ensures c.in_ok-compared-in-Kept.ensures.fits
+    (c.is_shallow-is_shallow.ensures ∙ ap (λ t. is_shallow env t) c.in_ok-compared-in-Kept.ensures.same))
     ∙ c.in-Some.is
 
 pub returns-in-None : goal.returns-in-None
@@ -43,8 +44,9 @@ returns-in-None g c = λ entry arrived.
     record {
       none =
           kept env c.args.i.now c.args.naming entry c.args.is_last c.args.fits s (stood c.in-Kept.after) c.why.result after.0 arrived
-          (answered c.findings-findings.result _ c.fits_on-fits_on.result _ c.is_shallow-is_shallow.result _ c.why.result c.why.ensures c.findings-findings.ensures c.fits_on-fits_on.ensures c.is_shallow-is_shallow.ensures)
+          (answered c.findings-findings.result _ c.in_ok-compared-in-Kept.compared.fits _ c.is_shallow-is_shallow.result _ c.why.result c.why.ensures c.findings-findings.ensures c.in_ok-compared-in-Kept.ensures.fits
+          (c.is_shallow-is_shallow.ensures ∙ ap (λ t. is_shallow env t) c.in_ok-compared-in-Kept.ensures.same))
           ∙ c.in-None.is;
-      is = after.0;
-      stands = after.1;
+      is = after.0 ∙ ap (λ t. Ok t) (sym c.in_ok-compared-in-Kept.ensures.same);
+      stands = c.in_ok-compared-in-Kept.ensures.stands;
     }

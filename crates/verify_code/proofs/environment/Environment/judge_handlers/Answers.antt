@@ -1,7 +1,7 @@
 use Rattle.std.proofs.Common.{◌≡◌, List, true, ap, subst, sym, ◌∙◌}
 use Rattle.std.specs.Prelude.{map}
 use Rattle.std.specs.List.{list_all}
-use Rattle.verify_types.specs.Environment.{Environment, Handler}
+use Rattle.verify_types.specs.Environment.{Environment}
 use Rattle.verify_types.specs.Handlers.{are_satisfied}
 use Rattle.verify_code.specs.declared.guards.Guard.{Guard}
 use Rattle.verify_code.specs.Guards.{AskAlike, guard_in}

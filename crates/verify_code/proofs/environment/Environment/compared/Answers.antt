@@ -1,0 +1,26 @@
+use Rattle.std.proofs.Common.{◌≡◌, ap, sym, ◌∙◌}
+use Rattle.std.specs.Prelude.{◌&&◌, ◌||◌}
+use Rattle.std.specs.List.{list_all}
+use Rattle.instruction_rows.specs.Rows.{targets_of_row}
+use Rattle.instruction_rows.specs.Table.{row}
+use Rattle.verify_types.specs.Faults.{fits_next, fits_target}
+use Rattle.verify_types.specs.TypeStates.{TypeState}
+use Rattle.verify_code.specs.Standings.{stood}
+use Rattle.verify_code.proofs.environment.Environment.compared.Goals as goal
+
+pub fitted_after-fitted-requires-clause-fits : goal.fitted_after-fitted-requires-clause-fits
+fitted_after-fitted-requires-clause-fits g c = λ is. sym c.fits_targets-fits_targets.ensures ∙ is
+
+pub returns-clause-fits : goal.returns-clause-fits
+returns-clause-fits g c =
+    let env = c.args.self.now in
+    let i = c.args.i.now in
+    let near : stood c.in_ok-near.near ≡ stood c.args.s = c.in_ok-near.ensures.same in
+    let fitted : stood c.fitted_after-fitted.result ≡ stood c.args.s = c.fitted_after-fitted.ensures.same ∙ near in
+    let standing : stood c.in_ok-standing.standing ≡ stood c.args.s = c.in_ok-standing.ensures.same ∙ fitted in
+    c.fits_on-fits.ensures
+    ∙ ap (λ b. b && (c.args.is_last || fits_next env (row i.op) i.next (stood c.in_ok-standing.standing))) (c.fits_targets-fits_targets.ensures ∙ ap (λ (t : TypeState). list_all (fits_target env t) (targets_of_row (row i.op))) near)
+    ∙ ap (λ (t : TypeState). list_all (fits_target env (stood c.args.s)) (targets_of_row (row i.op)) && (c.args.is_last || fits_next env (row i.op) i.next t)) standing
+
+pub returns-clause-same : goal.returns-clause-same
+returns-clause-same g c = c.in_ok-standing.ensures.same ∙ c.fitted_after-fitted.ensures.same ∙ c.in_ok-near.ensures.same

@@ -1,0 +1,120 @@
+//! Where the state after an instruction goes (JVMS 4.10.1.9), compared with the frames of the stack map there.
+
+ghost use Rattle.std.specs.Prelude.{◌≡◌, ◌&&◌, ◌||◌, IfOk};
+ghost use Rattle.instruction_rows.specs.Table.{row};
+ghost use Rattle.verify_types.specs.Faults.{fits_next};
+ghost use Rattle.verify_types.specs.TypeStates.{TypeState};
+ghost use Rattle.verify_code.specs.Standings.{IsStanding, MayBeLike, stood};
+ghost use Rattle.verify_code.specs.Walks.{goes_to};
+
+use crate::environment::Environment;
+use crate::overwritten::Like;
+use crate::standing::Standing;
+use crate::switches::branch_target;
+use crate::targets::pc_of;
+use items::NoMemory;
+use opcodes::{Instr, Op};
+use std::alloc::Global;
+use world_model::Lookups;
+
+// With fewer local variables a comparison costs less than what is kept to save it.
+const MANY: u16 = 64;
+
+/// The state after an instruction, and whether it fits where it goes.
+#[derive(Drop)]
+pub struct Compared {
+    pub standing: Standing,
+    pub fits: bool,
+}
+
+impl<'a, L: Lookups> Environment<'a, L> {
+    // What a state is like, if it can be, by the frame of the stack map at a pc.
+    fn near_like(
+        &self,
+        alloc: Global,
+        like: Option<Like>,
+        pc: u32,
+    ) -> Result<Option<Like>, NoMemory>
+        ensures { IfOk result (λ o. (s : TypeState) →
+            MayBeLike self.now like s → MayBeLike self.now o s) }
+    {
+        let Some(like) = like else {
+            return Ok(None);
+        };
+        let found = self.frames.near(alloc, &like, pc)?;
+        match found {
+            Some(near) => Ok(Some(near)),
+            None => Ok(Some(like)),
+        }
+    }
+
+    // The same state, like the frame of the stack map at a pc where it is like one with few other local variables.
+    fn near(&self, alloc: Global, s: Standing, pc: u32) -> Result<Standing, NoMemory>
+        requires { IsStanding self.now s }
+        ensures same { IfOk result (λ t. stood t ≡ stood s) }
+        ensures stands { IfOk result (IsStanding self.now) }
+    {
+        if self.method.code.max_locals < MANY {
+            return Ok(s);
+        }
+        let Standing {
+            state,
+            like,
+            judged,
+            fitted,
+        } = s;
+        let like = self.near_like(alloc, like, pc)?;
+        Ok(Standing {
+            state,
+            like,
+            judged,
+            fitted,
+        })
+    }
+
+    // The same, where the instruction is a branch.
+    fn near_target(&self, alloc: Global, s: Standing, op: &Op) -> Result<Standing, NoMemory>
+        requires { IsStanding self.now s }
+        ensures same { IfOk result (λ t. stood t ≡ stood s) }
+        ensures stands { IfOk result (IsStanding self.now) }
+    {
+        let Some(target) = branch_target(op) else {
+            return Ok(s);
+        };
+        let Some(pc) = pc_of(target) else {
+            return Ok(s);
+        };
+        self.near(alloc, s, pc)
+    }
+
+    // Whether the state fits the frames at all targets, and the next instruction if there is one.
+    fn fits_on(&self, fits_targets: bool, s: &Standing, i: &Instr, is_last: bool) -> bool
+        requires { IsStanding self.now s.now }
+        ensures { result ≡ (fits_targets
+            && (is_last || fits_next self.now (row i.now.op) i.now.next (stood s.now))) }
+    {
+        fits_targets && (is_last || self.fits_next(s, i))
+    }
+
+    /// Compares the state after an instruction.
+    pub fn compared(
+        &self,
+        alloc: Global,
+        s: Standing,
+        i: &Instr,
+        is_last: bool,
+    ) -> Result<Compared, NoMemory>
+        requires { IsStanding self.now s }
+        ensures fits { IfOk result (λ c. c.fits ≡
+            goes_to self.now (row i.now.op) i.now.next is_last (stood s)) }
+        ensures same { IfOk result (λ c. stood c.standing ≡ stood s) }
+        ensures stands { IfOk result (λ c. IsStanding self.now c.standing) }
+    {
+        let near = self.near_target(alloc, s, &i.op)?;
+        let fits_targets = self.fits_targets(&near, &i.op);
+        let fitted = self.fitted_after(near, &i.op, fits_targets);
+        let standing = self.near(alloc, fitted, i.next)?;
+        let fits = self.fits_on(fits_targets, &standing, i, is_last);
+        Ok(Compared { standing, fits })
+    }
+}

@@ -1,0 +1,136 @@
+//! The types of local variables (JVMS 4.10.1.4), and which of them may be those of unfinished objects.
+
+ghost use Rattle.std.specs.Prelude.{◌≡◌, IfOk, OnErr, OnOk, slice_set};
+ghost use Rattle.verify_types.specs.TypeStates.{replaced};
+ghost use Rattle.verify_instructions.specs.Unfinished as spec;
+ghost use Rattle.verify_instructions.specs.Views.{is_object};
+
+use crate::state::{Uninitialized, is_object};
+use stack_maps::VType;
+use std::alloc::{AllocError, Global};
+use std::marker::Model;
+
+/// The types of local variables, slot by slot. An object that isn't initialized is found without a look at all of them.
+#[derive(Drop)]
+pub struct Locals {
+    types: Vec<VType>,
+    unfinished: Vec<usize>,
+}
+
+impl Model for Locals {
+    ghost use Rattle.std.specs.Prelude.{List};
+    ghost use Rattle.stack_maps.specs.declared.types.VType.{VType};
+
+    ghost Value = { List VType };
+
+    ghost use Rattle.verify_instructions.specs.LocalTypes.{types_in, HasUnfinished};
+
+    ghost view = { types_in };
+
+    ghost invariant = { HasUnfinished };
+}
+
+/// Whether a type is that of an object that isn't initialized.
+pub fn is_unfinished(t: VType) -> bool
+    ensures { result ≡ spec.is_unfinished t }
+{
+    matches!(t, VType::UninitThis | VType::Uninit(_))
+}
+
+// Adds a slot whose type becomes that of an unfinished object, unless it was one.
+fn list(slots: &mut Vec<usize>, slot: usize, was: VType, t: VType) -> Result<(), AllocError>
+    ensures listed { OnOk result
+        (slots.new.items ≡ spec.listing slot was t slots.old.items) }
+    ensures same { OnErr result (slots.new.items ≡ slots.old.items) }
+{
+    if is_unfinished(t) && !is_unfinished(was) {
+        slots.push(slot)?;
+    }
+    Ok(())
+}
+
+// The slots of unfinished objects.
+fn unfinished_in(alloc: Global, types: &[VType]) -> Result<Vec<usize>, AllocError>
+    ensures { IfOk result (λ slots. spec.AreListed slots.items types.now) }
+{
+    let mut slots = Vec::new(alloc);
+    for (slot, t) in types.iter().enumerate() {
+        list(&mut slots, slot, VType::Top, *t)?;
+    }
+    Ok(slots)
+}
+
+// Gives the slot another type, if its type is the object's.
+fn replace_at(types: &mut [VType], slot: usize, object: Uninitialized, t: VType)
+    ensures { types.new ≡ spec.replaced_at (is_object object) t slot types.old }
+{
+    if slot >= types.len() {
+        return;
+    }
+    if is_object(object, types[slot]) {
+        types[slot] = t;
+    }
+}
+
+// Gives these slots another type where theirs is the object's.
+fn replace_all(types: &mut [VType], slots: &[usize], object: Uninitialized, t: VType)
+    ensures { types.new ≡ spec.replaced_among (is_object object) t slots.now types.old }
+{
+    let mut rest = slots;
+    while let Some((slot, others)) = rest.split_first() {
+        replace_at(types, *slot, object, t);
+        rest = others;
+    }
+}
+
+impl Locals {
+    /// Local variables of these types.
+    pub fn new(alloc: Global, types: Vec<VType>) -> Result<Self, AllocError>
+        ensures { IfOk result (λ locals. locals ≡ types.items) }
+    {
+        let unfinished = unfinished_in(alloc, &types)?;
+        Ok(Locals { types, unfinished })
+    }
+
+    /// The types.
+    pub fn as_slice(&self) -> &[VType]
+        ensures { result.now ≡ self.now }
+    {
+        &self.types
+    }
+
+    /// Slots, among them each whose type is that of an object that isn't initialized.
+    pub fn unfinished(&self) -> &[usize]
+        ensures { spec.AreListed result.now self.now }
+    {
+        &self.unfinished
+    }
+
+    /// Writes the type of a slot, if there is one of the number.
+    pub fn set(&mut self, n: usize, t: VType) -> Result<(), AllocError>
+        ensures { OnOk result (self.new ≡ slice_set self.old n t) }
+    {
+        if n >= self.types.len() {
+            return Ok(());
+        }
+        list(&mut self.unfinished, n, self.types[n], t)?;
+        self.types[n] = t;
+        Ok(())
+    }
+
+    /// Makes the local variable of a number unset, if there is one.
+    pub fn unset(&mut self, n: usize)
+        ensures { self.new ≡ slice_set self.old n VType.Top }
+    {
+        if n < self.types.len() {
+            self.types[n] = VType::Top;
+        }
+    }
+
+    /// Gives those that are the object another type.
+    pub fn replace(&mut self, object: Uninitialized, t: VType)
+        ensures { self.new ≡ replaced (is_object object) t self.old }
+    {
+        replace_all(self.types.as_mut_slice(), &self.unfinished, object, t);
+    }
+}
