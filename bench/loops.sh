@@ -1,9 +1,9 @@
 #!/bin/sh
 # Times the programs in bench/loops with a built jvt and with java -Xint, in turn, nine rounds: the least user time of each, less that of
-# Empty. usage: bench/loops.sh [PROGRAM], where PROGRAM is a built java_cli
+# Empty. usage: bench/loops.sh [PROGRAM], where PROGRAM is a built jvt
 set -eu
 top=$(CDPATH='' cd -- "$(dirname -- "$0")/.." && pwd)
-program=${1:-$top/crates/java_cli/out/java_cli}
+program=${1:-$top/crates/jvt/out/jvt}
 work=$(mktemp -d)
 trap 'rm -rf "$work"' EXIT
 javac --release 8 -XDstringConcat=inline -nowarn -Xlint:-options -d "$work" "$top"/bench/loops/*.java

@@ -65,7 +65,7 @@ def main():
         verdicts = (work / 'verdicts').read_bytes().decode(errors='replace').split('\n')
         pairs = collections.Counter()
         for (file, offset, value), verdict in zip(chosen, verdicts):
-            answer, line = jvt_answer(TOP / 'crates/java_cli/out/java_cli', work, file, offset, value)
+            answer, line = jvt_answer(TOP / 'crates/jvt/out/jvt', work, file, offset, value)
             error = verdict.split(' ')[0]
             pairs[answer, error] += 1
             if (answer, error) in (('accepted', 'VerifyError'), ('verify', 'accepted')):

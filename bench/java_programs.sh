@@ -1,0 +1,66 @@
+#!/bin/sh
+# Makes what the program java_programs runs, and what it has to print. Compiles the programs in bench/programs that link and that jvt runs
+# with the javac of this machine, for Java 8, 11 and 17 in turn, and writes the class files and the table of calls to crates/java_programs/data.
+# Runs each with the java of this machine, and writes what that printed to crates/java_programs/stdout; jvt takes no part in it. Of an
+# exception that nothing catches only the class is kept, since jvt prints no message and no trace. Main's file comes first, since class
+# initializers run in the order of the files. usage: bench/java_programs.sh
+set -eu
+export LC_ALL=C
+# What has no step yet: threads, monitors, the clock.
+left_out='Monitors Parking PlatformThreads Queue States SystemCalls WaitNotify'
+# Programs in which rules of jvt show: initializers run before main, and an exception's toString is that of Object.
+left_out="$left_out Main2 Exceptions ErrorKinds"
+
+top=$(CDPATH='' cd -- "$(dirname -- "$0")/.." && pwd)
+data=$top/crates/java_programs/data
+work=$(mktemp -d)
+trap 'rm -rf "$work"' EXIT
+rm -rf "$data"
+
+# Each program with the release that it is compiled for, a line each.
+programs() {
+    release=17
+    for source in "$top"/bench/programs/*.java; do
+        name=$(basename "$source" .java)
+        wanted=$(head -1 "$source" | cut -c4-)
+        case $wanted in links*) ;; *) continue ;; esac
+        case " $left_out " in *" $name "*) continue ;; esac
+        case $release in 8) release=11 ;; 11) release=17 ;; *) release=8 ;; esac
+        since=$(echo "$wanted" | sed -n 's/.*from \([0-9]*\)$/\1/p')
+        if [ "$release" -ge "${since:-8}" ]; then echo "$name $release"; else echo "$name 17"; fi
+    done
+}
+
+# Compiles the programs of a release together, which also shows that no two of them have a class of one name.
+compile() {
+    mkdir -p "$data/$1"
+    javac --release "$1" -XDstringConcat=inline -g:none -nowarn -Xlint:-options -d "$data/$1" \
+        $(sed -n "s|^\(.*\) $1\$|$top/bench/programs/\1.java|p" "$work/programs") 2>"$work/javac" ||
+        { cat "$work/javac"; exit 1; }
+}
+
+# The class files of a program: those of its own name, those inside that, and those of the other classes of its source.
+classes() {
+    sed -n 's/^\(public \|abstract \|final \)*\(class\|interface\) \([A-Za-z0-9_]*\).*/\3/p' "$top/bench/programs/$1.java" >"$work/classes"
+    echo "$2/$1.class"
+    (cd "$data" && while read -r class; do
+        for file in "$2/$class.class" "$2/$class"\$*.class; do [ ! -e "$file" ] || echo "$file"; done
+    done <"$work/classes" | sort -u | grep -vxF "$2/$1.class")
+}
+
+# The error output of java as jvt has it: no message behind an exception's class, and no trace.
+without_traces() {
+    sed -e 's/^\(Exception in thread "main" [A-Za-z0-9_.$]*\).*/\1/' -e '/^	/d' "$1"
+}
+
+programs >"$work/programs"
+for release in 8 11 17; do compile "$release"; done
+while read -r name release; do
+    words="run $name $(echo $(classes "$name" "$release"))"
+    echo "$words" >>"$data/programs.txt"
+    status=0
+    (cd "$data/$release" && java -Dfile.encoding=UTF-8 -Dstdout.encoding=UTF-8 -cp . "$name" >"$work/out" 2>"$work/err") || status=$?
+    { echo "== $words"; cat "$work/out"; without_traces "$work/err"; echo "== status $status"; } >>"$work/stdout"
+done <"$work/programs"
+cp "$work/stdout" "$top/crates/java_programs/stdout"
+echo "$(wc -l <"$work/programs") programs, $(cat "$data"/*/*.class | wc -c) bytes of class files"

@@ -1,0 +1,41 @@
+//! Runs Java programs as javac compiled them, each by a call of `jvt`, and prints what came of each: the words of the call,
+//! what the program wrote, and its status. The words are the lines of `programs.txt`.
+#![tactic(auto)]
+
+use java_cli::jvt;
+use jvm_edges::{FileStore, OpenGate, Sink, StdSink, StepClock, Store};
+use std::alloc::{AllocError, Global};
+use std::process::ExitCode;
+use std::{fs, io};
+
+fn main(rt: HostRuntime) -> io::Result<ExitCode> {
+    let alloc = rt.alloc();
+    let store = &mut FileStore::new(&rt);
+    let out = &mut StdSink::new(rt.stdout());
+    let err = &mut StdSink::new(rt.stdout());
+    let table = fs::read_to_string(&rt, "programs.txt")?;
+    for line in table.lines() {
+        println!(rt; "== {line}")?;
+        let status = run_program(alloc, line, store, out, err)?;
+        println!(rt; "== status {status}")?;
+    }
+    Ok(ExitCode::SUCCESS)
+}
+
+// Calls `jvt` with these words behind the program's name, and gives the status.
+fn run_program<S: Store, O: Sink, E: Sink>(
+    alloc: Global,
+    line: &str,
+    store: &mut S,
+    out: &mut O,
+    err: &mut E,
+) -> Result<u8, AllocError> {
+    let mut words = Vec::new(alloc);
+    words.push(String::from_str(alloc, "jvt")?)?;
+    for word in line.split_whitespace() {
+        words.push(String::from_str(alloc, word)?)?;
+    }
+    let (clock, gate) = (StepClock::new(0), OpenGate::new());
+    let report = jvt(alloc, &words, store, out, err, &clock, &gate);
+    Ok(report.why.status())
+}
