@@ -22,7 +22,7 @@ fn main(rt: HostRuntime) -> io::Result<ExitCode> {
     Ok(ExitCode::SUCCESS)
 }
 
-// Calls `jvt` with these words behind the program's name, and gives the status.
+// Calls `jvt` with these words after the program's name, and gives the status.
 fn run_program<S: Store, O: Sink, E: Sink>(
     alloc: Global,
     line: &str,

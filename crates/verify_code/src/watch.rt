@@ -124,7 +124,7 @@ fn are_same(a: Around, b: Around) -> bool
     true
 }
 
-/// What shows whether an instruction changes local variables, where these types stand before it.
+/// What shows whether an instruction changes local variables, where these types come before it.
 pub fn watched(op: &Op, types: &Types) -> Watch
     ensures { Watches op.now types.now.locals result }
 {
