@@ -5,6 +5,7 @@ mod constants;
 mod frame_run;
 mod making;
 mod places;
+mod plain_step;
 mod prepared;
 mod quick_code;
 mod quick_forms;
