@@ -74,32 +74,81 @@ fn a_pin_goes_with_its_frame(rt: HostRuntime) -> Result<(), Fail> {
     Ok(())
 }
 
-// What a heap of so many cells answers to an object of two fields and then to a String of nine units.
-fn filled(alloc: Global, cells: u32) -> (Result<u32, HeapError>, Result<u32, HeapError>, u32) {
-    let mut heap = Heap::new(alloc, cells);
-    let object = heap.object(3, &[Value::Null, Value::Long(1)]);
-    let text = heap.text(&[7; 9]);
-    (object, text, heap.used())
+// A thread with a pinned frame that has an operand.
+fn pinned_thread(alloc: Global) -> Result<Mounted, StackError> {
+    let mut mounted = Mounted::new(alloc, 5);
+    mounted.push_frame(7, 1, 1, 0, true)?;
+    mounted.set_pc(3);
+    mounted.push(Slot::One(Value::Int(42)));
+    Ok(mounted)
 }
 
 #[test]
-fn a_heap_of_6_cells_has_room_for_both(rt: HostRuntime) {
-    assert_eq!(rt; filled(rt.alloc(), 6), (Ok(0), Ok(1), 6));
+fn a_thread_is_frozen_and_mounted_again(rt: HostRuntime) -> Result<(), Fail> {
+    let mounted = pinned_thread(rt.alloc())?;
+    let frozen = mounted.freeze().ok().ok_or("memory")?;
+    assert_eq!(rt; frozen.thread(), 5);
+    let again = frozen.mount().ok().ok_or("memory")?;
+    assert_eq!(rt; (again.thread(), again.pins(), again.depth()), (5, 1, 1));
+    Ok(())
+}
+
+// What a heap of ten cells answers to an array of so many elements, to a String of so many units and to an object without fields, and how
+// many cells are in use then.
+fn filled(
+    alloc: Global,
+    elements: u32,
+    units: &[u16],
+) -> (
+    Result<u32, HeapError>,
+    Result<u32, HeapError>,
+    Result<u32, HeapError>,
+    u32,
+) {
+    let mut heap = Heap::new(alloc, 10);
+    let array = heap.array(4, elements, Value::Int(0));
+    let text = heap.text(units);
+    let object = heap.object(3, &[]);
+    (array, text, object, heap.used())
 }
 
 #[test]
-fn a_heap_of_5_cells_has_no_room_for_the_string(rt: HostRuntime) {
-    assert_eq!(rt; filled(rt.alloc(), 5), (Ok(0), Err(HeapError::Full), 3));
+fn a_heap_is_full_where_more_cells_are_asked_for_than_are_left(
+    rt: HostRuntime,
+) -> Result<(), Fail> {
+    let (eight, nine) = ([7; 8], [7; 9]);
+    let full = Err(HeapError::Full);
+    let table = [
+        (9, eight.as_slice(), (Ok(0), full, full, 10)),
+        (10, eight.as_slice(), (full, Ok(0), Ok(1), 3)),
+        (10, nine.as_slice(), (full, Ok(0), Ok(1), 4)),
+        (5, nine.as_slice(), (Ok(0), Ok(1), Ok(2), 10)),
+        (6, nine.as_slice(), (Ok(0), Ok(1), full, 10)),
+        (7, nine.as_slice(), (Ok(0), full, Ok(1), 9)),
+        (0, [].as_slice(), (Ok(0), Ok(1), Ok(2), 3)),
+    ];
+    for (elements, units, answers) in table {
+        assert_eq!(rt; filled(rt.alloc(), elements, units), answers);
+    }
+    Ok(())
 }
 
 #[test]
-fn a_block_copies_its_top(rt: HostRuntime) -> Result<(), Fail> {
-    let mut from = SlotBlock::new(rt.alloc(), 2).ok().ok_or("memory")?;
-    let mut into = SlotBlock::new(rt.alloc(), 1).ok().ok_or("memory")?;
-    from.push(LONG);
+fn a_block_copies_its_top_and_stays(rt: HostRuntime) -> Result<(), Fail> {
+    let (first, second) = (Slot::One(Value::Int(5)), Slot::One(Value::Ref(9)));
+    let mut from = SlotBlock::new(rt.alloc(), 4).ok().ok_or("memory")?;
+    let mut into = SlotBlock::new(rt.alloc(), 2).ok().ok_or("memory")?;
+    from.push(first);
+    from.push(second);
     from.push(Slot::Second);
-    from.copy_top(1, &mut into);
-    assert_eq!(rt; into.pop(), Slot::Second);
+    from.copy_top(2, &mut into);
+    assert_eq!(rt; into.len(), 2);
+    assert_eq!(rt; (into.get(0), into.get(1)), (second, Slot::Second));
+    assert_eq!(rt; from.len(), 3);
+    assert_eq!(rt;
+        (from.get(0), from.get(1), from.get(2)),
+        (first, second, Slot::Second)
+    );
     assert_eq!(rt; Cell::of(LONG).slot(), LONG);
     Ok(())
 }
