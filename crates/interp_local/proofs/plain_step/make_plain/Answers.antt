@@ -1,5 +1,4 @@
 use Rattle.std.proofs.Common.{◌≡◌, ◌∙◌, Some, refl, sym, arith}
-use Rattle.std.specs.Prelude.{slice_get}
 use Rattle.verify_types.specs.Environment.{Instruction}
 use Rattle.ref_model.specs.Fetch.{fetched}
 use Rattle.interp_local.specs.Places.{frame_at, naming_at}
