@@ -10,7 +10,7 @@ use crate::frame_run::pc_behind;
 use crate::making::make;
 use crate::places::{naming_at, place};
 use crate::prepared::Prepared;
-use crate::quick_run::Standing;
+use crate::quick_run::FramePosition;
 use crate::staying::does_stay;
 use opcodes::Instr;
 use slot_block::Cell;
@@ -50,7 +50,7 @@ pub(crate) fn make_plain<L: Lookups>(
     namings: &[Naming],
     places: &[usize],
     at: usize,
-    top: Standing,
+    top: FramePosition,
     row: &mut [Cell],
 ) -> PlainStep
     requires typed { AreTyped p.now }

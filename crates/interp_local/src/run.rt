@@ -8,7 +8,7 @@ ghost use Rattle.interp_local.specs.Stops.{is_slice, steps_of};
 
 use crate::frame_run::{Stop, run_frame};
 use crate::prepared::Prepared;
-use crate::quick_run::Standing;
+use crate::quick_run::FramePosition;
 use continuation::Mounted;
 use world_model::Lookups;
 
@@ -36,7 +36,7 @@ fn run_top<L: Lookups>(p: &Prepared<L>, m: &mut Mounted, most: u32) -> Stop
     let used = view.operands as usize;
     let room = p.max_stack(view.method) as usize;
     let base = m.base();
-    let top = Standing {
+    let top = FramePosition {
         method: view.method,
         pc: view.pc,
         locals: view.locals as usize,
