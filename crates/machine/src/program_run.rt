@@ -21,6 +21,7 @@ use history::{Entry, What};
 use instruction_rows::Value;
 use items::NoMemory;
 use jvm_edges::Gate;
+use method_calls::Selections;
 use native_methods::NativeState;
 use opening::open_typed;
 use ready_program::ReadyProgram;
@@ -96,11 +97,12 @@ fn run_on<G: Gate>(
         → length h.items ≡ most) }
 {
     let mut history = Vec::new(alloc);
+    let mut selections = Selections::new(alloc)?;
     for _ in 0..most {
         if ending_of(parts).is_some() {
             return Ok(history);
         }
-        let local = advance(alloc, program, parts, mounted, gate)?;
+        let local = advance(alloc, program, &mut selections, parts, mounted, gate)?;
         history.push(entry(local))?;
     }
     Ok(history)
