@@ -17,8 +17,8 @@ pub fn load_int(row: &mut [Cell], locals: usize, used: usize, n: usize) -> usize
     requires acts { CanAct (load kinds.Int n) row.old locals used }
     ensures { Acts (load kinds.Int n) row.old locals used row.new result on }
 {
-    let a = cell_at(row, n);
-    put_one(row, locals + used, a);
+    let a = int_at(row, n);
+    put_int(row, locals + used, a);
     used + 1
 }
 
@@ -29,8 +29,8 @@ pub fn store_int(row: &mut [Cell], locals: usize, used: usize, n: usize) -> usiz
     requires acts { CanAct (store kinds.Int n) row.old locals used }
     ensures { Acts (store kinds.Int n) row.old locals used row.new result on }
 {
-    let a = cell_at(row, locals + used - 1);
-    put_one(row, n, a);
+    let a = int_at(row, locals + used - 1);
+    put_int(row, n, a);
     used - 1
 }
 

@@ -58,10 +58,12 @@ pub fn link(
     ensures linked { IfOk result Links }
     // A program that links is answered, unless memory ran out.
     ensures only { Links (spec.program built_in.items files.items)
-        → OkUnless result LinkError.NoMemory (λ world. world ≡ spec.program built_in.items files.items) }
+        → OkUnless result LinkError.NoMemory
+        (λ world. world ≡ spec.program built_in.items files.items) }
     // A refusal names the first fault.
     ensures bad { (class : List ℕ) (why : LinkWhy) → result ≡ Err (LinkError.Fault class why)
-        → link_fault (spec.program built_in.items files.items) ≡ Some (record { class = class; why = why }) }
+        → link_fault (spec.program built_in.items files.items)
+        ≡ Some (record { class = class; why = why }) }
 {
     let hierarchy = Hierarchy::new(alloc, Classes::new(alloc, built_in, files)?)?;
     match link_fault(alloc, &hierarchy)? {
@@ -73,6 +75,13 @@ pub fn link(
 }
 
 impl World {
+    /// That the program links (JVMS 5.3, 5.4). It does nothing.
+    pub fn links(&self)
+        ensures { Links self.now }
+    {
+        let _ = self.tables.name_count();
+    }
+
     /// The files of the classes, the built-in ones first.
     pub fn classes(&self) -> &[ClassFile]
         ensures { result.now ≡ self.now.classes }

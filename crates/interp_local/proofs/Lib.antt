@@ -1,4 +1,3 @@
-pub mod RoomLaws
 pub mod SimpleRows
 pub mod Divisors
 pub mod FrameSteps
@@ -7,5 +6,5 @@ pub mod ReadyLaws
 pub mod LoopLaws
 pub mod Windows
 pub mod TopLaws
-pub mod DecodedLaws
-pub mod FormSteps
+pub mod QuickCodeLaws
+pub mod QuickSteps

@@ -1,5 +1,5 @@
-pub mod DecodedRows
 pub mod FrameRows
 pub mod Places
+pub mod QuickCode
 pub mod Runs
 pub mod Stops

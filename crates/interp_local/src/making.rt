@@ -3,15 +3,16 @@
 ghost use Rattle.std.specs.Prelude.{◌+◌, ◌-◌, ◌≤◌, length, if◌then◌else◌, Some, None, ◌≡◌};
 ghost use Rattle.instruction_rows.specs.Table as table;
 ghost use Rattle.cell_rows.specs.CellRows.{contents_at};
-ghost use Rattle.interp_local.specs.FrameRows.{Fits, Leaves, frame_row, way_to};
+ghost use Rattle.quick_rows.specs.FrameSlots.{Fits, Leaves};
+ghost use Rattle.interp_local.specs.FrameRows.{frame_row, way_to};
 
-use crate::operands::{constant, load, store};
-use crate::simple::make_simple;
+use crate::constants::constant;
 use cell_rows::{
     if_ints, if_null, if_references, if_zero, increase, lookup_switch, push_int, push_long,
     table_switch,
 };
 use opcodes::Op;
+use quick_rows::{load, make_simple, store};
 use slot_block::Cell;
 use world_model::Naming;
 

@@ -6,8 +6,9 @@ ghost use Rattle.typed_frames.specs.Typed.{Typed};
 ghost use Rattle.interp_local.specs.Runs.{stays_on};
 ghost use Rattle.interp_local.specs.Stops.{is_slice, steps_of};
 
-use crate::frame_run::{Standing, Stop, run_frame};
+use crate::frame_run::{Stop, run_frame};
 use crate::prepared::Prepared;
+use crate::quick_run::Standing;
 use continuation::Mounted;
 use world_model::Lookups;
 

@@ -20,7 +20,6 @@ use Rattle.typed_frames.specs.TypedStates.{IsTypedState}
 use Rattle.typed_frames.proofs.ThreadLaws.{frames_keep}
 use Rattle.typed_steps.specs.Namings.{IsRowNaming, IsStepNaming}
 use Rattle.typed_steps.proofs.Steps.{step_keeps, running_is_typed}
-use Rattle.naming_tests.specs.Rows.{FitsRow}
 use Rattle.frames.specs.Frames.{top_method, top_pc, top_stack}
 use Rattle.ready_program.specs.Instructions.{instruction_at}
 use Rattle.machine.specs.Concluding.{Steps}
@@ -61,21 +60,8 @@ top_of f g below others e = cc
 
 -- ---- a step of a thread that runs
 
-run_names : (w : World) (a : Parts) (f : Frame) (below : List Frame) (i : Instruction) → IsReady w → a.status ≡ Live Run → fetched w f ≡ Some i
-    → FitsRow w i.naming (row_of i.instr.op) a.natives.heap.objects f.stack → IsStepNaming w (state_of a (f ∷ below)) 0
-run_names w a f below i ready running at fits = record { top = λ g others e j found. by g others (inside (f ∷ below) (g ∷ others) (sym (running_at a (f ∷ below) running) ∙ e)) j found }
-  where
-    r : State
-    r = state_of a (f ∷ below)
-
-    here : IsRowNaming w i.naming (row_at i) r f.stack
-    here = fits ready.methods ready.natives r refl
-
-    by : (g : Frame) (others : List Frame) → f ∷ below ≡ g ∷ others → (j : Instruction) → fetched w g ≡ Some j → IsRowNaming w j.naming (row_at j) r g.stack
-    by g others same j found =
-        let top = top_of f g below others same in
-        let one = inside i j (sym at ∙ ap (fetched w) top ∙ found) in
-        subst (λ (x : Frame). IsRowNaming w j.naming (row_at j) r x.stack) top (subst (λ (x : Instruction). IsRowNaming w x.naming (row_at x) r f.stack) one here)
+run_names : (w : World) (a : Parts) (f : Frame) (below : List Frame) → IsReady w → a.status ≡ Live Run → IsStepNaming w (state_of a (f ∷ below)) 0
+run_names w a f below ready running = record { top = λ g others e. ready.named (state_of a (f ∷ below)) g }
 
 run_goes : (w : World) (a b : Parts) (frames after : List Frame) → a.status ≡ Live Run → ending (state_of a frames) ≡ None → IsRunStep w (state_of a frames) frames (state_of b after) → IsStep w (state_of a frames) (state_of b after)
 run_goes w a b frames after running goes made = λ p same.
@@ -83,15 +69,15 @@ run_goes w a b frames after running goes made = λ p same.
     (subst (λ (v : World). IsRunStep v (state_of a frames) frames (state_of b after)) (sym same) made)
 
 pub run_kept : (w : World) (a b : Parts) (f : Frame) (below after : List Frame) (i : Instruction) → IsReady w → IsTypedState w (state_of a (f ∷ below)) → a.status ≡ Live Run → ending (state_of a (f ∷ below)) ≡ None
-    → fetched w f ≡ Some i → FitsRow w i.naming (row_of i.instr.op) a.natives.heap.objects f.stack → IsRunStep w (state_of a (f ∷ below)) (f ∷ below) (state_of b after) → IsKept w (state_of a (f ∷ below)) (state_of b after)
-run_kept w a b f below after i ready typed running goes at fits made =
-    kept w (state_of a (f ∷ below)) (state_of b after) ready typed (run_names w a f below i ready running at fits) (run_goes w a b (f ∷ below) after running goes made)
+    → fetched w f ≡ Some i → IsRunStep w (state_of a (f ∷ below)) (f ∷ below) (state_of b after) → IsKept w (state_of a (f ∷ below)) (state_of b after)
+run_kept w a b f below after i ready typed running goes at made =
+    kept w (state_of a (f ∷ below)) (state_of b after) ready typed (run_names w a f below ready running) (run_goes w a b (f ∷ below) after running goes made)
 
 -- of whatever frames, by the instruction that is fetched
 pub frames_kept : (w : World) (a b : Parts) (frames after : List Frame) (i : Instruction) → 0 < length frames → IsReady w → IsTypedState w (state_of a frames) → a.status ≡ Live Run → ending (state_of a frames) ≡ None
-    → instruction_at w (top_method frames) (top_pc frames) ≡ Some i → FitsRow w i.naming (row_of i.instr.op) a.natives.heap.objects (top_stack frames) → Steps w i a frames b after → IsKept w (state_of a frames) (state_of b after)
-frames_kept w a b [] after i some ready typed running goes at fits steps = absurd (omega arith)
-frames_kept w a b (f ∷ below) after i some ready typed running goes at fits steps = run_kept w a b f below after i ready typed running goes at fits (steps f below refl at)
+    → instruction_at w (top_method frames) (top_pc frames) ≡ Some i → Steps w i a frames b after → IsKept w (state_of a frames) (state_of b after)
+frames_kept w a b [] after i some ready typed running goes at steps = absurd (omega arith)
+frames_kept w a b (f ∷ below) after i some ready typed running goes at steps = run_kept w a b f below after i ready typed running goes at (steps f below refl at)
 
 -- a local instruction
 pub local_kept : (w : World) (a : Parts) (frames after : List Frame) → IsTypedState w (state_of a frames) → a.status ≡ Live Run → ending (state_of a frames) ≡ None → row w frames ≡ Some after → Typed w after

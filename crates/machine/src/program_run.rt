@@ -21,6 +21,7 @@ use history::{Entry, What};
 use instruction_rows::Value;
 use items::NoMemory;
 use jvm_edges::Gate;
+use linked_names::{is_settled, linked_code_is_named};
 use method_calls::Selections;
 use native_methods::NativeState;
 use opening::open_typed;
@@ -32,7 +33,7 @@ use typing_tests::{fields_have_kinds, natives_fit};
 use verify_code::Checked;
 use vthread_state::{Phase, Status};
 
-// A program whose fields have kinds and whose native methods fit. Another one counts as memory run out.
+// A program that is as its steps ask. Another one counts as memory run out.
 fn ready(alloc: Global, checked: Checked<World>) -> Result<ReadyProgram, NoMemory>
     ensures program { IfOk result (λ program. program ≡ checked) }
     ensures ready { IfOk result IsReady }
@@ -40,6 +41,10 @@ fn ready(alloc: Global, checked: Checked<World>) -> Result<ReadyProgram, NoMemor
     let program = ReadyProgram::new(alloc, checked)?;
     program.is_linked();
     linked_worlds_open();
+    linked_code_is_named();
+    if !is_settled(program.world()) {
+        return Err(NoMemory);
+    }
     if fields_have_kinds(program.world()) && natives_fit(alloc, &program)? {
         Ok(program)
     } else {

@@ -22,7 +22,6 @@ use crate::world::MachineWorld;
 use continuation::Mounted;
 use items::NoMemory;
 use method_calls::Selections;
-use naming_tests::fits_row;
 use opcodes::{Instr, Op};
 use ready_program::{Fetched, ReadyProgram};
 use std::alloc::Global;
@@ -77,11 +76,6 @@ pub(crate) fn fetched_step(
         (state_of parts.new mounted.new.stack.frames)) }
     ensures selections { AreSelected program.now selections.new }
 {
-    let heap = &parts.natives.heap;
-    mounted.operands_fit();
-    if !fits_row(program, &fetched.instr.op, fetched.naming, heap, mounted) {
-        return Err(NoMemory);
-    }
     instruction_step(
         alloc,
         program,

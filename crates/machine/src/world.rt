@@ -5,14 +5,13 @@ ghost use Rattle.ref_model.specs.Throwing as throwing;
 
 use items::NoMemory;
 use method_calls::CallWorld;
-use naming_tests::NamedWorld;
 use native_methods::NativeWorld;
 use ready_program::ReadyProgram;
 use ref_model::Exception;
 use std::alloc::Global;
 
 /// What the machine asks of a linked world, beside what its instructions and methods ask.
-pub trait MachineWorld: CallWorld + NativeWorld + NamedWorld {
+pub trait MachineWorld: CallWorld + NativeWorld {
     /// The number of the class of an exception. `None`: no pool or descriptor has the name.
     fn exception_class(&self, exception: Exception) -> Option<u32>
         ensures { result ≡ spec.name_number (Self.world self.now) (throwing.exception_name exception) };

@@ -34,6 +34,7 @@ fn method_of(naming: Naming) -> Option<u32>
 }
 
 // The method with a number runs, and takes so many slots (JVMS 4.6: without code it is abstract).
+#[inline(always)]
 fn numbered<W: CallWorld>(world: &W, n: u32, slots: u16) -> Target
     ensures { IsNumbered (W.world world.now) n slots result }
 {

@@ -1,6 +1,7 @@
 ghost use Rattle.std.specs.Prelude.{◌≡◌, false, codes, slice_get, IfOk, IfSome};
 ghost use Rattle.std.specs.Option.{option_copied, option_map, option_map_or};
 ghost use Rattle.linkage.specs.Program.{is_interface as is_interface_of};
+ghost use Rattle.linkage.specs.Faults.{Links};
 ghost use Rattle.linkage.specs.Members as linked;
 ghost use Rattle.world_model.specs.Decoded.{IsDecoded, code_at};
 ghost use Rattle.world_model.specs.Worlds.{world_of};
@@ -97,14 +98,15 @@ impl ReadyProgram {
         self.prepared.checked().world()
     }
 
-    /// That its methods are typed, and that it is the world of its program.
+    /// That its methods are typed, that it is the world of its program, and that this links.
     #[inline(always)]
     pub fn is_linked(&self)
         ensures typed { AreTyped self.now }
         ensures linked { self.now ≡ world_of self.now.program }
+        ensures links { Links self.now.program }
     {
         self.prepared.is_typed();
-        let _ = self.world();
+        self.world().links();
     }
 
     /// A method. `None`: there is no method of this number.
@@ -173,7 +175,8 @@ impl ReadyProgram {
 
     /// Whether a method is a class initializer (JVMS 2.9.2). `false`: also where there is no method of this number.
     pub fn is_initializer(&self, n: u32) -> bool
-        ensures { result ≡ option_map_or members.is_initializer (slice_get self.now.methods n) false }
+        ensures { result ≡
+            option_map_or members.is_initializer (slice_get self.now.methods n) false }
     {
         match self.method(n) {
             Some(method) => is_initializer(method),

@@ -1,22 +1,23 @@
--- The methods of a linked world by number: each is a member of the class that declares it.
+-- The fields and methods of a linked world by number: each is a member of the class that declares it.
 use Rattle.std.proofs.Common.{◌≡◌, ◌⊎◌, inl, inr, ℕ, zero, suc, ◌+◌, List, [], ◌∷◌, ◌++◌, length, take, Some, refl, ap, sym, ◌∙◌, arith}
 use Rattle.std.specs.Prelude.{map, slice_get, sum_by}
 use Rattle.std.specs.List.{flat_map, enumerate_from}
 use Rattle.std.proofs.lemmas.List.{length-map}
 use Rattle.std.proofs.lemmas.List.Sums.{sum_by-cons}
 use Rattle.class_model.specs.declared.class_file.ClassFile.{ClassFile}
+use Rattle.class_model.specs.declared.constant.Const.{Const}
 use Rattle.class_model.specs.declared.member.Member.{Member}
 use Rattle.world_model.specs.declared.members.MethodInfo.{MethodInfo}
 use Rattle.world_model.specs.Infos.{method_info, methods_in}
 
 -- ---- lists
 
-left_at : {A : Type 0} (xs ys : List A) (n : ℕ) (x : A) → slice_get xs n ≡ Some x → slice_get (xs ++ ys) n ≡ Some x
+pub left_at : {A : Type 0} (xs ys : List A) (n : ℕ) (x : A) → slice_get xs n ≡ Some x → slice_get (xs ++ ys) n ≡ Some x
 left_at [] ys n x e = absurd cc
 left_at (y ∷ xs) ys zero x e = e
 left_at (y ∷ xs) ys (suc n) x e = left_at xs ys n x e
 
-right_at : {A : Type 0} (xs ys : List A) (n : ℕ) → slice_get (xs ++ ys) (length xs + n) ≡ slice_get ys n
+pub right_at : {A : Type 0} (xs ys : List A) (n : ℕ) → slice_get (xs ++ ys) (length xs + n) ≡ slice_get ys n
 right_at [] ys n = ap (slice_get ys) (nothing n)
   where
     nothing : (n : ℕ) → 0 + n ≡ n
@@ -26,65 +27,80 @@ right_at (x ∷ xs) ys n = ap (slice_get (x ∷ xs ++ ys)) (one_more (length xs)
     one_more : (k n : ℕ) → suc k + n ≡ suc (k + n)
     one_more k n = omega arith
 
-map_at : {A B : Type 0} (g : A → B) (xs : List A) (n : ℕ) (x : A) → slice_get xs n ≡ Some x → slice_get (map g xs) n ≡ Some (g x)
+pub map_at : {A B : Type 0} (g : A → B) (xs : List A) (n : ℕ) (x : A) → slice_get xs n ≡ Some x → slice_get (map g xs) n ≡ Some (g x)
 map_at g [] n x e = absurd cc
 map_at g (y ∷ xs) zero x e = let same : y ≡ x = cc in ap (λ z. Some (g z)) same
 map_at g (y ∷ xs) (suc n) x e = map_at g xs n x e
 
--- ---- the number of a member
+-- ---- the number of a member, of those that the function gives of a file
+
+-- what is known of the members of files, the first of which has the number k
+abbrev pub infos_from : {B : Type 0} → (ClassFile → List Member) → (ℕ → List Const → Member → B) → ℕ → List ClassFile → List B
+infos_from members info k files = flat_map (λ (x : ℕ × ClassFile). map (info x.0 x.1.pool) (members x.1)) (enumerate_from k files)
+
+abbrev pub before_by : (ClassFile → List Member) → List ClassFile → ℕ → ℕ
+before_by members files c = sum_by (λ (f : ClassFile). length (members f)) (take c files)
+
+pub before_more : (members : ClassFile → List Member) (x : ClassFile) (xs : List ClassFile) (c : ℕ)
+    → before_by members (x ∷ xs) (suc c) ≡ length (members x) + before_by members xs c
+before_more members x xs c = sum_by-cons (λ (f : ClassFile). length (members f)) x (take c xs)
+
+pub regrouped : (a b i : ℕ) → a + b + i ≡ a + (b + i)
+regrouped a b i = omega arith
+
+pub shifted : (k c : ℕ) → k + 1 + c ≡ k + suc c
+shifted k c = omega arith
+
+pub none_more : (k : ℕ) → k ≡ k + 0
+none_more k = omega arith
+
+pub none_before : (i : ℕ) → 0 + i ≡ i
+none_before i = omega arith
+
+pub info_at : {B : Type 0} (members : ClassFile → List Member) (info : ℕ → List Const → Member → B) (k : ℕ) (files : List ClassFile) (c i : ℕ)
+    (f : ClassFile) (m : Member) → slice_get files c ≡ Some f → slice_get (members f) i ≡ Some m
+    → slice_get (infos_from members info k files) (before_by members files c + i) ≡ Some (info (k + c) f.pool m)
+info_at members info k [] c i f m at member = absurd cc
+info_at members info k (x ∷ xs) zero i f m at member =
+    let same : x ≡ f = cc in
+    let here : slice_get (members x) i ≡ Some m = ap (λ (g : ClassFile). slice_get (members g) i) same ∙ member in
+    ap (slice_get (infos_from members info k (x ∷ xs))) (none_before i)
+    ∙ left_at (map (info k x.pool) (members x)) (infos_from members info (k + 1) xs) i (info k x.pool m) (map_at (info k x.pool) (members x) i m here)
+    ∙ ap (λ j. Some (info j x.pool m)) (none_more k)
+    ∙ ap (λ (g : ClassFile). Some (info (k + 0) g.pool m)) same
+info_at members info k (x ∷ xs) (suc c) i f m at member =
+    let own = map (info k x.pool) (members x) in
+    let number : before_by members (x ∷ xs) (suc c) + i ≡ length own + (before_by members xs c + i) =
+    ap (λ n. n + i) (before_more members x xs c) ∙ regrouped (length (members x)) (before_by members xs c) i
+    ∙ ap (λ n. n + (before_by members xs c + i)) (sym (length-map (members x) (info k x.pool))) in
+    ap (slice_get (infos_from members info k (x ∷ xs))) number
+    ∙ right_at own (infos_from members info (k + 1) xs) (before_by members xs c + i)
+    ∙ info_at members info (k + 1) xs c i f m at member
+    ∙ ap (λ j. Some (info j f.pool m)) (shifted k c)
+
+-- of methods
 
 abbrev pub methods_from : ℕ → List ClassFile → List MethodInfo
 methods_from k files = flat_map methods_in (enumerate_from k files)
 
 abbrev pub before : List ClassFile → ℕ → ℕ
-before files c = sum_by (λ (f : ClassFile). length f.methods) (take c files)
-
-before_more : (x : ClassFile) (xs : List ClassFile) (c : ℕ) → before (x ∷ xs) (suc c) ≡ length x.methods + before xs c
-before_more x xs c = sum_by-cons (λ (f : ClassFile). length f.methods) x (take c xs)
-
-regrouped : (a b i : ℕ) → a + b + i ≡ a + (b + i)
-regrouped a b i = omega arith
-
-shifted : (k c : ℕ) → k + 1 + c ≡ k + suc c
-shifted k c = omega arith
-
-none_more : (k : ℕ) → k ≡ k + 0
-none_more k = omega arith
-
-none_before : (i : ℕ) → 0 + i ≡ i
-none_before i = omega arith
+before files c = before_by (λ (f : ClassFile). f.methods) files c
 
 pub number_at : (k : ℕ) (files : List ClassFile) (c i : ℕ) (f : ClassFile) (m : Member) → slice_get files c ≡ Some f
     → slice_get f.methods i ≡ Some m → slice_get (methods_from k files) (before files c + i) ≡ Some (method_info (k + c) f.pool m)
-number_at k [] c i f m at member = absurd cc
-number_at k (x ∷ xs) zero i f m at member =
-    let same : x ≡ f = cc in
-    let here : slice_get x.methods i ≡ Some m = ap (λ (g : ClassFile). slice_get g.methods i) same ∙ member in
-    ap (slice_get (methods_from k (x ∷ xs))) (none_before i)
-    ∙ left_at (methods_in (k, x)) (methods_from (k + 1) xs) i (method_info k x.pool m) (map_at (method_info k x.pool) x.methods i m here)
-    ∙ ap (λ j. Some (method_info j x.pool m)) (none_more k)
-    ∙ ap (λ (g : ClassFile). Some (method_info (k + 0) g.pool m)) same
-number_at k (x ∷ xs) (suc c) i f m at member =
-    let own = methods_in (k, x) in
-    let number : before (x ∷ xs) (suc c) + i ≡ length (methods_in (k, x)) + (before xs c + i) =
-    ap (λ n. n + i) (before_more x xs c) ∙ regrouped (length x.methods) (before xs c) i
-    ∙ ap (λ n. n + (before xs c + i)) (sym (length-map x.methods (method_info k x.pool))) in
-    ap (slice_get (methods_from k (x ∷ xs))) number
-    ∙ right_at own (methods_from (k + 1) xs) (before xs c + i)
-    ∙ number_at (k + 1) xs c i f m at member
-    ∙ ap (λ j. Some (method_info j f.pool m)) (shifted k c)
+number_at k files c i f m at member = info_at (λ (g : ClassFile). g.methods) method_info k files c i f m at member
 
 -- ---- the member of a number
 
-record Behind {A : Type 0} (xs ys : List A) (n : ℕ) (x : A) : Type 0 where
+pub record Behind {A : Type 0} (xs ys : List A) (n : ℕ) (x : A) : Type 0 where
   pub rest : ℕ
   pub number : n ≡ length xs + rest
   pub is : slice_get ys rest ≡ Some x
 
-one_behind : (n k rest : ℕ) → n ≡ k + rest → suc n ≡ suc k + rest
+pub one_behind : (n k rest : ℕ) → n ≡ k + rest → suc n ≡ suc k + rest
 one_behind n k rest e = omega arith
 
-split_at : {A : Type 0} (xs ys : List A) (n : ℕ) (x : A) → slice_get (xs ++ ys) n ≡ Some x → (slice_get xs n ≡ Some x) ⊎ Behind xs ys n x
+pub split_at : {A : Type 0} (xs ys : List A) (n : ℕ) (x : A) → slice_get (xs ++ ys) n ≡ Some x → (slice_get xs n ≡ Some x) ⊎ Behind xs ys n x
 split_at [] ys n x e = inr (record { rest = n; number = sym (none_before n); is = e })
 split_at (y ∷ xs) ys zero x e = inl e
 split_at {A} (y ∷ xs) ys (suc n) x e = by (split_at xs ys n x e)
@@ -93,12 +109,12 @@ split_at {A} (y ∷ xs) ys (suc n) x e = by (split_at xs ys n x e)
     by (inl here) = inl here
     by (inr b) = inr (record { rest = b.rest; number = one_behind n (length xs) b.rest b.number; is = b.is })
 
-record Mapped {A B : Type 0} (g : A → B) (xs : List A) (n : ℕ) (y : B) : Type 0 where
+pub record Mapped {A B : Type 0} (g : A → B) (xs : List A) (n : ℕ) (y : B) : Type 0 where
   pub from : A
   pub at : slice_get xs n ≡ Some from
   pub is : g from ≡ y
 
-mapped_at : {A B : Type 0} (g : A → B) (xs : List A) (n : ℕ) (y : B) → slice_get (map g xs) n ≡ Some y → Mapped g xs n y
+pub mapped_at : {A B : Type 0} (g : A → B) (xs : List A) (n : ℕ) (y : B) → slice_get (map g xs) n ≡ Some y → Mapped g xs n y
 mapped_at g [] n y e = absurd cc
 mapped_at g (x ∷ xs) zero y e = record { from = x; at = refl; is = cc }
 mapped_at g (x ∷ xs) (suc n) y e = let h = mapped_at g xs n y e in record { from = h.from; at = h.at; is = h.is }
@@ -113,7 +129,7 @@ pub record IsMember (k : ℕ) (files : List ClassFile) (n : ℕ) (info : MethodI
   pub is : method_info (k + class) file.pool member ≡ info
   pub number : n ≡ before files class + index
 
-number_behind : (n own rest b a i : ℕ) → n ≡ own + rest → rest ≡ b + i → a ≡ own + b → n ≡ a + i
+pub number_behind : (n own rest b a i : ℕ) → n ≡ own + rest → rest ≡ b + i → a ≡ own + b → n ≡ a + i
 number_behind n own rest b a i e f g = omega arith
 
 pub member_of : (k : ℕ) (files : List ClassFile) (n : ℕ) (info : MethodInfo) → slice_get (methods_from k files) n ≡ Some info
@@ -147,5 +163,5 @@ member_of k (x ∷ xs) n info e =
           member_is = h.member_is;
           is = ap (λ j. method_info j h.file.pool h.member) (sym (shifted k h.class)) ∙ h.is;
           number = number_behind n (length x.methods) b.rest (before xs h.class) (before (x ∷ xs) (suc h.class)) h.index
-              (b.number ∙ ap (λ j. j + b.rest) (length-map x.methods (method_info k x.pool))) h.number (before_more x xs h.class);
+              (b.number ∙ ap (λ j. j + b.rest) (length-map x.methods (method_info k x.pool))) h.number (before_more (λ (f : ClassFile). f.methods) x xs h.class);
         }

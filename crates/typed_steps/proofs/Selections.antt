@@ -23,7 +23,7 @@ use Rattle.verify_types.proofs.ListLaws.{and_true}
 
 -- ---- texts and keys
 
-text_same : (a b : List ℕ) → same_text a b ≡ true → a ≡ b
+pub text_same : (a b : List ℕ) → same_text a b ≡ true → a ≡ b
 text_same [] [] e = refl
 text_same [] (v ∷ vs) e = absurd cc
 text_same (u ∷ us) [] e = absurd cc
@@ -65,7 +65,7 @@ position_found test (x ∷ xs) n e =
     let h = position-Some test (x ∷ xs) n x e in
     record { item = get_or (x ∷ xs) n x; at = get_or_is (x ∷ xs) n x h.0; passes = h.1 }
 
-first_found : {A B : Type 0} (P : B → Type 0) (f : A → Option B) → ((x : A) (y : B) → f x ≡ Some y → P y) → (xs : List A) (y : B)
+pub first_found : {A B : Type 0} (P : B → Type 0) (f : A → Option B) → ((x : A) (y : B) → f x ≡ Some y → P y) → (xs : List A) (y : B)
     → first_in f xs ≡ Some y → P y
 first_found P f each [] y e = absurd cc
 first_found {A} {B} P f each (x ∷ xs) y e = by (f x) refl e (first_found P f each xs y)
@@ -132,14 +132,14 @@ open_has p key (Some x) at has e = by (has_method is_open p x) e
 override_has : (p : Program) (key : Key) (c : ℕ) (at : Place) → override p key c ≡ Some at → HasKey p key at
 override_has p key c at e = open_has p key (declared_method p key c) at (λ x is. declared_has p key c x is) e
 
-interface_has : (p : Program) (key : Key) (c : ℕ) (at : Place) → open_method p key c ≡ Some at → HasKey p key at
+pub interface_has : (p : Program) (key : Key) (c : ℕ) (at : Place) → open_method p key c ≡ Some at → HasKey p key at
 interface_has p key c at e = by (is_interface p c) e
   where
     by : (b : Bool) → (if b then option_and_then (if_open p) (declared_method p key c) else None) ≡ Some at → HasKey p key at
     by true e = override_has p key c at e
     by false e = absurd cc
 
-bodies_have : (p : Program) (key : Key) (c : ℕ) → Each (HasKey p key) (most_specific_bodies p c key)
+pub bodies_have : (p : Program) (key : Key) (c : ℕ) → Each (HasKey p key) (most_specific_bodies p c key)
 bodies_have p key c =
     each_filtered (HasKey p key) (is_specific_body p (inherited p c key)) (inherited p c key)
     (each_found (HasKey p key) (open_method p key) (λ x y e. interface_has p key x y e) (supers p c))
@@ -209,7 +209,7 @@ open_interface p key c at e = by (is_interface p c) e
     by true e = opened p (declared_method p key c) at e
     by false e = absurd cc
 
-bodies_open : (p : Program) (key : Key) (c : ℕ) → Each (λ at. has_method is_open p at ≡ true) (most_specific_bodies p c key)
+pub bodies_open : (p : Program) (key : Key) (c : ℕ) → Each (λ at. has_method is_open p at ≡ true) (most_specific_bodies p c key)
 bodies_open p key c =
     each_filtered (λ at. has_method is_open p at ≡ true) (is_specific_body p (inherited p c key)) (inherited p c key)
     (each_found (λ at. has_method is_open p at ≡ true) (open_method p key) (λ x y e. open_interface p key x y e) (supers p c))

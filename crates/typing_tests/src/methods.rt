@@ -56,7 +56,8 @@ pub fn fits_method(
     method: &MethodInfo,
     native: Option<Native>,
 ) -> Result<bool, NoMemory>
-    ensures { IfOk result (λ b. b ≡ true → IsFit method.now native (has_flag ACC_STATIC method.now.flags)) }
+    ensures { IfOk result (λ b. b ≡ true →
+        IsFit method.now native (has_flag ACC_STATIC method.now.flags)) }
 {
     if is_static(method) {
         native_fits(alloc, method, false, native)

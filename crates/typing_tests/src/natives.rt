@@ -175,7 +175,8 @@ fn operand_kinds(
     signature: &Signature,
     receiver: bool,
 ) -> Result<Vec<Kind>, NoMemory>
-    ensures { IfOk result (λ v. v.items ≡ map spec.value_kind (reverse signature.now.args) ++ receiver_kinds receiver) }
+    ensures { IfOk result (λ v. v.items ≡
+        map spec.value_kind (reverse signature.now.args) ++ receiver_kinds receiver) }
 {
     let mut kinds = kinds_of_arguments(alloc, signature)?;
     if !receiver {
@@ -202,7 +203,8 @@ fn takes_kinds(
     receiver: bool,
     kinds: &[Kind],
 ) -> Result<bool, NoMemory>
-    ensures { IfOk result (λ b. b ≡ true → kinds.now ≡ argument_kinds signature.now ++ receiver_kinds receiver) }
+    ensures { IfOk result (λ b. b ≡ true →
+        kinds.now ≡ argument_kinds signature.now ++ receiver_kinds receiver) }
 {
     let wanted = operand_kinds(alloc, signature, receiver)?;
     Ok(kinds == wanted.as_slice())
@@ -216,7 +218,8 @@ pub fn fits_native(
     receiver: bool,
     native: Native,
 ) -> Result<bool, NoMemory>
-    ensures { IfOk result (λ b. b ≡ true → FitsNative signature.now (receiver_kinds receiver) native) }
+    ensures { IfOk result (λ b. b ≡ true →
+        FitsNative signature.now (receiver_kinds receiver) native) }
 {
     match takes(native) {
         None => Ok(true),

@@ -6,8 +6,9 @@ use Rattle.instruction_rows.specs.declared.value.Value.TheVariants as values
 use Rattle.instruction_rows.specs.Comparisons.{compares, are_so}
 use Rattle.instruction_rows.specs.Table.{row}
 use Rattle.cell_rows.specs.CellRows.{contents_at}
-use Rattle.interp_local.specs.FrameRows.{Fits, frame_row}
-use Rattle.interp_local.proofs.RoomLaws.{push_room, can_test}
+use Rattle.interp_local.specs.FrameRows.{frame_row}
+use Rattle.quick_rows.specs.FrameSlots.{Fits}
+use Rattle.quick_rows.proofs.RoomLaws.{push_room, can_test}
 use Rattle.interp_local.proofs.making.make.Goals as goal
 
 pub push_int-requires : goal.push_int-requires

@@ -1,0 +1,11 @@
+pub mod Tests
+pub mod CodeNumbers
+pub mod LinkedCode
+pub mod Places
+pub mod Chains
+pub mod Supers
+pub mod Numbers
+pub mod Instances
+pub mod Named
+pub mod Steps
+pub mod TestLaws

@@ -1,2 +1,0 @@
-pub mod ReceiverLaws
-pub mod RowLaws

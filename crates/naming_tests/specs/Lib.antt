@@ -1,3 +1,0 @@
-pub mod Receivers
-pub mod Events
-pub mod Rows
