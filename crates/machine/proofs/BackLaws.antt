@@ -1,5 +1,7 @@
 -- Returns to callers, as local instructions, and where a run of them ends instead.
-use Rattle.std.proofs.Common.{◌≡◌, ℕ, ◌+◌, ◌-◌, ◌<◌, Bool, true, false, List, [], ◌∷◌, Option, Some, None, refl, ap, sym, ◌∙◌, arith}
+use Rattle.std.proofs.Common.{◌≡◌, ℕ, ◌+◌, ◌-◌, ◌<◌, Bool, true, false, List, [], ◌∷◌, Option, Some, None, length, refl, ap, sym, ◌∙◌, arith}
+use Rattle.std.specs.Prelude.{IfSome}
+use Rattle.std.specs.Option.{option_map}
 use Rattle.items.proofs.Binds.{bind_is}
 use Rattle.opcodes.specs.declared.op.Kind.{Kind}
 use Rattle.instruction_rows.specs.Rows.{Row, returns, invoke, static}
@@ -16,8 +18,9 @@ use Rattle.typed_frames.specs.Typed.{Typed}
 use Rattle.typed_frames.proofs.KeepLaws.{row_keeps}
 use Rattle.interp_local.specs.Runs.{stays_on}
 use Rattle.method_calls.specs.FrameSteps.{top_is_root, top_returned}
-use Rattle.ready_program.specs.Instructions.{instruction_at}
-use Rattle.machine.specs.LocalRuns.{GoesBack, returned_kind}
+use Rattle.ready_program.specs.declared.instructions.Fetched.{Fetched}
+use Rattle.ready_program.specs.Instructions.{instruction_at, instruction_of}
+use Rattle.machine.specs.LocalRuns.{EndsAt, GoesBack, IsTopAt, returned_kind}
 use Rattle.machine.proofs.LocalLaws.{kind_row, not_back, root_ends, rows_join, row_behind}
 
 inside : {A : Type 0} (a b : A) → ◌≡◌ {A = Option A} (Some a) (Some b) → a ≡ b
@@ -31,39 +34,50 @@ names_none : (w : World) (f : Frame) (i : Instruction) (kind : Option Kind) → 
 names_none w f i kind at is = λ j index m found called named.
     absurd (no_call (row_of i.instr.op) kind index is (ap (λ (x : Instruction). row_of x.instr.op) (inside i j (sym at ∙ found)) ∙ called))
 
+-- the instruction that was looked up
+pub looked_up : (w : World) (frames : List Frame) (method pc : ℕ) (o : Option Fetched) → 0 < length frames → method ≡ top_method frames → pc ≡ top_pc frames
+    → option_map instruction_of o ≡ instruction_at w method pc → IfSome o (IsTopAt w frames)
+looked_up w frames method pc None some is at found = tt
+looked_up w frames method pc (Some f) some is at found = record {
+  frame = some;
+  at = ap (λ m. instruction_at w m (top_pc frames)) (sym is) ∙ ap (instruction_at w method) (sym at) ∙ sym found;
+}
+
 -- the return to the caller was made
-pub back_made : (w : World) (frames after : List Frame) (i : Instruction) (kind : Option Kind) → AreTyped w → Typed w frames
-    → instruction_at w (top_method frames) (top_pc frames) ≡ Some i → returned_kind (row_of i.instr.op) ≡ Some kind
-    → top_returned w kind frames ≡ Some after → GoesBack w frames after true
-back_made w [] after i kind typed fits at is made = absurd fits
-back_made w (f ∷ below) after i kind typed fits at is made =
+pub back_made : (w : World) (frames after : List Frame) (f : Fetched) (kind : Option Kind) → AreTyped w → Typed w frames → IsTopAt w frames f
+    → returned_kind (row_of f.instr.now.op) ≡ Some kind → top_returned w kind frames ≡ Some after → GoesBack w frames after None
+back_made w [] after f kind typed fits top is made = absurd fits
+back_made w (g ∷ below) after f kind typed fits top is made =
+    let i = instruction_of f in
     let act = kind_row (row_of i.instr.op) kind is in
     let result : Option (List Frame) = Some after in
-    let step : row w (f ∷ below) ≡ result =
-    bind_is (fetched w f) (λ j. local_act w j (row_of j.instr.op) f below) i result at (ap (λ (a : Row). local_act w i a f below) act ∙ made) in
-    (step, row_keeps w f below after typed (names_none w f i kind at act) fits step)
+    let step : row w (g ∷ below) ≡ result =
+    bind_is (fetched w g) (λ j. local_act w j (row_of j.instr.op) g below) i result top.at (ap (λ (a : Row). local_act w i a g below) act ∙ made) in
+    (step, row_keeps w g below after typed (names_none w g i kind top.at act) fits step)
 
 -- the return is from a root frame
-pub root_back : (w : World) (frames after : List Frame) (i : Instruction) (kind : Option Kind) → Typed w frames
-    → instruction_at w (top_method frames) (top_pc frames) ≡ Some i → returned_kind (row_of i.instr.op) ≡ Some kind
-    → top_is_root w frames ≡ true → after ≡ frames → GoesBack w frames after false
-root_back w [] after i kind fits at is root same = absurd fits
-root_back w (f ∷ below) after i kind fits at is root same =
-    (same, root_ends w f below i kind at (kind_row (row_of i.instr.op) kind is) root)
+pub root_back : (w : World) (frames after : List Frame) (f : Fetched) (kind : Option Kind) → Typed w frames → IsTopAt w frames f
+    → returned_kind (row_of f.instr.now.op) ≡ Some kind → top_is_root w frames ≡ true → after ≡ frames → GoesBack w frames after (Some f)
+root_back w [] after f kind fits top is root same = absurd fits
+root_back w (g ∷ below) after f kind fits top is root same = record {
+  same = same;
+  ends = root_ends w g below (instruction_of f) kind top.at (kind_row (row_of f.instr.now.op) kind is) root;
+  next = top;
+}
 
 -- the instruction is no return
-pub none_back : (w : World) (frames : List Frame) (i : Instruction) → Typed w frames
-    → instruction_at w (top_method frames) (top_pc frames) ≡ Some i → stays_on w frames ≡ false → returned_kind (row_of i.instr.op) ≡ None
-    → GoesBack w frames frames false
-none_back w [] i fits at leaves none = absurd fits
-none_back w (f ∷ below) i fits at leaves none = (refl, not_back w f below i at leaves none)
+pub none_back : (w : World) (frames : List Frame) (f : Fetched) → Typed w frames → IsTopAt w frames f → stays_on w frames ≡ false
+    → returned_kind (row_of f.instr.now.op) ≡ None → GoesBack w frames frames (Some f)
+none_back w [] f fits top leaves none = absurd fits
+none_back w (g ∷ below) f fits top leaves none =
+    record { same = refl; ends = not_back w g below (instruction_of f) top.at leaves none; next = top }
 
 -- ---- a run goes on after a return
 
 turned : (a b : ℕ) → a + (1 + b) ≡ b + (1 + a)
 turned a b = omega arith
 
-pub goes_again : (w : World) (a b : ℕ) (first mid back last : List Frame) → rows w a first ≡ Some mid → GoesBack w mid back true
+pub goes_again : (w : World) (a b : ℕ) (first mid back last : List Frame) → rows w a first ≡ Some mid → GoesBack w mid back None
     → rows w b back ≡ Some last → rows w (a + (1 + b)) first ≡ Some last
 goes_again w a b first mid back last made returned more =
     rows_join w (1 + a) b (a + (1 + b)) first back last (turned a b) (row_behind w a (1 + a) first mid back refl made returned.0) more

@@ -1,12 +1,15 @@
 -- Runs of local instructions of a thread, in its top frame and in those to which it returns.
-use Rattle.std.specs.Prelude.{◌≡◌, ℕ, ◌≤◌, Bool, true, false, not, List, Option, Some, None, is_some, ◌||◌}
+use Rattle.std.specs.Prelude.{◌≡◌, ℕ, ◌<◌, ◌≤◌, Bool, true, not, List, Option, Some, None, is_some, length, ◌||◌}
 use Rattle.opcodes.specs.declared.op.Kind.{Kind}
 use Rattle.instruction_rows.specs.Rows.{Row, returns}
 use Rattle.world_model.specs.World.{World}
 use Rattle.state_model.specs.Frames.{Frame}
 use Rattle.ref_model.specs.LocalRows.{row, rows}
 use Rattle.ref_model.specs.Entries.{may_be_last, most_local_steps, stands_at_static_call}
+use Rattle.frames.specs.Frames.{top_method, top_pc}
 use Rattle.typed_frames.specs.Typed.{Typed}
+use Rattle.ready_program.specs.declared.instructions.Fetched.{Fetched}
+use Rattle.ready_program.specs.Instructions.{instruction_at, instruction_of}
 
 -- the kind of what a return gives back, where the row is that of a return
 abbrev pub returned_kind : Row → Option (Option Kind)
@@ -17,10 +20,21 @@ returned_kind r = None
 abbrev pub ends_run : World → List Frame → Bool
 ends_run w frames = not (is_some (row w frames)) || stands_at_static_call w frames
 
--- a return to the caller was made; or the frames stay, and a run ends with them
-abbrev pub GoesBack : World → List Frame → List Frame → Bool → Type 0
-GoesBack w old new true = (row w old ≡ Some new) × Typed w new
-GoesBack w old new false = (new ≡ old) × (ends_run w old ≡ true)
+-- the top frame is at this instruction
+pub record IsTopAt (w : World) (frames : List Frame) (f : Fetched) : Type 0 where
+  pub frame : 0 < length frames
+  pub at : instruction_at w (top_method frames) (top_pc frames) ≡ Some (instruction_of f)
+
+-- the frames stay, and a run ends with them, before this instruction
+pub record EndsAt (w : World) (old new : List Frame) (f : Fetched) : Type 0 where
+  pub same : new ≡ old
+  pub ends : ends_run w old ≡ true
+  pub next : IsTopAt w old f
+
+-- a return to the caller was made, or a run ends
+abbrev pub GoesBack : World → List Frame → List Frame → Option Fetched → Type 0
+GoesBack w old new None = (row w old ≡ Some new) × Typed w new
+GoesBack w old new (Some f) = EndsAt w old new f
 
 -- So many local instructions were made, after which an entry may end with the next step.
 pub record IsLocalRun (w : World) (n : ℕ) (old new : List Frame) : Type 0 where

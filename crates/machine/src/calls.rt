@@ -2,6 +2,7 @@
 
 ghost use Rattle.std.specs.Prelude.{◌<◌, ℕ, length, OnOk};
 ghost use Rattle.native_methods.specs.Arguments.{native_effect};
+ghost use Rattle.method_calls.specs.Selections.{AreSelected};
 ghost use Rattle.method_calls.specs.Targets.{code_effect};
 ghost use Rattle.machine.specs.Concluding.{EffectSteps, Steps};
 
@@ -11,7 +12,7 @@ use crate::world::MachineWorld;
 use continuation::Mounted;
 use items::NoMemory;
 use lib_table::Native;
-use method_calls::{Entered, Target, enter, invoke};
+use method_calls::{Entered, Selections, Target, enter, invoke};
 use native_methods::run_native;
 use opcodes::Instr;
 use std::alloc::Global;
@@ -61,19 +62,23 @@ fn code_step<W: MachineWorld>(
 pub(crate) fn invocation_step<W: MachineWorld>(
     alloc: Global,
     world: &W,
+    selections: &mut Selections,
     parts: &mut Parts,
     mounted: &mut Mounted,
     instr: &Instr,
     naming: Naming,
 ) -> Result<(), NoMemory>
-    requires { 0 < length mounted.old.stack.frames }
-    ensures { OnOk result (Steps (W.world world.now) (record { instr = instr.now; naming = naming })
+    requires frame { 0 < length mounted.old.stack.frames }
+    requires selected { AreSelected (W.world world.now) selections.old }
+    ensures steps { OnOk result (Steps (W.world world.now) (record { instr = instr.now; naming = naming })
         parts.old mounted.old.stack.frames parts.new mounted.new.stack.frames) }
+    ensures selections { AreSelected (W.world world.now) selections.new }
 {
     mounted.operands_fit();
     let target = invoke(
         alloc,
         world,
+        selections,
         &instr.op,
         naming,
         &parts.natives.heap,

@@ -1,43 +1,49 @@
 //! Entries of the history: local instructions, and one more step after them.
 
-ghost use Rattle.std.specs.Prelude.{◌≡◌, ◌≤◌, None, IfOk, OnOk};
+ghost use Rattle.std.specs.Prelude.{◌≡◌, ◌≤◌, None, IfOk, IfSome, OnOk};
 ghost use Rattle.ref_model.specs.Ending.{ending};
 ghost use Rattle.typed_frames.specs.TypedStates.{IsTypedState};
 ghost use Rattle.vthread_state.specs.declared.phase.Phase.TheVariants.{Run, Throwing};
 ghost use Rattle.vthread_state.specs.declared.thread.Status.TheVariants.{Live};
+ghost use Rattle.method_calls.specs.Selections.{AreSelected};
+ghost use Rattle.machine.specs.LocalRuns.{IsTopAt};
 ghost use Rattle.machine.specs.Ready.{IsReady};
 ghost use Rattle.machine.specs.States.{state_of};
 ghost use Rattle.machine.specs.Steps.{Advances, IsKept};
 
-use crate::local::{MOST_LOCAL, run_rows};
+use crate::local::run_rows;
 use crate::parts::Parts;
 use crate::steps::{fetched_step, running_step, unwinding_step};
 use continuation::Mounted;
 use items::NoMemory;
 use jvm_edges::Gate;
-use ready_program::ReadyProgram;
+use method_calls::Selections;
+use ready_program::{Fetched, ReadyProgram};
 use std::alloc::Global;
 use vthread_state::{Phase, Status};
 
-// The step of a thread that runs after so many local instructions: where they are fewer than they may be, it isn't one of them.
+// The step of a thread that runs after its local instructions: where these are fewer than they may be, it isn't one of them.
 fn last_step(
     alloc: Global,
     program: &ReadyProgram,
+    selections: &mut Selections,
     parts: &mut Parts,
     mounted: &mut Mounted,
-    steps: u32,
+    next: Option<Fetched<'_>>,
 ) -> Result<(), NoMemory>
     requires ready { IsReady program.now }
     requires typed { IsTypedState program.now (state_of parts.old mounted.old.stack.frames) }
     requires running { parts.old.status ≡ Live Run }
     requires going { ending (state_of parts.old mounted.old.stack.frames) ≡ None }
-    ensures { OnOk result (IsKept program.now (state_of parts.old mounted.old.stack.frames)
+    requires next { IfSome next (IsTopAt program.now mounted.old.stack.frames) }
+    requires selected { AreSelected program.now selections.old }
+    ensures kept { OnOk result (IsKept program.now (state_of parts.old mounted.old.stack.frames)
         (state_of parts.new mounted.new.stack.frames)) }
+    ensures selections { AreSelected program.now selections.new }
 {
-    if steps == MOST_LOCAL {
-        running_step(alloc, program, parts, mounted)
-    } else {
-        fetched_step(alloc, program, parts, mounted)
+    match next {
+        Some(fetched) => fetched_step(alloc, program, selections, parts, mounted, fetched),
+        None => running_step(alloc, program, selections, parts, mounted),
     }
 }
 
@@ -45,6 +51,7 @@ fn last_step(
 fn running_entry(
     alloc: Global,
     program: &ReadyProgram,
+    selections: &mut Selections,
     parts: &mut Parts,
     mounted: &mut Mounted,
 ) -> Result<u32, NoMemory>
@@ -52,13 +59,15 @@ fn running_entry(
     requires typed { IsTypedState program.now (state_of parts.old mounted.old.stack.frames) }
     requires running { parts.old.status ≡ Live Run }
     requires going { ending (state_of parts.old mounted.old.stack.frames) ≡ None }
+    requires selected { AreSelected program.now selections.old }
     ensures advances { IfOk result (λ n. Advances program.now n
         (state_of parts.old mounted.old.stack.frames) (state_of parts.new mounted.new.stack.frames)) }
     ensures few { IfOk result (λ n. n ≤ 10000) }
+    ensures selections { AreSelected program.now selections.new }
 {
-    let steps = run_rows(program, mounted)?;
-    last_step(alloc, program, parts, mounted, steps)?;
-    Ok(steps)
+    let local = run_rows(program, mounted)?;
+    last_step(alloc, program, selections, parts, mounted, local.next)?;
+    Ok(local.steps)
 }
 
 // One step of a thread that throws an object. There are no local ones before it.
@@ -85,6 +94,7 @@ fn throwing_entry(
 pub(crate) fn advance<G: Gate>(
     alloc: Global,
     program: &ReadyProgram,
+    selections: &mut Selections,
     parts: &mut Parts,
     mounted: &mut Mounted,
     gate: &G,
@@ -92,14 +102,16 @@ pub(crate) fn advance<G: Gate>(
     requires ready { IsReady program.now }
     requires typed { IsTypedState program.now (state_of parts.old mounted.old.stack.frames) }
     requires going { ending (state_of parts.old mounted.old.stack.frames) ≡ None }
+    requires selected { AreSelected program.now selections.old }
     ensures advances { IfOk result (λ n. Advances program.now n
         (state_of parts.old mounted.old.stack.frames) (state_of parts.new mounted.new.stack.frames)) }
     ensures few { IfOk result (λ n. n ≤ 10000) }
+    ensures selections { AreSelected program.now selections.new }
 {
     match parts.status {
         Status::Live(Phase::Run) => {
             gate.local(0, 0);
-            running_entry(alloc, program, parts, mounted)
+            running_entry(alloc, program, selections, parts, mounted)
         }
         Status::Live(Phase::Throwing(o)) => { throwing_entry(alloc, program, parts, mounted, o) }
         _ => Err(NoMemory),

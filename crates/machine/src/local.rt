@@ -1,13 +1,13 @@
 //! Runs of local instructions: those of the top frame, and of the frames to which it returns.
 
-ghost use Rattle.std.specs.Prelude.{◌≡◌, ◌≤◌, Some, true, false, IfOk};
+ghost use Rattle.std.specs.Prelude.{◌≡◌, ◌≤◌, Some, true, false, IfOk, IfSome};
 ghost use Rattle.std.specs.Option.{option_map};
 ghost use Rattle.instruction_rows.specs.Table.{row as row_of, simple_row};
 ghost use Rattle.interp_local.specs.Runs.{stays_on};
 ghost use Rattle.interp_local.specs.Stops.{is_slice, steps_of};
 ghost use Rattle.ref_model.specs.LocalRows.{row, rows};
 ghost use Rattle.typed_frames.specs.Typed.{Typed};
-ghost use Rattle.machine.specs.LocalRuns.{GoesBack, IsLocalRun, returned_kind};
+ghost use Rattle.machine.specs.LocalRuns.{GoesBack, IsLocalRun, IsTopAt, returned_kind};
 ghost use Rattle.machine.specs.Ready.{IsReady};
 
 use continuation::Mounted;
@@ -15,7 +15,7 @@ use interp_local::{Local, run_local};
 use items::NoMemory;
 use method_calls::{Left, leave};
 use opcodes::{Kind, Op, Simple};
-use ready_program::ReadyProgram;
+use ready_program::{Fetched, ReadyProgram};
 
 /// How many local instructions an entry has at most before its last step.
 pub(crate) const MOST_LOCAL: u32 = 10_000;
@@ -79,47 +79,80 @@ pub(crate) fn local_step(program: &ReadyProgram, mounted: &mut Mounted) -> bool
     run_top(program, mounted, 1) == 1
 }
 
-// Goes back to the caller, where the top frame, whose instruction doesn't stay in it, is at a return that isn't from a root frame:
-// whether it did. A return that the definitions don't have counts as memory run out.
-fn go_back(program: &ReadyProgram, mounted: &mut Mounted) -> Result<bool, NoMemory>
+/// The instruction at which the top frame is. `None`: there is no such instruction.
+pub(crate) fn top_instruction<'a>(
+    program: &'a ReadyProgram,
+    mounted: &Mounted,
+) -> Option<Fetched<'a>>
+    ensures { IfSome result (IsTopAt program.now mounted.now.stack.frames) }
+{
+    if mounted.depth() == 0 {
+        return None;
+    }
+    let top = mounted.top();
+    program.instruction(top.method, top.pc)
+}
+
+// Goes back to the caller, where the top frame, whose instruction doesn't stay in it, is at a return that isn't from a root frame.
+// Otherwise the answer is that instruction. A return that the definitions don't have counts as memory run out.
+fn go_back<'a>(
+    program: &'a ReadyProgram,
+    mounted: &mut Mounted,
+) -> Result<Option<Fetched<'a>>, NoMemory>
     requires ready { IsReady program.now }
     requires typed { Typed program.now mounted.old.stack.frames }
     requires leaves { stays_on program.now mounted.old.stack.frames ≡ false }
     ensures { IfOk result (GoesBack program.now mounted.old.stack.frames
         mounted.new.stack.frames) }
 {
-    if mounted.depth() == 0 {
-        return Err(NoMemory);
-    }
-    let top = mounted.top();
-    let Some(fetched) = program.instruction(top.method, top.pc) else {
+    let Some(fetched) = top_instruction(program, mounted) else {
         return Err(NoMemory);
     };
     let Some(returns) = return_at(&fetched.instr.op) else {
-        return Ok(false);
+        return Ok(Some(fetched));
     };
     match leave(program, returns.kind, mounted) {
-        Left::Returned => Ok(true),
-        Left::Root => Ok(false),
+        Left::Returned => Ok(None),
+        Left::Root => Ok(Some(fetched)),
         Left::Undefined => Err(NoMemory),
     }
 }
 
+/// Local instructions that a thread made: how many, and the instruction after them, which ends their run. `None`: as many were made as
+/// an entry may have.
+#[derive(Clone, Copy)]
+pub(crate) struct LocalRun<'a> {
+    pub(crate) steps: u32,
+    pub(crate) next: Option<Fetched<'a>>,
+}
+
 /// Runs the local instructions of a thread, in its top frame and in those to which it returns, until one isn't local or enters a method, or
-/// 10,000 were made: how many.
-pub(crate) fn run_rows(program: &ReadyProgram, mounted: &mut Mounted) -> Result<u32, NoMemory>
+/// 10,000 were made.
+pub(crate) fn run_rows<'a>(
+    program: &'a ReadyProgram,
+    mounted: &mut Mounted,
+) -> Result<LocalRun<'a>, NoMemory>
     requires ready { IsReady program.now }
     requires typed { Typed program.now mounted.old.stack.frames }
-    ensures { IfOk result (λ n. IsLocalRun program.now n
+    ensures run { IfOk result (λ r. IsLocalRun program.now r.steps
         mounted.old.stack.frames mounted.new.stack.frames) }
+    ensures next { IfOk result (λ r. IfSome r.next
+        (IsTopAt program.now mounted.new.stack.frames)) }
 {
     let mut steps = run_top(program, mounted, MOST_LOCAL);
     while steps < MOST_LOCAL {
-        if !go_back(program, mounted)? {
-            return Ok(steps);
+        match go_back(program, mounted)? {
+            Some(fetched) => {
+                return Ok(LocalRun {
+                    steps,
+                    next: Some(fetched),
+                });
+            }
+            None => {
+                let more = run_top(program, mounted, MOST_LOCAL - 1 - steps);
+                steps += 1 + more;
+            }
         }
-        let more = run_top(program, mounted, MOST_LOCAL - 1 - steps);
-        steps += 1 + more;
     }
-    Ok(steps)
+    Ok(LocalRun { steps, next: None })
 }

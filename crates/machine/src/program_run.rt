@@ -22,6 +22,7 @@ use instruction_rows::Value;
 use items::NoMemory;
 use jvm_edges::Gate;
 use linked_names::{is_settled, linked_code_is_named};
+use method_calls::Selections;
 use native_methods::NativeState;
 use opening::open_typed;
 use ready_program::ReadyProgram;
@@ -101,11 +102,12 @@ fn run_on<G: Gate>(
         → length h.items ≡ most) }
 {
     let mut history = Vec::new(alloc);
+    let mut selections = Selections::new(alloc)?;
     for _ in 0..most {
         if ending_of(parts).is_some() {
             return Ok(history);
         }
-        let local = advance(alloc, program, parts, mounted, gate)?;
+        let local = advance(alloc, program, &mut selections, parts, mounted, gate)?;
         history.push(entry(local))?;
     }
     Ok(history)

@@ -5,22 +5,25 @@ ghost use Rattle.ref_model.specs.Ending.{ending};
 ghost use Rattle.typed_frames.specs.TypedStates.{IsTypedState};
 ghost use Rattle.vthread_state.specs.declared.phase.Phase.TheVariants.{Run, Throwing};
 ghost use Rattle.vthread_state.specs.declared.thread.Status.TheVariants.{Live};
+ghost use Rattle.method_calls.specs.Selections.{AreSelected};
 ghost use Rattle.machine.specs.Concluding.{Steps};
+ghost use Rattle.machine.specs.LocalRuns.{IsTopAt};
 ghost use Rattle.machine.specs.Ready.{IsReady};
 ghost use Rattle.machine.specs.States.{state_of};
 ghost use Rattle.machine.specs.Steps.{IsKept};
 
 use crate::calls::invocation_step;
 use crate::events::event_step;
-use crate::local::{local_step, return_at};
+use crate::local::{local_step, return_at, top_instruction};
 use crate::parts::Parts;
 use crate::returns::return_step;
 use crate::throwing::throwing_step;
 use crate::world::MachineWorld;
 use continuation::Mounted;
 use items::NoMemory;
+use method_calls::Selections;
 use opcodes::{Instr, Op};
-use ready_program::ReadyProgram;
+use ready_program::{Fetched, ReadyProgram};
 use std::alloc::Global;
 use world_model::Naming;
 
@@ -28,14 +31,17 @@ use world_model::Naming;
 fn instruction_step<W: MachineWorld>(
     alloc: Global,
     world: &W,
+    selections: &mut Selections,
     parts: &mut Parts,
     mounted: &mut Mounted,
     instr: &Instr,
     naming: Naming,
 ) -> Result<(), NoMemory>
-    requires { 0 < length mounted.old.stack.frames }
-    ensures { OnOk result (Steps (W.world world.now) (record { instr = instr.now; naming = naming })
+    requires frame { 0 < length mounted.old.stack.frames }
+    requires selected { AreSelected (W.world world.now) selections.old }
+    ensures steps { OnOk result (Steps (W.world world.now) (record { instr = instr.now; naming = naming })
         parts.old mounted.old.stack.frames parts.new mounted.new.stack.frames) }
+    ensures selections { AreSelected (W.world world.now) selections.new }
 {
     if let Some(returns) = return_at(&instr.op) {
         return return_step(world, parts, mounted, returns.kind);
@@ -45,36 +51,35 @@ fn instruction_step<W: MachineWorld>(
         | Op::InvokeSpecial(_)
         | Op::InvokeStatic(_)
         | Op::InvokeInterface(_, _) => {
-            invocation_step(alloc, world, parts, mounted, instr, naming)
+            invocation_step(alloc, world, selections, parts, mounted, instr, naming)
         }
         _ => event_step(alloc, world, parts, mounted, instr, naming),
     }
 }
 
-/// The step of a thread that runs, whose instruction isn't one that stays in its frame.
+/// The step of a thread that runs, whose top frame is at this instruction, which isn't one that stays in its frame.
 pub(crate) fn fetched_step(
     alloc: Global,
     program: &ReadyProgram,
+    selections: &mut Selections,
     parts: &mut Parts,
     mounted: &mut Mounted,
+    fetched: Fetched<'_>,
 ) -> Result<(), NoMemory>
     requires ready { IsReady program.now }
     requires typed { IsTypedState program.now (state_of parts.old mounted.old.stack.frames) }
     requires running { parts.old.status ≡ Live Run }
     requires going { ending (state_of parts.old mounted.old.stack.frames) ≡ None }
-    ensures { OnOk result (IsKept program.now (state_of parts.old mounted.old.stack.frames)
+    requires next { IsTopAt program.now mounted.old.stack.frames fetched }
+    requires selected { AreSelected program.now selections.old }
+    ensures kept { OnOk result (IsKept program.now (state_of parts.old mounted.old.stack.frames)
         (state_of parts.new mounted.new.stack.frames)) }
+    ensures selections { AreSelected program.now selections.new }
 {
-    if mounted.depth() == 0 {
-        return Err(NoMemory);
-    }
-    let top = mounted.top();
-    let Some(fetched) = program.instruction(top.method, top.pc) else {
-        return Err(NoMemory);
-    };
     instruction_step(
         alloc,
         program,
+        selections,
         parts,
         mounted,
         fetched.instr,
@@ -86,6 +91,7 @@ pub(crate) fn fetched_step(
 pub(crate) fn running_step(
     alloc: Global,
     program: &ReadyProgram,
+    selections: &mut Selections,
     parts: &mut Parts,
     mounted: &mut Mounted,
 ) -> Result<(), NoMemory>
@@ -93,13 +99,17 @@ pub(crate) fn running_step(
     requires typed { IsTypedState program.now (state_of parts.old mounted.old.stack.frames) }
     requires running { parts.old.status ≡ Live Run }
     requires going { ending (state_of parts.old mounted.old.stack.frames) ≡ None }
-    ensures { OnOk result (IsKept program.now (state_of parts.old mounted.old.stack.frames)
+    requires selected { AreSelected program.now selections.old }
+    ensures kept { OnOk result (IsKept program.now (state_of parts.old mounted.old.stack.frames)
         (state_of parts.new mounted.new.stack.frames)) }
+    ensures selections { AreSelected program.now selections.new }
 {
     if local_step(program, mounted) {
-        Ok(())
-    } else {
-        fetched_step(alloc, program, parts, mounted)
+        return Ok(());
+    }
+    match top_instruction(program, mounted) {
+        Some(fetched) => fetched_step(alloc, program, selections, parts, mounted, fetched),
+        None => Err(NoMemory),
     }
 }
 

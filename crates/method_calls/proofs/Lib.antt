@@ -1,1 +1,2 @@
 pub mod InvocationLaws
+pub mod SelectionLaws

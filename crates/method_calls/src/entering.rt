@@ -1,12 +1,14 @@
 //! Methods with code that begin (JVMS 2.6.1).
 
-ghost use Rattle.std.specs.Prelude.{◌≡◌, ◌<◌, IfOk, length};
+ghost use Rattle.std.specs.Prelude.{◌≡◌, ◌↔◌, ◌<◌, ◌≤◌, Err, IfOk, OnErr, OnOk, length};
+ghost use Rattle.frames.specs.Frames.{entered, top_stack};
+ghost use Rattle.frames.specs.declared.error.StackError.TheVariants as errors;
 ghost use Rattle.ref_model.specs.Members as members;
 ghost use Rattle.method_calls.specs.FrameSteps.{IsEntered};
 
 use crate::world::CallWorld;
 use continuation::Mounted;
-use frames::StackError;
+use frames::{MOST_FRAMES, StackError};
 use items::NoMemory;
 use ref_model::Exception;
 use world_model::MethodInfo;
@@ -29,6 +31,31 @@ fn is_synchronized(method: &MethodInfo) -> bool
     ensures { result ≡ members.is_synchronized method.now }
 {
     method.flags & ACC_SYNCHRONIZED == ACC_SYNCHRONIZED
+}
+
+// Pushes the frame of a method. Where that wants no memory it takes constant time but for the local variables.
+#[inline(always)]
+fn push_callee(
+    mounted: &mut Mounted,
+    n: u32,
+    locals: u32,
+    operands: u16,
+    slots: u16,
+) -> Result<(), StackError>
+    requires given { slots ≤ length (top_stack mounted.old.stack.frames) }
+    requires taken { slots ≤ locals }
+    ensures thread { mounted.new.thread ≡ mounted.old.thread }
+    ensures pinned { mounted.new.pinned ≡ mounted.old.pinned }
+    ensures deep { (result ≡ Err errors.Deep) ↔ (2048 ≤ length mounted.old.stack.frames) }
+    ensures ok { OnOk result (mounted.new.stack.frames
+        ≡ entered n locals operands slots mounted.old.stack.frames) }
+    ensures err { OnErr result (mounted.new.stack.frames ≡ mounted.old.stack.frames) }
+{
+    if mounted.depth() < MOST_FRAMES && mounted.fits(locals, operands) {
+        mounted.enter(n, locals, operands, slots);
+        return Ok(());
+    }
+    mounted.push_frame(n, locals, operands, slots, false)
 }
 
 /// Begins the method with a number, which takes so many slots from the operands.
@@ -57,7 +84,7 @@ pub fn enter<W: CallWorld>(
         return Ok(Entered::Undefined);
     }
     let locals = u32::from(code.max_locals);
-    match mounted.push_frame(n, locals, code.max_stack, slots, false) {
+    match push_callee(mounted, n, locals, code.max_stack, slots) {
         Ok(()) => Ok(Entered::Begun),
         Err(StackError::Deep) => Ok(Entered::Throws(Exception::StackOverflowError)),
         Err(StackError::NoMemory) => Err(NoMemory),

@@ -6,9 +6,11 @@ ghost use Rattle.instruction_rows.specs.Table.{row};
 ghost use Rattle.ref_model.specs.Fetch as fetch;
 ghost use Rattle.method_calls.specs.Targets.{IsInvoked, IsNumbered, IsSelected, IsSpecial, IsVirtual};
 ghost use Rattle.method_calls.specs.Receivers.{IsReceiver};
+ghost use Rattle.method_calls.specs.Selections.{AreSelected};
 ghost use Rattle.object_events.specs.Operands.{HasTop, operands};
 
 use crate::arguments::argument_slots;
+use crate::selections::{Selection, Selections};
 use crate::target::Target;
 use crate::world::CallWorld;
 use continuation::Mounted;
@@ -32,6 +34,7 @@ fn method_of(naming: Naming) -> Option<u32>
 }
 
 // The method with a number runs, and takes so many slots (JVMS 4.6: without code it is abstract).
+#[inline(always)]
 fn numbered<W: CallWorld>(world: &W, n: u32, slots: u16) -> Target
     ensures { IsNumbered (W.world world.now) n slots result }
 {
@@ -47,8 +50,8 @@ fn numbered<W: CallWorld>(world: &W, n: u32, slots: u16) -> Target
     }
 }
 
-// What is selected for a receiver of a class runs (JVMS 5.4.6).
-fn selected<W: CallWorld>(
+// What is selected for a receiver of a class runs (JVMS 5.4.6). This goes up the superclasses.
+fn selected_anew<W: CallWorld>(
     alloc: Global,
     world: &W,
     class: u32,
@@ -68,6 +71,32 @@ fn selected<W: CallWorld>(
         Choice::Abstract => Ok(Target::Throws(Exception::AbstractMethodError)),
         Choice::Several => Ok(Target::Throws(Exception::IncompatibleClassChangeError)),
     }
+}
+
+// The same in constant time, where an earlier invocation selected it.
+fn selected<W: CallWorld>(
+    alloc: Global,
+    world: &W,
+    selections: &mut Selections,
+    class: u32,
+    n: u32,
+    slots: u16,
+) -> Result<Target, NoMemory>
+    requires { AreSelected (W.world world.now) selections.old }
+    ensures target { IfOk result (λ target. IsSelected (W.world world.now) class n slots target) }
+    ensures selections { AreSelected (W.world world.now) selections.new }
+{
+    if let Some(target) = selections.find(class, n, slots) {
+        return Ok(target);
+    }
+    let target = selected_anew(alloc, world, class, n, slots)?;
+    selections.keep(Selection {
+        class,
+        method: n,
+        slots,
+        target,
+    });
+    Ok(target)
 }
 
 // The class of the receiver of an invocation, which lies below so many slots, or what is thrown. `None`: that is undefined.
@@ -97,6 +126,7 @@ fn receiver_class<W: CallWorld>(
 fn invoke_virtual<W: CallWorld>(
     alloc: Global,
     world: &W,
+    selections: &mut Selections,
     naming: Naming,
     n: u32,
     slots: u16,
@@ -105,14 +135,16 @@ fn invoke_virtual<W: CallWorld>(
 ) -> Result<Target, NoMemory>
     requires top { HasTop mounted.now }
     requires few { slots ≤ 255 }
-    ensures { IfOk result (λ target.
+    requires selected { AreSelected (W.world world.now) selections.old }
+    ensures target { IfOk result (λ target.
         IsVirtual (W.world world.now) naming n slots heap.now mounted.now target) }
+    ensures selections { AreSelected (W.world world.now) selections.new }
 {
     let Some(receiver) = receiver_class(world, naming, slots, heap, mounted) else {
         return Ok(Target::Undefined);
     };
     match receiver {
-        Ok(class) => selected(alloc, world, class, n, slots + 1),
+        Ok(class) => selected(alloc, world, selections, class, n, slots + 1),
         Err(e) => Ok(Target::Throws(e)),
     }
 }
@@ -139,18 +171,21 @@ fn invoke_special<W: CallWorld>(
     }
 }
 
-/// What the invocation at the pc of a thread's top frame comes to.
+/// What the invocation at the pc of a thread's top frame comes to. What it selects is kept.
 pub fn invoke<W: CallWorld>(
     alloc: Global,
     world: &W,
+    selections: &mut Selections,
     op: &Op,
     naming: Naming,
     heap: &Heap,
     mounted: &Mounted,
 ) -> Result<Target, NoMemory>
-    requires { HasTop mounted.now }
-    ensures { IfOk result (λ target.
+    requires top { HasTop mounted.now }
+    requires selected { AreSelected (W.world world.now) selections.old }
+    ensures target { IfOk result (λ target.
         IsInvoked (W.world world.now) naming (row op.now) heap.now mounted.now target) }
+    ensures selections { AreSelected (W.world world.now) selections.new }
 {
     let Some(n) = method_of(naming) else {
         return Ok(Target::Undefined);
@@ -163,8 +198,12 @@ pub fn invoke<W: CallWorld>(
     };
     match op {
         Op::InvokeStatic(_) => Ok(numbered(world, n, slots)),
-        Op::InvokeVirtual(_) => invoke_virtual(alloc, world, naming, n, slots, heap, mounted),
-        Op::InvokeInterface(_, _) => invoke_virtual(alloc, world, naming, n, slots, heap, mounted),
+        Op::InvokeVirtual(_) => {
+            invoke_virtual(alloc, world, selections, naming, n, slots, heap, mounted)
+        }
+        Op::InvokeInterface(_, _) => {
+            invoke_virtual(alloc, world, selections, naming, n, slots, heap, mounted)
+        }
         Op::InvokeSpecial(_) => Ok(invoke_special(world, naming, n, slots, heap, mounted)),
         _ => Ok(Target::Undefined),
     }

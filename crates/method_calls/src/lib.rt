@@ -6,6 +6,7 @@ mod catching;
 mod entering;
 mod invocations;
 mod returning;
+mod selections;
 mod target;
 mod world;
 
@@ -14,5 +15,6 @@ pub use catching::{Caught, catch_object};
 pub use entering::{Entered, enter};
 pub use invocations::invoke;
 pub use returning::{Left, is_root, leave};
+pub use selections::Selections;
 pub use target::Target;
 pub use world::CallWorld;

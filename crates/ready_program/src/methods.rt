@@ -119,5 +119,8 @@ fn is_native_class(tables: &Tables, class: u32) -> bool
 pub(crate) fn is_hold(tables: &Tables, method: &MethodInfo) -> bool
     ensures { result ≡ spec.is_hold tables.now method.now }
 {
-    is_native_class(tables, method.class) && is_same(&method.name, b"hold")
+    if !is_same(&method.name, b"hold") {
+        return false;
+    }
+    is_native_class(tables, method.class)
 }

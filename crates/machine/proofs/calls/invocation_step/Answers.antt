@@ -4,26 +4,26 @@ use Rattle.machine.proofs.ThrowLaws.{on_ok}
 use Rattle.machine.proofs.CallLaws.{ComesTo, native_stepped, code_stepped, throws_stepped}
 use Rattle.machine.proofs.calls.invocation_step.Goals as goal
 
-pub returns-in-Native : goal.returns-in-Native
-returns-in-Native g c =
+pub returns-in-Native-clause-steps : goal.returns-in-Native-clause-steps
+returns-in-Native-clause-steps g c =
     let w = g.W.EventWorld.world c.args.world.now in
     let i : Instruction = record { instr = c.args.instr.now; naming = c.args.naming } in
     on_ok c.native_step.result c.native_step.ensures
     (native_stepped w i c.args.parts.now c.native_step.new.parts c.args.mounted.now c.native_step.new.mounted.stack.frames c.in-Native.native
-    (subst (ComesTo w i c.args.parts.now c.args.mounted.now) c.in-Native.is c.in_ok-target.ensures))
+    (subst (ComesTo w i c.args.parts.now c.args.mounted.now) c.in-Native.is c.in_ok-target.ensures.target))
 
-pub returns-in-Code : goal.returns-in-Code
-returns-in-Code g c =
+pub returns-in-Code-clause-steps : goal.returns-in-Code-clause-steps
+returns-in-Code-clause-steps g c =
     let w = g.W.EventWorld.world c.args.world.now in
     let i : Instruction = record { instr = c.args.instr.now; naming = c.args.naming } in
     on_ok c.code_step.result c.code_step.ensures
     (code_stepped w i c.args.parts.now c.code_step.new.parts c.args.mounted.now c.code_step.new.mounted.stack.frames c.in-Code.method c.in-Code.slots
-    (subst (ComesTo w i c.args.parts.now c.args.mounted.now) c.in-Code.is c.in_ok-target.ensures))
+    (subst (ComesTo w i c.args.parts.now c.args.mounted.now) c.in-Code.is c.in_ok-target.ensures.target))
 
-pub returns-in-Throws : goal.returns-in-Throws
-returns-in-Throws g c =
+pub returns-in-Throws-clause-steps : goal.returns-in-Throws-clause-steps
+returns-in-Throws-clause-steps g c =
     let w = g.W.EventWorld.world c.args.world.now in
     let i : Instruction = record { instr = c.args.instr.now; naming = c.args.naming } in
     on_ok c.raise.result c.raise.ensures
     (throws_stepped w i c.args.parts.now c.raise.new.parts c.args.mounted.now c.in-Throws.exception
-    (subst (ComesTo w i c.args.parts.now c.args.mounted.now) c.in-Throws.is c.in_ok-target.ensures))
+    (subst (ComesTo w i c.args.parts.now c.args.mounted.now) c.in-Throws.is c.in_ok-target.ensures.target))

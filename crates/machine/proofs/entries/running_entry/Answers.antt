@@ -6,5 +6,5 @@ run_rows-requires-clause-typed c = main_is_typed c.args.program.now c.args.parts
 
 pub returns-clause-advances : goal.returns-clause-advances
 returns-clause-advances c =
-    run_advances c.args.program.now c.args.parts.now c.last_step.new.parts c.in_ok-steps.steps c.args.mounted.now.stack.frames
-    c.run_rows.new.mounted.stack.frames c.last_step.new.mounted.stack.frames c.requires.running c.in_ok-steps.ensures c.in_ok-last_step.ensures
+    run_advances c.args.program.now c.args.parts.now c.last_step.new.parts c.in_ok-local.local.steps c.args.mounted.now.stack.frames
+    c.run_rows.new.mounted.stack.frames c.last_step.new.mounted.stack.frames c.requires.running c.in_ok-local.ensures.run c.in_ok-last_step.ensures.kept

@@ -1,5 +1,6 @@
-use Rattle.std.proofs.Common.{Bool, subst, arith}
+use Rattle.std.proofs.Common.{Option, subst, arith}
 use Rattle.interp_local.specs.Runs.{stays_on}
+use Rattle.ready_program.specs.declared.instructions.Fetched.{Fetched}
 use Rattle.machine.specs.LocalRuns.{GoesBack}
 use Rattle.machine.proofs.BackLaws.{goes_again, stopped}
 use Rattle.machine.proofs.local.run_rows.Goals as goal
@@ -10,7 +11,7 @@ loop-steps-preserved c =
     let mid = c.loop-steps.mounted.stack.frames in
     let back = c.go_back.new.mounted.stack.frames in
     let last = c.run_top-more.new.mounted.stack.frames in
-    let returned = subst (λ (b : Bool). GoesBack w mid back b) c.if-not-branch.false c.in_ok-go_back.ensures in
+    let returned = subst (λ (o : Option Fetched). GoesBack w mid back o) c.in-None.is c.in_ok-fetched.ensures in
     let more = c.run_top-more.ensures in
     let most = more.few in
     let going = c.loop-steps-test.true in

@@ -25,4 +25,5 @@ loop-preserved g c =
       ran = subst (λ (h : List Entry). Ran w first h after) (sym items)
           (more_ran w first before after c.loop.history.items c.in_ok-local.local c.loop.invariant.ran goes c.in_ok-local.ensures.advances);
       count = ap (λ (h : List Entry). length h) c.in_ok-push.ensures.items ∙ one_longer c.loop.history.items c.entry.result ∙ ap (λ n. n + 1) c.loop.invariant.count;
+      selected = c.advance.ensures.selections;
     }

@@ -4,8 +4,8 @@ use Rattle.machine.proofs.LocalLaws.{kind_row}
 use Rattle.machine.proofs.ThrowLaws.{on_ok}
 use Rattle.machine.proofs.steps.instruction_step.Goals as goal
 
-pub returns-in-Some : goal.returns-in-Some
-returns-in-Some g c =
+pub returns-in-Some-clause-steps : goal.returns-in-Some-clause-steps
+returns-in-Some-clause-steps g c =
     on_ok c.return_step.result c.return_step.ensures
     (λ steps f below top at. steps f below (record { instr = c.args.instr.now; naming = c.args.naming }) top at
     (kind_row (row_of c.args.instr.now.op) c.in-Some.returns.kind (sym c.in-Some.ensures)))

@@ -7,8 +7,8 @@ use Rattle.method_calls.specs.Targets.{IsInvoked, IsVirtual, numbered_effect, ro
 use Rattle.method_calls.proofs.InvocationLaws.{gives_along, if_ok_mapped, interface_is, special_is, static_is, virtual_is}
 use Rattle.method_calls.proofs.invocations.invoke.Goals as goal
 
-pub returns-in-InvokeStatic : goal.returns-in-InvokeStatic
-returns-in-InvokeStatic g c = λ r depth.
+pub returns-in-InvokeStatic-clause-target : goal.returns-in-InvokeStatic-clause-target
+returns-in-InvokeStatic-clause-target g c = λ r depth.
     let w = g.W.EventWorld.world c.args.world.now in
     let naming = c.args.naming in
     let n = c.in-Some.n in
@@ -20,8 +20,8 @@ returns-in-InvokeStatic g c = λ r depth.
     (ap (λ (o : Op). row_invoked w naming (row o) q depth stack) c.in-InvokeStatic.is
     ∙ static_is w naming q depth stack n slots m c.in-Some.ensures c.in-Some-method.ensures c.in-Some-argument_slots.ensures.slots) (c.numbered.ensures q depth stack)
 
-pub returns-in-InvokeSpecial : goal.returns-in-InvokeSpecial
-returns-in-InvokeSpecial g c = λ r depth.
+pub returns-in-InvokeSpecial-clause-target : goal.returns-in-InvokeSpecial-clause-target
+returns-in-InvokeSpecial-clause-target g c = λ r depth.
     let w = g.W.EventWorld.world c.args.world.now in
     let naming = c.args.naming in
     let n = c.in-Some.n in
@@ -33,8 +33,8 @@ returns-in-InvokeSpecial g c = λ r depth.
     (ap (λ (o : Op). row_invoked w naming (row o) q depth stack) c.in-InvokeSpecial.is
     ∙ special_is w naming q depth stack n slots m c.in-Some.ensures c.in-Some-method.ensures c.in-Some-argument_slots.ensures.slots) (c.invoke_special.ensures r depth)
 
-pub returns-in-InvokeVirtual : goal.returns-in-InvokeVirtual
-returns-in-InvokeVirtual g c =
+pub returns-in-InvokeVirtual-clause-target : goal.returns-in-InvokeVirtual-clause-target
+returns-in-InvokeVirtual-clause-target g c =
     let w = g.W.EventWorld.world c.args.world.now in
     let naming = c.args.naming in
     let n = c.in-Some.n in
@@ -46,10 +46,10 @@ returns-in-InvokeVirtual g c =
     let stack = operands c.args.mounted.now in
     gives_along w q depth stack (row_invoked w naming (row c.args.op.now) q depth stack) (virtual_effect w naming n slots q depth stack) target
     (ap (λ (o : Op). row_invoked w naming (row o) q depth stack) c.in-InvokeVirtual.is
-    ∙ virtual_is w naming q depth stack n slots m c.in-Some.ensures c.in-Some-method.ensures c.in-Some-argument_slots.ensures.slots) (h r depth)) c.invoke_virtual.ensures
+    ∙ virtual_is w naming q depth stack n slots m c.in-Some.ensures c.in-Some-method.ensures c.in-Some-argument_slots.ensures.slots) (h r depth)) c.invoke_virtual.ensures.target
 
-pub returns-in-InvokeInterface : goal.returns-in-InvokeInterface
-returns-in-InvokeInterface g c =
+pub returns-in-InvokeInterface-clause-target : goal.returns-in-InvokeInterface-clause-target
+returns-in-InvokeInterface-clause-target g c =
     let w = g.W.EventWorld.world c.args.world.now in
     let naming = c.args.naming in
     let n = c.in-Some.n in
@@ -61,4 +61,4 @@ returns-in-InvokeInterface g c =
     let stack = operands c.args.mounted.now in
     gives_along w q depth stack (row_invoked w naming (row c.args.op.now) q depth stack) (virtual_effect w naming n slots q depth stack) target
     (ap (λ (o : Op). row_invoked w naming (row o) q depth stack) c.in-InvokeInterface.is
-    ∙ interface_is w naming c.in-InvokeInterface.field-1 q depth stack n slots m c.in-Some.ensures c.in-Some-method.ensures c.in-Some-argument_slots.ensures.slots) (h r depth)) c.invoke_virtual-in-InvokeInterface.ensures
+    ∙ interface_is w naming c.in-InvokeInterface.field-1 q depth stack n slots m c.in-Some.ensures c.in-Some-method.ensures c.in-Some-argument_slots.ensures.slots) (h r depth)) c.invoke_virtual-in-InvokeInterface.ensures.target

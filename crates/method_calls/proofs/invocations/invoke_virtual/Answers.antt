@@ -9,8 +9,8 @@ use Rattle.method_calls.specs.Targets.{IsSelected, IsVirtual, selected_effect, v
 use Rattle.method_calls.proofs.InvocationLaws.{gives_along, if_ok_mapped}
 use Rattle.method_calls.proofs.invocations.invoke_virtual.Goals as goal
 
-pub returns-in-Ok : goal.returns-in-Ok
-returns-in-Ok g c =
+pub returns-in-Ok-clause-target : goal.returns-in-Ok-clause-target
+returns-in-Ok-clause-target g c =
     let w = g.W.EventWorld.world c.args.world.now in
     let class = c.in-Ok.class in
     let next : suc c.args.slots ≡ c.args.slots + 1 = omega arith in
@@ -22,10 +22,10 @@ returns-in-Ok g c =
     let T : Result ℕ Exception → Type 0 = ReceiverGives act (virtual_effect w c.args.naming c.args.n c.args.slots q depth stack) in
     let slots : ℕ → Option Effect = λ s. selected_effect w q depth class c.args.n s stack in
     gives_along w q depth stack (virtual_effect w c.args.naming c.args.n c.args.slots q depth stack) (slots (c.args.slots + 1)) target
-    (subst T c.in-Ok.is (c.in-Some.ensures r act) ∙ ap slots next) (h q depth stack)) c.selected.ensures
+    (subst T c.in-Ok.is (c.in-Some.ensures r act) ∙ ap slots next) (h q depth stack)) c.selected.ensures.target
 
-pub returns-in-Err : goal.returns-in-Err
-returns-in-Err g c = λ r depth.
+pub returns-in-Err-clause-target : goal.returns-in-Err-clause-target
+returns-in-Err-clause-target g c = λ r depth.
     let w = g.W.EventWorld.world c.args.world.now in
     let q = with_heap c.args.heap.now r in
     let stack = operands c.args.mounted.now in

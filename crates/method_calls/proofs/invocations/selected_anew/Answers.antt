@@ -4,7 +4,7 @@ use Rattle.linkage.specs.declared.choice.Choice.{Choice}
 use Rattle.ref_model.specs.Effects.{Effect}
 use Rattle.ref_model.specs.Calls.{chosen}
 use Rattle.method_calls.specs.Targets.{Gives, numbered_effect}
-use Rattle.method_calls.proofs.invocations.selected.Goals as goal
+use Rattle.method_calls.proofs.invocations.selected_anew.Goals as goal
 
 pub returns-in-Some-method_number : goal.returns-in-Some-method_number
 returns-in-Some-method_number g c = λ r depth stack.
