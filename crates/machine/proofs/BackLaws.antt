@@ -20,7 +20,7 @@ use Rattle.interp_local.specs.Runs.{stays_on}
 use Rattle.method_calls.specs.FrameSteps.{top_is_root, top_returned}
 use Rattle.ready_program.specs.declared.instructions.Fetched.{Fetched}
 use Rattle.ready_program.specs.Instructions.{instruction_at, instruction_of}
-use Rattle.machine.specs.LocalRuns.{EndsAt, GoesBack, IsTopAt, returned_kind}
+use Rattle.machine.specs.LocalRuns.{GoesBack, IsTopAt, returned_kind}
 use Rattle.machine.proofs.LocalLaws.{kind_row, not_back, root_ends, rows_join, row_behind}
 
 inside : {A : Type 0} (a b : A) → ◌≡◌ {A = Option A} (Some a) (Some b) → a ≡ b

@@ -1,11 +1,9 @@
 -- Steps of the main thread keep to the typing.
 use Rattle.std.proofs.Common.{◌≡◌, ℕ, ◌<◌, List, [], ◌∷◌, length, Option, Some, None, refl, ap, sym, ◌∙◌, subst, arith}
-use Rattle.instruction_rows.specs.Table.{row as row_of}
 use Rattle.vthread_state.specs.declared.phase.Phase.TheVariants.{Run, Throwing}
 use Rattle.vthread_state.specs.declared.thread.Status.TheVariants.{Live}
 use Rattle.world_model.specs.World.{World}
 use Rattle.verify_types.specs.Environment.{Instruction}
-use Rattle.verify_types.specs.Effects.{row_of as row_at}
 use Rattle.state_model.specs.Frames.{Frame}
 use Rattle.ref_model.specs.Setting.{Setting}
 use Rattle.ref_model.specs.State.{State}
@@ -18,9 +16,9 @@ use Rattle.ref_model.specs.Throwing.{throwing_step}
 use Rattle.typed_frames.specs.Typed.{Typed}
 use Rattle.typed_frames.specs.TypedStates.{IsTypedState}
 use Rattle.typed_frames.proofs.ThreadLaws.{frames_keep}
-use Rattle.typed_steps.specs.Namings.{IsRowNaming, IsStepNaming}
+use Rattle.typed_steps.specs.Namings.{IsStepNaming}
 use Rattle.typed_steps.proofs.Steps.{step_keeps, running_is_typed}
-use Rattle.frames.specs.Frames.{top_method, top_pc, top_stack}
+use Rattle.frames.specs.Frames.{top_method, top_pc}
 use Rattle.ready_program.specs.Instructions.{instruction_at}
 use Rattle.machine.specs.Concluding.{Steps}
 use Rattle.machine.specs.declared.parts.Parts.{Parts}

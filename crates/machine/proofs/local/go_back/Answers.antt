@@ -1,5 +1,5 @@
 use Rattle.std.proofs.Common.{sym}
-use Rattle.machine.proofs.BackLaws.{back_made, none_back, root_back}
+use Rattle.machine.proofs.BackLaws.{back_made}
 use Rattle.machine.proofs.local.go_back.Goals as goal
 
 pub returns-in-Returned : goal.returns-in-Returned
