@@ -54,9 +54,6 @@ impl<'a, L: Lookups> Environment<'a, L> {
         ensures same { IfOk result (λ t. stood t ≡ stood s) }
         ensures stands { IfOk result (IsStanding self.now) }
     {
-        if self.method.code.max_locals < MANY {
-            return Ok(s);
-        }
         let Standing {
             state,
             like,
@@ -96,6 +93,18 @@ impl<'a, L: Lookups> Environment<'a, L> {
         fits_targets && (is_last || self.fits_next(s, i))
     }
 
+    // Compares the state after an instruction, and keeps nothing more of it.
+    fn compared_alone(&self, s: Standing, i: &Instr, is_last: bool) -> Compared
+        requires { IsStanding self.now s }
+        ensures fits { result.fits ≡
+            goes_to self.now (row i.now.op) i.now.next is_last (stood s) }
+        ensures same { result.standing ≡ s }
+    {
+        let fits_targets = self.fits_targets(&s, &i.op);
+        let fits = self.fits_on(fits_targets, &s, i, is_last);
+        Compared { standing: s, fits }
+    }
+
     /// Compares the state after an instruction.
     pub fn compared(
         &self,
@@ -110,6 +119,9 @@ impl<'a, L: Lookups> Environment<'a, L> {
         ensures same { IfOk result (λ c. stood c.standing ≡ stood s) }
         ensures stands { IfOk result (λ c. IsStanding self.now c.standing) }
     {
+        if self.method.code.max_locals < MANY {
+            return Ok(self.compared_alone(s, i, is_last));
+        }
         let near = self.near_target(alloc, s, &i.op)?;
         let fits_targets = self.fits_targets(&near, &i.op);
         let fitted = self.fitted_after(near, &i.op, fits_targets);

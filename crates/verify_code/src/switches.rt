@@ -19,9 +19,6 @@ use crate::targets::pc_of;
 use opcodes::{LookupSwitch, Match, Op, TableSwitch};
 use world_model::Lookups;
 
-// With fewer local variables a comparison costs less than what is kept to save it.
-const MANY: u16 = 64;
-
 /// The target of a branch. `None`: the instruction is none.
 pub fn branch_target(op: &Op) -> Option<i64>
     ensures { IfSome result (λ target. targets_of_row (row op.now) ≡ target ∷ []) }
@@ -125,9 +122,6 @@ impl<'a, L: Lookups> Environment<'a, L> {
         ensures stands { IsStanding self.now result }
     {
         if !fits {
-            return s;
-        }
-        if self.method.code.max_locals < MANY {
             return s;
         }
         let Some(target) = branch_target(op) else {

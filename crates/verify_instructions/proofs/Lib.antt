@@ -2,3 +2,4 @@ pub mod Lists
 pub mod TableLaws
 pub mod ResultLaws
 pub mod LocalLaws
+pub mod NewLaws

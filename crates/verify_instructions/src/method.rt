@@ -1,6 +1,7 @@
 //! A method with code, and what its tables say (JVMS 4.10.1.6).
 
-ghost use Rattle.std.specs.Prelude.{◌≡◌, None, drop, get_or};
+ghost use Rattle.std.specs.Prelude.{◌≡◌, ◌==◌, None, drop, get_or, position};
+ghost use Rattle.opcodes.specs.declared.op.Instr.{Instr as Instruction};
 ghost use Rattle.std.specs.List.{list_any};
 ghost use Rattle.world_model.specs.declared.sites.Site.TheVariants.{Plain};
 ghost use Rattle.verify_types.specs.Environment as environment;
@@ -56,20 +57,37 @@ fn made_by(op: &Op, site: Site) -> Option<u32>
     }
 }
 
+// The index of the first instruction at a pc. `None`: there is none.
+fn index_at(code: &[Instr], pc: u32) -> Option<usize>
+    ensures { result ≡ position (λ (i : Instruction). i.pc == pc) code.now }
+{
+    code.iter().position(|i| i.pc == pc)
+}
+
+// What the constant of the instruction of a number means; nothing where there is none.
+fn naming_at(namings: &[Naming], n: usize) -> Naming
+    ensures { result ≡ get_or namings.now n (record { site = Plain; class = None }) }
+{
+    match namings.get(n) {
+        Some(naming) => *naming,
+        None => Naming {
+            site: Site::Plain,
+            class: None,
+        },
+    }
+}
+
 /// The class of the `new` at a pc. `None`: there is none.
 pub fn new_class(code: &[Instr], namings: &[Naming], pc: u16) -> Option<u32>
     ensures { result ≡ new_at pc (environment.with_namings code.now namings.now) }
 {
-    let mut rest = code;
-    let mut names = namings;
-    while let Some((i, behind)) = rest.split_first() {
-        if i.pc == u32::from(pc) {
-            return made_by(&i.op, first_naming(names).site);
-        }
-        rest = behind;
-        names = behind_first(names);
-    }
-    None
+    let Some(n) = index_at(code, u32::from(pc)) else {
+        return None;
+    };
+    let Some(i) = code.get(n) else {
+        return None;
+    };
+    made_by(&i.op, naming_at(namings, n).site)
 }
 
 // Whether the pc lies in the range of the row.
