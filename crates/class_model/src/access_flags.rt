@@ -12,6 +12,9 @@ pub const ACC_STATIC: u16 = 0x0008;
 /// A class without subclasses, or a method that is not overridden (JVMS 4.1, 4.6).
 pub const ACC_FINAL: u16 = 0x0010;
 
+/// A method that holds its receiver's monitor, or its class's, while it runs (JVMS 4.6).
+pub const ACC_SYNCHRONIZED: u16 = 0x0020;
+
 /// A method whose code is not Java (JVMS 4.6).
 pub const ACC_NATIVE: u16 = 0x0100;
 

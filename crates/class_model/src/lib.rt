@@ -11,7 +11,7 @@ mod tags;
 
 pub use access_flags::{
     ACC_ABSTRACT, ACC_FINAL, ACC_INTERFACE, ACC_MODULE, ACC_NATIVE, ACC_PRIVATE, ACC_PUBLIC,
-    ACC_STATIC,
+    ACC_STATIC, ACC_SYNCHRONIZED,
 };
 pub use attribute::{Attribute, Body, CodeAttribute, CodeBody, CodeExtra, Row};
 pub use class_file::ClassFile;

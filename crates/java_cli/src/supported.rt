@@ -6,13 +6,11 @@ ghost use Rattle.std.specs.List.{list_any};
 ghost use Rattle.java_cli.specs.Supported as spec;
 
 use class_grammar::is_same;
+use class_model::ACC_SYNCHRONIZED;
 use class_resolution::{has_flag, own_name};
 use opcodes::{Instr, Op, Simple};
 use world_model::{MethodInfo, Naming, Site};
 use world_tables::Tables;
-
-/// The flag of a synchronized method (JVMS 4.6).
-const ACC_SYNCHRONIZED: u16 = 0x0020;
 
 // Whether no method of the class of this name runs yet.
 fn is_late_class(class: &[u16]) -> bool

@@ -7,6 +7,7 @@ ghost use Rattle.ref_model.specs.Members as members;
 ghost use Rattle.method_calls.specs.FrameSteps.{IsEntered};
 
 use crate::world::CallWorld;
+use class_model::ACC_SYNCHRONIZED;
 use continuation::Mounted;
 use frames::{MOST_FRAMES, StackError};
 use items::NoMemory;
@@ -23,9 +24,6 @@ pub enum Entered {
     /// The definitions have no effect here, and the frames are as before.
     Undefined,
 }
-
-// ACC_SYNCHRONIZED (JVMS 4.6).
-const ACC_SYNCHRONIZED: u16 = 0x0020;
 
 fn is_synchronized(method: &MethodInfo) -> bool
     ensures { result ≡ members.is_synchronized method.now }

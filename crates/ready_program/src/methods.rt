@@ -8,7 +8,7 @@ ghost use Rattle.ref_model.specs.Members as spec;
 ghost use Rattle.ready_program.specs.Places.{native_of_place};
 
 use class_grammar::is_same;
-use class_model::{ClassFile, Member};
+use class_model::{ACC_SYNCHRONIZED, ClassFile, Member};
 use class_resolution::{has_flag, key_in, own_name};
 use items::NoMemory;
 use lib_table::{Native, native_of};
@@ -16,9 +16,6 @@ use linkage::Place;
 use std::alloc::Global;
 use world_model::MethodInfo;
 use world_tables::Tables;
-
-/// ACC_SYNCHRONIZED (JVMS 4.6).
-const ACC_SYNCHRONIZED: u16 = 0x0020;
 
 // Where the method of a number is declared.
 fn place_of(tables: &Tables, n: u32) -> Result<Option<Place>, NoMemory>

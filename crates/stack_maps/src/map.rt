@@ -73,7 +73,9 @@ fn whole_frames_of<'a>(
 // Nothing may follow the last frame.
 fn at_end(rest: &[u8]) -> Result<(), Stop<MapWhy>>
     ensures { result ≡
-        if length rest.now == 0 then Ok tt else Err (stops.Fault (fault_at rest.now whys.Trailing)) }
+        if length rest.now == 0
+        then Ok tt
+        else Err (stops.Fault (fault_at rest.now whys.Trailing)) }
 {
     if !rest.is_empty() {
         return Err(Stop::at(rest, MapWhy::Trailing));

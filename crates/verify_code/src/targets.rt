@@ -113,7 +113,10 @@ impl<'a, L: Lookups> Environment<'a, L> {
     // Whether a state fits the frame of the stack map at a pc, if there is one.
     fn fits_whole(&self, s: &State, pc: u32) -> bool
         ensures { result ≡
-            option_map_or (handlers.fits_frame self.now (state_in s.now)) (map_at self.now pc) true }
+            option_map_or
+            (handlers.fits_frame self.now (state_in s.now))
+            (map_at self.now pc)
+            true }
     {
         match self.frames.at(pc) {
             Some(frame) => self.fits_frame(s, &frame),

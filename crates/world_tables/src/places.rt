@@ -110,7 +110,8 @@ pub fn all_places(
     fields: &[FieldInfo],
     rows: &[Items<u32>],
 ) -> Result<Vec<Option<u32>>, NoMemory>
-    ensures { IfOk result (λ v. (n : ℕ) → get_or v.items n None ≡ spec.place_by fields.now rows.now n) }
+    ensures { IfOk result (λ v.
+        (n : ℕ) → get_or v.items n None ≡ spec.place_by fields.now rows.now n) }
 {
     let mut places = static_places(alloc, fields)?;
     let count = count_of(rows)?;
