@@ -3,10 +3,11 @@
 
 mod constants;
 mod frame_run;
+mod frame_step;
 mod making;
 mod places;
-mod plain_step;
 mod prepared;
+mod prepared_code;
 mod quick_code;
 mod quick_forms;
 mod quick_run;

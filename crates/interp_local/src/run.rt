@@ -7,8 +7,8 @@ ghost use Rattle.interp_local.specs.Runs.{stays_on};
 ghost use Rattle.interp_local.specs.Stops.{is_slice, steps_of};
 
 use crate::frame_run::{Stop, run_frame};
+use crate::frame_step::FrameLayout;
 use crate::prepared::Prepared;
-use crate::quick_run::FramePosition;
 use continuation::Mounted;
 use world_model::Lookups;
 
@@ -17,11 +17,11 @@ use world_model::Lookups;
 pub enum Local {
     /// Before an instruction that doesn't stay in its frame: an event, an invocation, a return, or a division by 0.
     Need { steps: u32 },
-    /// Before one that stays there, since as many were made as were allowed.
+    /// Before one that stays there, since as many were executed as were allowed.
     Slice { steps: u32 },
 }
 
-// Runs the instructions of the top frame, as long as they stay in it, and at most so many.
+// Executes the instructions of the top frame, as long as they stay in it, and at most so many.
 fn run_top<L: Lookups>(p: &Prepared<L>, m: &mut Mounted, most: u32) -> Stop
     requires typed { Typed p.now m.old.stack.frames }
     ensures rows { rows p.now result.steps m.old.stack.frames ≡ Some m.new.stack.frames }
@@ -33,23 +33,21 @@ fn run_top<L: Lookups>(p: &Prepared<L>, m: &mut Mounted, most: u32) -> Stop
     ensures pinned { m.new.pinned ≡ m.old.pinned }
 {
     let view = m.top();
-    let used = view.operands as usize;
     let room = p.max_stack(view.method) as usize;
     let base = m.base();
-    let top = FramePosition {
+    let frame = FrameLayout {
         method: view.method,
-        pc: view.pc,
         locals: view.locals as usize,
-        used,
         room,
     };
+    let operands = view.operands as usize;
     let cells = m.cells();
-    let stop = run_frame(p, top, &mut cells[base..], most);
+    let stop = run_frame(p, frame, view.pc, operands, &mut cells[base..], most);
     m.settle(stop.pc, stop.used as u16);
     stop
 }
 
-/// Runs the local instructions of a thread (JVMS 6.5) as long as they stay in its top frame, and at most so many: pushes and loads,
+/// Executes the local instructions of a thread (JVMS 6.5) as long as they stay in its top frame, and at most so many: pushes and loads,
 /// arithmetic but a division by 0, stack moves, stores, branches and switches. This takes no memory. Invocations and returns stop it.
 pub fn run_local<L: Lookups>(p: &Prepared<L>, m: &mut Mounted, most: u32) -> Local
     requires typed { Typed p.now m.old.stack.frames }

@@ -1,0 +1,32 @@
+use Rattle.std.proofs.Common.{◌≡◌, ◌∙◌, refl, sym, arith}
+use Rattle.verify_types.specs.Environment.{Instruction}
+use Rattle.interp_local.specs.Places.{naming_at}
+use Rattle.interp_local.specs.Runs.{frame_of}
+use Rattle.interp_local.proofs.FrameSteps.{operands_there}
+use Rattle.interp_local.proofs.LoopLaws.{inside_at, fetched_at, used_at, stays_there}
+use Rattle.interp_local.proofs.frame_step.stays_at.Goals as goal
+
+pub instr_at-instr-requires : goal.instr_at-instr-requires
+instr_at-instr-requires g c = inside_at c.args.p.now c.args.code.now c.args.frame c.args.row.now c.args.used c.args.at c.requires.code c.requires.at
+
+pub does_stay-requires : goal.does_stay-requires
+does_stay-requires g c =
+    let w = c.args.p.now in
+    let code = c.args.code.now in
+    let f = c.args.frame in
+    let row = c.args.row.now in
+    let here = c.requires.at in
+    let i : Instruction = record { instr = c.instr_at-instr.result.now; naming = naming_at code.namings.now c.args.at } in
+    let e = fetched_at w code f row c.args.used c.args.at i.instr i.naming c.requires.code here c.instr_at-instr.ensures refl in
+    record {
+      fits = omega (arith, used_at w code.instrs.now f row c.args.used c.args.at c.requires.typed here);
+      operands = operands_there w f.method f.room here.pc row f.locals c.args.used i c.requires.typed here.stands e;
+    }
+
+pub returns : goal.returns
+returns g c = λ here.
+    let w = c.args.p.now in
+    let code = c.args.code.now in
+    let i : Instruction = record { instr = c.instr_at-instr.result.now; naming = naming_at code.namings.now c.args.at } in
+    let e = fetched_at w code c.args.frame c.args.row.now c.args.used c.args.at i.instr i.naming c.requires.code here c.instr_at-instr.ensures refl in
+    stays_there w (frame_of c.args.frame here.pc c.args.row.now c.args.used) i e ∙ sym c.does_stay.ensures

@@ -1,0 +1,200 @@
+//! One step in a frame, from the instruction with one index to that with another.
+
+ghost use Rattle.std.specs.Prelude.{ℕ, ◌≡◌, ◌+◌, ◌<◌, ◌≤◌, Some, length, slice_get, true};
+ghost use Rattle.instruction_rows.specs.Pcs.{pc_after};
+ghost use Rattle.verify_types.specs.Typing.{AreTyped};
+ghost use Rattle.interp_local.specs.FrameRows.{way_to};
+ghost use Rattle.interp_local.specs.Places.{first_at};
+ghost use Rattle.interp_local.specs.QuickCode.{IsCodeOf};
+ghost use Rattle.interp_local.specs.Runs.{HasPc, IsAt, IsStep, Leads, StaysAt, step_by};
+
+use crate::making::make;
+use crate::places::{naming_at, place};
+use crate::prepared::Prepared;
+use crate::prepared_code::PreparedCode;
+use crate::quick_code::quick_at;
+use crate::staying::does_stay;
+use opcodes::Instr;
+use quick_rows::{Turn, is_left, make_quick};
+use slot_block::Cell;
+use world_model::Lookups;
+
+/// What stays the same in a frame: its method, the number of its local variables, and how many operands it may have.
+#[derive(Clone, Copy)]
+pub(crate) struct FrameLayout {
+    pub(crate) method: u32,
+    pub(crate) locals: usize,
+    pub(crate) room: usize,
+}
+
+/// Where an instruction leads: the index of the next one, and how many operands there are.
+#[derive(Clone, Copy)]
+pub(crate) struct Position {
+    pub(crate) index: usize,
+    pub(crate) used: usize,
+}
+
+/// What a step does in its frame, after which so many operands are left and so many instructions were executed.
+#[derive(Clone, Copy)]
+pub(crate) enum Step {
+    /// Nothing, since the instruction doesn't stay in its frame.
+    Leave,
+    /// It leads to the instruction that follows those that were executed.
+    Next {
+        used: usize,
+        count: usize,
+    },
+    /// It leads to the instruction with this index.
+    Jump {
+        used: usize,
+        index: usize,
+        count: usize,
+    },
+}
+
+// The instruction with an index.
+#[inline(always)]
+fn instr_at(code: &[Instr], at: usize) -> &Instr
+    requires { at < length code.now }
+    ensures { slice_get code.now at ≡ Some result.now }
+{
+    &code[at]
+}
+
+/// The pc of the instruction with an index.
+#[inline(always)]
+pub(crate) fn pc_at(code: &[Instr], at: usize) -> u32
+    requires { at < length code.now }
+    ensures { (pc : ℕ) → first_at pc code.now ≡ Some at → result ≡ pc }
+{
+    code[at].pc
+}
+
+// The pc after an instruction.
+#[inline(always)]
+fn next_pc(next: u32, target: Option<i64>) -> u32
+    requires { HasPc next target }
+    ensures { pc_after next (way_to target) ≡ Some result }
+{
+    match target {
+        None => next,
+        Some(pc) => pc as u32,
+    }
+}
+
+/// Whether the instruction with an index stays in its frame.
+#[inline(always)]
+pub(crate) fn stays_at<L: Lookups>(
+    p: &Prepared<L>,
+    code: &PreparedCode,
+    frame: FrameLayout,
+    at: usize,
+    used: usize,
+    row: &[Cell],
+) -> bool
+    requires typed { AreTyped p.now }
+    requires code { IsCodeOf p.now frame.method code.now }
+    requires fits { frame.locals + frame.room ≤ length row.now }
+    requires at { IsAt p.now code.now.instrs.now frame row.now used at }
+    ensures { StaysAt p.now code.now.instrs.now frame row.now used at result }
+{
+    let instr = instr_at(code.instrs, at);
+    does_stay(&instr.op, row, frame.locals, used)
+}
+
+/// Executes the instruction with an index, which stays in its frame.
+#[inline(always)]
+pub(crate) fn execute_at<L: Lookups>(
+    p: &Prepared<L>,
+    code: &PreparedCode,
+    frame: FrameLayout,
+    at: usize,
+    used: usize,
+    row: &mut [Cell],
+) -> Position
+    requires typed { AreTyped p.now }
+    requires code { IsCodeOf p.now frame.method code.now }
+    requires fits { frame.locals + frame.room ≤ length row.old }
+    requires at { IsAt p.now code.now.instrs.now frame row.old used at }
+    requires stays { StaysAt p.now code.now.instrs.now frame row.old used at true }
+    ensures { Leads p.now code.now.instrs.now frame row.old used at
+        row.new result.used result.index 1 }
+{
+    let instr = instr_at(code.instrs, at);
+    let naming = naming_at(code.namings, at);
+    let left = make(&instr.op, naming, row, frame.locals, used);
+    let pc = next_pc(instr.next, left.target);
+    Position {
+        index: place(code.instrs, code.places, pc),
+        used: left.used,
+    }
+}
+
+// The step of an instruction that has no quick one.
+#[inline(never)]
+fn plain_step<L: Lookups>(
+    p: &Prepared<L>,
+    code: &PreparedCode,
+    frame: FrameLayout,
+    at: usize,
+    used: usize,
+    row: &mut [Cell],
+) -> Step
+    requires typed { AreTyped p.now }
+    requires code { IsCodeOf p.now frame.method code.now }
+    requires fits { frame.locals + frame.room ≤ length row.old }
+    requires at { IsAt p.now code.now.instrs.now frame row.old used at }
+    ensures { IsStep p.now code.now.instrs.now frame row.old used at row.new result }
+{
+    if !stays_at(p, code, frame, at, used, row) {
+        return Step::Leave;
+    }
+    let position = execute_at(p, code, frame, at, used, row);
+    Step::Jump {
+        used: position.used,
+        index: position.index,
+        count: 1,
+    }
+}
+
+// The step of a quick instruction, or of a pair.
+#[inline(always)]
+fn step_of(turn: Turn) -> Step
+    ensures { result ≡ step_by turn.used turn.count turn.jump }
+{
+    match turn.jump {
+        None => Step::Next {
+            used: turn.used,
+            count: turn.count,
+        },
+        Some(to) => Step::Jump {
+            used: turn.used,
+            index: to as usize,
+            count: turn.count,
+        },
+    }
+}
+
+/// The step of the instruction with an index, or of it and the next one where they are a pair.
+#[inline(always)]
+pub(crate) fn step_at<L: Lookups>(
+    p: &Prepared<L>,
+    code: &PreparedCode,
+    frame: FrameLayout,
+    at: usize,
+    used: usize,
+    row: &mut [Cell],
+) -> Step
+    requires typed { AreTyped p.now }
+    requires code { IsCodeOf p.now frame.method code.now }
+    requires fits { frame.locals + frame.room ≤ length row.old }
+    requires at { IsAt p.now code.now.instrs.now frame row.old used at }
+    ensures { IsStep p.now code.now.instrs.now frame row.old used at row.new result }
+{
+    let quick = quick_at(code.quicks, at);
+    if is_left(quick) {
+        return plain_step(p, code, frame, at, used, row);
+    }
+    let turn = make_quick(quick, row, frame.locals, used);
+    step_of(turn)
+}
