@@ -8,7 +8,7 @@ ghost use Rattle.interp_local.specs.Places.{first_at};
 ghost use Rattle.interp_local.specs.QuickCode.{IsCodeOf};
 ghost use Rattle.interp_local.specs.Runs.{HasPc, IsAt, IsStep, Leads, StaysAt, step_by};
 
-use crate::making::make;
+use crate::execution::execute;
 use crate::places::{naming_at, place};
 use crate::prepared::Prepared;
 use crate::prepared_code::PreparedCode;
@@ -122,7 +122,7 @@ pub(crate) fn execute_at<L: Lookups>(
 {
     let instr = instr_at(code.instrs, at);
     let naming = naming_at(code.namings, at);
-    let left = make(&instr.op, naming, row, frame.locals, used);
+    let left = execute(&instr.op, naming, row, frame.locals, used);
     let pc = next_pc(instr.next, left.target);
     Position {
         index: place(code.instrs, code.places, pc),

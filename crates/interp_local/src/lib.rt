@@ -2,9 +2,9 @@
 #![tactic(auto)]
 
 mod constants;
+mod execution;
 mod frame_run;
 mod frame_step;
-mod making;
 mod places;
 mod prepared;
 mod prepared_code;

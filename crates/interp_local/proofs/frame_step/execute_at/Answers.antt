@@ -8,8 +8,8 @@ use Rattle.interp_local.proofs.frame_step.execute_at.Goals as goal
 pub instr_at-instr-requires : goal.instr_at-instr-requires
 instr_at-instr-requires g c = inside_at c.args.p.now c.args.code.now c.args.frame c.args.row.now c.args.used c.args.at c.requires.code c.requires.at
 
-pub make-left-requires : goal.make-left-requires
-make-left-requires g c =
+pub execute-left-requires : goal.execute-left-requires
+execute-left-requires g c =
     let w = c.args.p.now in
     let code = c.args.code.now in
     let f = c.args.frame in
@@ -29,7 +29,7 @@ next_pc-pc-requires g c =
     let row = c.args.row.now in
     let i : Instruction = record { instr = c.instr_at-instr.result.now; naming = c.naming_at-naming.result } in
     let goes = goes_at w code f row c.args.used c.args.at i.instr i.naming c.requires.typed c.requires.code c.requires.at c.instr_at-instr.ensures c.naming_at-naming.ensures c.requires.stays in
-    record { pc = goes.pc; is = leads w (frame_of f c.requires.at.pc row c.args.used) i goes _ c.make-left.ensures }
+    record { pc = goes.pc; is = leads w (frame_of f c.requires.at.pc row c.args.used) i goes _ c.execute-left.ensures }
 
 pub place-requires : goal.place-requires
 place-requires g c =
@@ -39,8 +39,8 @@ place-requires g c =
     let row = c.args.row.now in
     let i : Instruction = record { instr = c.instr_at-instr.result.now; naming = c.naming_at-naming.result } in
     let goes = goes_at w code f row c.args.used c.args.at i.instr i.naming c.requires.typed c.requires.code c.requires.at c.instr_at-instr.ensures c.naming_at-naming.ensures c.requires.stays in
-    let next = next_frame w (frame_of f c.requires.at.pc row c.args.used) i goes _ c.next_pc-pc.result c.make-left.ensures c.next_pc-pc.ensures in
-    record { places = c.requires.code.places; there = has_place w (frame_of f c.next_pc-pc.result c.make-left.new.row c.make-left.result.used) code c.requires.code next.stands }
+    let next = next_frame w (frame_of f c.requires.at.pc row c.args.used) i goes _ c.next_pc-pc.result c.execute-left.ensures c.next_pc-pc.ensures in
+    record { places = c.requires.code.places; there = has_place w (frame_of f c.next_pc-pc.result c.execute-left.new.row c.execute-left.result.used) code c.requires.code next.stands }
 
 pub returns : goal.returns
 returns g c = λ here.
@@ -49,5 +49,5 @@ returns g c = λ here.
     let i : Instruction = record { instr = c.instr_at-instr.result.now; naming = c.naming_at-naming.result } in
     let start = frame_of c.args.frame here.pc c.args.row.now c.args.used in
     let goes = goes_at w code c.args.frame c.args.row.now c.args.used c.args.at i.instr i.naming c.requires.typed c.requires.code here c.instr_at-instr.ensures c.naming_at-naming.ensures c.requires.stays in
-    let next = next_frame w start i goes _ c.next_pc-pc.result c.make-left.ensures c.next_pc-pc.ensures in
+    let next = next_frame w start i goes _ c.next_pc-pc.result c.execute-left.ensures c.next_pc-pc.ensures in
     record { to = record { pc = c.next_pc-pc.result; first = c.place.ensures; stands = next.stands }; ran = one_ran w start _ next }

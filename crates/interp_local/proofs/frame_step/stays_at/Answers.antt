@@ -1,4 +1,4 @@
-use Rattle.std.proofs.Common.{◌≡◌, ◌∙◌, refl, sym, arith}
+use Rattle.std.proofs.Common.{◌∙◌, refl, sym, arith}
 use Rattle.verify_types.specs.Environment.{Instruction}
 use Rattle.interp_local.specs.Places.{naming_at}
 use Rattle.interp_local.specs.Runs.{frame_of}

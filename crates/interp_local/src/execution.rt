@@ -1,4 +1,4 @@
-//! Instructions that stay in their frame (JVMS 6.5), on its cells.
+//! Instructions that stay in their frame (JVMS 6.5), executed on its cells.
 
 ghost use Rattle.std.specs.Prelude.{◌+◌, ◌-◌, ◌≤◌, length, if◌then◌else◌, Some, None, ◌≡◌};
 ghost use Rattle.instruction_rows.specs.Table as table;
@@ -31,7 +31,7 @@ fn on(used: usize) -> Left
 }
 
 #[inline(always)]
-fn branched(taken: bool, target: i64, used: usize) -> Left
+fn branch(taken: bool, target: i64, used: usize) -> Left
     ensures { result ≡ record { used = used; target = if taken then Some target else None } }
 {
     Left {
@@ -40,9 +40,9 @@ fn branched(taken: bool, target: i64, used: usize) -> Left
     }
 }
 
-// What the instruction does, where it stays in its frame.
+// Executes an instruction that stays in its frame.
 #[inline(always)]
-pub(crate) fn make(op: &Op, naming: Naming, row: &mut [Cell], locals: usize, used: usize) -> Left
+pub(crate) fn execute(op: &Op, naming: Naming, row: &mut [Cell], locals: usize, used: usize) -> Left
     requires fits { locals + used ≤ length row.old }
     requires made { Fits (frame_row (table.row op.now) naming (contents_at row.old locals used))
         locals row.old }
@@ -61,31 +61,17 @@ pub(crate) fn make(op: &Op, naming: Naming, row: &mut [Cell], locals: usize, use
             increase(row, locals, used, *n as usize, *amount);
             on(used)
         }
-        Op::IfZero(order, target) => {
-            let taken = if_zero(*order, row, locals, used);
-            branched(taken, *target, used - 1)
-        }
-        Op::IfInts(order, target) => {
-            let taken = if_ints(*order, row, locals, used);
-            branched(taken, *target, used - 2)
-        }
-        Op::IfReferences(s, target) => {
-            let taken = if_references(*s, row, locals, used);
-            branched(taken, *target, used - 2)
-        }
-        Op::IfNull(s, target) => {
-            let taken = if_null(*s, row, locals, used);
-            branched(taken, *target, used - 1)
-        }
-        Op::Goto(target) => branched(true, *target, used),
-        Op::TableSwitch(s) => {
-            let target = table_switch(s.get(), row, locals, used);
-            branched(true, target, used - 1)
-        }
-        Op::LookupSwitch(s) => {
-            let target = lookup_switch(s.get(), row, locals, used);
-            branched(true, target, used - 1)
-        }
+        Op::IfZero(order, target) => branch(if_zero(*order, row, locals, used), *target, used - 1),
+        Op::IfInts(order, target) => branch(if_ints(*order, row, locals, used), *target, used - 2),
+        Op::IfReferences(s, target) => branch(
+            if_references(*s, row, locals, used),
+            *target,
+            used - 2,
+        ),
+        Op::IfNull(s, target) => branch(if_null(*s, row, locals, used), *target, used - 1),
+        Op::Goto(target) => branch(true, *target, used),
+        Op::TableSwitch(s) => branch(true, table_switch(s.get(), row, locals, used), used - 1),
+        Op::LookupSwitch(s) => branch(true, lookup_switch(s.get(), row, locals, used), used - 1),
         Op::GetStatic(_)
         | Op::PutStatic(_)
         | Op::GetField(_)
