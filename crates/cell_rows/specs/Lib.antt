@@ -1,1 +1,2 @@
 pub mod CellRows
+pub mod Conditions

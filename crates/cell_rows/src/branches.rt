@@ -1,14 +1,15 @@
 //! Rows that choose where to go on (JVMS 6.5: the ifs and the switches).
 
-ghost use Rattle.std.specs.Prelude.{ℕ, ℤ, ◌≡◌, ◌+◌, ◌-◌, ◌≤◌, ◌<◌, [], ◌∷◌, None, Option, Some, length, pos, slice_get};
+ghost use Rattle.std.specs.Prelude.{ℕ, ◌≡◌, ◌+◌, ◌-◌, ◌≤◌, ◌<◌, Option, Some, length, slice_get};
 ghost use Rattle.opcodes.specs.declared.op.Kind.TheVariants as kinds;
 ghost use Rattle.instruction_rows.specs.declared.value.Slot.TheVariants as slots;
 ghost use Rattle.instruction_rows.specs.Comparisons as comparisons;
 ghost use Rattle.instruction_rows.specs.Kinds.{value};
-ghost use Rattle.instruction_rows.specs.Rows.{branch, select};
+ghost use Rattle.instruction_rows.specs.Rows.{select};
 ghost use Rattle.instruction_rows.specs.SlotEffect.{to};
 ghost use Rattle.instruction_rows.specs.Switches.{lookup_target, lookup_targets, table_target, table_targets};
-ghost use Rattle.cell_rows.specs.CellRows.{CanAct, CanTest, Acts, way_of};
+ghost use Rattle.cell_rows.specs.CellRows.{CanAct, Acts};
+ghost use Rattle.cell_rows.specs.Conditions.{CanBranch, Branches, zero_condition, ints_condition, references_condition, null_condition};
 
 use instruction_rows::{Slot, Value, compares};
 use opcodes::{Comparison, LookupSwitch, Sameness, TableSwitch};
@@ -47,9 +48,8 @@ fn are_so(s: Sameness, a: Option<u32>, b: Option<u32>) -> bool
 #[inline(always)]
 pub fn if_zero(order: Comparison, row: &[Cell], locals: usize, used: usize) -> bool
     requires fits { locals + used ≤ length row.now }
-    requires tests { CanTest (kinds.Int ∷ []) (λ a. comparisons.compares order a (pos 0)) row.now locals used }
-    ensures { (target : ℤ) → Acts (branch (kinds.Int ∷ []) (λ a. comparisons.compares order a (pos 0)) target)
-        row.now locals used row.now (used - 1) (way_of result target) }
+    requires tests { CanBranch (zero_condition order) row.now locals used }
+    ensures { Branches (zero_condition order) row.now locals used (used - 1) result }
 {
     let at = locals + used - 1;
     let a = int_at(row, at);
@@ -60,9 +60,8 @@ pub fn if_zero(order: Comparison, row: &[Cell], locals: usize, used: usize) -> b
 #[inline(always)]
 pub fn if_ints(order: Comparison, row: &[Cell], locals: usize, used: usize) -> bool
     requires fits { locals + used ≤ length row.now }
-    requires tests { CanTest (kinds.Int ∷ kinds.Int ∷ []) (λ b a. comparisons.compares order a b) row.now locals used }
-    ensures { (target : ℤ) → Acts (branch (kinds.Int ∷ kinds.Int ∷ []) (λ b a. comparisons.compares order a b) target)
-        row.now locals used row.now (used - 2) (way_of result target) }
+    requires tests { CanBranch (ints_condition order) row.now locals used }
+    ensures { Branches (ints_condition order) row.now locals used (used - 2) result }
 {
     let at = locals + used - 2;
     let a = int_at(row, at);
@@ -74,9 +73,8 @@ pub fn if_ints(order: Comparison, row: &[Cell], locals: usize, used: usize) -> b
 #[inline(always)]
 pub fn if_references(s: Sameness, row: &[Cell], locals: usize, used: usize) -> bool
     requires fits { locals + used ≤ length row.now }
-    requires tests { CanTest (kinds.Reference ∷ kinds.Reference ∷ []) (λ b a. comparisons.are_so s a b) row.now locals used }
-    ensures { (target : ℤ) → Acts (branch (kinds.Reference ∷ kinds.Reference ∷ []) (λ b a. comparisons.are_so s a b) target)
-        row.now locals used row.now (used - 2) (way_of result target) }
+    requires tests { CanBranch (references_condition s) row.now locals used }
+    ensures { Branches (references_condition s) row.now locals used (used - 2) result }
 {
     let at = locals + used - 2;
     let a = object_at(row, at);
@@ -88,9 +86,8 @@ pub fn if_references(s: Sameness, row: &[Cell], locals: usize, used: usize) -> b
 #[inline(always)]
 pub fn if_null(s: Sameness, row: &[Cell], locals: usize, used: usize) -> bool
     requires fits { locals + used ≤ length row.now }
-    requires tests { CanTest (kinds.Reference ∷ []) (λ a. comparisons.are_so s a None) row.now locals used }
-    ensures { (target : ℤ) → Acts (branch (kinds.Reference ∷ []) (λ a. comparisons.are_so s a None) target)
-        row.now locals used row.now (used - 1) (way_of result target) }
+    requires tests { CanBranch (null_condition s) row.now locals used }
+    ensures { Branches (null_condition s) row.now locals used (used - 1) result }
 {
     let at = locals + used - 1;
     let a = object_at(row, at);

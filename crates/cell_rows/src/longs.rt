@@ -7,8 +7,8 @@ ghost use Rattle.instruction_rows.specs.SlotEffect.{on};
 ghost use Rattle.stack_maps.specs.declared.types.VType.TheVariants as types;
 ghost use Rattle.instruction_rows.specs.declared.value.Value.TheVariants as values;
 ghost use Rattle.jvm_words.specs.declared.operation.LongOp.TheVariants as long_ops;
-ghost use Rattle.jvm_words.specs.Words.{long_result, long_shift_result};
-ghost use Rattle.cell_rows.specs.CellRows.{CanAct, Acts};
+ghost use Rattle.jvm_words.specs.Words.{long_result};
+ghost use Rattle.cell_rows.specs.CellRows.{CanAct, Acts, shift_row};
 
 use crate::words::negated_long;
 use jvm_words::{LongOp, ShiftOp, l_binary, l_shift};
@@ -47,10 +47,8 @@ pub fn long_binary(op: LongOp, row: &mut [Cell], locals: usize, used: usize) -> 
 #[inline(always)]
 pub fn long_shift(op: ShiftOp, row: &mut [Cell], locals: usize, used: usize) -> usize
     requires fits { locals + used ≤ length row.old }
-    requires acts { CanAct (long (kinds.Int ∷ kinds.Long ∷ []) (λ count a. Some (long_shift_result op a count)))
-        row.old locals used }
-    ensures { Acts (long (kinds.Int ∷ kinds.Long ∷ []) (λ count a. Some (long_shift_result op a count)))
-        row.old locals used row.new result on }
+    requires acts { CanAct (shift_row op) row.old locals used }
+    ensures { Acts (shift_row op) row.old locals used row.new result on }
 {
     let at = locals + used - 3;
     let a = long_at(row, at);

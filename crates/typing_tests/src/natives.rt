@@ -54,37 +54,7 @@ pub fn takes(native: Native) -> Option<&'static [Kind]>
         | Native::StringValueOfBoolean
         | Native::SystemExit => Some(&[Kind::Int]),
         Native::StringValueOfLong => Some(&[Kind::Long]),
-        Native::ObjectWait
-        | Native::ObjectWaitMillis
-        | Native::ObjectNotify
-        | Native::ObjectNotifyAll
-        | Native::SystemNanoTime
-        | Native::SystemCurrentTimeMillis => None,
-        Native::ThreadCreatePlatform
-        | Native::ThreadCreateVirtual
-        | Native::ThreadStart
-        | Native::ThreadInterrupt
-        | Native::ThreadIsInterrupted
-        | Native::ThreadIsAlive
-        | Native::ThreadIsVirtual
-        | Native::ThreadIsDaemon
-        | Native::ThreadSetDaemon
-        | Native::ThreadSetName
-        | Native::ThreadId
-        | Native::ThreadCurrentThread
-        | Native::ThreadSleep
-        | Native::ThreadInterrupted => None,
-        Native::ThreadJoin
-        | Native::ThreadJoinMillis
-        | Native::ThreadGetName
-        | Native::ThreadGetState
-        | Native::ThreadYield
-        | Native::ThreadOnSpinWait => None,
-        Native::LockSupportPark
-        | Native::LockSupportParkBlocker
-        | Native::LockSupportParkNanos
-        | Native::LockSupportParkNanosBlocker
-        | Native::LockSupportUnpark => None,
+        _ => None,
     }
 }
 
@@ -114,51 +84,7 @@ pub fn gives(native: Native) -> Option<Kind>
         | Native::StringBuilderAppendBoolean
         | Native::StringBuilderAppendString
         | Native::StringBuilderToString => Some(Kind::Reference),
-        Native::ObjectInit
-        | Native::ObjectWait
-        | Native::ObjectWaitMillis
-        | Native::ObjectNotify
-        | Native::ObjectNotifyAll
-        | Native::StringBuilderInit
-        | Native::SystemExit
-        | Native::SystemNanoTime
-        | Native::SystemCurrentTimeMillis
-        | Native::PrintStreamPrintln
-        | Native::PrintStreamPrintlnInt
-        | Native::PrintStreamPrintlnLong
-        | Native::PrintStreamPrintlnChar
-        | Native::PrintStreamPrintlnBoolean
-        | Native::PrintStreamPrintlnString
-        | Native::PrintStreamPrintInt
-        | Native::PrintStreamPrintLong
-        | Native::PrintStreamPrintChar
-        | Native::PrintStreamPrintBoolean
-        | Native::PrintStreamPrintString
-        | Native::ThreadCreatePlatform
-        | Native::ThreadCreateVirtual
-        | Native::ThreadStart
-        | Native::ThreadInterrupt
-        | Native::ThreadIsInterrupted
-        | Native::ThreadJoin
-        | Native::ThreadJoinMillis
-        | Native::ThreadIsAlive
-        | Native::ThreadIsVirtual
-        | Native::ThreadIsDaemon
-        | Native::ThreadSetDaemon
-        | Native::ThreadGetName
-        | Native::ThreadSetName
-        | Native::ThreadId
-        | Native::ThreadGetState
-        | Native::ThreadCurrentThread
-        | Native::ThreadYield
-        | Native::ThreadOnSpinWait
-        | Native::ThreadSleep
-        | Native::ThreadInterrupted
-        | Native::LockSupportPark
-        | Native::LockSupportParkBlocker
-        | Native::LockSupportParkNanos
-        | Native::LockSupportParkNanosBlocker
-        | Native::LockSupportUnpark => None,
+        _ => None,
     }
 }
 
