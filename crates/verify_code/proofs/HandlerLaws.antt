@@ -9,26 +9,10 @@ use Rattle.verify_types.specs.TypeStates.{TypeState}
 use Rattle.verify_types.specs.Environment.{Handler, Environment}
 use Rattle.verify_types.specs.Calls.{covers}
 use Rattle.verify_types.specs.Handlers.{are_satisfied, is_satisfied}
-use Rattle.verify_code.specs.declared.standing.Judged.{Judged}
+use Rattle.verify_frames.specs.declared.known_state.Judged.{Judged}
 use Rattle.verify_code.specs.Guards.{AskAlike}
 use Rattle.verify_code.specs.Handlers.{catches_at, keeps_more, nearer, next_start}
-use Rattle.verify_code.specs.Standings.{IsJudged, holds_at}
-
--- ---- states with the same local variables and the same flag
-
-abbrev over : List VType → Bool → TypeState
-over locals flag = record { types = record { locals = locals; stack = [] }; this_uninit = flag }
-
-same_at : (env : Environment) (pc : ℕ) (s t : TypeState) → s.types.locals ≡ t.types.locals → s.this_uninit ≡ t.this_uninit → are_satisfied env pc s ≡ are_satisfied env pc t
-same_at env pc s t locals flag =
-    ap (λ ls. are_satisfied env pc (over ls s.this_uninit)) locals ∙ ap (λ b. are_satisfied env pc (over t.types.locals b)) flag
-
-pub judged_same : (env : Environment) (s t : TypeState) (o : Option Judged) → s.types.locals ≡ t.types.locals → s.this_uninit ≡ t.this_uninit → IfSome o (IsJudged env s) → IfSome o (IsJudged env t)
-judged_same env s t None locals flag h = tt
-judged_same env s t (Some j) locals flag h = record {
-  at = sym (same_at env j.at s t locals flag) ∙ h.at;
-  on = λ pc low high. sym (same_at env pc s t locals flag) ∙ h.on pc low high;
-}
+use Rattle.verify_frames.specs.KnownStates.{IsJudged, holds_at}
 
 -- ---- rows that cover another pc too
 

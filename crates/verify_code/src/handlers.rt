@@ -9,14 +9,14 @@ ghost use Rattle.verify_instructions.specs.Views.{state_in};
 ghost use Rattle.verify_code.specs.Guards.{guard_in};
 ghost use Rattle.verify_code.specs.Handlers as parts;
 ghost use Rattle.verify_code.specs.Handlers.{IsCatcher, IsRowKept, handler, caught_fits, keeps_more};
-ghost use Rattle.verify_code.specs.Standings.{IsJudged, IsStanding, holds_at, stood};
-ghost use Rattle.verify_code.specs.declared.standing.Judged.{Judged as JudgedAt};
+ghost use Rattle.verify_frames.specs.KnownStates.{IsJudged, Holds, holds_at, type_state};
+ghost use Rattle.verify_frames.specs.declared.known_state.Judged.{Judged as JudgedAt};
 
 use crate::environment::Environment;
 use crate::guards::{Caught, Guard, is_last};
-use crate::standing::{Judged, Standing, holds_at};
 use class_model::Row;
 use stack_maps::VType;
+use verify_frames::{Judged, KnownState, holds_at};
 use verify_instructions::State;
 use verify_types::{assignable, throwable_type};
 use world_model::Lookups;
@@ -94,9 +94,9 @@ impl<'a, L: Lookups> Environment<'a, L> {
     }
 
     // Whether the state at a handler, which lies at the pc, fits a frame of the stack map there.
-    fn fits_handler(&self, s: &Standing, caught: VType, pc: u32) -> bool
-        requires { IsStanding self.now s.now }
-        ensures { result ≡ caught_fits self.now (stood s.now) caught pc }
+    fn fits_handler(&self, s: &KnownState, caught: VType, pc: u32) -> bool
+        requires { Holds self.now s.now }
+        ensures { result ≡ caught_fits self.now (type_state s.now) caught pc }
     {
         match self.shared(s, pc) {
             Some(frame) => {
@@ -108,9 +108,9 @@ impl<'a, L: Lookups> Environment<'a, L> {
     }
 
     // Whether a handler catches exceptions, and the state at it fits a frame of the stack map.
-    fn is_satisfied(&self, s: &Standing, row: &Row, catch: Option<u32>) -> bool
-        requires { IsStanding self.now s.now }
-        ensures { result ≡ spec.is_satisfied self.now (stood s.now) (handler row.now catch) }
+    fn is_satisfied(&self, s: &KnownState, row: &Row, catch: Option<u32>) -> bool
+        requires { Holds self.now s.now }
+        ensures { result ≡ spec.is_satisfied self.now (type_state s.now) (handler row.now catch) }
     {
         let caught = self.caught_type(catch);
         assignable(self.world, caught, throwable_type(self.world))
@@ -123,17 +123,17 @@ impl<'a, L: Lookups> Environment<'a, L> {
         &self,
         known: Option<u32>,
         pc: u32,
-        s: &Standing,
+        s: &KnownState,
         last: Option<Caught>,
         here: Caught,
         row: &Row,
     ) -> Option<Option<Caught>>
-        requires stands { IsStanding self.now s.now }
-        requires last { IsCatcher self.now (stood s.now) last }
+        requires holds { Holds self.now s.now }
+        requires last { IsCatcher self.now (type_state s.now) last }
         requires here { here.handler ≡ row.now.handler }
         ensures { MatchOption result
-            (keeps_more self.now known pc (stood s.now) (handler row.now here.catch) ≡ false)
-            (IsRowKept self.now known pc (stood s.now) (handler row.now here.catch)) }
+            (keeps_more self.now known pc (type_state s.now) (handler row.now here.catch) ≡ false)
+            (IsRowKept self.now known pc (type_state s.now) (handler row.now here.catch)) }
     {
         if !is_covered(row, pc) {
             return Some(last);
@@ -155,12 +155,12 @@ impl<'a, L: Lookups> Environment<'a, L> {
         &self,
         known: Option<u32>,
         pc: u32,
-        s: &Standing,
+        s: &KnownState,
         guards: &[Guard],
     ) -> bool
-        requires { IsStanding self.now s.now }
+        requires { Holds self.now s.now }
         ensures { result ≡ list_all
-            (keeps_more self.now known pc (stood s.now)) (map guard_in guards.now) }
+            (keeps_more self.now known pc (type_state s.now)) (map guard_in guards.now) }
     {
         let mut rest = guards;
         let mut last = None;
@@ -176,11 +176,11 @@ impl<'a, L: Lookups> Environment<'a, L> {
     }
 
     // Where a state satisfies the handlers, if it does so at the pc. `None`: it doesn't.
-    fn judge_handlers(&self, pc: u32, s: &Standing) -> Option<Judged>
+    fn judge_handlers(&self, pc: u32, s: &KnownState) -> Option<Judged>
         requires low { pc < 2 ^ 16 }
-        requires stands { IsStanding self.now s.now }
-        ensures judged { IfSome result (IsJudged self.now (stood s.now)) }
-        ensures found { holds_at pc result ≡ spec.are_satisfied self.now pc (stood s.now) }
+        requires holds { Holds self.now s.now }
+        ensures judged { IfSome result (IsJudged self.now (type_state s.now)) }
+        ensures found { holds_at pc result ≡ spec.are_satisfied self.now pc (type_state s.now) }
     {
         if !self.are_more_satisfied(at_of(s.judged), pc, s, &self.guards) {
             return None;
@@ -192,25 +192,25 @@ impl<'a, L: Lookups> Environment<'a, L> {
     }
 
     /// A state, and where it satisfies the exception handlers: at the pc, if it does so at all.
-    pub fn judged(&self, pc: u32, s: Standing) -> Standing
+    pub fn judged(&self, pc: u32, s: KnownState) -> KnownState
         requires low { pc < 2 ^ 16 }
-        requires stands { IsStanding self.now s }
-        ensures same { stood result ≡ stood s }
-        ensures stands { IsStanding self.now result }
+        requires holds { Holds self.now s }
+        ensures same { type_state result ≡ type_state s }
+        ensures holds { Holds self.now result }
         ensures found { holds_at pc result.judged ≡
-            spec.are_satisfied self.now pc (stood s) }
+            spec.are_satisfied self.now pc (type_state s) }
     {
         if holds_at(pc, s.judged) {
             return s;
         }
         let judged = self.judge_handlers(pc, &s);
-        let Standing {
+        let KnownState {
             state,
             like,
             judged: _,
             fitted,
         } = s;
-        Standing {
+        KnownState {
             state,
             like,
             judged,

@@ -4,7 +4,7 @@ use Rattle.world_model.specs.declared.sites.Naming.{Naming}
 use Rattle.verify_types.specs.Environment.{with_namings}
 use Rattle.verify_types.specs.Walk.{standing}
 use Rattle.verify_code.specs.Environments.{AreInOrder}
-use Rattle.verify_code.specs.Standings.{going}
+use Rattle.verify_frames.specs.KnownStates.{going}
 use Rattle.verify_code.specs.Walks.{IsStep, entry_of, fault_from, place}
 use Rattle.verify_code.proofs.WalkLaws.{fault_at_first, fault_behind_first}
 use Rattle.verify_code.proofs.environment.Environment.first_fault.Goals as goal
@@ -39,5 +39,5 @@ loop-i-preserved g c =
           ∙ c.loop-i.invariant.0,
       i.next,
       subst (λ (ms : List Naming). AreInOrder i.next (with_namings is ms)) (sym c.behind_first-namings.ensures) order.3,
-      on.stands,
+      on.holds,
     )

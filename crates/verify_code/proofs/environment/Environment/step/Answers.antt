@@ -6,8 +6,8 @@ use Rattle.verify_types.specs.Environment.{MapFrame, Environment}
 use Rattle.verify_types.specs.Walk.{standing}
 use Rattle.verify_types.specs.Faults.{pc_fault}
 use Rattle.verify_code.specs.declared.walk.Passage.{Passage}
-use Rattle.verify_code.specs.Frames.{stray_frame}
-use Rattle.verify_code.specs.Standings.{going}
+use Rattle.verify_frames.specs.Frames.{stray_frame}
+use Rattle.verify_frames.specs.KnownStates.{going}
 use Rattle.verify_code.specs.Walks.{IsPassage, entry_of, place}
 use Rattle.verify_code.proofs.WalkLaws.{broken_there, stray_there}
 use Rattle.verify_code.proofs.environment.Environment.step.Goals as goal
@@ -64,5 +64,5 @@ returns-in-None g c =
           ∙ fault_at (stray_frame c.args.i.now.pc c.args.i.now.next c.args.is_last c.self.inside.frames)
           ∙ ap (λ (o : Option ℕ). option_map (λ pc. pc_fault pc whys.Map) o) (sym c.stray.ensures ∙ c.in-None.is);
       is = on.is;
-      stands = on.stands;
+      holds = on.holds;
     }
