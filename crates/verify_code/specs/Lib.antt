@@ -2,5 +2,6 @@ pub mod Environments
 pub mod Findings
 pub mod Guards
 pub mod Handlers
+pub mod Satisfied
 pub mod Walks
 pub mod Methods

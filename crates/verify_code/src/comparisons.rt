@@ -57,6 +57,7 @@ impl<'a, L: Lookups> Environment<'a, L> {
             state,
             like,
             judged,
+            stored,
             fitted,
         } = s;
         let like = self.near_like(alloc, like, pc)?;
@@ -64,6 +65,7 @@ impl<'a, L: Lookups> Environment<'a, L> {
             state,
             like,
             judged,
+            stored,
             fitted,
         })
     }

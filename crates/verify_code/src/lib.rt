@@ -9,6 +9,7 @@ mod guards;
 mod handlers;
 mod instructions;
 mod method_fault;
+mod satisfied;
 mod switches;
 mod targets;
 mod walk;

@@ -130,6 +130,7 @@ impl<'a, L: Lookups> Environment<'a, L> {
             state,
             like,
             judged,
+            stored,
             fitted,
         } = s;
         let fitted = self.fitted_at_target(fitted, target);
@@ -137,6 +138,7 @@ impl<'a, L: Lookups> Environment<'a, L> {
             state,
             like,
             judged,
+            stored,
             fitted,
         }
     }

@@ -1,6 +1,6 @@
 //! The walk over the instructions of a method, from front to back (JVMS 4.10.1.6, mergedCodeIsTypeSafe).
 
-ghost use Rattle.std.specs.Prelude.{◌≡◌, ◌<◌, ◌^◌, Bool, IfOk, IfSome, None, Option, Some};
+ghost use Rattle.std.specs.Prelude.{◌≡◌, ◌<◌, ◌^◌, Bool, IfOk, IfSome, None, OnOk, Option, Some};
 ghost use Rattle.std.specs.Option.{option_map};
 ghost use Rattle.instruction_rows.specs.Table.{row};
 ghost use Rattle.world_model.specs.declared.sites.Naming.{Naming as Meaning};
@@ -13,11 +13,13 @@ ghost use Rattle.verify_instructions.specs.Views.{state_in};
 ghost use Rattle.verify_code.specs.Findings.{instruction_of, findings_at};
 ghost use Rattle.verify_frames.specs.Frames.{frame_in};
 ghost use Rattle.verify_frames.specs.KnownStates.{AllHold, BothHold, IsJudged, Holds, going, holds_at, type_state};
+ghost use Rattle.verify_code.specs.Satisfied.{AllTaken};
 ghost use Rattle.verify_code.specs.Walks.{IsAfter, IsPassage, IsStep, IsVerdict, arrives, entry_of, place, walk_fault};
 
 use crate::comparisons::Compared;
 use crate::environment::Environment;
 use crate::findings::Findings;
+use crate::satisfied::SatisfiedStores;
 use instruction_rows::RowWhy;
 use items::NoMemory;
 use opcodes::Instr;
@@ -164,6 +166,7 @@ impl<'a, L: Lookups> Environment<'a, L> {
                     state,
                     like: Some(like),
                     judged,
+                    stored: None,
                     fitted: None,
                 }),
                 fits,
@@ -223,6 +226,7 @@ impl<'a, L: Lookups> Environment<'a, L> {
             state,
             like,
             judged,
+            stored: _,
             fitted,
         } = s;
         let this_uninit = state.this_uninit;
@@ -292,10 +296,13 @@ impl<'a, L: Lookups> Environment<'a, L> {
         i: &Instr,
         naming: Naming,
         is_last: bool,
+        stores: &mut SatisfiedStores,
     ) -> Result<Passage, NoMemory>
         requires low { i.now.pc < 2 ^ 16 }
         requires holds { AllHold self.now arrival.known }
-        ensures { IfOk result (λ x. (entry : Option TypeState)
+        requires taken { AllTaken self.now stores.old }
+        ensures taken { OnOk result (AllTaken self.now stores.new) }
+        ensures passage { IfOk result (λ x. (entry : Option TypeState)
             → arrival.fits ≡ arrives self.now i.now.pc entry → IsPassage self.now
             (place i.now naming (option_map type_state arrival.known) entry is_last) x) }
     {
@@ -303,7 +310,7 @@ impl<'a, L: Lookups> Environment<'a, L> {
         let Some(s) = known else {
             return Ok(self.pass_unknown(i));
         };
-        let s = self.judged(i.pc, s);
+        let s = self.judged(i.pc, s, stores)?;
         match self.judge(alloc, s, fits, i, naming, is_last)? {
             Verdict::Broken(why) => Ok(Passage::Broken(why)),
             Verdict::Kept(after) => Ok(Passage::On(StatesAfter::new(after, goes_on(&i.op)))),
@@ -319,15 +326,18 @@ impl<'a, L: Lookups> Environment<'a, L> {
         i: &Instr,
         naming: Naming,
         is_last: bool,
+        stores: &mut SatisfiedStores,
     ) -> Result<Step, NoMemory>
         requires low { i.now.pc < 2 ^ 16 }
         requires holds { BothHold self.now before }
-        ensures { IfOk result (IsStep self.now (place i.now naming
+        requires taken { AllTaken self.now stores.old }
+        ensures taken { OnOk result (AllTaken self.now stores.new) }
+        ensures step { IfOk result (IsStep self.now (place i.now naming
             (standing self.now i.now.pc (going before))
             (entry_of is_entry (going before)) is_last)) }
     {
         let arrival = self.arrive(alloc, before, is_entry, i.pc)?;
-        match self.pass(alloc, arrival, i, naming, is_last)? {
+        match self.pass(alloc, arrival, i, naming, is_last, stores)? {
             Passage::Broken(why) => Ok(Step::Fault(PcFault { pc: i.pc, why })),
             Passage::On(after) => match self.frames.stray(i.pc, i.next, is_last) {
                 Some(pc) => Ok(Step::Fault(PcFault {
@@ -348,15 +358,18 @@ impl<'a, L: Lookups> Environment<'a, L> {
             state: first,
             like: None,
             judged: None,
+            stored: None,
             fitted: None,
         };
         let mut before = StatesAfter::new(first, true);
+        let mut stores = SatisfiedStores::new(alloc);
         let mut is_entry = true;
         let mut rest: &[Instr] = &self.method.code.code;
         let mut namings = self.method.namings;
         while let Some((i, behind)) = rest.split_first() {
             let is_last = behind.is_empty();
-            match self.step(alloc, before, is_entry, i, first_naming(namings), is_last)? {
+            let naming = first_naming(namings);
+            match self.step(alloc, before, is_entry, i, naming, is_last, &mut stores)? {
                 Step::Fault(fault) => return Ok(Some(fault)),
                 Step::On(after) => before = after,
             }

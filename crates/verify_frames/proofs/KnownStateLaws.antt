@@ -28,11 +28,13 @@ use Rattle.verify_frames.specs.declared.watch.Watch.{Watch}
 use Rattle.verify_frames.specs.Watches.{Watches}
 use Rattle.verify_frames.specs.Overwrites.{AreBut, IsRestored, NotedBehind, are_assignable, overwritten_since}
 use Rattle.verify_frames.specs.Overwrites.NotedBehind.{leaves, stores, objects}
-use Rattle.verify_frames.specs.KnownStates.{AllHold, BothHold, Compares, FitsLocals, MayBeLike, MayFit, KnownAfter, states_after, either_of, going, IsJudged, IsLike, IsOver, IsShared, Holds, type_state}
+use Rattle.verify_frames.specs.KnownStates.{AllHold, BothHold, Compares, FitsLocals, MayBeLike, MayFit, KnownAfter, states_after, stored_by, IsStored, either_of, going, IsJudged, IsLike, IsOver, IsShared, Holds, type_state}
 use Rattle.verify_frames.specs.KnownStates.KnownAfter.{nothing, changed, kept}
 use Rattle.verify_frames.proofs.OverwriteLaws.{fits_but, none_left, none_noted, objects_noted}
 use Rattle.verify_frames.proofs.StoreLaws.{after_stored}
 use Rattle.verify_frames.specs.declared.known_state.Judged.{Judged}
+use Rattle.verify_frames.specs.declared.watch.Watch.TheVariants as kinds
+use Rattle.verify_frames.specs.declared.known_state.Stored.{Stored}
 use Rattle.verify_frames.proofs.KeepLaws.{after_kept}
 use Rattle.verify_frames.proofs.FinishLaws.{after_finished}
 use Rattle.verify_frames.proofs.WatchLaws.{same_locals}
@@ -266,18 +268,29 @@ fits_same env s t (Some pc) locals flag h = record {
   flag = ap (λ b. not b || h.state.this_uninit) (sym flag) ∙ h.flag;
 }
 
+-- a store of this instruction
+stored_after : (env : Environment) (i : Instruction) (s after : TypeState) (watch : Watch) (o : Option Judged) → Watches i.instr.op s.types.locals watch → state_after env i s ≡ Ok after → IfSome o (IsJudged env s)
+    → IfSome (stored_by watch o) (IsStored env after)
+stored_after env i s after kinds.Kept o h e j = tt
+stored_after env i s after kinds.Changed o h e j = tt
+stored_after env i s after (kinds.Store n was) None h e j = tt
+stored_after env i s after (kinds.Store n was) (Some x) h e j =
+    let stored = after_stored env i h.0.kind n s after h.0.is e in
+    record { before = s; judged = j; as_many = stored.as_many; others = stored.others; flag = stored.flag }
+
 -- what is known of the state after an instruction is true of it
 pub holds_after : (env : Environment) (i : Instruction) (s after : KnownState) (like : Option Like) (watch : Watch) (now : State) → Holds env s → state_after env i (type_state s) ≡ Ok (state_in now)
     → IfSome like (NotedBehind i.instr.op (type_state s).types.locals s.like) → Watches i.instr.op (type_state s).types.locals watch → KnownAfter (type_state s).this_uninit watch like s.judged s.fitted now after
     → (state_after env i (type_state s) ≡ Ok (type_state after)) × Holds env after
 holds_after env i s after like watch now holds h noted watches (nothing e) =
-    subst (λ (x : KnownState). (state_after env i (type_state s) ≡ Ok (type_state x)) × Holds env x) (sym e) (h, record { like = λ l is. absurd cc; judged = tt; fitted = tt })
+    subst (λ (x : KnownState). (state_after env i (type_state s) ≡ Ok (type_state x)) × Holds env x) (sym e) (h, record { like = λ l is. absurd cc; judged = tt; stored = tt; fitted = tt })
 holds_after env i s after like watch now holds h noted watches (changed flag e) =
     subst (λ (x : KnownState). (state_after env i (type_state s) ≡ Ok (type_state x)) × Holds env x) (sym e) (
       h,
       record {
         like = λ l is. like_after env i s.like l (type_state s) (state_in now) holds.like (sym flag) h (subst (λ (o : Option Like). IfSome o (NotedBehind i.instr.op (type_state s).types.locals s.like)) is noted);
         judged = tt;
+        stored = stored_after env i (type_state s) (state_in now) watch s.judged watches h holds.judged;
         fitted = tt;
       },
     )
@@ -288,6 +301,7 @@ holds_after env i s after like watch now holds h noted watches (kept flag shows 
       record {
         like = λ l is. like_after env i s.like l (type_state s) (state_in now) holds.like (sym flag) h (subst (λ (o : Option Like). IfSome o (NotedBehind i.instr.op (type_state s).types.locals s.like)) is noted);
         judged = judged_same env (type_state s) (state_in now) s.judged same (sym flag) holds.judged;
+        stored = tt;
         fitted = fits_same env (type_state s) (state_in now) s.fitted same (sym flag) holds.fitted;
       },
     )
@@ -305,11 +319,12 @@ like_new env pc l other s h at none e =
     let noted : IsLike env l.pc l.overwritten.items s = subst (λ (os : List Overwritten). IsLike env l.pc os s) (sym none) here in
     subst (λ (x : Like). IsLike env x.pc x.overwritten.items s) same noted
 
-pub new_holds : (env : Environment) (pc : ℕ) (f : MapFrame) (l : Like) (s : KnownState) → map_at env pc ≡ Some f → f.state ≡ Some (type_state s) → s.like ≡ Some l → l.pc ≡ pc → l.overwritten.items ≡ [] → IfSome s.judged (IsJudged env (type_state s)) → s.fitted ≡ None
+pub new_holds : (env : Environment) (pc : ℕ) (f : MapFrame) (l : Like) (s : KnownState) → map_at env pc ≡ Some f → f.state ≡ Some (type_state s) → s.like ≡ Some l → l.pc ≡ pc → l.overwritten.items ≡ [] → IfSome s.judged (IsJudged env (type_state s)) → s.stored ≡ None → s.fitted ≡ None
     → AllHold env (Some s)
-new_holds env pc f l s at is like new none judged fits = one_holds env s (record {
+new_holds env pc f l s at is like new none judged stored fits = one_holds env s (record {
   like = λ other e. like_new env pc l other (type_state s) (like_at env pc f (type_state s) at is) new none (sym like ∙ e);
   judged = judged;
+  stored = subst (λ (o : Option Stored). IfSome o (IsStored env (type_state s))) (sym stored) tt;
   fitted = subst (λ (o : Option ℕ). MayFit env (type_state s) o) (sym fits) tt;
 })
 

@@ -24,18 +24,18 @@ first_of : (a b : Bool) → (a && b) ≡ true → a ≡ true
 first_of true b e = refl
 first_of false b e = absurd cc
 
-second_of : (a b : Bool) → (a && b) ≡ true → b ≡ true
+pub second_of : (a b : Bool) → (a && b) ≡ true → b ≡ true
 second_of true b e = e
 second_of false b e = absurd cc
 
-one_by_one : (w : World) (xs ys : List VType) → all_assignable w xs ys ≡ true → (i : ℕ) → assignable w (type_at xs i) (type_at ys i) ≡ true
+pub one_by_one : (w : World) (xs ys : List VType) → all_assignable w xs ys ≡ true → (i : ℕ) → assignable w (type_at xs i) (type_at ys i) ≡ true
 one_by_one w [] [] e i = refl
 one_by_one w [] (y ∷ ys) e i = absurd cc
 one_by_one w (x ∷ xs) [] e i = absurd cc
 one_by_one w (x ∷ xs) (y ∷ ys) e zero = first_of (assignable w x y) (all_assignable w xs ys) e
 one_by_one w (x ∷ xs) (y ∷ ys) e (suc i) = one_by_one w xs ys (second_of (assignable w x y) (all_assignable w xs ys) e) i
 
-all_by_number : (w : World) (xs ys : List VType) → length xs ≡ length ys → ((i : ℕ) → assignable w (type_at xs i) (type_at ys i) ≡ true) → all_assignable w xs ys ≡ true
+pub all_by_number : (w : World) (xs ys : List VType) → length xs ≡ length ys → ((i : ℕ) → assignable w (type_at xs i) (type_at ys i) ≡ true) → all_assignable w xs ys ≡ true
 all_by_number w [] [] e h = refl
 all_by_number w [] (y ∷ ys) e h = absurd (omega arith)
 all_by_number w (x ∷ xs) [] e h = absurd (omega arith)

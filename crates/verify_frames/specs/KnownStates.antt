@@ -1,5 +1,5 @@
 -- States with the local variables of a frame of the map.
-use Rattle.std.specs.Prelude.{◌≡◌, ℕ, ◌<◌, ◌≤◌, Bool, true, false, IfSome, List, Option, Some, None, reverse, nat_le, nat_lt, ◌&&◌, ◌||◌, not, if◌then◌else◌}
+use Rattle.std.specs.Prelude.{◌≡◌, ℕ, ◌+◌, ◌-◌, ◌<◌, ◌≤◌, length, Bool, true, false, IfSome, List, Option, Some, None, reverse, nat_le, nat_lt, ◌&&◌, ◌||◌, not, if◌then◌else◌}
 use Rattle.std.specs.Option.{option_map, option_map_or}
 use Rattle.instruction_rows.specs.Contents.{slot_types}
 use Rattle.type_paths.specs.Paths.{path, types_on}
@@ -11,12 +11,14 @@ use Rattle.verify_instructions.specs.declared.state.State.{State}
 use Rattle.verify_frames.specs.declared.frame.Frame.{Frame}
 use Rattle.verify_frames.specs.declared.known_state.StatesAfter.{StatesAfter}
 use Rattle.verify_frames.specs.declared.known_state.Judged.{Judged}
+use Rattle.verify_frames.specs.declared.known_state.Stored.{Stored}
 use Rattle.verify_frames.specs.declared.known_state.KnownState.{KnownState}
 use Rattle.verify_frames.specs.declared.overwritten.Like.{Like}
 use Rattle.verify_frames.specs.declared.overwritten.Overwritten.{Overwritten}
 use Rattle.verify_frames.specs.Frames.{frame_at, frame_in}
 use Rattle.verify_frames.specs.declared.watch.Watch.{Watch}
-use Rattle.verify_frames.specs.Overwrites.{AreBut}
+use Rattle.verify_frames.specs.declared.watch.Watch.TheVariants as watches
+use Rattle.verify_frames.specs.Overwrites.{AreBut, type_at}
 use Rattle.verify_frames.specs.Watches.{ShowsKept}
 
 abbrev pub type_state : KnownState → TypeState
@@ -40,6 +42,19 @@ pub record IsJudged (env : Environment) (s : TypeState) (j : Judged) : Type 0 wh
   pub at : are_satisfied env j.at s ≡ true
   pub on : (pc : ℕ) → j.at ≤ pc → pc < j.until → are_satisfied env pc s ≡ true
 
+-- the state before a store to this local variable, which had the same flag, satisfied the handlers
+pub record IsStored (env : Environment) (s : TypeState) (st : Stored) : Type 0 where
+  pub before : TypeState
+  pub judged : IsJudged env before st.judged
+  pub as_many : length before.types.locals ≡ length s.types.locals
+  pub others : (i : ℕ) → (i ≡ st.local - 1 → ⊥) → (i ≡ st.local → ⊥) → (i ≡ st.local + 1 → ⊥) → type_at before.types.locals i ≡ type_at s.types.locals i
+  pub flag : before.this_uninit ≡ s.this_uninit
+
+-- the store that an instruction is, where handlers were satisfied before it
+abbrev pub stored_by : Watch → Option Judged → Option Stored
+stored_by (watches.Store n was) judged = option_map (λ (j : Judged). record { local = n; judged = j }) judged
+stored_by watch judged = None
+
 -- the local variables and the flag of a state fit those of the frame at this pc
 pub record FitsLocals (env : Environment) (s : TypeState) (pc : ℕ) : Type 0 where
   pub frame : MapFrame
@@ -57,6 +72,7 @@ MayFit env s fitted = IfSome fitted (FitsLocals env s)
 pub record Holds (env : Environment) (s : KnownState) : Type 0 where
   pub like : MayBeLike env s.like (type_state s)
   pub judged : IfSome s.judged (IsJudged env (type_state s))
+  pub stored : IfSome s.stored (IsStored env (type_state s))
   pub fitted : MayFit env (type_state s) s.fitted
 
 -- whether the handlers are known to be satisfied at a pc
@@ -65,9 +81,9 @@ holds_at pc judged = option_map_or (λ (j : Judged). nat_le j.at pc && nat_lt pc
 
 -- what is known of a state after an instruction, where the one before it had this flag and these were known
 pub data KnownAfter (this_uninit : Bool) (watch : Watch) (like : Option Like) (judged : Option Judged) (fitted : Option ℕ) (s : State) (after : KnownState) : Type 0 where
-  nothing : after ≡ record { state = s; like = None; judged = None; fitted = None } → KnownAfter this_uninit watch like judged fitted s after
-  changed : s.this_uninit ≡ this_uninit → after ≡ record { state = s; like = like; judged = None; fitted = None } → KnownAfter this_uninit watch like judged fitted s after
-  kept : s.this_uninit ≡ this_uninit → ShowsKept watch s.types.locals → after ≡ record { state = s; like = like; judged = judged; fitted = fitted }
+  nothing : after ≡ record { state = s; like = None; judged = None; stored = None; fitted = None } → KnownAfter this_uninit watch like judged fitted s after
+  changed : s.this_uninit ≡ this_uninit → after ≡ record { state = s; like = like; judged = None; stored = stored_by watch judged; fitted = None } → KnownAfter this_uninit watch like judged fitted s after
+  kept : s.this_uninit ≡ this_uninit → ShowsKept watch s.types.locals → after ≡ record { state = s; like = like; judged = judged; stored = None; fitted = fitted }
       → KnownAfter this_uninit watch like judged fitted s after
 
 abbrev pub AllHold : Environment → Option KnownState → Type 0

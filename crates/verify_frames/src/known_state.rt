@@ -19,6 +19,15 @@ pub struct Judged {
     pub until: u32,
 }
 
+/// A store, before which the exception handlers of a state were satisfied.
+#[derive(Clone, Copy, Debug, PartialEq, Eq)]
+pub struct Stored {
+    /// The local variable that was stored to.
+    pub local: u16,
+    /// Where they were satisfied.
+    pub judged: Judged,
+}
+
 /// A state, and what is known of its local variables and its flag.
 #[derive(Drop)]
 pub struct KnownState {
@@ -27,6 +36,8 @@ pub struct KnownState {
     pub like: Option<Like>,
     /// Where they satisfy the exception handlers.
     pub judged: Option<Judged>,
+    /// The store after which it isn't known whether they do.
+    pub stored: Option<Stored>,
     /// The pc of a frame that they fit.
     pub fitted: Option<u32>,
 }
@@ -48,9 +59,30 @@ impl KnownState {
             state,
             like,
             judged: _,
+            stored: _,
             fitted: _,
         } = self;
         restored(state, overwritten_since(&like))
+    }
+
+    /// The state, and where it satisfies the exception handlers.
+    pub fn with_judged(self, judged: Option<Judged>) -> Self
+        ensures { result ≡ record self { judged = judged; stored = None } }
+    {
+        let KnownState {
+            state,
+            like,
+            judged: _,
+            stored: _,
+            fitted,
+        } = self;
+        KnownState {
+            state,
+            like,
+            judged,
+            stored: None,
+            fitted,
+        }
     }
 }
 
@@ -108,6 +140,19 @@ fn is_same(a: bool, b: bool) -> bool
     if a { b } else { !b }
 }
 
+// The store that an instruction is, where handlers were satisfied before it.
+fn stored_by(watch: Watch, judged: Option<Judged>) -> Option<Stored>
+    ensures { result ≡ spec.stored_by watch judged }
+{
+    let Watch::Store(local, _) = watch else {
+        return None;
+    };
+    match judged {
+        Some(judged) => Some(Stored { local, judged }),
+        None => None,
+    }
+}
+
 /// A state after an instruction, and what is known of it where the one before it had this flag, was so judged and fitted this frame. It is
 /// like this frame if it has the same flag.
 pub fn known_after(
@@ -125,6 +170,7 @@ pub fn known_after(
             state,
             like: None,
             judged: None,
+            stored: None,
             fitted: None,
         };
     }
@@ -133,6 +179,7 @@ pub fn known_after(
             state,
             like,
             judged,
+            stored: None,
             fitted,
         };
     }
@@ -140,6 +187,7 @@ pub fn known_after(
         state,
         like,
         judged: None,
+        stored: stored_by(watch, judged),
         fitted: None,
     }
 }

@@ -28,8 +28,8 @@ pub enum Watch {
     Changed,
 }
 
-// The types around a local variable.
-fn types_around(locals: &[VType], n: u16) -> Around
+/// The types around a local variable.
+pub fn types_around(locals: &[VType], n: u16) -> Around
     ensures { result ≡ around locals.now n }
 {
     let slot = usize::from(n);
@@ -55,6 +55,14 @@ fn is_same_base(a: Base, b: Base) -> bool
         },
         Base::Byte => match b {
             Base::Byte => true,
+            _ => false,
+        },
+        Base::Short => match b {
+            Base::Short => true,
+            _ => false,
+        },
+        Base::Bool => match b {
+            Base::Bool => true,
             _ => false,
         },
         Base::Char => match b {
@@ -107,9 +115,9 @@ fn is_same_type(a: VType, b: VType) -> bool
     }
 }
 
-// Whether these types are known to be the same as those.
+/// Whether these types are known to be the same as those.
 #[tactic(auto, using(crate::proofs::WatchLaws::around_same))]
-fn are_same(a: Around, b: Around) -> bool
+pub fn are_same(a: Around, b: Around) -> bool
     ensures { MatchBool result (a ≡ b) (Unit {0}) }
 {
     if !is_same_type(a.before, b.before) {

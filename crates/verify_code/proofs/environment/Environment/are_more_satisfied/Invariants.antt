@@ -9,7 +9,7 @@ use Rattle.verify_code.proofs.environment.Environment.are_more_satisfied.Given a
 
 abbrev pub invariant-loop-guard : goal.invariant-loop-guard
 invariant-loop-guard g l =
-    (list_all (keeps_more l.self l.known l.pc (type_state l.s)) (map guard_in l.guards) ≡ list_all (keeps_more l.self l.known l.pc (type_state l.s)) (map guard_in l.rest))
+    (list_all (keeps_more l.self l.twice l.pc (type_state l.s)) (map guard_in l.guards) ≡ list_all (keeps_more l.self l.twice l.pc (type_state l.s)) (map guard_in l.rest))
     × IsCatcher l.self (type_state l.s) l.last
 
 abbrev pub decreases-loop-guard : goal.decreases-loop-guard

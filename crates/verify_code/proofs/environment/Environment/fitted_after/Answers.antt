@@ -18,4 +18,4 @@ returns-clause-holds g c =
     let target = c.in-Some.target in
     let fits : fits_target env s target ≡ true =
     one_of (fits_target env s target) (ap (λ ts. list_all (fits_target env s) ts) (sym c.in-Some.ensures) ∙ c.requires.fits c.if-not-fits.false) in
-    record { like = c.requires.holds.like; judged = c.requires.holds.judged; fitted = c.fitted_at_target-fitted.ensures s c.requires.holds.fitted (ap (λ t. fits_target env s t) (to_z-of_z w64 target (search rules)) ∙ fits) }
+    record { like = c.requires.holds.like; judged = c.requires.holds.judged; stored = c.requires.holds.stored; fitted = c.fitted_at_target-fitted.ensures s c.requires.holds.fitted (ap (λ t. fits_target env s t) (to_z-of_z w64 target (search rules)) ∙ fits) }
