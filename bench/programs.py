@@ -230,6 +230,15 @@ def other_stores(c):
     c.method((ICONST_0 + ISTORE_0 + ACONST_NULL + b"\x4b") * 15000 + RETURN + b"\xbf" * 3000, frames, rows, locals=1)
 
 
+def other_stores_and_rows(c):
+    """16,000 stores into a local variable of other types in turn, and at each of them a row of an exception table that starts there, to a handler of its own."""
+    throwable = u1(7) + u2(c.pool.of_class(b"java/lang/Throwable"))
+    first = 32001
+    frames = [u1(247) + u2(first) + throwable] + [u1(64) + throwable] * 15999
+    rows = [(2 * i, first, first + i, 0) for i in range(16000)]
+    c.method((ICONST_0 + ISTORE_0 + ACONST_NULL + b"\x4b") * 8000 + RETURN + b"\xbf" * 16000, frames, rows, locals=1)
+
+
 def branches_apart(c):
     """8,000 branches from a frame of 65,535 ints to one of as many unset local variables."""
     end = 4 * 8000 + 1
@@ -344,6 +353,8 @@ KINDS = {
     "rows-and-stores": lambda: methods_of(rows_and_stores, 6),
     "many-handlers": lambda: methods_of(many_handlers, 1),
     "other-stores": lambda: methods_of(other_stores, 1),
+    "other-stores-40": lambda: methods_of(other_stores, 40),
+    "other-stores-and-rows": lambda: methods_of(other_stores_and_rows, 16),
     "many-targets": lambda: methods_of(many_targets, 29),
     "deep-casts": lambda: methods_of(deep_casts, 60),
     "one-constant": one_constant,

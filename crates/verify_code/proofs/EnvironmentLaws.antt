@@ -12,7 +12,7 @@ use Rattle.world_model.specs.declared.sites.Naming.{Naming}
 use Rattle.world_model.specs.Decoded.{IsDecoded}
 use Rattle.world_model.specs.World.{World}
 use Rattle.verify_types.specs.Environment.{MapFrame, first_frame, map_frame, map_frames, environment_of, with_catches}
-use Rattle.verify_code.specs.StackMaps.{mapped}
+use Rattle.verify_frames.specs.StackMaps.{mapped}
 use Rattle.verify_code.specs.declared.guards.Guard.{Guard}
 use Rattle.verify_code.specs.Environments.{HasFrames}
 use Rattle.verify_code.specs.Guards.{AskAlike, guard_in}

@@ -2,59 +2,47 @@
 use Rattle.std.proofs.Common.{◌≡◌, ◌⊎◌, inl, inr, ℕ, ◌<◌, ◌≤◌, true, false, Bool, cond, List, [], ◌∷◌, Option, Some, None, refl, ap, sym, subst, ◌∙◌, arith}
 use Rattle.std.specs.Prelude.{IfSome, not, nat_le, nat_lt, ◌&&◌, ◌||◌}
 use Rattle.std.specs.List.{list_all}
-use Rattle.std.specs.Option.{option_map}
 use Rattle.std.proofs.lemmas.Bool.{ltb-true, ltb-false, leb-true, le-leb, lt-ltb, and_parts, and_from, and_cases}
-use Rattle.stack_maps.specs.declared.types.VType.{VType}
 use Rattle.verify_types.specs.TypeStates.{TypeState}
 use Rattle.verify_types.specs.Environment.{Handler, Environment}
 use Rattle.verify_types.specs.Calls.{covers}
 use Rattle.verify_types.specs.Handlers.{are_satisfied, is_satisfied}
-use Rattle.verify_code.specs.declared.standing.Judged.{Judged}
+use Rattle.verify_frames.specs.declared.known_state.Judged.{Judged}
+use Rattle.verify_code.specs.declared.satisfied.JudgedTwice.{JudgedTwice}
 use Rattle.verify_code.specs.Guards.{AskAlike}
+use Rattle.verify_code.specs.Satisfied.{AreJudged}
 use Rattle.verify_code.specs.Handlers.{catches_at, keeps_more, nearer, next_start}
-use Rattle.verify_code.specs.Standings.{IsJudged, holds_at}
-
--- ---- states with the same local variables and the same flag
-
-abbrev over : List VType → Bool → TypeState
-over locals flag = record { types = record { locals = locals; stack = [] }; this_uninit = flag }
-
-same_at : (env : Environment) (pc : ℕ) (s t : TypeState) → s.types.locals ≡ t.types.locals → s.this_uninit ≡ t.this_uninit → are_satisfied env pc s ≡ are_satisfied env pc t
-same_at env pc s t locals flag =
-    ap (λ ls. are_satisfied env pc (over ls s.this_uninit)) locals ∙ ap (λ b. are_satisfied env pc (over t.types.locals b)) flag
-
-pub judged_same : (env : Environment) (s t : TypeState) (o : Option Judged) → s.types.locals ≡ t.types.locals → s.this_uninit ≡ t.this_uninit → IfSome o (IsJudged env s) → IfSome o (IsJudged env t)
-judged_same env s t None locals flag h = tt
-judged_same env s t (Some j) locals flag h = record {
-  at = sym (same_at env j.at s t locals flag) ∙ h.at;
-  on = λ pc low high. sym (same_at env pc s t locals flag) ∙ h.on pc low high;
-}
+use Rattle.verify_frames.specs.KnownStates.{IsJudged, holds_at}
 
 -- ---- rows that cover another pc too
 
 abbrev Asks : Environment → ℕ → TypeState → Handler → Bool
 Asks env pc s h = not (covers pc h) || is_satisfied env s h
 
-at_one : (a b c : Bool) → (not b || c) ≡ true → (not a || (b || c)) ≡ (not a || c)
-at_one a true c h = ap (λ x. not a || x) (sym h)
-at_one a false c h = refl
+at_two : (a x y c d e : Bool) → (not x || d) ≡ true → (not y || e) ≡ true → (d ≡ true → e ≡ true → c ≡ true) → (not a || ((x && y) || c)) ≡ (not a || c)
+at_two a true true c d e p q f = ap (λ z. not a || z) (sym (f p q))
+at_two a true false c d e p q f = refl
+at_two a false y c d e p q f = refl
 
-more_all : (env : Environment) (at pc : ℕ) (s : TypeState) (hs : List Handler) → list_all (Asks env at s) hs ≡ true
-    → list_all (keeps_more env (Some at) pc s) hs ≡ list_all (Asks env pc s) hs
-more_all env at pc s [] e = refl
-more_all env at pc s (h ∷ hs) e =
-    let parts = and_parts (Asks env at s h) (list_all (Asks env at s) hs) e in
-    ap (λ x. x && list_all (keeps_more env (Some at) pc s) hs) (at_one (covers pc h) (covers at h) (is_satisfied env s h) parts.0)
-    ∙ ap (λ x. Asks env pc s h && x) (more_all env at pc s hs parts.1)
+more_all : (env : Environment) (t : JudgedTwice) (pc : ℕ) (s one other : TypeState) (hs : List Handler) → ((h : Handler) → is_satisfied env one h ≡ true → is_satisfied env other h ≡ true → is_satisfied env s h ≡ true)
+    → list_all (Asks env t.one.at one) hs ≡ true → list_all (Asks env t.other.at other) hs ≡ true → list_all (keeps_more env (Some t) pc s) hs ≡ list_all (Asks env pc s) hs
+more_all env t pc s one other [] both e f = refl
+more_all env t pc s one other (h ∷ hs) both e f =
+    let first = and_parts (Asks env t.one.at one h) (list_all (Asks env t.one.at one) hs) e in
+    let second = and_parts (Asks env t.other.at other h) (list_all (Asks env t.other.at other) hs) f in
+    ap (λ x. x && list_all (keeps_more env (Some t) pc s) hs)
+    (at_two (covers pc h) (covers t.one.at h) (covers t.other.at h) (is_satisfied env s h) (is_satisfied env one h) (is_satisfied env other h) first.0 second.0 (both h))
+    ∙ ap (λ x. Asks env pc s h && x) (more_all env t pc s one other hs both first.1 second.1)
 
 -- handlers that ask what those of the method do are satisfied where those are
 asked : (env : Environment) (pc : ℕ) (s : TypeState) (hs : List Handler) → AskAlike hs env.handlers → list_all (Asks env pc s) hs ≡ are_satisfied env pc s
 asked env pc s hs alike = alike.same pc (catches_at env s)
 
-more_is : (env : Environment) (pc : ℕ) (s : TypeState) (hs : List Handler) (o : Option Judged) → AskAlike hs env.handlers → IfSome o (IsJudged env s)
-    → list_all (keeps_more env (option_map (λ (j : Judged). j.at) o) pc s) hs ≡ are_satisfied env pc s
+more_is : (env : Environment) (pc : ℕ) (s : TypeState) (hs : List Handler) (o : Option JudgedTwice) → AskAlike hs env.handlers → IfSome o (AreJudged env s)
+    → list_all (keeps_more env o pc s) hs ≡ are_satisfied env pc s
 more_is env pc s hs None alike h = asked env pc s hs alike
-more_is env pc s hs (Some j) alike h = more_all env j.at pc s hs (asked env j.at s hs alike ∙ h.at) ∙ asked env pc s hs alike
+more_is env pc s hs (Some t) alike h =
+    more_all env t pc s h.first h.second hs h.both (asked env t.one.at h.first hs alike ∙ h.one.at) (asked env t.other.at h.second hs alike ∙ h.other.at) ∙ asked env pc s hs alike
 
 -- ---- up to the next start of a row
 
@@ -129,6 +117,6 @@ held env pc s (Some j) h e =
     let parts = and_parts (nat_le j.at pc) (nat_lt pc j.until) e in
     h.on pc (leb-true j.at pc parts.0) (ltb-true pc j.until parts.1)
 
-pub satisfied_is : (env : Environment) (pc : ℕ) (s : TypeState) (hs : List Handler) (o : Option Judged) (known : Option ℕ) (b : Bool) → AskAlike hs env.handlers → b ≡ list_all (keeps_more env known pc s) hs
-    → known ≡ option_map (λ (j : Judged). j.at) o → IfSome o (IsJudged env s) → b ≡ are_satisfied env pc s
-satisfied_is env pc s hs o known b alike is at h = is ∙ ap (λ (k : Option ℕ). list_all (keeps_more env k pc s) hs) at ∙ more_is env pc s hs o alike h
+pub satisfied_is : (env : Environment) (pc : ℕ) (s : TypeState) (hs : List Handler) (o : Option JudgedTwice) (b : Bool) → AskAlike hs env.handlers → b ≡ list_all (keeps_more env o pc s) hs
+    → IfSome o (AreJudged env s) → b ≡ are_satisfied env pc s
+satisfied_is env pc s hs o b alike is h = is ∙ more_is env pc s hs o alike h

@@ -14,7 +14,7 @@ use Rattle.instruction_rows.specs.Switches.{match_target}
 use Rattle.world_model.specs.declared.sites.Naming.{Naming}
 use Rattle.verify_types.specs.Environment.{Instruction, with_namings}
 use Rattle.verify_code.specs.Environments.{AreInOrder}
-use Rattle.verify_code.specs.Entries.{Rises}
+use Rattle.verify_frames.specs.Entries.{Rises}
 
 pub rises_below : {A : Type 0} (pc : A → ℕ) (low high : ℕ) (xs : List A) → low ≤ high → Rises pc high xs → Rises pc low xs
 rises_below pc low high [] up h = tt

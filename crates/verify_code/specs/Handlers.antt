@@ -8,6 +8,7 @@ use Rattle.verify_types.specs.ClassTypes.{throwable_type}
 use Rattle.verify_types.specs.TypeStates.{TypeState, with_stack}
 use Rattle.verify_types.specs.Environment.{Handler, Environment, map_at}
 use Rattle.verify_code.specs.declared.guards.Caught.{Caught}
+use Rattle.verify_code.specs.declared.satisfied.JudgedTwice.{JudgedTwice}
 use Rattle.verify_types.specs.Calls.{covers}
 use Rattle.verify_types.specs.Handlers.{caught_type, fits_frame, is_satisfied}
 
@@ -23,9 +24,14 @@ caught_fits env s caught pc = option_map_or (fits_frame env (with_stack s (caugh
 abbrev pub row_covers : ℕ → Row → Bool
 row_covers pc r = nat_le r.start pc && nat_lt pc r.end
 
--- whether a handler asks nothing at a pc, or is satisfied: it asks nothing where its row covers another pc as well, if there is one
-abbrev pub keeps_more : Environment → Option ℕ → ℕ → TypeState → Handler → Bool
-keeps_more env known pc s h = not (covers pc h) || (option_map_or (λ at. covers at h) known false || is_satisfied env s h)
+-- whether the pcs at which two states satisfy the handlers lie in the range of a row
+abbrev pub covers_twice : JudgedTwice → Row → Bool
+covers_twice t r = row_covers t.one.at r && row_covers t.other.at r
+
+-- whether a handler asks nothing at a pc, or is satisfied: it asks nothing where its row covers two other pcs as well, if there are
+-- such
+abbrev pub keeps_more : Environment → Option JudgedTwice → ℕ → TypeState → Handler → Bool
+keeps_more env twice pc s h = not (covers pc h) || (option_map_or (λ t. covers_twice t h.row) twice false || is_satisfied env s h)
 
 -- whether the handler at this pc, which catches this, is satisfied
 abbrev pub catches_at : Environment → TypeState → ℕ → Option ℕ → Bool
@@ -38,8 +44,8 @@ abbrev pub IsCatcher : Environment → TypeState → Option Caught → Type 0
 IsCatcher env s last = IfSome last (λ (c : Caught). catches_at env s c.handler c.catch ≡ true)
 
 -- a row asks nothing more, and this handler is known to be satisfied
-pub record IsRowKept (env : Environment) (known : Option ℕ) (pc : ℕ) (s : TypeState) (h : Handler) (last : Option Caught) : Type 0 where
-  pub keeps : keeps_more env known pc s h ≡ true
+pub record IsRowKept (env : Environment) (twice : Option JudgedTwice) (pc : ℕ) (s : TypeState) (h : Handler) (last : Option Caught) : Type 0 where
+  pub keeps : keeps_more env twice pc s h ≡ true
   pub caught : IsCatcher env s last
 
 -- the start of a row, where it lies after this pc and before the next

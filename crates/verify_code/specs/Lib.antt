@@ -1,15 +1,7 @@
-pub mod PathFits
-pub mod FramePaths
-pub mod Entries
-pub mod Frames
-pub mod Overwrites
-pub mod Watches
-pub mod Near
-pub mod Standings
 pub mod Environments
 pub mod Findings
 pub mod Guards
 pub mod Handlers
+pub mod Satisfied
 pub mod Walks
-pub mod StackMaps
 pub mod Methods

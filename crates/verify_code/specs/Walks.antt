@@ -13,9 +13,9 @@ use Rattle.verify_types.specs.Handlers.{fits_frame}
 use Rattle.verify_types.specs.Walk.{Placed, behind, placed, walk}
 use Rattle.items.specs.First.{first_some}
 use Rattle.verify_types.specs.Faults.{fits_target, fits_next, state_whys, whys_at, placed_faults}
-use Rattle.verify_code.specs.declared.standing.Behind.{Behind}
-use Rattle.verify_code.specs.declared.standing.Standing.{Standing}
-use Rattle.verify_code.specs.Standings.{BothStand, IsStanding, going, stood}
+use Rattle.verify_frames.specs.declared.known_state.StatesAfter.{StatesAfter}
+use Rattle.verify_frames.specs.declared.known_state.KnownState.{KnownState}
+use Rattle.verify_frames.specs.KnownStates.{BothHold, Holds, going, type_state}
 use Rattle.verify_code.specs.Findings.{instruction_of}
 use Rattle.verify_code.specs.declared.walk.After.{After}
 use Rattle.verify_code.specs.declared.walk.After.TheVariants as afters
@@ -45,34 +45,34 @@ goes_to env r next is_last s = list_all (fits_target env s) (targets_of_row r) &
 
 -- the state after an instruction, or the rule of its own that it breaks
 abbrev pub IsAfter : Environment → Instruction → TypeState → After → Type 0
-IsAfter env i s (afters.Kept after) = (state_after env i s ≡ Ok (stood after)) × IsStanding env after
+IsAfter env i s (afters.Kept after) = (state_after env i s ≡ Ok (type_state after)) × Holds env after
 IsAfter env i s (afters.Broken why) = state_after env i s ≡ Err why
 
 -- no rule is broken, and this is the state after the instruction
-pub record IsKept (env : Environment) (p : Placed) (s : TypeState) (after : Standing) : Type 0 where
+pub record IsKept (env : Environment) (p : Placed) (s : TypeState) (after : KnownState) : Type 0 where
   pub none : first_some (state_whys env p s) ≡ None
-  pub is : state_after env p.instruction s ≡ Ok (stood after)
-  pub stands : IsStanding env after
+  pub is : state_after env p.instruction s ≡ Ok (type_state after)
+  pub holds : Holds env after
 
 abbrev pub IsVerdict : Environment → Placed → TypeState → Verdict → Type 0
 IsVerdict env p s (verdicts.Broken why) = first_some (state_whys env p s) ≡ Some why
 IsVerdict env p s (verdicts.Kept after) = IsKept env p s after
 
 -- no rule is broken, and this state goes on
-pub record IsPassed (env : Environment) (p : Placed) (after : Behind) : Type 0 where
+pub record IsPassed (env : Environment) (p : Placed) (after : StatesAfter) : Type 0 where
   pub none : first_some (whys_at env p) ≡ None
   pub is : going after ≡ behind env p.instruction p.state
-  pub stands : BothStand env after
+  pub holds : BothHold env after
 
 abbrev pub IsPassage : Environment → Placed → Passage → Type 0
 IsPassage env p (passages.Broken why) = first_some (whys_at env p) ≡ Some why
 IsPassage env p (passages.On after) = IsPassed env p after
 
 -- there is no fault, and this state goes on
-pub record GoesOn (env : Environment) (p : Placed) (after : Behind) : Type 0 where
+pub record GoesOn (env : Environment) (p : Placed) (after : StatesAfter) : Type 0 where
   pub none : first_some (placed_faults env p) ≡ None
   pub is : going after ≡ behind env p.instruction p.state
-  pub stands : BothStand env after
+  pub holds : BothHold env after
 
 abbrev pub IsStep : Environment → Placed → Step → Type 0
 IsStep env p (steps.Fault fault) = first_some (placed_faults env p) ≡ Some fault

@@ -4,13 +4,11 @@ ghost use Rattle.std.specs.Prelude.{◌≡◌, IfOk, MatchOption, false};
 ghost use Rattle.verify_instructions.specs.Views.{environment_in, state_in};
 ghost use Rattle.world_model.specs.Decoded.{IsDecoded};
 
-use crate::frame_state::{first_frame, state_of};
-use crate::frames::Frames;
 use crate::guards::{Guard, guards_of};
-use crate::stack_map::frames_of;
 use items::NoMemory;
 use std::alloc::Global;
 use std::marker::Model;
+use verify_frames::{Frames, first_frame, frames_of, state_of};
 use verify_instructions::{Method, State};
 use world_model::Lookups;
 

@@ -1,25 +1,30 @@
 //! Exception handlers (JVMS 4.10.1.6, instructionSatisfiesHandlers).
 
-ghost use Rattle.std.specs.Prelude.{◌≡◌, ◌<◌, ◌^◌, IfSome, MatchOption, false, map};
+ghost use Rattle.std.specs.Prelude.{◌≡◌, ◌<◌, ◌^◌, IfOk, IfSome, MatchOption, OnOk, false, map};
 ghost use Rattle.std.specs.List.{list_all};
-ghost use Rattle.std.specs.Option.{option_map, option_map_or};
+ghost use Rattle.std.specs.Option.{option_map_or};
 ghost use Rattle.verify_types.specs.Environment.{map_at};
 ghost use Rattle.verify_types.specs.Handlers as spec;
 ghost use Rattle.verify_instructions.specs.Views.{state_in};
 ghost use Rattle.verify_code.specs.Guards.{guard_in};
+ghost use Rattle.verify_code.specs.Satisfied.{AllTaken, AreJudged};
 ghost use Rattle.verify_code.specs.Handlers as parts;
 ghost use Rattle.verify_code.specs.Handlers.{IsCatcher, IsRowKept, handler, caught_fits, keeps_more};
-ghost use Rattle.verify_code.specs.Standings.{IsJudged, IsStanding, holds_at, stood};
-ghost use Rattle.verify_code.specs.declared.standing.Judged.{Judged as JudgedAt};
+ghost use Rattle.verify_frames.specs.KnownStates.{IsJudged, Holds, holds_at, type_state};
 
 use crate::environment::Environment;
 use crate::guards::{Caught, Guard, is_last};
-use crate::standing::{Judged, Standing, holds_at};
+use crate::satisfied::{JudgedTwice, SatisfiedStores, judged_on};
 use class_model::Row;
+use items::NoMemory;
 use stack_maps::VType;
+use verify_frames::{Judged, KnownState, holds_at, types_around};
 use verify_instructions::State;
 use verify_types::{assignable, throwable_type};
 use world_model::Lookups;
+
+// With fewer rows a comparison with all of them costs less than what is kept to save it.
+const MANY: usize = 16;
 
 // Whether a pc lies in the range of a row.
 fn is_covered(row: &Row, pc: u32) -> bool
@@ -28,12 +33,12 @@ fn is_covered(row: &Row, pc: u32) -> bool
     u32::from(row.start) <= pc && pc < u32::from(row.end)
 }
 
-// Whether a pc, if there is one, lies in the range of a row.
-fn is_covered_there(row: &Row, pc: Option<u32>) -> bool
-    ensures { result ≡ option_map_or (λ at. parts.row_covers at row.now) pc false }
+// Whether two pcs, if there are such, lie in the range of a row.
+fn is_covered_twice(row: &Row, twice: Option<JudgedTwice>) -> bool
+    ensures { result ≡ option_map_or (λ t. parts.covers_twice t row.now) twice false }
 {
-    match pc {
-        Some(at) => is_covered(row, at),
+    match twice {
+        Some(t) => is_covered(row, t.one.at) && is_covered(row, t.other.at),
         None => false,
     }
 }
@@ -62,16 +67,6 @@ fn next_start(guards: &[Guard], pc: u32) -> u32
     next
 }
 
-// The pc at which handlers are satisfied, if one is known.
-fn at_of(judged: Option<Judged>) -> Option<u32>
-    ensures { result ≡ option_map (λ (j : JudgedAt). j.at) judged }
-{
-    match judged {
-        Some(j) => Some(j.at),
-        None => None,
-    }
-}
-
 impl<'a, L: Lookups> Environment<'a, L> {
     // The type of what a handler catches.
     fn caught_type(&self, catch: Option<u32>) -> VType
@@ -94,9 +89,9 @@ impl<'a, L: Lookups> Environment<'a, L> {
     }
 
     // Whether the state at a handler, which lies at the pc, fits a frame of the stack map there.
-    fn fits_handler(&self, s: &Standing, caught: VType, pc: u32) -> bool
-        requires { IsStanding self.now s.now }
-        ensures { result ≡ caught_fits self.now (stood s.now) caught pc }
+    fn fits_handler(&self, s: &KnownState, caught: VType, pc: u32) -> bool
+        requires { Holds self.now s.now }
+        ensures { result ≡ caught_fits self.now (type_state s.now) caught pc }
     {
         match self.shared(s, pc) {
             Some(frame) => {
@@ -108,9 +103,9 @@ impl<'a, L: Lookups> Environment<'a, L> {
     }
 
     // Whether a handler catches exceptions, and the state at it fits a frame of the stack map.
-    fn is_satisfied(&self, s: &Standing, row: &Row, catch: Option<u32>) -> bool
-        requires { IsStanding self.now s.now }
-        ensures { result ≡ spec.is_satisfied self.now (stood s.now) (handler row.now catch) }
+    fn is_satisfied(&self, s: &KnownState, row: &Row, catch: Option<u32>) -> bool
+        requires { Holds self.now s.now }
+        ensures { result ≡ spec.is_satisfied self.now (type_state s.now) (handler row.now catch) }
     {
         let caught = self.caught_type(catch);
         assignable(self.world, caught, throwable_type(self.world))
@@ -118,27 +113,27 @@ impl<'a, L: Lookups> Environment<'a, L> {
     }
 
     // The handler that is known to be satisfied after a row, where one is known before it. `None`: the pc lies in the range of the
-    // row, the other pc doesn't, and its handler isn't satisfied.
+    // row, one of the other pcs doesn't, and its handler isn't satisfied.
     fn judge_row(
         &self,
-        known: Option<u32>,
+        twice: Option<JudgedTwice>,
         pc: u32,
-        s: &Standing,
+        s: &KnownState,
         last: Option<Caught>,
         here: Caught,
         row: &Row,
     ) -> Option<Option<Caught>>
-        requires stands { IsStanding self.now s.now }
-        requires last { IsCatcher self.now (stood s.now) last }
+        requires holds { Holds self.now s.now }
+        requires last { IsCatcher self.now (type_state s.now) last }
         requires here { here.handler ≡ row.now.handler }
         ensures { MatchOption result
-            (keeps_more self.now known pc (stood s.now) (handler row.now here.catch) ≡ false)
-            (IsRowKept self.now known pc (stood s.now) (handler row.now here.catch)) }
+            (keeps_more self.now twice pc (type_state s.now) (handler row.now here.catch) ≡ false)
+            (IsRowKept self.now twice pc (type_state s.now) (handler row.now here.catch)) }
     {
         if !is_covered(row, pc) {
             return Some(last);
         }
-        if is_covered_there(row, known) {
+        if is_covered_twice(row, twice) {
             return Some(last);
         }
         if is_last(last, here) {
@@ -150,23 +145,23 @@ impl<'a, L: Lookups> Environment<'a, L> {
         Some(Some(here))
     }
 
-    // Whether these handlers are satisfied at the pc, but for those of the other pc.
+    // Whether these handlers are satisfied at the pc, but for those of both other pcs.
     fn are_more_satisfied(
         &self,
-        known: Option<u32>,
+        twice: Option<JudgedTwice>,
         pc: u32,
-        s: &Standing,
+        s: &KnownState,
         guards: &[Guard],
     ) -> bool
-        requires { IsStanding self.now s.now }
+        requires { Holds self.now s.now }
         ensures { result ≡ list_all
-            (keeps_more self.now known pc (stood s.now)) (map guard_in guards.now) }
+            (keeps_more self.now twice pc (type_state s.now)) (map guard_in guards.now) }
     {
         let mut rest = guards;
         let mut last = None;
         while let Some((guard, behind)) = rest.split_first() {
             let here = guard.caught();
-            let Some(kept) = self.judge_row(known, pc, s, last, here, &guard.row) else {
+            let Some(kept) = self.judge_row(twice, pc, s, last, here, &guard.row) else {
                 return false;
             };
             last = kept;
@@ -175,14 +170,41 @@ impl<'a, L: Lookups> Environment<'a, L> {
         true
     }
 
-    // Where a state satisfies the handlers, if it does so at the pc. `None`: it doesn't.
-    fn judge_handlers(&self, pc: u32, s: &Standing) -> Option<Judged>
-        requires low { pc < 2 ^ 16 }
-        requires stands { IsStanding self.now s.now }
-        ensures judged { IfSome result (IsJudged self.now (stood s.now)) }
-        ensures found { holds_at pc result ≡ spec.are_satisfied self.now pc (stood s.now) }
+    // What is known of where two states satisfy the handlers: this one itself, or the one before a store and one with the types that
+    // the store left.
+    fn judged_twice(&self, s: &KnownState, stores: &SatisfiedStores) -> Option<JudgedTwice>
+        requires holds { Holds self.now s.now }
+        requires taken { AllTaken self.now stores.now }
+        ensures { IfSome result (AreJudged self.now (type_state s.now)) }
     {
-        if !self.are_more_satisfied(at_of(s.judged), pc, s, &self.guards) {
+        if let Some(judged) = s.judged {
+            return Some(JudgedTwice {
+                one: judged,
+                other: judged,
+            });
+        }
+        let Some(stored) = s.stored else {
+            return None;
+        };
+        let around = types_around(s.state.types.locals(), stored.local);
+        match stores.taken(stored.local, around) {
+            Some(other) => Some(JudgedTwice {
+                one: stored.judged,
+                other,
+            }),
+            None => None,
+        }
+    }
+
+    // Where a state satisfies the handlers, if it does so at the pc. `None`: it doesn't.
+    fn judge_handlers(&self, pc: u32, s: &KnownState, twice: Option<JudgedTwice>) -> Option<Judged>
+        requires low { pc < 2 ^ 16 }
+        requires holds { Holds self.now s.now }
+        requires twice { IfSome twice (AreJudged self.now (type_state s.now)) }
+        ensures judged { IfSome result (IsJudged self.now (type_state s.now)) }
+        ensures found { holds_at pc result ≡ spec.are_satisfied self.now pc (type_state s.now) }
+    {
+        if !self.are_more_satisfied(twice, pc, s, &self.guards) {
             return None;
         }
         Some(Judged {
@@ -191,30 +213,55 @@ impl<'a, L: Lookups> Environment<'a, L> {
         })
     }
 
+    // Keeps a store after which a state satisfies the handlers, if there are many.
+    fn keep_store(
+        &self,
+        s: &KnownState,
+        judged: Option<Judged>,
+        stores: &mut SatisfiedStores,
+    ) -> Result<(), NoMemory>
+        requires judged { IfSome judged (IsJudged self.now (type_state s.now)) }
+        requires taken { AllTaken self.now stores.old }
+        ensures { OnOk result (AllTaken self.now stores.new) }
+    {
+        if self.guards.len() < MANY {
+            return Ok(());
+        }
+        let Some(stored) = s.stored else {
+            return Ok(());
+        };
+        let Some(judged) = judged else {
+            return Ok(());
+        };
+        let around = types_around(s.state.types.locals(), stored.local);
+        stores.put(stored.local, around, judged)
+    }
+
     /// A state, and where it satisfies the exception handlers: at the pc, if it does so at all.
-    pub fn judged(&self, pc: u32, s: Standing) -> Standing
+    pub fn judged(
+        &self,
+        pc: u32,
+        s: KnownState,
+        stores: &mut SatisfiedStores,
+    ) -> Result<KnownState, NoMemory>
         requires low { pc < 2 ^ 16 }
-        requires stands { IsStanding self.now s }
-        ensures same { stood result ≡ stood s }
-        ensures stands { IsStanding self.now result }
-        ensures found { holds_at pc result.judged ≡
-            spec.are_satisfied self.now pc (stood s) }
+        requires holds { Holds self.now s }
+        requires taken { AllTaken self.now stores.old }
+        ensures same { IfOk result (λ t. type_state t ≡ type_state s) }
+        ensures holds { IfOk result (Holds self.now) }
+        ensures found { IfOk result (λ t.
+            holds_at pc t.judged ≡ spec.are_satisfied self.now pc (type_state s)) }
+        ensures taken { OnOk result (AllTaken self.now stores.new) }
     {
         if holds_at(pc, s.judged) {
-            return s;
+            return Ok(s);
         }
-        let judged = self.judge_handlers(pc, &s);
-        let Standing {
-            state,
-            like,
-            judged: _,
-            fitted,
-        } = s;
-        Standing {
-            state,
-            like,
-            judged,
-            fitted,
+        let twice = self.judged_twice(&s, stores);
+        if let Some(judged) = judged_on(pc, twice) {
+            return Ok(s.with_judged(Some(judged)));
         }
+        let judged = self.judge_handlers(pc, &s, twice);
+        self.keep_store(&s, judged, stores)?;
+        Ok(s.with_judged(judged))
     }
 }

@@ -3,7 +3,7 @@
 ghost use Rattle.std.specs.Prelude.{◌≡◌, drop, find, is_some, nat_lt, ◌==◌};
 ghost use Rattle.std.specs.List.{prefix_len};
 ghost use Rattle.opcodes.specs.declared.op.Instr.{Instr as Instruction};
-ghost use Rattle.verify_code.specs.Entries.{Rises, first_at};
+ghost use Rattle.verify_frames.specs.Entries.{Rises, first_at};
 
 use opcodes::Instr;
 

@@ -10,13 +10,12 @@ ghost use Rattle.verify_types.specs.Environment.{map_at};
 ghost use Rattle.verify_types.specs.Faults as spec;
 ghost use Rattle.verify_types.specs.Handlers as handlers;
 ghost use Rattle.verify_types.specs.TypeStates.{TypeState};
-ghost use Rattle.verify_code.specs.Standings.{Compares, IsStanding, MayFit, stood};
+ghost use Rattle.verify_frames.specs.KnownStates.{Compares, Holds, MayFit, type_state};
 
 use crate::environment::Environment;
-use crate::frame::Frame;
-use crate::standing::Standing;
 use crate::targets::pc_of;
 use opcodes::{LookupSwitch, Match, Op, TableSwitch};
+use verify_frames::{Frame, KnownState};
 use world_model::Lookups;
 
 /// The target of a branch. `None`: the instruction is none.
@@ -46,11 +45,11 @@ impl<'a, L: Lookups> Environment<'a, L> {
     }
 
     // Whether a state fits the frame of the stack map at a pc, if there is one, where it fits another, if that is known.
-    fn fits_as(&self, s: &Standing, fitted: Option<u32>, pc: u32) -> bool
-        requires stands { IsStanding self.now s.now }
-        requires fitted { MayFit self.now (stood s.now) fitted }
+    fn fits_as(&self, s: &KnownState, fitted: Option<u32>, pc: u32) -> bool
+        requires holds { Holds self.now s.now }
+        requires fitted { MayFit self.now (type_state s.now) fitted }
         ensures { result ≡
-            option_map_or (handlers.fits_frame self.now (stood s.now)) (map_at self.now pc) true }
+            option_map_or (handlers.fits_frame self.now (type_state s.now)) (map_at self.now pc) true }
     {
         match self.fitted(fitted, pc) {
             Some(frame) => frame.fits_stack(self.world, true, s.state.types.stack()),
@@ -59,10 +58,10 @@ impl<'a, L: Lookups> Environment<'a, L> {
     }
 
     // Whether a state fits the frame at a target, if there is one, where it fits another, if that is known.
-    fn fits_target_as(&self, s: &Standing, fitted: Option<u32>, target: i64) -> bool
-        requires stands { IsStanding self.now s.now }
-        requires fitted { MayFit self.now (stood s.now) fitted }
-        ensures { result ≡ spec.fits_target self.now (stood s.now) target }
+    fn fits_target_as(&self, s: &KnownState, fitted: Option<u32>, target: i64) -> bool
+        requires holds { Holds self.now s.now }
+        requires fitted { MayFit self.now (type_state s.now) fitted }
+        ensures { result ≡ spec.fits_target self.now (type_state s.now) target }
     {
         match pc_of(target) {
             Some(pc) => self.fits_as(s, fitted, pc),
@@ -97,29 +96,29 @@ impl<'a, L: Lookups> Environment<'a, L> {
     }
 
     /// Whether a state fits the frame of the stack map at a pc, if there is one, where it may be known to fit another.
-    pub fn fits_there(&self, s: &Standing, pc: u32) -> bool
-        requires { IsStanding self.now s.now }
+    pub fn fits_there(&self, s: &KnownState, pc: u32) -> bool
+        requires { Holds self.now s.now }
         ensures { result ≡
-            option_map_or (handlers.fits_frame self.now (stood s.now)) (map_at self.now pc) true }
+            option_map_or (handlers.fits_frame self.now (type_state s.now)) (map_at self.now pc) true }
     {
         self.fits_as(s, s.fitted, pc)
     }
 
     /// Whether a state fits the frame at the target of a branch, if there is one.
-    pub fn fits_branch(&self, s: &Standing, target: i64) -> bool
-        requires { IsStanding self.now s.now }
-        ensures { result ≡ spec.fits_target self.now (stood s.now) target }
+    pub fn fits_branch(&self, s: &KnownState, target: i64) -> bool
+        requires { Holds self.now s.now }
+        ensures { result ≡ spec.fits_target self.now (type_state s.now) target }
     {
         self.fits_target_as(s, s.fitted, target)
     }
 
     /// The same state after an instruction, and a frame that it is known to fit, where it fits those at all targets.
-    pub fn fitted_after(&self, s: Standing, op: &Op, fits: bool) -> Standing
-        requires stands { IsStanding self.now s }
+    pub fn fitted_after(&self, s: KnownState, op: &Op, fits: bool) -> KnownState
+        requires holds { Holds self.now s }
         requires fits { fits ≡ true
-            → list_all (spec.fits_target self.now (stood s)) (targets_of_row (row op.now)) ≡ true }
-        ensures same { stood result ≡ stood s }
-        ensures stands { IsStanding self.now result }
+            → list_all (spec.fits_target self.now (type_state s)) (targets_of_row (row op.now)) ≡ true }
+        ensures same { type_state result ≡ type_state s }
+        ensures holds { Holds self.now result }
     {
         if !fits {
             return s;
@@ -127,25 +126,27 @@ impl<'a, L: Lookups> Environment<'a, L> {
         let Some(target) = branch_target(op) else {
             return s;
         };
-        let Standing {
+        let KnownState {
             state,
             like,
             judged,
+            stored,
             fitted,
         } = s;
         let fitted = self.fitted_at_target(fitted, target);
-        Standing {
+        KnownState {
             state,
             like,
             judged,
+            stored,
             fitted,
         }
     }
 
     // Whether a state fits the frames at all of these targets.
-    fn fits_all(&self, s: &Standing, targets: &[i64]) -> bool
-        requires { IsStanding self.now s.now }
-        ensures { result ≡ list_all (spec.fits_target self.now (stood s.now)) targets.now }
+    fn fits_all(&self, s: &KnownState, targets: &[i64]) -> bool
+        requires { Holds self.now s.now }
+        ensures { result ≡ list_all (spec.fits_target self.now (type_state s.now)) targets.now }
     {
         let mut fitted = s.fitted;
         let mut rest = targets;
@@ -160,10 +161,10 @@ impl<'a, L: Lookups> Environment<'a, L> {
     }
 
     // Whether a state fits the frames at the targets of all of these matches.
-    fn fits_matches(&self, s: &Standing, matches: &[Match]) -> bool
-        requires { IsStanding self.now s.now }
+    fn fits_matches(&self, s: &KnownState, matches: &[Match]) -> bool
+        requires { Holds self.now s.now }
         ensures { result ≡
-            list_all (λ m. spec.fits_target self.now (stood s.now) (match_target m)) matches.now }
+            list_all (λ m. spec.fits_target self.now (type_state s.now) (match_target m)) matches.now }
     {
         let mut fitted = s.fitted;
         let mut rest = matches;
@@ -178,20 +179,20 @@ impl<'a, L: Lookups> Environment<'a, L> {
     }
 
     /// Whether a state fits the frames at all targets of a tableswitch.
-    pub fn fits_table(&self, s: &Standing, switch: &TableSwitch) -> bool
-        requires { IsStanding self.now s.now }
+    pub fn fits_table(&self, s: &KnownState, switch: &TableSwitch) -> bool
+        requires { Holds self.now s.now }
         ensures { result ≡
-            list_all (spec.fits_target self.now (stood s.now)) (table_targets switch.now) }
+            list_all (spec.fits_target self.now (type_state s.now)) (table_targets switch.now) }
     {
         self.fits_target(s, switch.default) && self.fits_all(s, &switch.targets)
     }
 
     /// Whether a state fits the frames at all targets of a lookupswitch.
     #[tactic(auto, using(crate::proofs::InstructionLaws::all_matches))]
-    pub fn fits_lookup(&self, s: &Standing, switch: &LookupSwitch) -> bool
-        requires { IsStanding self.now s.now }
+    pub fn fits_lookup(&self, s: &KnownState, switch: &LookupSwitch) -> bool
+        requires { Holds self.now s.now }
         ensures { result ≡
-            list_all (spec.fits_target self.now (stood s.now)) (lookup_targets switch.now) }
+            list_all (spec.fits_target self.now (type_state s.now)) (lookup_targets switch.now) }
     {
         self.fits_target(s, switch.default) && self.fits_matches(s, &switch.matches)
     }

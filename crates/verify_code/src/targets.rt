@@ -11,16 +11,14 @@ ghost use Rattle.verify_types.specs.Environment.{instruction_at, map_at};
 ghost use Rattle.verify_types.specs.Faults as spec;
 ghost use Rattle.verify_types.specs.Handlers as handlers;
 ghost use Rattle.verify_instructions.specs.Views.{state_in};
-ghost use Rattle.verify_code.specs.Frames.{frame_in};
-ghost use Rattle.verify_code.specs.Overwrites.{are_assignable, overwritten_since};
-ghost use Rattle.verify_code.specs.Standings.{IsOver, IsStanding, stood};
+ghost use Rattle.verify_frames.specs.Frames.{frame_in};
+ghost use Rattle.verify_frames.specs.Overwrites.{are_assignable, overwritten_since};
+ghost use Rattle.verify_frames.specs.KnownStates.{IsOver, Holds, type_state};
 
 use crate::environment::Environment;
-use crate::frame::Frame;
 use crate::instructions::has_instruction;
-use crate::overwritten::are_assignable;
-use crate::standing::Standing;
 use opcodes::{Instr, LookupSwitch, Match, Op, TableSwitch};
+use verify_frames::{Frame, KnownState, are_assignable};
 use verify_instructions::{State, goes_on};
 use world_model::Lookups;
 
@@ -126,10 +124,10 @@ impl<'a, L: Lookups> Environment<'a, L> {
 
     /// The frame of the stack map at a pc, where it is known to have the flag of a state, and its local variables but for those
     /// that were overwritten.
-    pub fn shared(&self, s: &Standing, pc: u32) -> Option<Frame<'_>>
-        requires { IsStanding self.now s.now }
+    pub fn shared(&self, s: &KnownState, pc: u32) -> Option<Frame<'_>>
+        requires { Holds self.now s.now }
         ensures { IfSome result
-            (IsOver self.now (overwritten_since s.now.like) (stood s.now) pc) }
+            (IsOver self.now (overwritten_since s.now.like) (type_state s.now) pc) }
     {
         match &s.like {
             Some(like) => self.frames.shared(like.pc, pc),
@@ -138,18 +136,18 @@ impl<'a, L: Lookups> Environment<'a, L> {
     }
 
     /// Whether what overwrote local variables of a state fits the frame that it is like.
-    pub fn fits_where_overwritten(&self, s: &Standing) -> bool
+    pub fn fits_where_overwritten(&self, s: &KnownState) -> bool
         ensures { result ≡ are_assignable self.now.world (overwritten_since s.now.like)
-            (stood s.now).types.locals }
+            (type_state s.now).types.locals }
     {
         are_assignable(self.world, s.overwritten(), s.state.types.locals())
     }
 
     /// Whether a state fits the frame of the stack map at a pc, if there is one.
-    pub fn fits_at(&self, s: &Standing, pc: u32) -> bool
-        requires { IsStanding self.now s.now }
+    pub fn fits_at(&self, s: &KnownState, pc: u32) -> bool
+        requires { Holds self.now s.now }
         ensures { result ≡
-            option_map_or (handlers.fits_frame self.now (stood s.now)) (map_at self.now pc) true }
+            option_map_or (handlers.fits_frame self.now (type_state s.now)) (map_at self.now pc) true }
     {
         match self.shared(s, pc) {
             Some(frame) => {
@@ -161,9 +159,9 @@ impl<'a, L: Lookups> Environment<'a, L> {
     }
 
     /// Whether a state fits the frame of the stack map at a target, if there is one.
-    pub fn fits_target(&self, s: &Standing, target: i64) -> bool
-        requires { IsStanding self.now s.now }
-        ensures { result ≡ spec.fits_target self.now (stood s.now) target }
+    pub fn fits_target(&self, s: &KnownState, target: i64) -> bool
+        requires { Holds self.now s.now }
+        ensures { result ≡ spec.fits_target self.now (type_state s.now) target }
     {
         match pc_of(target) {
             Some(pc) => self.fits_at(s, pc),
@@ -172,10 +170,10 @@ impl<'a, L: Lookups> Environment<'a, L> {
     }
 
     /// Whether the state after an instruction fits the frames at all of its targets.
-    pub fn fits_targets(&self, s: &Standing, op: &Op) -> bool
-        requires { IsStanding self.now s.now }
+    pub fn fits_targets(&self, s: &KnownState, op: &Op) -> bool
+        requires { Holds self.now s.now }
         ensures { result ≡
-            list_all (spec.fits_target self.now (stood s.now)) (targets_of_row (row op.now)) }
+            list_all (spec.fits_target self.now (type_state s.now)) (targets_of_row (row op.now)) }
     {
         match op {
             Op::IfZero(_, target) => self.fits_branch(s, *target),
@@ -190,9 +188,9 @@ impl<'a, L: Lookups> Environment<'a, L> {
     }
 
     /// Whether the state after an instruction fits the next one.
-    pub fn fits_next(&self, s: &Standing, i: &Instr) -> bool
-        requires { IsStanding self.now s.now }
-        ensures { result ≡ spec.fits_next self.now (row i.now.op) i.now.next (stood s.now) }
+    pub fn fits_next(&self, s: &KnownState, i: &Instr) -> bool
+        requires { Holds self.now s.now }
+        ensures { result ≡ spec.fits_next self.now (row i.now.op) i.now.next (type_state s.now) }
     {
         if goes_on(&i.op) {
             self.fits_there(s, i.next)

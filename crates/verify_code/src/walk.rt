@@ -1,6 +1,6 @@
 //! The walk over the instructions of a method, from front to back (JVMS 4.10.1.6, mergedCodeIsTypeSafe).
 
-ghost use Rattle.std.specs.Prelude.{◌≡◌, ◌<◌, ◌^◌, Bool, IfOk, IfSome, None, Option, Some};
+ghost use Rattle.std.specs.Prelude.{◌≡◌, ◌<◌, ◌^◌, Bool, IfOk, IfSome, None, OnOk, Option, Some};
 ghost use Rattle.std.specs.Option.{option_map};
 ghost use Rattle.instruction_rows.specs.Table.{row};
 ghost use Rattle.world_model.specs.declared.sites.Naming.{Naming as Meaning};
@@ -11,21 +11,22 @@ ghost use Rattle.verify_types.specs.Faults.{is_shallow};
 ghost use Rattle.verify_types.specs.Handlers.{are_satisfied};
 ghost use Rattle.verify_instructions.specs.Views.{state_in};
 ghost use Rattle.verify_code.specs.Findings.{instruction_of, findings_at};
-ghost use Rattle.verify_code.specs.Frames.{frame_in};
-ghost use Rattle.verify_code.specs.Standings.{AllStand, BothStand, IsJudged, IsStanding, going, holds_at, stood};
+ghost use Rattle.verify_frames.specs.Frames.{frame_in};
+ghost use Rattle.verify_frames.specs.KnownStates.{AllHold, BothHold, IsJudged, Holds, going, holds_at, type_state};
+ghost use Rattle.verify_code.specs.Satisfied.{AllTaken};
 ghost use Rattle.verify_code.specs.Walks.{IsAfter, IsPassage, IsStep, IsVerdict, arrives, entry_of, place, walk_fault};
 
 use crate::comparisons::Compared;
 use crate::environment::Environment;
 use crate::findings::Findings;
-use crate::frame::Frame;
-use crate::overwritten::{Like, like_behind};
-use crate::standing::{Behind, Judged, Standing, holds_at, standing_after};
-use crate::watch::watched;
+use crate::satisfied::SatisfiedStores;
 use instruction_rows::RowWhy;
 use items::NoMemory;
 use opcodes::Instr;
 use std::alloc::Global;
+use verify_frames::{
+    Frame, Judged, KnownState, Like, StatesAfter, holds_at, known_after, like_behind, watched,
+};
 use verify_instructions::{State, Stop, behind_first, first_naming, goes_on};
 use verify_types::{PcFault, VerifyWhy};
 use world_model::{Lookups, Naming};
@@ -33,14 +34,14 @@ use world_model::{Lookups, Naming};
 /// The state before an instruction, and whether the state in which the method begins fits the frame of the map there.
 #[derive(Drop)]
 pub struct Arrival {
-    pub standing: Option<Standing>,
+    pub known: Option<KnownState>,
     pub fits: bool,
 }
 
 /// The state after an instruction, or the rule of its own that it breaks.
 #[derive(Drop)]
 pub enum After {
-    Kept(Standing),
+    Kept(KnownState),
     Broken(RowWhy),
 }
 
@@ -48,21 +49,21 @@ pub enum After {
 #[derive(Drop)]
 pub enum Verdict {
     Broken(VerifyWhy),
-    Kept(Standing),
+    Kept(KnownState),
 }
 
 /// The first rule that is broken at an instruction, or else the state that goes on after it.
 #[derive(Drop)]
 pub enum Passage {
     Broken(VerifyWhy),
-    On(Behind),
+    On(StatesAfter),
 }
 
 /// The first fault at an instruction or between it and the next, or else the state that goes on after it.
 #[derive(Drop)]
 pub enum Step {
     Fault(PcFault),
-    On(Behind),
+    On(StatesAfter),
 }
 
 // The rule that was broken.
@@ -80,11 +81,11 @@ impl<'a, L: Lookups> Environment<'a, L> {
     fn state_there(
         &self,
         alloc: Global,
-        before: Option<Standing>,
+        before: Option<KnownState>,
         frame: &Frame<'_>,
         pc: u32,
     ) -> Result<Option<State>, NoMemory>
-        requires stands { AllStand self.now before }
+        requires holds { AllHold self.now before }
         requires there { map_at self.now pc ≡ Some (frame_in frame.now) }
         ensures { IfOk result (λ s. option_map state_in s ≡ (frame_in frame.now).state) }
     {
@@ -102,8 +103,8 @@ impl<'a, L: Lookups> Environment<'a, L> {
 
     // Where the state of the frame of the map at a pc satisfies the exception handlers, if its local variables are those of this
     // state.
-    fn judged_over(&self, s: &Standing, pc: u32) -> Option<Judged>
-        requires { IsStanding self.now s.now }
+    fn judged_over(&self, s: &KnownState, pc: u32) -> Option<Judged>
+        requires { Holds self.now s.now }
         ensures { (f : MapFrame) (t : TypeState) → map_at self.now pc ≡ Some f
             → f.state ≡ Some t → IfSome result (IsJudged self.now t) }
     {
@@ -117,8 +118,8 @@ impl<'a, L: Lookups> Environment<'a, L> {
     }
 
     // The same, after an instruction.
-    fn judged_there(&self, before: &Behind, pc: u32) -> Option<Judged>
-        requires { BothStand self.now before.now }
+    fn judged_there(&self, before: &StatesAfter, pc: u32) -> Option<Judged>
+        requires { BothHold self.now before.now }
         ensures { (f : MapFrame) (t : TypeState) → map_at self.now pc ≡ Some f
             → f.state ≡ Some t → IfSome result (IsJudged self.now t) }
     {
@@ -135,21 +136,21 @@ impl<'a, L: Lookups> Environment<'a, L> {
     fn arrive(
         &self,
         alloc: Global,
-        before: Behind,
+        before: StatesAfter,
         is_entry: bool,
         pc: u32,
     ) -> Result<Arrival, NoMemory>
-        requires { BothStand self.now before }
-        ensures state { IfOk result (λ a. option_map stood a.standing ≡
+        requires { BothHold self.now before }
+        ensures state { IfOk result (λ a. option_map type_state a.known ≡
             standing self.now pc (going before)) }
         ensures fits { IfOk result (λ a. a.fits ≡
             arrives self.now pc (entry_of is_entry (going before))) }
-        ensures stands { IfOk result (λ a. AllStand self.now a.standing) }
+        ensures holds { IfOk result (λ a. AllHold self.now a.known) }
     {
         let Some(frame) = self.frames.at(pc) else {
-            let Behind { going, spare: _ } = before;
+            let StatesAfter { going, spare: _ } = before;
             return Ok(Arrival {
-                standing: going,
+                known: going,
                 fits: true,
             });
         };
@@ -161,18 +162,16 @@ impl<'a, L: Lookups> Environment<'a, L> {
         let like = Like::new(alloc, pc);
         match self.state_there(alloc, before.either(), &frame, pc)? {
             Some(state) => Ok(Arrival {
-                standing: Some(Standing {
+                known: Some(KnownState {
                     state,
                     like: Some(like),
                     judged,
+                    stored: None,
                     fitted: None,
                 }),
                 fits,
             }),
-            None => Ok(Arrival {
-                standing: None,
-                fits,
-            }),
+            None => Ok(Arrival { known: None, fits }),
         }
     }
 
@@ -186,17 +185,17 @@ impl<'a, L: Lookups> Environment<'a, L> {
     // What is found before an instruction is typed.
     fn findings(
         &self,
-        s: &Standing,
+        s: &KnownState,
         fits: bool,
         i: &Instr,
         naming: Naming,
         is_last: bool,
     ) -> Findings
-        requires stands { IsStanding self.now s.now }
+        requires holds { Holds self.now s.now }
         requires judged { holds_at i.now.pc s.now.judged
-            ≡ are_satisfied self.now i.now.pc (stood s.now) }
+            ≡ are_satisfied self.now i.now.pc (type_state s.now) }
         ensures { result ≡
-            findings_at self.now fits (instruction_of i.now naming) is_last (stood s.now) }
+            findings_at self.now fits (instruction_of i.now naming) is_last (type_state s.now) }
     {
         Findings {
             are_targets: self.are_targets(&i.op),
@@ -214,19 +213,20 @@ impl<'a, L: Lookups> Environment<'a, L> {
     fn after(
         &self,
         alloc: Global,
-        s: Standing,
+        s: KnownState,
         i: &Instr,
         naming: Naming,
     ) -> Result<After, NoMemory>
         requires low { i.now.pc < 2 ^ 16 }
-        requires stands { IsStanding self.now s }
+        requires holds { Holds self.now s }
         ensures { IfOk result
-            (IsAfter self.now (instruction_of i.now naming) (stood s)) }
+            (IsAfter self.now (instruction_of i.now naming) (type_state s)) }
     {
-        let Standing {
+        let KnownState {
             state,
             like,
             judged,
+            stored: _,
             fitted,
         } = s;
         let this_uninit = state.this_uninit;
@@ -235,7 +235,7 @@ impl<'a, L: Lookups> Environment<'a, L> {
         let mut state = state;
         match state.apply(alloc, self.world, &self.method, i.pc as u16, naming, &i.op) {
             Ok(()) => {
-                let after = standing_after(state, this_uninit, watch, like, judged, fitted);
+                let after = known_after(state, this_uninit, watch, like, judged, fitted);
                 Ok(After::Kept(after))
             }
             Err(stop) => Ok(After::Broken(broken_rule(stop)?)),
@@ -246,31 +246,31 @@ impl<'a, L: Lookups> Environment<'a, L> {
     fn judge(
         &self,
         alloc: Global,
-        s: Standing,
+        s: KnownState,
         fits: bool,
         i: &Instr,
         naming: Naming,
         is_last: bool,
     ) -> Result<Verdict, NoMemory>
         requires low { i.now.pc < 2 ^ 16 }
-        requires stands { IsStanding self.now s }
+        requires holds { Holds self.now s }
         requires judged { holds_at i.now.pc s.judged
-            ≡ are_satisfied self.now i.now.pc (stood s) }
+            ≡ are_satisfied self.now i.now.pc (type_state s) }
         ensures { IfOk result (λ v. (entry : Option TypeState)
             → fits ≡ arrives self.now i.now.pc entry
-            → IsVerdict self.now (place i.now naming (Some (stood s)) entry is_last)
-            (stood s) v) }
+            → IsVerdict self.now (place i.now naming (Some (type_state s)) entry is_last)
+            (type_state s) v) }
     {
         let findings = self.findings(&s, fits, i, naming, is_last);
         match self.after(alloc, s, i, naming)? {
             After::Broken(why) => Ok(Verdict::Broken(findings.why_broken(why))),
             After::Kept(after) => {
                 let compared = self.compared(alloc, after, i, is_last)?;
-                let Compared { standing, fits } = compared;
-                let is_shallow = self.is_shallow(&standing.state);
+                let Compared { known, fits } = compared;
+                let is_shallow = self.is_shallow(&known.state);
                 match findings.why(fits, is_shallow) {
                     Some(why) => Ok(Verdict::Broken(why)),
-                    None => Ok(Verdict::Kept(standing)),
+                    None => Ok(Verdict::Kept(known)),
                 }
             }
         }
@@ -284,7 +284,7 @@ impl<'a, L: Lookups> Environment<'a, L> {
         if self.has_frame(i.pc) {
             Passage::Broken(VerifyWhy::Map)
         } else {
-            Passage::On(Behind::unknown())
+            Passage::On(StatesAfter::unknown())
         }
     }
 
@@ -296,21 +296,24 @@ impl<'a, L: Lookups> Environment<'a, L> {
         i: &Instr,
         naming: Naming,
         is_last: bool,
+        stores: &mut SatisfiedStores,
     ) -> Result<Passage, NoMemory>
         requires low { i.now.pc < 2 ^ 16 }
-        requires stands { AllStand self.now arrival.standing }
-        ensures { IfOk result (λ x. (entry : Option TypeState)
+        requires holds { AllHold self.now arrival.known }
+        requires taken { AllTaken self.now stores.old }
+        ensures taken { OnOk result (AllTaken self.now stores.new) }
+        ensures passage { IfOk result (λ x. (entry : Option TypeState)
             → arrival.fits ≡ arrives self.now i.now.pc entry → IsPassage self.now
-            (place i.now naming (option_map stood arrival.standing) entry is_last) x) }
+            (place i.now naming (option_map type_state arrival.known) entry is_last) x) }
     {
-        let Arrival { standing, fits } = arrival;
-        let Some(s) = standing else {
+        let Arrival { known, fits } = arrival;
+        let Some(s) = known else {
             return Ok(self.pass_unknown(i));
         };
-        let s = self.judged(i.pc, s);
+        let s = self.judged(i.pc, s, stores)?;
         match self.judge(alloc, s, fits, i, naming, is_last)? {
             Verdict::Broken(why) => Ok(Passage::Broken(why)),
-            Verdict::Kept(after) => Ok(Passage::On(Behind::new(after, goes_on(&i.op)))),
+            Verdict::Kept(after) => Ok(Passage::On(StatesAfter::new(after, goes_on(&i.op)))),
         }
     }
 
@@ -318,20 +321,23 @@ impl<'a, L: Lookups> Environment<'a, L> {
     fn step(
         &self,
         alloc: Global,
-        before: Behind,
+        before: StatesAfter,
         is_entry: bool,
         i: &Instr,
         naming: Naming,
         is_last: bool,
+        stores: &mut SatisfiedStores,
     ) -> Result<Step, NoMemory>
         requires low { i.now.pc < 2 ^ 16 }
-        requires stands { BothStand self.now before }
-        ensures { IfOk result (IsStep self.now (place i.now naming
+        requires holds { BothHold self.now before }
+        requires taken { AllTaken self.now stores.old }
+        ensures taken { OnOk result (AllTaken self.now stores.new) }
+        ensures step { IfOk result (IsStep self.now (place i.now naming
             (standing self.now i.now.pc (going before))
             (entry_of is_entry (going before)) is_last)) }
     {
         let arrival = self.arrive(alloc, before, is_entry, i.pc)?;
-        match self.pass(alloc, arrival, i, naming, is_last)? {
+        match self.pass(alloc, arrival, i, naming, is_last, stores)? {
             Passage::Broken(why) => Ok(Step::Fault(PcFault { pc: i.pc, why })),
             Passage::On(after) => match self.frames.stray(i.pc, i.next, is_last) {
                 Some(pc) => Ok(Step::Fault(PcFault {
@@ -348,19 +354,22 @@ impl<'a, L: Lookups> Environment<'a, L> {
         requires { state_in first ≡ self.now.first }
         ensures { IfOk result (λ fault. fault ≡ walk_fault self.now) }
     {
-        let first = Standing {
+        let first = KnownState {
             state: first,
             like: None,
             judged: None,
+            stored: None,
             fitted: None,
         };
-        let mut before = Behind::new(first, true);
+        let mut before = StatesAfter::new(first, true);
+        let mut stores = SatisfiedStores::new(alloc);
         let mut is_entry = true;
         let mut rest: &[Instr] = &self.method.code.code;
         let mut namings = self.method.namings;
         while let Some((i, behind)) = rest.split_first() {
             let is_last = behind.is_empty();
-            match self.step(alloc, before, is_entry, i, first_naming(namings), is_last)? {
+            let naming = first_naming(namings);
+            match self.step(alloc, before, is_entry, i, naming, is_last, &mut stores)? {
                 Step::Fault(fault) => return Ok(Some(fault)),
                 Step::On(after) => before = after,
             }

@@ -1,8 +1,8 @@
 use Rattle.std.proofs.Common.{List, ap, sym, ◌∙◌}
 use Rattle.std.specs.Prelude.{is_some}
 use Rattle.opcodes.specs.declared.op.Instr.{Instr}
-use Rattle.verify_code.specs.Entries.{first_at}
-use Rattle.verify_code.proofs.Rising.{found_from}
+use Rattle.verify_frames.specs.Entries.{first_at}
+use Rattle.verify_frames.proofs.Rising.{found_from}
 use Rattle.verify_code.proofs.instructions.has_instruction.Goals as goal
 
 pub returns : goal.returns

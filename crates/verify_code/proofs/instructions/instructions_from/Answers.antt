@@ -2,8 +2,8 @@ use Rattle.std.proofs.Common.{Bool, ltb, rules, ap, ◌∙◌}
 use Rattle.std.specs.Prelude.{drop}
 use Rattle.std.proofs.lemmas.List.Sorted.{IsPartitionPoint-from_clause, IsPartitionedBy-ltb}
 use Rattle.opcodes.specs.declared.op.Instr.{Instr}
-use Rattle.verify_code.proofs.Prefixes.{partition_is}
-use Rattle.verify_code.proofs.Rising.{rises_far}
+use Rattle.verify_frames.proofs.Prefixes.{partition_is}
+use Rattle.verify_frames.proofs.Rising.{rises_far}
 use Rattle.verify_code.proofs.instructions.instructions_from.Goals as goal
 
 pub returns : goal.returns

@@ -1,6 +1,6 @@
 use Rattle.std.proofs.Common.{ap, ◌∙◌}
 use Rattle.verify_types.specs.Environment.{Environment}
-use Rattle.verify_code.proofs.StandingLaws.{compares_some}
+use Rattle.verify_frames.proofs.KnownStateLaws.{compares_some}
 use Rattle.verify_code.proofs.environment.Environment.fitted.Goals as goal
 
 pub returns-in-Some : goal.returns-in-Some

@@ -1,8 +1,8 @@
 use Rattle.std.proofs.Common.{◌≡◌, Some, ap, sym, ◌∙◌}
 use Rattle.std.specs.Option.{option_map}
 use Rattle.verify_types.specs.Environment.{Environment, map_at}
-use Rattle.verify_code.specs.Frames.{frame_at, frame_in}
-use Rattle.verify_code.proofs.StandingLaws.{fitted_now}
+use Rattle.verify_frames.specs.Frames.{frame_at, frame_in}
+use Rattle.verify_frames.proofs.KnownStateLaws.{fitted_now}
 use Rattle.verify_code.proofs.environment.Environment.fitted_at.Goals as goal
 
 pub returns-then-is_known : goal.returns-then-is_known

@@ -2,7 +2,7 @@ use Rattle.std.proofs.Common.{List, ap, subst, sym, ◌∙◌}
 use Rattle.std.specs.Prelude.{find, is_some, ◌==◌}
 use Rattle.opcodes.specs.declared.op.Instr.{Instr}
 use Rattle.verify_types.specs.Environment.{Environment, instruction_at}
-use Rattle.verify_code.specs.Entries.{Rises}
+use Rattle.verify_frames.specs.Entries.{Rises}
 use Rattle.verify_code.proofs.InstructionLaws.{in_order_rises, is_found}
 use Rattle.verify_code.proofs.environment.Environment.has_instruction.Goals as goal
 

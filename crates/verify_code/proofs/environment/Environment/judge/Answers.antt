@@ -5,7 +5,7 @@ use Rattle.items.specs.First.{first_some}
 use Rattle.verify_types.specs.Faults.{is_shallow, is_why}
 use Rattle.verify_code.specs.declared.findings.Findings.{Findings}
 use Rattle.verify_code.specs.Findings.{instruction_of, findings_whys}
-use Rattle.verify_code.specs.Standings.{stood}
+use Rattle.verify_frames.specs.KnownStates.{type_state}
 use Rattle.verify_code.specs.Walks.{IsAfter}
 use Rattle.verify_code.proofs.WalkLaws.{broken, kept}
 use Rattle.verify_code.proofs.environment.Environment.judge.Goals as goal
@@ -13,7 +13,7 @@ use Rattle.verify_code.proofs.environment.Environment.judge.Goals as goal
 pub returns-in-Broken : goal.returns-in-Broken
 returns-in-Broken g c = λ entry arrived.
     let env = c.args.self.now in
-    let s = stood c.args.s in
+    let s = type_state c.args.s in
     let why = c.in-Broken.why in
     broken env c.args.i.now c.args.naming entry c.args.is_last c.args.fits s why c.why_broken.result
     (subst (IsAfter env (instruction_of c.args.i.now c.args.naming) s) c.in-Broken.is c.in_ok-why.ensures)
@@ -27,9 +27,9 @@ answered findings wanted fits on shallow no_deeper why e found fit deep = rw (sy
 pub returns-in-Some : goal.returns-in-Some
 returns-in-Some g c = λ entry arrived.
     let env = c.args.self.now in
-    let s = stood c.args.s in
+    let s = type_state c.args.s in
     let after = subst (IsAfter env (instruction_of c.args.i.now c.args.naming) s) c.in-Kept.is c.in_ok-why.ensures in
-    kept env c.args.i.now c.args.naming entry c.args.is_last c.args.fits s (stood c.in-Kept.after) c.why.result
+    kept env c.args.i.now c.args.naming entry c.args.is_last c.args.fits s (type_state c.in-Kept.after) c.why.result
     after.0
     arrived
     (answered c.findings-findings.result _ c.in_ok-compared-in-Kept.compared.fits _ c.is_shallow-is_shallow.result _ c.why.result c.why.ensures c.findings-findings.ensures c.in_ok-compared-in-Kept.ensures.fits
@@ -39,14 +39,14 @@ returns-in-Some g c = λ entry arrived.
 pub returns-in-None : goal.returns-in-None
 returns-in-None g c = λ entry arrived.
     let env = c.args.self.now in
-    let s = stood c.args.s in
+    let s = type_state c.args.s in
     let after = subst (IsAfter env (instruction_of c.args.i.now c.args.naming) s) c.in-Kept.is c.in_ok-why.ensures in
     record {
       none =
-          kept env c.args.i.now c.args.naming entry c.args.is_last c.args.fits s (stood c.in-Kept.after) c.why.result after.0 arrived
+          kept env c.args.i.now c.args.naming entry c.args.is_last c.args.fits s (type_state c.in-Kept.after) c.why.result after.0 arrived
           (answered c.findings-findings.result _ c.in_ok-compared-in-Kept.compared.fits _ c.is_shallow-is_shallow.result _ c.why.result c.why.ensures c.findings-findings.ensures c.in_ok-compared-in-Kept.ensures.fits
           (c.is_shallow-is_shallow.ensures ∙ ap (λ t. is_shallow env t) c.in_ok-compared-in-Kept.ensures.same))
           ∙ c.in-None.is;
       is = after.0 ∙ ap (λ t. Ok t) (sym c.in_ok-compared-in-Kept.ensures.same);
-      stands = c.in_ok-compared-in-Kept.ensures.stands;
+      holds = c.in_ok-compared-in-Kept.ensures.holds;
     }

@@ -6,7 +6,7 @@ use Rattle.verify_types.specs.Handlers.{are_satisfied}
 use Rattle.verify_code.specs.declared.guards.Guard.{Guard}
 use Rattle.verify_code.specs.Guards.{AskAlike, guard_in}
 use Rattle.verify_code.specs.Handlers.{keeps_more, next_start}
-use Rattle.verify_code.specs.Standings.{stood}
+use Rattle.verify_frames.specs.KnownStates.{type_state}
 use Rattle.verify_code.proofs.HandlerLaws.{holds_here, judged_here, satisfied_is}
 use Rattle.verify_code.proofs.environment.Environment.judge_handlers.Goals as goal
 
@@ -15,18 +15,18 @@ returns-then-not-are_more_satisfied-clause-found g c =
     let hs = map guard_in c.self.inside.guards.items in
     let alike : AskAlike hs c.args.self.now.handlers = subst (λ (e : Environment). AskAlike hs e.handlers) c.self.view_is c.self.invariant.guarded in
     sym c.if-not-are_more_satisfied.true
-    ∙ satisfied_is c.args.self.now c.args.pc (stood c.args.s.now) hs c.args.s.now.judged c.at_of.result c.are_more_satisfied.result alike
-    (c.are_more_satisfied.ensures ∙ ap (λ (gs : List Guard). list_all (keeps_more c.args.self.now c.at_of.result c.args.pc (stood c.args.s.now)) (map guard_in gs)) c.deref.ensures.value) c.at_of.ensures c.requires.stands.judged
+    ∙ satisfied_is c.args.self.now c.args.pc (type_state c.args.s.now) hs c.args.twice c.are_more_satisfied.result alike
+    (c.are_more_satisfied.ensures ∙ ap (λ (gs : List Guard). list_all (keeps_more c.args.self.now c.args.twice c.args.pc (type_state c.args.s.now)) (map guard_in gs)) c.deref.ensures.value) c.requires.twice
 
 pub returns-clause-judged : goal.returns-clause-judged
 returns-clause-judged g c =
     let env = c.args.self.now in
-    let s = stood c.args.s.now in
+    let s = type_state c.args.s.now in
     let hs = map guard_in c.self.inside.guards.items in
     let alike : AskAlike hs env.handlers = subst (λ (e : Environment). AskAlike hs e.handlers) c.self.view_is c.self.invariant.guarded in
     let satisfied : are_satisfied env c.args.pc s ≡ true =
-    sym (satisfied_is env c.args.pc s hs c.args.s.now.judged c.at_of.result c.are_more_satisfied.result alike
-    (c.are_more_satisfied.ensures ∙ ap (λ (gs : List Guard). list_all (keeps_more env c.at_of.result c.args.pc s) (map guard_in gs)) c.deref.ensures.value) c.at_of.ensures c.requires.stands.judged)
+    sym (satisfied_is env c.args.pc s hs c.args.twice c.are_more_satisfied.result alike
+    (c.are_more_satisfied.ensures ∙ ap (λ (gs : List Guard). list_all (keeps_more env c.args.twice c.args.pc s) (map guard_in gs)) c.deref.ensures.value) c.requires.twice)
     ∙ c.if-not-are_more_satisfied.false in
     judged_here env s c.args.pc c.next_start.result hs alike
     (c.next_start.ensures ∙ ap (λ (gs : List Guard). next_start c.args.pc 65536 (map guard_in gs)) c.deref-2.ensures.value)
@@ -38,5 +38,5 @@ returns-clause-found g c =
     let alike : AskAlike hs c.args.self.now.handlers = subst (λ (e : Environment). AskAlike hs e.handlers) c.self.view_is c.self.invariant.guarded in
     holds_here c.args.pc c.next_start.result (map guard_in c.deref-2.result.now) c.requires.low c.next_start.ensures
     ∙ sym c.if-not-are_more_satisfied.false
-    ∙ satisfied_is c.args.self.now c.args.pc (stood c.args.s.now) hs c.args.s.now.judged c.at_of.result c.are_more_satisfied.result alike
-    (c.are_more_satisfied.ensures ∙ ap (λ (gs : List Guard). list_all (keeps_more c.args.self.now c.at_of.result c.args.pc (stood c.args.s.now)) (map guard_in gs)) c.deref.ensures.value) c.at_of.ensures c.requires.stands.judged
+    ∙ satisfied_is c.args.self.now c.args.pc (type_state c.args.s.now) hs c.args.twice c.are_more_satisfied.result alike
+    (c.are_more_satisfied.ensures ∙ ap (λ (gs : List Guard). list_all (keeps_more c.args.self.now c.args.twice c.args.pc (type_state c.args.s.now)) (map guard_in gs)) c.deref.ensures.value) c.requires.twice

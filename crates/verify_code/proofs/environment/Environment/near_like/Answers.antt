@@ -1,6 +1,6 @@
 use Rattle.std.proofs.Common.{ap, ◌∙◌}
 use Rattle.verify_types.specs.Environment.{Environment}
-use Rattle.verify_code.proofs.NearLaws.{may_near, some_of}
+use Rattle.verify_frames.proofs.NearLaws.{may_near, some_of}
 use Rattle.verify_code.proofs.environment.Environment.near_like.Goals as goal
 
 pub returns-in-Some-found : goal.returns-in-Some-found

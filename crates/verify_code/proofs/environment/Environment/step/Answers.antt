@@ -6,8 +6,8 @@ use Rattle.verify_types.specs.Environment.{MapFrame, Environment}
 use Rattle.verify_types.specs.Walk.{standing}
 use Rattle.verify_types.specs.Faults.{pc_fault}
 use Rattle.verify_code.specs.declared.walk.Passage.{Passage}
-use Rattle.verify_code.specs.Frames.{stray_frame}
-use Rattle.verify_code.specs.Standings.{going}
+use Rattle.verify_frames.specs.Frames.{stray_frame}
+use Rattle.verify_frames.specs.KnownStates.{going}
 use Rattle.verify_code.specs.Walks.{IsPassage, entry_of, place}
 use Rattle.verify_code.proofs.WalkLaws.{broken_there, stray_there}
 use Rattle.verify_code.proofs.environment.Environment.step.Goals as goal
@@ -17,25 +17,25 @@ fault_at : (o : Option MapFrame) → option_map (λ (f : MapFrame). pc_fault f.p
 fault_at None = refl
 fault_at (Some f) = refl
 
-pub returns-in-Broken : goal.returns-in-Broken
-returns-in-Broken g c =
+pub returns-in-Broken-clause-step : goal.returns-in-Broken-clause-step
+returns-in-Broken-clause-step g c =
     let env = c.args.self.now in
     let before = going c.args.before in
     let entry = entry_of c.args.is_entry before in
     let At : Option TypeState → Passage → Type 0 = λ s x. IsPassage env (place c.args.i.now c.args.naming s entry c.args.is_last) x in
     let here = standing env c.args.i.now.pc before in
-    let passed = c.in_ok-why.ensures entry c.in_ok-arrival.ensures.fits in
+    let passed = c.in_ok-why.ensures.passage entry c.in_ok-arrival.ensures.fits in
     let known = subst (λ s. At s c.in_ok-why.field-0) c.in_ok-arrival.ensures.state passed in
     broken_there env (place c.args.i.now c.args.naming here entry c.args.is_last) c.in-Broken.why (subst (At here) c.in-Broken.is known)
 
-pub returns-in-Some : goal.returns-in-Some
-returns-in-Some g c =
+pub returns-in-Some-clause-step : goal.returns-in-Some-clause-step
+returns-in-Some-clause-step g c =
     let env = c.args.self.now in
     let before = going c.args.before in
     let entry = entry_of c.args.is_entry before in
     let At : Option TypeState → Passage → Type 0 = λ s x. IsPassage env (place c.args.i.now c.args.naming s entry c.args.is_last) x in
     let here = standing env c.args.i.now.pc before in
-    let passed = c.in_ok-why.ensures entry c.in_ok-arrival.ensures.fits in
+    let passed = c.in_ok-why.ensures.passage entry c.in_ok-arrival.ensures.fits in
     let known = subst (λ s. At s c.in_ok-why.field-0) c.in_ok-arrival.ensures.state passed in
     let p = place c.args.i.now c.args.naming here entry c.args.is_last in
     let on = subst (At here) c.in-On.is known in
@@ -45,14 +45,14 @@ returns-in-Some g c =
     ∙ fault_at (stray_frame c.args.i.now.pc c.args.i.now.next c.args.is_last c.self.inside.frames)
     ∙ ap (λ (o : Option ℕ). option_map (λ pc. pc_fault pc whys.Map) o) (sym c.stray.ensures ∙ c.in-Some.is)
 
-pub returns-in-None : goal.returns-in-None
-returns-in-None g c =
+pub returns-in-None-clause-step : goal.returns-in-None-clause-step
+returns-in-None-clause-step g c =
     let env = c.args.self.now in
     let before = going c.args.before in
     let entry = entry_of c.args.is_entry before in
     let At : Option TypeState → Passage → Type 0 = λ s x. IsPassage env (place c.args.i.now c.args.naming s entry c.args.is_last) x in
     let here = standing env c.args.i.now.pc before in
-    let passed = c.in_ok-why.ensures entry c.in_ok-arrival.ensures.fits in
+    let passed = c.in_ok-why.ensures.passage entry c.in_ok-arrival.ensures.fits in
     let known = subst (λ s. At s c.in_ok-why.field-0) c.in_ok-arrival.ensures.state passed in
     let p = place c.args.i.now c.args.naming here entry c.args.is_last in
     let on = subst (At here) c.in-On.is known in
@@ -64,5 +64,5 @@ returns-in-None g c =
           ∙ fault_at (stray_frame c.args.i.now.pc c.args.i.now.next c.args.is_last c.self.inside.frames)
           ∙ ap (λ (o : Option ℕ). option_map (λ pc. pc_fault pc whys.Map) o) (sym c.stray.ensures ∙ c.in-None.is);
       is = on.is;
-      stands = on.stands;
+      holds = on.holds;
     }

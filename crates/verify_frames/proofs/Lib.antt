@@ -1,0 +1,15 @@
+pub mod Prefixes
+pub mod PathFitLaws
+pub mod FramePathLaws
+pub mod Rising
+pub mod FrameFitLaws
+pub mod FrameLaws
+pub mod KeepLaws
+pub mod FinishLaws
+pub mod WatchLaws
+pub mod ItselfLaws
+pub mod OverwriteLaws
+pub mod StoreLaws
+pub mod KnownStateLaws
+pub mod NearLaws
+pub mod StackMapLaws

@@ -1,0 +1,9 @@
+pub mod PathFits
+pub mod FramePaths
+pub mod Entries
+pub mod Frames
+pub mod Overwrites
+pub mod Watches
+pub mod Near
+pub mod KnownStates
+pub mod StackMaps

@@ -1,0 +1,32 @@
+-- What shows whether an instruction changes local variables.
+use Rattle.std.specs.Prelude.{◌≡◌, ℕ, true, List, []}
+use Rattle.opcodes.specs.declared.op.Kind.{Kind}
+use Rattle.opcodes.specs.declared.op.Op.{Op}
+use Rattle.opcodes.specs.declared.op.Op.TheVariants as ops
+use Rattle.stack_maps.specs.declared.types.VType.{VType}
+use Rattle.verify_instructions.specs.Unfinished.{AreListed}
+use Rattle.verify_frames.specs.declared.watch.Watch.{Watch}
+use Rattle.verify_frames.specs.declared.watch.Watch.TheVariants as watches
+use Rattle.verify_frames.specs.Overwrites.{around, finishes, keeps_locals}
+
+-- an instruction changes the operand stack alone, or finishes no object of a local variable
+pub data Keeps (op : Op) (locals : List VType) : Type 0 where
+  stack_alone : keeps_locals op ≡ true → Keeps op locals
+  no_object : finishes op ≡ true → AreListed [] locals → Keeps op locals
+
+-- an instruction stores to this local variable
+pub record Stores (op : Op) (n : ℕ) : Type 0 where
+  pub kind : Kind
+  pub is : op ≡ ops.Store kind n
+
+-- this is known of an instruction and of the local variables before it
+abbrev pub Watches : Op → List VType → Watch → Type 0
+Watches op locals watches.Kept = Keeps op locals
+Watches op locals (watches.Store n was) = Stores op n × (was ≡ around locals n)
+Watches op locals watches.Changed = Unit {0}
+
+-- these are the local variables from before the instruction
+abbrev pub ShowsKept : Watch → List VType → Type 0
+ShowsKept watches.Kept locals = Unit {0}
+ShowsKept (watches.Store n was) locals = around locals n ≡ was
+ShowsKept watches.Changed locals = ⊥

@@ -1,0 +1,160 @@
+//! The frames of a method's stack map (JVMS 4.7.4), each at its pc.
+
+ghost use Rattle.std.specs.Prelude.{◌≡◌, IfOk, IfSome, map};
+ghost use Rattle.std.specs.Option.{option_map};
+ghost use Rattle.stack_maps.specs.Changes.{made_whole};
+ghost use Rattle.verify_types.specs.Environment.{MapFrame, map_frame};
+ghost use Rattle.verify_frames.specs.Entries.{Rises};
+ghost use Rattle.verify_frames.specs.StackMaps.{pc_of};
+ghost use Rattle.verify_frames.specs.Frames.{frame_at, frame_in, stray_frame};
+ghost use Rattle.verify_frames.specs.Near.{IsNear};
+ghost use Rattle.verify_frames.specs.KnownStates.{IsShared};
+
+use crate::entries::{entry_at, stray_entry};
+use crate::frame::Frame;
+use crate::frame_paths::{Entry, entry_of, is_known, put};
+use crate::near::moved;
+use crate::overwritten::Like;
+use items::NoMemory;
+use stack_maps::{FrameChange, VType};
+use std::alloc::Global;
+use std::marker::Model;
+use type_paths::Paths;
+use verify_instructions::is_constructor;
+use world_model::{Lookups, MethodInfo};
+
+/// The frames of a stack map, by rising pc. They take memory in proportion to its bytes.
+#[derive(Drop)]
+pub struct Frames {
+    paths: Paths,
+    is_constructor: bool,
+    max_locals: u16,
+    entries: Vec<Entry>,
+}
+
+impl Model for Frames {
+    ghost use Rattle.std.specs.Prelude.{List};
+    ghost use Rattle.verify_types.specs.Environment.{MapFrame};
+    ghost use Rattle.verify_frames.specs.Frames.{frames_in, AreRising};
+
+    ghost Value = { List MapFrame };
+
+    ghost view = { frames_in };
+
+    ghost invariant = { AreRising };
+}
+
+impl Frames {
+    /// The frames with these changes, the first of them after local variables of these types.
+    pub fn new<L: Lookups>(
+        alloc: Global,
+        w: &L,
+        m: &MethodInfo,
+        max_locals: u16,
+        first: &[VType],
+        changes: &[(u32, FrameChange)],
+    ) -> Result<Self, NoMemory>
+        requires { Rises pc_of 0 (made_whole first.now changes.now) }
+        ensures { IfOk result (λ frames. frames ≡
+            map (map_frame (L.world w.now) m.now max_locals) (made_whole first.now changes.now)) }
+    {
+        let mut paths = Paths::new(alloc);
+        let mut locals = put(&mut paths, w, m.class, first)?;
+        let mut entries = Vec::with_capacity(alloc, changes.len())?;
+        let mut rest = changes;
+        while let Some((change, behind)) = rest.split_first() {
+            let entry = entry_of(&mut paths, w, m.class, locals, change)?;
+            entries.push(entry)?;
+            locals = entry.locals;
+            rest = behind;
+        }
+        Ok(Frames {
+            paths,
+            is_constructor: is_constructor(m),
+            max_locals,
+            entries,
+        })
+    }
+
+    /// The frame at a pc. `None`: there is none.
+    pub fn at(&self, pc: u32) -> Option<Frame<'_>>
+        ensures { option_map frame_in result ≡ frame_at pc self.now }
+    {
+        match entry_at(&self.entries, pc) {
+            Some(entry) => Some(Frame {
+                paths: &self.paths,
+                is_constructor: self.is_constructor,
+                max_locals: self.max_locals,
+                entry,
+            }),
+            None => None,
+        }
+    }
+
+    /// The frame at a pc, where it has the local variables of the frame at another. `None`: it hasn't, or one of them isn't there.
+    pub fn shared(&self, like: u32, pc: u32) -> Option<Frame<'_>>
+        ensures { IfSome result (IsShared self.now like pc) }
+    {
+        let Some(other) = entry_at(&self.entries, like) else {
+            return None;
+        };
+        let Some(entry) = entry_at(&self.entries, pc) else {
+            return None;
+        };
+        if entry.locals != other.locals {
+            return None;
+        }
+        Some(Frame {
+            paths: &self.paths,
+            is_constructor: self.is_constructor,
+            max_locals: self.max_locals,
+            entry,
+        })
+    }
+
+    /// What a state is like that is like a frame, where the one at a pc has the same local variables but for a few. `None`: it wasn't found.
+    pub fn near(&self, alloc: Global, like: &Like, pc: u32) -> Result<Option<Like>, NoMemory>
+        ensures { IfOk result (λ o. IfSome o (IsNear self.now like.now pc)) }
+    {
+        if self.is_constructor {
+            return Ok(None);
+        }
+        let Some(other) = entry_at(&self.entries, like.pc) else {
+            return Ok(None);
+        };
+        let Some(entry) = entry_at(&self.entries, pc) else {
+            return Ok(None);
+        };
+        if entry.locals == other.locals {
+            return Ok(None);
+        }
+        if !is_known(&self.paths, entry) {
+            return Ok(None);
+        }
+        let most = self.max_locals;
+        let overwritten = &like.overwritten;
+        let moved = moved(
+            alloc,
+            &self.paths,
+            most,
+            other.locals,
+            entry.locals,
+            overwritten,
+        )?;
+        match moved {
+            Some(overwritten) => Ok(Some(Like { pc, overwritten })),
+            None => Ok(None),
+        }
+    }
+
+    /// The pc of the first frame after a pc, and before the next instruction unless that is the last. `None`: there is none.
+    pub fn stray(&self, pc: u32, next: u32, is_last: bool) -> Option<u32>
+        ensures { result ≡ option_map (λ (f : MapFrame). f.pc)
+            (stray_frame pc next is_last self.now) }
+    {
+        match stray_entry(&self.entries, pc, next, is_last) {
+            Some(entry) => Some(entry.pc),
+            None => None,
+        }
+    }
+}

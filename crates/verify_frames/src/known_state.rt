@@ -1,0 +1,203 @@
+//! States with the local variables of a frame of the stack map.
+
+ghost use Rattle.std.specs.Prelude.{◌≡◌, IfOk, MatchBool, None};
+ghost use Rattle.verify_instructions.specs.Views.{state_in};
+ghost use Rattle.verify_frames.specs.Overwrites.{IsRestored, overwritten_since};
+ghost use Rattle.verify_frames.specs.KnownStates as spec;
+
+use crate::overwritten::{Like, Overwritten, overwritten_since, restored};
+use crate::watch::Watch;
+use std::alloc::AllocError;
+use verify_instructions::State;
+
+/// Where the exception handlers of a state are satisfied.
+#[derive(Clone, Copy, Debug, PartialEq, Eq)]
+pub struct Judged {
+    /// A pc at which they are.
+    pub at: u32,
+    /// No row of the exception table starts after that and before this pc.
+    pub until: u32,
+}
+
+/// A store, before which the exception handlers of a state were satisfied.
+#[derive(Clone, Copy, Debug, PartialEq, Eq)]
+pub struct Stored {
+    /// The local variable that was stored to.
+    pub local: u16,
+    /// Where they were satisfied.
+    pub judged: Judged,
+}
+
+/// A state, and what is known of its local variables and its flag.
+#[derive(Drop)]
+pub struct KnownState {
+    pub state: State,
+    /// A frame of the stack map that has the same, but for local variables that were overwritten since.
+    pub like: Option<Like>,
+    /// Where they satisfy the exception handlers.
+    pub judged: Option<Judged>,
+    /// The store after which it isn't known whether they do.
+    pub stored: Option<Stored>,
+    /// The pc of a frame that they fit.
+    pub fitted: Option<u32>,
+}
+
+impl KnownState {
+    /// The local variables that were overwritten since the frame that it is like.
+    pub fn overwritten(&self) -> &[Overwritten]
+        ensures { result.now ≡ overwritten_since self.now.like }
+    {
+        overwritten_since(&self.like)
+    }
+
+    /// The state with the local variables of the frame that it is like.
+    pub fn restored(self) -> Result<State, AllocError>
+        ensures { IfOk result (λ s.
+            IsRestored (overwritten_since self.like) (spec.type_state self) (state_in s)) }
+    {
+        let KnownState {
+            state,
+            like,
+            judged: _,
+            stored: _,
+            fitted: _,
+        } = self;
+        restored(state, overwritten_since(&like))
+    }
+
+    /// The state, and where it satisfies the exception handlers.
+    pub fn with_judged(self, judged: Option<Judged>) -> Self
+        ensures { result ≡ record self { judged = judged; stored = None } }
+    {
+        let KnownState {
+            state,
+            like,
+            judged: _,
+            stored: _,
+            fitted,
+        } = self;
+        KnownState {
+            state,
+            like,
+            judged,
+            stored: None,
+            fitted,
+        }
+    }
+}
+
+/// The state that goes on after an instruction, or else one that doesn't, whose local variables may serve at the next frame.
+#[derive(Drop)]
+pub struct StatesAfter {
+    pub going: Option<KnownState>,
+    pub spare: Option<KnownState>,
+}
+
+impl StatesAfter {
+    /// Nothing is known after an instruction.
+    pub fn unknown() -> Self
+        ensures { result ≡ record { going = None; spare = None } }
+    {
+        StatesAfter {
+            going: None,
+            spare: None,
+        }
+    }
+
+    /// This is the state after an instruction, and goes on or not.
+    pub fn new(after: KnownState, goes_on: bool) -> Self
+        ensures { result ≡ spec.states_after after goes_on }
+    {
+        if goes_on {
+            StatesAfter {
+                going: Some(after),
+                spare: None,
+            }
+        } else {
+            StatesAfter {
+                going: None,
+                spare: Some(after),
+            }
+        }
+    }
+
+    /// A state whose local variables may serve, if there is one.
+    pub fn either(self) -> Option<KnownState>
+        ensures { result ≡ spec.either_of self }
+    {
+        let StatesAfter { going, spare } = self;
+        match going {
+            Some(s) => Some(s),
+            None => spare,
+        }
+    }
+}
+
+// Whether two flags are the same.
+fn is_same(a: bool, b: bool) -> bool
+    ensures { MatchBool result (a ≡ b) (Unit {0}) }
+{
+    if a { b } else { !b }
+}
+
+// The store that an instruction is, where handlers were satisfied before it.
+fn stored_by(watch: Watch, judged: Option<Judged>) -> Option<Stored>
+    ensures { result ≡ spec.stored_by watch judged }
+{
+    let Watch::Store(local, _) = watch else {
+        return None;
+    };
+    match judged {
+        Some(judged) => Some(Stored { local, judged }),
+        None => None,
+    }
+}
+
+/// A state after an instruction, and what is known of it where the one before it had this flag, was so judged and fitted this frame. It is
+/// like this frame if it has the same flag.
+pub fn known_after(
+    state: State,
+    this_uninit: bool,
+    watch: Watch,
+    like: Option<Like>,
+    judged: Option<Judged>,
+    fitted: Option<u32>,
+) -> KnownState
+    ensures { spec.KnownAfter this_uninit watch like judged fitted state result }
+{
+    if !is_same(state.this_uninit, this_uninit) {
+        return KnownState {
+            state,
+            like: None,
+            judged: None,
+            stored: None,
+            fitted: None,
+        };
+    }
+    if watch.is_kept(state.types.locals()) {
+        return KnownState {
+            state,
+            like,
+            judged,
+            stored: None,
+            fitted,
+        };
+    }
+    KnownState {
+        state,
+        like,
+        judged: None,
+        stored: stored_by(watch, judged),
+        fitted: None,
+    }
+}
+
+/// Whether the exception handlers are known to be satisfied at a pc.
+pub fn holds_at(pc: u32, judged: Option<Judged>) -> bool
+    ensures { result ≡ spec.holds_at pc judged }
+{
+    match judged {
+        Some(j) => j.at <= pc && pc < j.until,
+        None => false,
+    }
+}

@@ -1,0 +1,22 @@
+//! The frames of a method's stack map, and what is known of a state by them (JVMS 4.10.1).
+#![tactic(auto)]
+
+mod entries;
+mod frame;
+mod frame_paths;
+mod frame_state;
+mod frames;
+mod known_state;
+mod near;
+mod overwritten;
+mod path_fits;
+mod stack_map;
+mod watch;
+
+pub use frame::Frame;
+pub use frame_state::{first_frame, state_of};
+pub use frames::Frames;
+pub use known_state::{Judged, KnownState, StatesAfter, Stored, holds_at, known_after};
+pub use overwritten::{Like, are_assignable, like_behind};
+pub use stack_map::frames_of;
+pub use watch::{Around, are_same, types_around, watched};
