@@ -31,12 +31,13 @@ use Rattle.native_methods.specs.declared.state.NativeState.{NativeState}
 use Rattle.native_methods.specs.Arguments.{native_effect}
 use Rattle.native_methods.specs.NativeStates.{with_natives, StaysIfThrown}
 use Rattle.method_calls.specs.FrameSteps.{HasBegun}
+use Rattle.method_calls.specs.declared.target.Callee.{Callee}
 use Rattle.method_calls.specs.declared.target.Target.{Target}
 use Rattle.method_calls.specs.declared.target.Target.TheVariants as targets
 use Rattle.ref_model.specs.Calls.{invoked, native_entered, code_entered, method_entered}
 use Rattle.ref_model.specs.LocalRows.{row, local_act, has_local_call, static_called, frames_called, most_frames}
 use Rattle.ref_model.specs.Step.{after_effect, row_or_event}
-use Rattle.method_calls.specs.Targets.{row_invoked, code_effect, IsInvoked}
+use Rattle.method_calls.specs.Targets.{row_invoked, begins, IsInvoked}
 use Rattle.machine.specs.declared.parts.Parts.{Parts}
 use Rattle.machine.specs.States.{state_of, IsRunStep}
 use Rattle.machine.specs.Concluding.{Concludes, EffectSteps, Leads, Steps}
@@ -146,17 +147,17 @@ pub thrown_leads : (w : World) (a b : Parts) (f : Frame) (below after : List Fra
 thrown_leads w a b f below after next e raise same = record { effect_is = throws e; is = refl; leads = raise ∙ ap (λ (fs : List Frame). Some (state_of b fs)) (sym same) }
 
 -- the frame of a method that begins
-pub begun_leads : (w : World) (a : Parts) (n slots next : ℕ) (m new : Continuation) → HasBegun w n slots m new → EffectSteps w next (λ r depth stack. code_effect w depth n slots stack) a m.stack.frames a new.stack.frames
-begun_leads w a n slots next m new has f below top =
+pub begun_leads : (w : World) (a : Parts) (c : Callee) (next : ℕ) (m new : Continuation) → HasBegun c m new → EffectSteps w next (λ r depth stack. begins depth c stack) a m.stack.frames a new.stack.frames
+begun_leads w a c next m new has f below top =
     let r : State = state_of a (f ∷ below) in
-    let effect : code_effect w (suc (length below)) n slots f.stack ≡ Some (invokes has.callee has.rest) = sym (ap (λ (fs : List Frame). code_effect w (length fs) n slots (top_stack fs)) top) ∙ has.effect in
+    let effect : begins (suc (length below)) c f.stack ≡ Some (invokes has.callee has.rest) = sym (ap (λ (fs : List Frame). begins (length fs) c (top_stack fs)) top) ∙ has.effect in
     let frames : new.stack.frames ≡ has.callee ∷ record f { stack = has.rest } ∷ below = has.frames ∙ ap (λ (fs : List Frame). has.callee ∷ with_stack has.rest fs) top in
     record { effect_is = invokes has.callee has.rest; is = effect; leads = ap (λ (fs : List Frame). Some (state_of a fs)) (sym frames) }
 
-pub deep_leads : (w : World) (a b : Parts) (n slots next : ℕ) (m : Continuation) (after : List Frame) (e : Exception) → code_effect w (length m.stack.frames) n slots (operands m) ≡ Some (throws e) → after ≡ m.stack.frames
-    → ((frames : List Frame) → raised w (state_of a frames) 0 e ≡ Some (state_of b frames)) → EffectSteps w next (λ r depth stack. code_effect w depth n slots stack) a m.stack.frames b after
-deep_leads w a b n slots next m after e effect same raise f below top =
-    leads_too w a b f below after next (Some (throws e)) (code_effect w (suc (length below)) n slots f.stack) (sym (ap (λ (fs : List Frame). code_effect w (length fs) n slots (top_stack fs)) top) ∙ effect)
+pub deep_leads : (w : World) (a b : Parts) (c : Callee) (next : ℕ) (m : Continuation) (after : List Frame) (e : Exception) → begins (length m.stack.frames) c (operands m) ≡ Some (throws e) → after ≡ m.stack.frames
+    → ((frames : List Frame) → raised w (state_of a frames) 0 e ≡ Some (state_of b frames)) → EffectSteps w next (λ r depth stack. begins depth c stack) a m.stack.frames b after
+deep_leads w a b c next m after e effect same raise f below top =
+    leads_too w a b f below after next (Some (throws e)) (begins (suc (length below)) c f.stack) (sym (ap (λ (fs : List Frame). begins (length fs) c (top_stack fs)) top) ∙ effect)
     (thrown_leads w a b f below after next e (raise (f ∷ below)) (same ∙ top))
 
 -- a native method
@@ -197,9 +198,9 @@ pub native_stepped : (w : World) (i : Instruction) (a b : Parts) (m : Continuati
     → EffectSteps w i.instr.next (λ r depth stack. native_effect w native r stack) a m.stack.frames b after → Steps w i a m.stack.frames b after
 native_stepped w i a b m after native comes effects = gives_stepped w i a b m after (λ r depth stack. native_effect w native r stack) comes effects
 
-pub code_stepped : (w : World) (i : Instruction) (a b : Parts) (m : Continuation) (after : List Frame) (n slots : ℕ) → ComesTo w i a m (targets.Code n slots)
-    → ((next : ℕ) → EffectSteps w next (λ r depth stack. code_effect w depth n slots stack) a m.stack.frames b after) → Steps w i a m.stack.frames b after
-code_stepped w i a b m after n slots comes effects = gives_stepped w i a b m after (λ r depth stack. code_effect w depth n slots stack) comes (effects i.instr.next)
+pub code_stepped : (w : World) (i : Instruction) (a b : Parts) (m : Continuation) (after : List Frame) (c : Callee) → ComesTo w i a m (targets.Code c)
+    → ((next : ℕ) → EffectSteps w next (λ r depth stack. begins depth c stack) a m.stack.frames b after) → Steps w i a m.stack.frames b after
+code_stepped w i a b m after c comes effects = gives_stepped w i a b m after (λ r depth stack. begins depth c stack) comes (effects i.instr.next)
 
 pub throws_stepped : (w : World) (i : Instruction) (a b : Parts) (m : Continuation) (e : Exception) → ComesTo w i a m (targets.Throws e)
     → ((frames : List Frame) → raised w (state_of a frames) 0 e ≡ Some (state_of b frames)) → Steps w i a m.stack.frames b m.stack.frames

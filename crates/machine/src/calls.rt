@@ -3,7 +3,7 @@
 ghost use Rattle.std.specs.Prelude.{◌<◌, ℕ, length, OnOk};
 ghost use Rattle.native_methods.specs.Arguments.{native_effect};
 ghost use Rattle.method_calls.specs.Selections.{AreSelected};
-ghost use Rattle.method_calls.specs.Targets.{code_effect};
+ghost use Rattle.method_calls.specs.Targets.{begins};
 ghost use Rattle.machine.specs.Concluding.{EffectSteps, Steps};
 
 use crate::concluding::{conclude, raise};
@@ -12,7 +12,7 @@ use crate::world::MachineWorld;
 use continuation::Mounted;
 use items::NoMemory;
 use lib_table::Native;
-use method_calls::{Entered, Selections, Target, enter, invoke};
+use method_calls::{Callee, Entered, Selections, Target, enter, invoke};
 use native_methods::run_native;
 use opcodes::Instr;
 use std::alloc::Global;
@@ -39,19 +39,19 @@ fn native_step<W: MachineWorld>(
 }
 
 // A method with code begins, or there are too many frames.
+#[inline(always)]
 fn code_step<W: MachineWorld>(
     world: &W,
     parts: &mut Parts,
     mounted: &mut Mounted,
-    method: u32,
-    slots: u16,
+    callee: Callee,
 ) -> Result<(), NoMemory>
     requires { 0 < length mounted.old.stack.frames }
     ensures { OnOk result ((next : ℕ) → EffectSteps (W.world world.now) next
-        (λ r depth stack. code_effect (W.world world.now) depth method slots stack)
+        (λ r depth stack. begins depth callee stack)
         parts.old mounted.old.stack.frames parts.new mounted.new.stack.frames) }
 {
-    match enter(world, method, slots, mounted)? {
+    match enter(callee, mounted)? {
         Entered::Begun => Ok(()),
         Entered::Throws(exception) => raise(world, parts, exception),
         Entered::Undefined => Err(NoMemory),
@@ -86,7 +86,7 @@ pub(crate) fn invocation_step<W: MachineWorld>(
     )?;
     match target {
         Target::Native(native) => native_step(alloc, world, parts, mounted, instr.next, native),
-        Target::Code { method, slots } => code_step(world, parts, mounted, method, slots),
+        Target::Code(callee) => code_step(world, parts, mounted, callee),
         Target::Throws(exception) => raise(world, parts, exception),
         Target::Undefined => Err(NoMemory),
     }

@@ -1,20 +1,32 @@
 -- What an invocation does, where the method that it names is known.
-use Rattle.std.proofs.Common.{ℕ, ◌≡◌, List, Option, Some, refl, sym, subst, ap, ◌∙◌}
-use Rattle.std.specs.Prelude.{Result, Ok, Err, IfOk, slice_get}
+use Rattle.std.proofs.Common.{ℕ, ◌≡◌, Bool, true, false, List, Option, Some, None, drop, refl, sym, subst, ap, ◌∙◌}
+use Rattle.std.specs.Prelude.{Result, Ok, Err, IfOk, nat_lt, slice_get, ◌||◌, if◌then◌else◌}
 use Rattle.items.specs.Options.{◌>>=◌}
 use Rattle.items.proofs.Binds.{bind_is}
 use Rattle.instruction_rows.specs.declared.value.Slot.{Slot}
 use Rattle.instruction_rows.specs.Rows.{Invocation, virtual, special, static, interface}
 use Rattle.world_model.specs.declared.members.MethodInfo.{MethodInfo}
 use Rattle.world_model.specs.declared.sites.Naming.{Naming}
+use Rattle.world_model.specs.declared.members.MethodCode.{MethodCode}
 use Rattle.world_model.specs.World.{World}
+use Rattle.world_model.specs.Decoded.{code_at}
+use Rattle.lib_table.specs.declared.native.Native.{Native}
 use Rattle.ref_model.specs.State.{State}
-use Rattle.ref_model.specs.Effects.{Effect}
+use Rattle.ref_model.specs.Effects.{Effect, invokes, late_failure, throws}
 use Rattle.ref_model.specs.Fetch.{Named, method_of, named_method}
 use Rattle.ref_model.specs.Kinds.{argument_slots}
-use Rattle.ref_model.specs.Calls.{called, entered, invoked}
+use Rattle.ref_model.specs.Calls.{called, code_entered, entered, invoked, native_entered}
+use Rattle.ref_model.specs.Classes.{is_sub}
+use Rattle.ref_model.specs.Frames.{callee}
+use Rattle.ref_model.specs.LocalRows.{most_frames}
+use Rattle.ref_model.specs.Members.{is_hold, is_synchronized, native_at}
+use Rattle.ref_model.specs.declared.exception.Exception.TheVariants as exceptions
 use Rattle.method_calls.specs.declared.target.Target.{Target}
-use Rattle.method_calls.specs.Targets.{Gives, numbered_effect, special_effect, virtual_effect}
+use Rattle.method_calls.specs.declared.receivers.Receiver.{Receiver}
+use Rattle.method_calls.specs.declared.target.Target.TheVariants as targets
+use Rattle.method_calls.specs.Receivers.{tested}
+use Rattle.method_calls.specs.Selections.{FitsReceiver}
+use Rattle.method_calls.specs.Targets.{Gives, IsReceived, begins, numbered_effect, received_effect, selected_effect, special_effect, virtual_effect}
 
 pub named_is : (w : World) (naming : Naming) (n : ℕ) (m : MethodInfo) → Some n ≡ method_of naming.site → Some m ≡ slice_get w.methods n →
     named_method w naming ≡ Some (record { number = n; method = m })
@@ -53,6 +65,29 @@ pub special_is : (w : World) (naming : Naming) (r : State) (depth : ℕ) (stack 
 special_is w naming r depth stack n slots m site method is =
     invoked_by w naming special r depth stack n m site method ∙ ap (λ s. special_effect w naming n s r depth stack) (sym is)
 
+-- a method with code begins
+pub coded_is : (w : World) (r : State) (depth : ℕ) (stack : List Slot) (n slots : ℕ) (m : MethodInfo) (code : MethodCode) →
+    slice_get w.methods n ≡ Some m → native_at w n ≡ None → code_at w n ≡ Some code → (is_synchronized m || is_hold w m) ≡ false →
+    numbered_effect w r depth n slots stack ≡ begins depth (record { method = n; slots = slots; locals = code.max_locals; operands = code.max_stack }) stack
+coded_is w r depth stack n slots m code method native has plain =
+    let named : Named = record { number = n; method = m } in
+    let held : Option Effect = None in
+    let begun : Option Effect =
+    if nat_lt depth most_frames then (callee n code slots stack >>= λ g. Some (invokes g (drop slots stack))) else Some (throws exceptions.StackOverflowError) in
+    ap (λ (x : Option MethodInfo). (x >>= λ y. Some (record { number = n; method = y })) >>= λ y. entered w r depth y slots stack) method
+    ∙ ap (λ (x : Option Native). native_entered w r depth named x slots stack) native ∙ ap (λ (x : Option MethodCode). code_entered w depth named x slots stack) has
+    ∙ ap (λ (b : Bool). if b then held else begun) plain
+
+-- ---- the test of the receiver's class
+
+pub tested_instance : (w : World) (receiver : Receiver) (act : ℕ → Option Effect) → is_sub w receiver.class receiver.named ≡ true →
+    tested w receiver act ≡ act receiver.class
+tested_instance w receiver act e = ap (λ (b : Bool). if b then act receiver.class else Some (throws (late_failure w receiver.named))) e
+
+pub tested_other : (w : World) (receiver : Receiver) (act : ℕ → Option Effect) → is_sub w receiver.class receiver.named ≡ false →
+    tested w receiver act ≡ Some (throws (late_failure w receiver.named))
+tested_other w receiver act e = ap (λ (b : Bool). if b then act receiver.class else Some (throws (late_failure w receiver.named))) e
+
 -- ---- what holds of a target, along an equation of its effect
 
 pub if_ok_mapped : {A E : Type 0} (x : Result A E) (P Q : A → Type 0) → ((a : A) → P a → Q a) → IfOk x P → IfOk x Q
@@ -63,3 +98,14 @@ pub gives_along : (w : World) (r : State) (depth : ℕ) (stack : List Slot) (eff
     Gives w r depth stack other target → Gives w r depth stack effect target
 gives_along w r depth stack effect other target e h =
     let P : Option Effect → Type 0 = λ x. Gives w r depth stack x target in subst P (sym e) h
+
+-- what was selected for an instance of the class that is named
+pub fits_is_received : (w : World) (receiver : Receiver) (n slots : ℕ) (target : Target) → FitsReceiver w receiver n slots target →
+    IsReceived w receiver n slots target
+fits_is_received w receiver n slots target h = λ r depth stack.
+    gives_along w r depth stack (received_effect w r depth receiver n slots stack) (selected_effect w r depth receiver.class n slots stack) target
+    (tested_instance w receiver (λ class. selected_effect w r depth class n slots stack) h.instance) (h.selected r depth stack)
+
+pub other_is_received : (w : World) (receiver : Receiver) (n slots : ℕ) → is_sub w receiver.class receiver.named ≡ false →
+    IsReceived w receiver n slots (targets.Throws (late_failure w receiver.named))
+other_is_received w receiver n slots e = λ r depth stack. tested_other w receiver (λ class. selected_effect w r depth class n slots stack) e

@@ -22,22 +22,23 @@ use Rattle.method_calls.specs.declared.returning.Left.{Left}
 use Rattle.method_calls.specs.declared.returning.Left.TheVariants as leaving
 use Rattle.method_calls.specs.declared.catching.Caught.{Caught}
 use Rattle.method_calls.specs.declared.catching.Caught.TheVariants as catching
-use Rattle.method_calls.specs.Targets.{code_effect}
+use Rattle.method_calls.specs.declared.target.Callee.{Callee}
+use Rattle.method_calls.specs.Targets.{begins}
 
 -- ---- a method with code begins
 
 -- its frame lies over the caller's, which has the operands that are left
-pub record HasBegun (w : World) (n slots : ℕ) (old new : Continuation) : Type 0 where
+pub record HasBegun (c : Callee) (old new : Continuation) : Type 0 where
   pub callee : Frame
   pub rest : List Slot
-  pub effect : code_effect w (length old.stack.frames) n slots (operands old) ≡ Some (invokes callee rest)
+  pub effect : begins (length old.stack.frames) c (operands old) ≡ Some (invokes callee rest)
   pub frames : new.stack.frames ≡ callee ∷ with_stack rest old.stack.frames
 
-abbrev pub IsEntered : World → ℕ → ℕ → Continuation → Continuation → Entered → Type 0
-IsEntered w n slots old new entering.Begun = HasBegun w n slots old new
-IsEntered w n slots old new (entering.Throws e) =
-    (code_effect w (length old.stack.frames) n slots (operands old) ≡ Some (throws e)) × (new.stack.frames ≡ old.stack.frames)
-IsEntered w n slots old new entering.Undefined = new.stack.frames ≡ old.stack.frames
+abbrev pub IsEntered : Callee → Continuation → Continuation → Entered → Type 0
+IsEntered c old new entering.Begun = HasBegun c old new
+IsEntered c old new (entering.Throws e) =
+    (begins (length old.stack.frames) c (operands old) ≡ Some (throws e)) × (new.stack.frames ≡ old.stack.frames)
+IsEntered c old new entering.Undefined = new.stack.frames ≡ old.stack.frames
 
 -- ---- a return
 

@@ -1,5 +1,5 @@
 -- The class of the receiver of an invocation.
-use Rattle.std.specs.Prelude.{ℕ, ◌≡◌, List, Option, Some, Result, Ok, Err, IfSome, drop}
+use Rattle.std.specs.Prelude.{ℕ, ◌≡◌, List, Option, Some, Result, Ok, Err, IfSome, drop, if◌then◌else◌}
 use Rattle.items.specs.Options.{◌>>=◌}
 use Rattle.opcodes.specs.declared.op.Kind.TheVariants as kinds
 use Rattle.instruction_rows.specs.declared.value.Slot.{Slot}
@@ -10,20 +10,27 @@ use Rattle.world_model.specs.World.{World}
 use Rattle.heap_objs.specs.Heap.{Heap}
 use Rattle.ref_model.specs.declared.exception.Exception.{Exception}
 use Rattle.ref_model.specs.State.{State}
-use Rattle.ref_model.specs.Effects.{Effect, throws, on_instance}
+use Rattle.ref_model.specs.Classes.{is_sub}
+use Rattle.ref_model.specs.Effects.{Effect, late_failure, throws, on_instance}
 use Rattle.object_events.specs.Operands.{operands}
 use Rattle.object_events.specs.Outcomes.{with_heap}
+use Rattle.method_calls.specs.declared.receivers.Receiver.{Receiver}
 
--- Where the class is known, the invocation does for it what it does; otherwise it throws this exception.
-abbrev pub ReceiverGives : (ℕ → Option Effect) → Option Effect → Result ℕ Exception → Type 0
-ReceiverGives act effect (Ok class) = effect ≡ act class
-ReceiverGives act effect (Err e) = effect ≡ Some (throws e)
+-- what is done with the class of a receiver, where it is an instance of the class that the instruction names (own)
+abbrev pub tested : World → Receiver → (ℕ → Option Effect) → Option Effect
+tested w receiver act =
+    if is_sub w receiver.class receiver.named then act receiver.class else Some (throws (late_failure w receiver.named))
+
+-- Where the receiver is known, the invocation does what it does for it; otherwise it throws this exception.
+abbrev pub ReceiverGives : World → (ℕ → Option Effect) → Option Effect → Result Receiver Exception → Type 0
+ReceiverGives w act effect (Ok receiver) = effect ≡ tested w receiver act
+ReceiverGives w act effect (Err e) = effect ≡ Some (throws e)
 
 -- what is done with the class of a receiver, which lies below so many slots
 abbrev pub on_receiver : World → Naming → ℕ → State → List Slot → (ℕ → Option Effect) → Option Effect
 on_receiver w naming slots r stack act =
     popped kinds.Reference (drop slots stack) >>= λ x. on_instance w naming r x.0 (λ o class. act class)
 
-abbrev pub IsReceiver : World → Naming → ℕ → Heap → Continuation → Option (Result ℕ Exception) → Type 0
+abbrev pub IsReceiver : World → Naming → ℕ → Heap → Continuation → Option (Result Receiver Exception) → Type 0
 IsReceiver w naming slots heap m found = (r : State) (act : ℕ → Option Effect) → IfSome found
-    (ReceiverGives act (on_receiver w naming slots (with_heap heap r) (operands m) act))
+    (ReceiverGives w act (on_receiver w naming slots (with_heap heap r) (operands m) act))

@@ -1,22 +1,27 @@
 -- What an invocation comes to.
-use Rattle.std.specs.Prelude.{ℕ, suc, ◌≡◌, List, Option, Some, None}
+use Rattle.std.specs.Prelude.{ℕ, suc, ◌≡◌, ◌-◌, ◌++◌, List, [], Option, Some, None, drop, length, nat_le, nat_lt, replicate, reverse, take, if◌then◌else◌}
 use Rattle.items.specs.Options.{◌>>=◌}
 use Rattle.lib_table.specs.declared.native.Native.{Native}
 use Rattle.instruction_rows.specs.declared.value.Slot.{Slot}
+use Rattle.instruction_rows.specs.declared.value.Slot.TheVariants.{Second}
 use Rattle.instruction_rows.specs.Rows.{Row, invoke}
 use Rattle.world_model.specs.declared.sites.Naming.{Naming}
 use Rattle.world_model.specs.World.{World}
-use Rattle.world_model.specs.Decoded.{code_at}
 use Rattle.heap_objs.specs.Heap.{Heap}
 use Rattle.continuation.specs.Continuation.{Continuation}
 use Rattle.ref_model.specs.State.{State}
-use Rattle.ref_model.specs.Effects.{Effect, throws}
+use Rattle.state_model.specs.Frames.{Frame}
+use Rattle.ref_model.specs.declared.exception.Exception.TheVariants as exceptions
+use Rattle.ref_model.specs.Effects.{Effect, invokes, throws}
+use Rattle.ref_model.specs.LocalRows.{most_frames}
 use Rattle.ref_model.specs.NativeRows.{native_acted}
 use Rattle.ref_model.specs.Natives.{native_row}
-use Rattle.ref_model.specs.Calls.{choice_of, chosen, entered, invoked, method_entered, method_numbered}
+use Rattle.ref_model.specs.Calls.{choice_of, chosen, entered, invoked, method_numbered}
 use Rattle.object_events.specs.Operands.{operands}
 use Rattle.object_events.specs.Outcomes.{with_heap}
-use Rattle.method_calls.specs.Receivers.{on_receiver}
+use Rattle.method_calls.specs.declared.receivers.Receiver.{Receiver}
+use Rattle.method_calls.specs.Receivers.{on_receiver, tested}
+use Rattle.method_calls.specs.declared.target.Callee.{Callee}
 use Rattle.method_calls.specs.declared.target.Target.{Target}
 use Rattle.method_calls.specs.declared.target.Target.TheVariants as targets
 
@@ -24,15 +29,34 @@ use Rattle.method_calls.specs.declared.target.Target.TheVariants as targets
 abbrev pub native_effect : World → State → Native → List Slot → Option Effect
 native_effect w r native stack = native_row w r native >>= λ row. native_acted row stack
 
--- what a call of a method with code does in a thread of so many frames
-abbrev pub code_effect : World → ℕ → ℕ → ℕ → List Slot → Option Effect
-code_effect w depth n slots stack =
-    method_numbered w n >>= λ m. code_at w n >>= λ code. method_entered w depth m code slots stack
+-- the frame of a method that begins, with these slots in its first local variables, and all others unset (JVMS 2.6.1)
+abbrev pub sized_frame : Callee → List Slot → Option Frame
+sized_frame c slots =
+    if nat_le (length slots) c.locals
+    then Some (record {
+      method = c.method;
+      pc = 0;
+      locals = slots ++ replicate (c.locals - length slots) Second;
+      stack = [];
+      room = c.operands;
+    })
+    else None
+
+-- the same with the slots that it takes from this operand stack
+abbrev pub callee_frame : Callee → List Slot → Option Frame
+callee_frame c stack = if nat_le c.slots (length stack) then sized_frame c (reverse (take c.slots stack)) else None
+
+-- what a call of it does in a thread of so many frames
+abbrev pub begins : ℕ → Callee → List Slot → Option Effect
+begins depth c stack =
+    if nat_lt depth most_frames
+    then (callee_frame c stack >>= λ g. Some (invokes g (drop c.slots stack)))
+    else Some (throws exceptions.StackOverflowError)
 
 -- Unless it is undefined, a target is that of this effect.
 abbrev pub Gives : World → State → ℕ → List Slot → Option Effect → Target → Type 0
 Gives w r depth stack effect (targets.Native native) = effect ≡ native_effect w r native stack
-Gives w r depth stack effect (targets.Code n slots) = effect ≡ code_effect w depth n slots stack
+Gives w r depth stack effect (targets.Code callee) = effect ≡ begins depth callee stack
 Gives w r depth stack effect (targets.Throws e) = effect ≡ Some (throws e)
 Gives w r depth stack effect targets.Undefined = Unit {0}
 
@@ -50,6 +74,15 @@ selected_effect w r depth class n slots stack =
 
 abbrev pub IsSelected : World → ℕ → ℕ → ℕ → Target → Type 0
 IsSelected w class n slots target = (r : State) (depth : ℕ) (stack : List Slot) → Gives w r depth stack (selected_effect w r depth class n slots stack) target
+
+-- that which is selected for this receiver runs, where it is an instance of the class that the instruction names
+abbrev pub received_effect : World → State → ℕ → Receiver → ℕ → ℕ → List Slot → Option Effect
+received_effect w r depth receiver n slots stack =
+    tested w receiver (λ class. selected_effect w r depth class n slots stack)
+
+abbrev pub IsReceived : World → Receiver → ℕ → ℕ → Target → Type 0
+IsReceived w receiver n slots target = (r : State) (depth : ℕ) (stack : List Slot) →
+    Gives w r depth stack (received_effect w r depth receiver n slots stack) target
 
 -- invokevirtual or invokeinterface, and invokespecial, of a method that takes so many slots without its receiver
 abbrev pub virtual_effect : World → Naming → ℕ → ℕ → State → ℕ → List Slot → Option Effect

@@ -3,16 +3,13 @@
 ghost use Rattle.std.specs.Prelude.{◌≡◌, ◌↔◌, ◌<◌, ◌≤◌, Err, IfOk, OnErr, OnOk, length};
 ghost use Rattle.frames.specs.Frames.{entered, top_stack};
 ghost use Rattle.frames.specs.declared.error.StackError.TheVariants as errors;
-ghost use Rattle.ref_model.specs.Members as members;
 ghost use Rattle.method_calls.specs.FrameSteps.{IsEntered};
 
-use crate::world::CallWorld;
-use class_model::ACC_SYNCHRONIZED;
+use crate::target::Callee;
 use continuation::Mounted;
 use frames::{MOST_FRAMES, StackError};
 use items::NoMemory;
 use ref_model::Exception;
-use world_model::MethodInfo;
 
 /// What became of a call of a method with code.
 #[derive(Clone, Copy, Debug, PartialEq, Eq)]
@@ -23,12 +20,6 @@ pub enum Entered {
     Throws(Exception),
     /// The definitions have no effect here, and the frames are as before.
     Undefined,
-}
-
-fn is_synchronized(method: &MethodInfo) -> bool
-    ensures { result ≡ members.is_synchronized method.now }
-{
-    method.flags & ACC_SYNCHRONIZED == ACC_SYNCHRONIZED
 }
 
 // Pushes the frame of a method. Where that wants no memory it takes constant time but for the local variables.
@@ -56,33 +47,24 @@ fn push_callee(
     mounted.push_frame(n, locals, operands, slots, false)
 }
 
-/// Begins the method with a number, which takes so many slots from the operands.
-pub fn enter<W: CallWorld>(
-    world: &W,
-    n: u32,
-    slots: u16,
-    mounted: &mut Mounted,
-) -> Result<Entered, NoMemory>
+/// Begins a method.
+#[inline(always)]
+pub fn enter(callee: Callee, mounted: &mut Mounted) -> Result<Entered, NoMemory>
     requires { 0 < length mounted.old.stack.frames }
-    ensures entered { IfOk result (λ entered.
-        IsEntered (W.world world.now) n slots mounted.old mounted.new entered) }
+    ensures entered { IfOk result (IsEntered callee mounted.old mounted.new) }
     ensures thread { mounted.new.thread ≡ mounted.old.thread }
     ensures pinned { mounted.new.pinned ≡ mounted.old.pinned }
 {
-    let Some(method) = world.method(n) else {
-        return Ok(Entered::Undefined);
-    };
-    let Some(code) = world.code(n) else {
-        return Ok(Entered::Undefined);
-    };
-    if is_synchronized(method) || world.is_hold(method) {
-        return Ok(Entered::Undefined);
-    }
-    if slots > mounted.top().operands || slots > code.max_locals {
+    let Callee {
+        method,
+        slots,
+        locals,
+        operands,
+    } = callee;
+    if slots > mounted.top().operands || slots > locals {
         return Ok(Entered::Undefined);
     }
-    let locals = u32::from(code.max_locals);
-    match push_callee(mounted, n, locals, code.max_stack, slots) {
+    match push_callee(mounted, method, u32::from(locals), operands, slots) {
         Ok(()) => Ok(Entered::Begun),
         Err(StackError::Deep) => Ok(Entered::Throws(Exception::StackOverflowError)),
         Err(StackError::NoMemory) => Err(NoMemory),

@@ -1,27 +1,31 @@
 //! What invocations come to (JVMS 6.5: invokevirtual, invokespecial, invokestatic, invokeinterface). Tests come in this order: null, the
 //! class of the receiver, selection.
 
-ghost use Rattle.std.specs.Prelude.{◌≡◌, ◌≤◌, IfOk, IfSome};
+ghost use Rattle.std.specs.Prelude.{◌≡◌, ◌≤◌, IfOk, IfSome, None, Some, slice_get, suc};
 ghost use Rattle.instruction_rows.specs.Table.{row};
+ghost use Rattle.world_model.specs.Decoded.{code_at};
 ghost use Rattle.ref_model.specs.Fetch as fetch;
-ghost use Rattle.method_calls.specs.Targets.{IsInvoked, IsNumbered, IsSelected, IsSpecial, IsVirtual};
-ghost use Rattle.method_calls.specs.Receivers.{IsReceiver};
-ghost use Rattle.method_calls.specs.Selections.{AreSelected};
-ghost use Rattle.object_events.specs.Operands.{HasTop, operands};
+ghost use Rattle.ref_model.specs.Members as members;
+ghost use Rattle.ref_model.specs.Members.{native_at};
+ghost use Rattle.method_calls.specs.Targets.{IsInvoked, IsNumbered, IsReceived, IsSelected, IsSpecial, IsVirtual};
+ghost use Rattle.method_calls.specs.Selections.{AreSelected, IsNamed};
+ghost use Rattle.object_events.specs.Operands.{HasTop};
 
 use crate::arguments::argument_slots;
-use crate::selections::{Selection, Selections};
-use crate::target::Target;
+use crate::receivers::{Receiver, receiver_of};
+use crate::selections::{NamedMethod, Selection, Selections};
+use crate::target::{Callee, Target};
 use crate::world::CallWorld;
+use class_model::ACC_SYNCHRONIZED;
 use continuation::Mounted;
 use heap_objs::Heap;
 use items::NoMemory;
 use linkage::Choice;
-use object_events::{class_number, late_failure, reference_operand};
+use object_events::late_failure;
 use opcodes::Op;
 use ref_model::Exception;
 use std::alloc::Global;
-use world_model::{Naming, Site};
+use world_model::{MethodCode, MethodInfo, Naming, Site};
 
 // The number of the method that an instruction names.
 fn method_of(naming: Naming) -> Option<u32>
@@ -33,21 +37,82 @@ fn method_of(naming: Naming) -> Option<u32>
     }
 }
 
+// A method that holds a monitor while it runs (JVMS 4.6).
+fn is_synchronized(method: &MethodInfo) -> bool
+    ensures { result ≡ members.is_synchronized method.now }
+{
+    method.flags & ACC_SYNCHRONIZED == ACC_SYNCHRONIZED
+}
+
+// The method with a number begins, and takes so many slots.
+fn coded<W: CallWorld>(
+    world: &W,
+    method: &MethodInfo,
+    code: &MethodCode,
+    n: u32,
+    slots: u16,
+) -> Target
+    requires method { slice_get (W.world world.now).methods n ≡ Some method.now }
+    requires code { code_at (W.world world.now) n ≡ Some code.now }
+    requires plain { native_at (W.world world.now) n ≡ None }
+    ensures { IsNumbered (W.world world.now) n slots result }
+{
+    if is_synchronized(method) || world.is_hold(method) {
+        return Target::Undefined;
+    }
+    Target::Code(Callee {
+        method: n,
+        slots,
+        locals: code.max_locals,
+        operands: code.max_stack,
+    })
+}
+
 // The method with a number runs, and takes so many slots (JVMS 4.6: without code it is abstract).
-#[inline(always)]
 fn numbered<W: CallWorld>(world: &W, n: u32, slots: u16) -> Target
     ensures { IsNumbered (W.world world.now) n slots result }
 {
-    let Some(_) = world.method(n) else {
+    let Some(method) = world.method(n) else {
         return Target::Undefined;
     };
     if let Some(native) = world.native(n) {
         return Target::Native(native);
     }
     match world.code(n) {
-        Some(_) => Target::Code { method: n, slots },
+        Some(code) => coded(world, method, code, n, slots),
         None => Target::Throws(Exception::AbstractMethodError),
     }
+}
+
+// The method that an instruction names by this number. `None`: it is undefined.
+fn named_anew<W: CallWorld>(world: &W, n: u32) -> Option<NamedMethod>
+    ensures number { IfSome result (λ m. m.number ≡ n) }
+    ensures named { IfSome result (IsNamed (W.world world.now)) }
+{
+    let method = world.method(n)?;
+    let slots = argument_slots(&method.signature)?;
+    Some(NamedMethod {
+        number: n,
+        slots,
+        unbound: numbered(world, n, slots),
+        bound: numbered(world, n, slots + 1),
+    })
+}
+
+// The same in constant time, where an earlier invocation named it.
+#[inline(always)]
+fn named<W: CallWorld>(world: &W, selections: &mut Selections, n: u32) -> Option<NamedMethod>
+    requires { AreSelected (W.world world.now) selections.old }
+    ensures number { IfSome result (λ m. m.number ≡ n) }
+    ensures named { IfSome result (IsNamed (W.world world.now)) }
+    ensures selections { AreSelected (W.world world.now) selections.new }
+{
+    if let Some(method) = selections.find_method(n) {
+        return Some(method);
+    }
+    let method = named_anew(world, n)?;
+    selections.keep_method(method);
+    Some(method)
 }
 
 // What is selected for a receiver of a class runs (JVMS 5.4.6). This goes up the superclasses.
@@ -73,25 +138,25 @@ fn selected_anew<W: CallWorld>(
     }
 }
 
-// The same in constant time, where an earlier invocation selected it.
-fn selected<W: CallWorld>(
+// What an invocation on an object comes to: the late check of its class, and selection (own).
+fn received_anew<W: CallWorld>(
     alloc: Global,
     world: &W,
     selections: &mut Selections,
-    class: u32,
+    receiver: Receiver,
     n: u32,
     slots: u16,
 ) -> Result<Target, NoMemory>
     requires { AreSelected (W.world world.now) selections.old }
-    ensures target { IfOk result (λ target. IsSelected (W.world world.now) class n slots target) }
+    ensures target { IfOk result (IsReceived (W.world world.now) receiver n slots) }
     ensures selections { AreSelected (W.world world.now) selections.new }
 {
-    if let Some(target) = selections.find(class, n, slots) {
-        return Ok(target);
+    if !world.is_sub(receiver.class, receiver.named) {
+        return Ok(Target::Throws(late_failure(world, receiver.named)));
     }
-    let target = selected_anew(alloc, world, class, n, slots)?;
+    let target = selected_anew(alloc, world, receiver.class, n, slots)?;
     selections.keep(Selection {
-        class,
+        receiver,
         method: n,
         slots,
         target,
@@ -99,74 +164,81 @@ fn selected<W: CallWorld>(
     Ok(target)
 }
 
-// The class of the receiver of an invocation, which lies below so many slots, or what is thrown. `None`: that is undefined.
-fn receiver_class<W: CallWorld>(
+// The same in constant time, where an earlier invocation selected it.
+#[inline(always)]
+fn received<W: CallWorld>(
+    alloc: Global,
     world: &W,
-    naming: Naming,
+    selections: &mut Selections,
+    receiver: Receiver,
+    n: u32,
     slots: u16,
-    heap: &Heap,
-    mounted: &Mounted,
-) -> Option<Result<u32, Exception>>
-    requires { HasTop mounted.now }
-    ensures { IsReceiver (W.world world.now) naming slots heap.now mounted.now result }
+) -> Result<Target, NoMemory>
+    requires { AreSelected (W.world world.now) selections.old }
+    ensures target { IfOk result (IsReceived (W.world world.now) receiver n slots) }
+    ensures selections { AreSelected (W.world world.now) selections.new }
 {
-    let reference = reference_operand(mounted, slots)?;
-    let Some(o) = reference else {
-        return Some(Err(Exception::NullPointerException));
-    };
-    let class = class_number(world, heap, o)?;
-    let named = naming.class?;
-    if !world.is_sub(class, named) {
-        return Some(Err(late_failure(world, named)));
+    if let Some(target) = selections.find(receiver, n, slots) {
+        return Ok(target);
     }
-    Some(Ok(class))
+    received_anew(alloc, world, selections, receiver, n, slots)
 }
 
-// invokevirtual and invokeinterface of a method that takes so many slots without its receiver.
+// invokevirtual and invokeinterface.
+#[inline(always)]
 fn invoke_virtual<W: CallWorld>(
     alloc: Global,
     world: &W,
     selections: &mut Selections,
     naming: Naming,
-    n: u32,
-    slots: u16,
+    method: NamedMethod,
     heap: &Heap,
     mounted: &Mounted,
 ) -> Result<Target, NoMemory>
     requires top { HasTop mounted.now }
-    requires few { slots ≤ 255 }
+    requires few { method.slots ≤ 255 }
     requires selected { AreSelected (W.world world.now) selections.old }
-    ensures target { IfOk result (λ target.
-        IsVirtual (W.world world.now) naming n slots heap.now mounted.now target) }
+    ensures target { IfOk result (IsVirtual (W.world world.now) naming method.number method.slots
+        heap.now mounted.now) }
     ensures selections { AreSelected (W.world world.now) selections.new }
 {
-    let Some(receiver) = receiver_class(world, naming, slots, heap, mounted) else {
+    let Some(receiver) = receiver_of(world, naming, method.slots, heap, mounted) else {
         return Ok(Target::Undefined);
     };
     match receiver {
-        Ok(class) => selected(alloc, world, selections, class, n, slots + 1),
+        Ok(receiver) => {
+            let slots = method.slots + 1;
+            received(alloc, world, selections, receiver, method.number, slots)
+        }
         Err(e) => Ok(Target::Throws(e)),
     }
 }
 
-// invokespecial of such a method.
+// invokespecial.
+#[inline(always)]
 fn invoke_special<W: CallWorld>(
     world: &W,
     naming: Naming,
-    n: u32,
-    slots: u16,
+    method: NamedMethod,
     heap: &Heap,
     mounted: &Mounted,
 ) -> Target
     requires top { HasTop mounted.now }
-    requires few { slots ≤ 255 }
-    ensures { IsSpecial (W.world world.now) naming n slots heap.now mounted.now result }
+    requires named { IsNamed (W.world world.now) method }
+    ensures { IsSpecial (W.world world.now) naming method.number method.slots
+        heap.now mounted.now result }
 {
-    let Some(receiver) = receiver_class(world, naming, slots, heap, mounted) else {
+    let Some(receiver) = receiver_of(world, naming, method.slots, heap, mounted) else {
         return Target::Undefined;
     };
     match receiver {
-        Ok(_) => numbered(world, n, slots + 1),
+        Ok(receiver) => {
+            if world.is_sub(receiver.class, receiver.named) {
+                method.bound
+            } else {
+                Target::Throws(late_failure(world, receiver.named))
+            }
+        }
         Err(e) => Target::Throws(e),
     }
 }
@@ -190,21 +262,18 @@ pub fn invoke<W: CallWorld>(
     let Some(n) = method_of(naming) else {
         return Ok(Target::Undefined);
     };
-    let Some(method) = world.method(n) else {
-        return Ok(Target::Undefined);
-    };
-    let Some(slots) = argument_slots(&method.signature) else {
+    let Some(method) = named(world, selections, n) else {
         return Ok(Target::Undefined);
     };
     match op {
-        Op::InvokeStatic(_) => Ok(numbered(world, n, slots)),
+        Op::InvokeStatic(_) => Ok(method.unbound),
         Op::InvokeVirtual(_) => {
-            invoke_virtual(alloc, world, selections, naming, n, slots, heap, mounted)
+            invoke_virtual(alloc, world, selections, naming, method, heap, mounted)
         }
         Op::InvokeInterface(_, _) => {
-            invoke_virtual(alloc, world, selections, naming, n, slots, heap, mounted)
+            invoke_virtual(alloc, world, selections, naming, method, heap, mounted)
         }
-        Op::InvokeSpecial(_) => Ok(invoke_special(world, naming, n, slots, heap, mounted)),
+        Op::InvokeSpecial(_) => Ok(invoke_special(world, naming, method, heap, mounted)),
         _ => Ok(Target::Undefined),
     }
 }

@@ -1,13 +1,25 @@
 use lib_table::Native;
 use ref_model::Exception;
 
+/// A method with code that an invocation begins (JVMS 2.6), with the size of its frame.
+#[derive(Clone, Copy, Debug, PartialEq, Eq)]
+pub struct Callee {
+    pub method: u32,
+    /// How many slots it takes from the operands, the receiver's among them.
+    pub slots: u16,
+    /// How many local variables its frame has, in slots.
+    pub locals: u16,
+    /// How many operands its frame may have, in slots.
+    pub operands: u16,
+}
+
 /// What an invocation comes to.
 #[derive(Clone, Copy, Debug, PartialEq, Eq)]
 pub enum Target {
     /// The machine does this in place of the method's code.
     Native(Native),
-    /// The method with this number has code, and takes so many slots, the receiver's among them.
-    Code { method: u32, slots: u16 },
+    /// This method begins.
+    Code(Callee),
     /// It throws a new exception.
     Throws(Exception),
     /// The definitions have no effect here. Frames that keep to the typing never get there (own).

@@ -17,7 +17,7 @@ returns-in-Code-clause-steps g c =
     let w = g.W.EventWorld.world c.args.world.now in
     let i : Instruction = record { instr = c.args.instr.now; naming = c.args.naming } in
     on_ok c.code_step.result c.code_step.ensures
-    (code_stepped w i c.args.parts.now c.code_step.new.parts c.args.mounted.now c.code_step.new.mounted.stack.frames c.in-Code.method c.in-Code.slots
+    (code_stepped w i c.args.parts.now c.code_step.new.parts c.args.mounted.now c.code_step.new.mounted.stack.frames c.in-Code.callee
     (subst (ComesTo w i c.args.parts.now c.args.mounted.now) c.in-Code.is c.in_ok-target.ensures.target))
 
 pub returns-in-Throws-clause-steps : goal.returns-in-Throws-clause-steps

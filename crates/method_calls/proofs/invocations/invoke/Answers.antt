@@ -1,6 +1,7 @@
-use Rattle.std.proofs.Common.{ap, ◌∙◌}
+use Rattle.std.proofs.Common.{ℕ, ◌≡◌, Some, Option, ap, ◌∙◌}
 use Rattle.opcodes.specs.declared.op.Op.{Op}
 use Rattle.instruction_rows.specs.Table.{row}
+use Rattle.ref_model.specs.Fetch.{method_of}
 use Rattle.object_events.specs.Operands.{operands}
 use Rattle.object_events.specs.Outcomes.{with_heap}
 use Rattle.method_calls.specs.Targets.{IsInvoked, IsVirtual, numbered_effect, row_invoked, special_effect, virtual_effect}
@@ -11,54 +12,54 @@ pub returns-in-InvokeStatic-clause-target : goal.returns-in-InvokeStatic-clause-
 returns-in-InvokeStatic-clause-target g c = λ r depth.
     let w = g.W.EventWorld.world c.args.world.now in
     let naming = c.args.naming in
-    let n = c.in-Some.n in
-    let m = c.in-Some-method.method.now in
-    let slots = c.in-Some-argument_slots.slots in
+    let m = c.in-Some-named.method in
+    let is = c.in-Some-named.ensures.named in
     let q = with_heap c.args.heap.now r in
     let stack = operands c.args.mounted.now in
-    gives_along w q depth stack (row_invoked w naming (row c.args.op.now) q depth stack) (numbered_effect w q depth n slots stack) c.numbered.result
+    let site : Some m.number ≡ method_of naming.site = ap Some c.in-Some-named.ensures.number ∙ c.in-Some.ensures in
+    gives_along w q depth stack (row_invoked w naming (row c.args.op.now) q depth stack) (numbered_effect w q depth m.number m.slots stack) m.unbound
     (ap (λ (o : Op). row_invoked w naming (row o) q depth stack) c.in-InvokeStatic.is
-    ∙ static_is w naming q depth stack n slots m c.in-Some.ensures c.in-Some-method.ensures c.in-Some-argument_slots.ensures.slots) (c.numbered.ensures q depth stack)
+    ∙ static_is w naming q depth stack m.number m.slots is.method site is.is is.slots) (is.unbound q depth stack)
 
 pub returns-in-InvokeSpecial-clause-target : goal.returns-in-InvokeSpecial-clause-target
 returns-in-InvokeSpecial-clause-target g c = λ r depth.
     let w = g.W.EventWorld.world c.args.world.now in
     let naming = c.args.naming in
-    let n = c.in-Some.n in
-    let m = c.in-Some-method.method.now in
-    let slots = c.in-Some-argument_slots.slots in
+    let m = c.in-Some-named.method in
+    let is = c.in-Some-named.ensures.named in
     let q = with_heap c.args.heap.now r in
     let stack = operands c.args.mounted.now in
-    gives_along w q depth stack (row_invoked w naming (row c.args.op.now) q depth stack) (special_effect w naming n slots q depth stack) c.invoke_special.result
+    let site : Some m.number ≡ method_of naming.site = ap Some c.in-Some-named.ensures.number ∙ c.in-Some.ensures in
+    gives_along w q depth stack (row_invoked w naming (row c.args.op.now) q depth stack) (special_effect w naming m.number m.slots q depth stack) c.invoke_special.result
     (ap (λ (o : Op). row_invoked w naming (row o) q depth stack) c.in-InvokeSpecial.is
-    ∙ special_is w naming q depth stack n slots m c.in-Some.ensures c.in-Some-method.ensures c.in-Some-argument_slots.ensures.slots) (c.invoke_special.ensures r depth)
+    ∙ special_is w naming q depth stack m.number m.slots is.method site is.is is.slots) (c.invoke_special.ensures r depth)
 
 pub returns-in-InvokeVirtual-clause-target : goal.returns-in-InvokeVirtual-clause-target
 returns-in-InvokeVirtual-clause-target g c =
     let w = g.W.EventWorld.world c.args.world.now in
     let naming = c.args.naming in
-    let n = c.in-Some.n in
-    let m = c.in-Some-method.method.now in
-    let slots = c.in-Some-argument_slots.slots in
-    if_ok_mapped c.invoke_virtual.result (IsVirtual w naming n slots c.args.heap.now c.args.mounted.now) (IsInvoked w naming (row c.args.op.now) c.args.heap.now c.args.mounted.now)
+    let m = c.in-Some-named.method in
+    let is = c.in-Some-named.ensures.named in
+    let site : Some m.number ≡ method_of naming.site = ap Some c.in-Some-named.ensures.number ∙ c.in-Some.ensures in
+    if_ok_mapped c.invoke_virtual.result (IsVirtual w naming m.number m.slots c.args.heap.now c.args.mounted.now) (IsInvoked w naming (row c.args.op.now) c.args.heap.now c.args.mounted.now)
     (λ target h r depth.
     let q = with_heap c.args.heap.now r in
     let stack = operands c.args.mounted.now in
-    gives_along w q depth stack (row_invoked w naming (row c.args.op.now) q depth stack) (virtual_effect w naming n slots q depth stack) target
+    gives_along w q depth stack (row_invoked w naming (row c.args.op.now) q depth stack) (virtual_effect w naming m.number m.slots q depth stack) target
     (ap (λ (o : Op). row_invoked w naming (row o) q depth stack) c.in-InvokeVirtual.is
-    ∙ virtual_is w naming q depth stack n slots m c.in-Some.ensures c.in-Some-method.ensures c.in-Some-argument_slots.ensures.slots) (h r depth)) c.invoke_virtual.ensures.target
+    ∙ virtual_is w naming q depth stack m.number m.slots is.method site is.is is.slots) (h r depth)) c.invoke_virtual.ensures.target
 
 pub returns-in-InvokeInterface-clause-target : goal.returns-in-InvokeInterface-clause-target
 returns-in-InvokeInterface-clause-target g c =
     let w = g.W.EventWorld.world c.args.world.now in
     let naming = c.args.naming in
-    let n = c.in-Some.n in
-    let m = c.in-Some-method.method.now in
-    let slots = c.in-Some-argument_slots.slots in
-    if_ok_mapped c.invoke_virtual-in-InvokeInterface.result (IsVirtual w naming n slots c.args.heap.now c.args.mounted.now) (IsInvoked w naming (row c.args.op.now) c.args.heap.now c.args.mounted.now)
+    let m = c.in-Some-named.method in
+    let is = c.in-Some-named.ensures.named in
+    let site : Some m.number ≡ method_of naming.site = ap Some c.in-Some-named.ensures.number ∙ c.in-Some.ensures in
+    if_ok_mapped c.invoke_virtual-in-InvokeInterface.result (IsVirtual w naming m.number m.slots c.args.heap.now c.args.mounted.now) (IsInvoked w naming (row c.args.op.now) c.args.heap.now c.args.mounted.now)
     (λ target h r depth.
     let q = with_heap c.args.heap.now r in
     let stack = operands c.args.mounted.now in
-    gives_along w q depth stack (row_invoked w naming (row c.args.op.now) q depth stack) (virtual_effect w naming n slots q depth stack) target
+    gives_along w q depth stack (row_invoked w naming (row c.args.op.now) q depth stack) (virtual_effect w naming m.number m.slots q depth stack) target
     (ap (λ (o : Op). row_invoked w naming (row o) q depth stack) c.in-InvokeInterface.is
-    ∙ interface_is w naming c.in-InvokeInterface.field-1 q depth stack n slots m c.in-Some.ensures c.in-Some-method.ensures c.in-Some-argument_slots.ensures.slots) (h r depth)) c.invoke_virtual-in-InvokeInterface.ensures.target
+    ∙ interface_is w naming c.in-InvokeInterface.field-1 q depth stack m.number m.slots is.method site is.is is.slots) (h r depth)) c.invoke_virtual-in-InvokeInterface.ensures.target

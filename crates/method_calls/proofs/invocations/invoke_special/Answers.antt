@@ -1,31 +1,45 @@
-use Rattle.std.proofs.Common.{ℕ, suc, ◌≡◌, ◌+◌, Option, subst, ap, ◌∙◌, arith}
+use Rattle.std.proofs.Common.{ℕ, suc, Option, Some, sym, subst, ap, ◌∙◌}
 use Rattle.std.specs.Prelude.{Result}
 use Rattle.ref_model.specs.declared.exception.Exception.{Exception}
-use Rattle.ref_model.specs.Effects.{Effect}
+use Rattle.ref_model.specs.Effects.{Effect, throws}
 use Rattle.object_events.specs.Operands.{operands}
 use Rattle.object_events.specs.Outcomes.{with_heap}
+use Rattle.method_calls.specs.declared.receivers.Receiver.{Receiver}
 use Rattle.method_calls.specs.Receivers.{ReceiverGives}
 use Rattle.method_calls.specs.Targets.{numbered_effect, special_effect}
-use Rattle.method_calls.proofs.InvocationLaws.{gives_along}
+use Rattle.method_calls.proofs.InvocationLaws.{gives_along, tested_instance, tested_other}
 use Rattle.method_calls.proofs.invocations.invoke_special.Goals as goal
 
-pub returns-in-Ok : goal.returns-in-Ok
-returns-in-Ok g c = λ r depth.
+pub returns-then-is_sub : goal.returns-then-is_sub
+returns-then-is_sub g c = λ r depth.
     let w = g.W.EventWorld.world c.args.world.now in
+    let m = c.args.method in
     let q = with_heap c.args.heap.now r in
     let stack = operands c.args.mounted.now in
-    let act : ℕ → Option Effect = λ class. numbered_effect w q depth c.args.n (suc c.args.slots) stack in
-    let T : Result ℕ Exception → Type 0 = ReceiverGives act (special_effect w c.args.naming c.args.n c.args.slots q depth stack) in
-    let slots : ℕ → Option Effect = λ s. numbered_effect w q depth c.args.n s stack in
-    let next : suc c.args.slots ≡ c.args.slots + 1 = omega arith in
-    gives_along w q depth stack (special_effect w c.args.naming c.args.n c.args.slots q depth stack) (slots (c.args.slots + 1)) c.numbered.result
-    (subst T c.in-Ok.is (c.in-Some.ensures r act) ∙ ap slots next) (c.numbered.ensures q depth stack)
+    let act : ℕ → Option Effect = λ class. numbered_effect w q depth m.number (suc m.slots) stack in
+    let effect = special_effect w c.args.naming m.number m.slots q depth stack in
+    let T : Result Receiver Exception → Type 0 = ReceiverGives w act effect in
+    gives_along w q depth stack effect (numbered_effect w q depth m.number (suc m.slots) stack) m.bound
+    (subst T c.in-Ok.is (c.in-Some.ensures r act) ∙ tested_instance w c.in-Ok.receiver act (sym c.is_sub.ensures ∙ c.if-is_sub.true))
+    (c.requires.named.bound q depth stack)
+
+pub returns-else-is_sub : goal.returns-else-is_sub
+returns-else-is_sub g c = λ r depth.
+    let w = g.W.EventWorld.world c.args.world.now in
+    let m = c.args.method in
+    let q = with_heap c.args.heap.now r in
+    let stack = operands c.args.mounted.now in
+    let act : ℕ → Option Effect = λ class. numbered_effect w q depth m.number (suc m.slots) stack in
+    let T : Result Receiver Exception → Type 0 = ReceiverGives w act (special_effect w c.args.naming m.number m.slots q depth stack) in
+    subst T c.in-Ok.is (c.in-Some.ensures r act) ∙ tested_other w c.in-Ok.receiver act (sym c.is_sub.ensures ∙ c.if-is_sub.false)
+    ∙ ap (λ e. Some (throws e)) (sym c.late_failure.ensures)
 
 pub returns-in-Err : goal.returns-in-Err
 returns-in-Err g c = λ r depth.
     let w = g.W.EventWorld.world c.args.world.now in
+    let m = c.args.method in
     let q = with_heap c.args.heap.now r in
     let stack = operands c.args.mounted.now in
-    let act : ℕ → Option Effect = λ class. numbered_effect w q depth c.args.n (suc c.args.slots) stack in
-    let T : Result ℕ Exception → Type 0 = ReceiverGives act (special_effect w c.args.naming c.args.n c.args.slots q depth stack) in
+    let act : ℕ → Option Effect = λ class. numbered_effect w q depth m.number (suc m.slots) stack in
+    let T : Result Receiver Exception → Type 0 = ReceiverGives w act (special_effect w c.args.naming m.number m.slots q depth stack) in
     subst T c.in-Err.is (c.in-Some.ensures r act)

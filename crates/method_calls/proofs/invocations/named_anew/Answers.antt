@@ -1,0 +1,17 @@
+use Rattle.std.proofs.Common.{ℕ, suc, ◌≡◌, ◌+◌, subst, arith}
+use Rattle.method_calls.specs.Targets.{IsNumbered}
+use Rattle.method_calls.proofs.invocations.named_anew.Goals as goal
+
+pub returns-clause-named : goal.returns-clause-named
+returns-clause-named g c =
+    let w = g.W.EventWorld.world c.args.world.now in
+    let slots = c.in_ok-slots.slots in
+    let next : slots + 1 ≡ suc slots = omega arith in
+    record {
+      method = c.in_ok-method.method.now;
+      is = c.in_ok-method.ensures;
+      slots = c.in_ok-slots.ensures.slots;
+      few = c.in_ok-slots.ensures.few;
+      unbound = c.numbered.ensures;
+      bound = subst (λ s. IsNumbered w c.args.n s c.numbered-2.result) next c.numbered-2.ensures;
+    }

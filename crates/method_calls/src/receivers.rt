@@ -1,0 +1,39 @@
+//! The receivers of invocations: the objects on which they are.
+
+ghost use Rattle.method_calls.specs.Receivers.{IsReceiver};
+ghost use Rattle.object_events.specs.Operands.{HasTop};
+
+use crate::world::CallWorld;
+use continuation::Mounted;
+use heap_objs::Heap;
+use object_events::{class_number, reference_operand};
+use ref_model::Exception;
+use world_model::Naming;
+
+/// The class of a receiver, and the class that the instruction names.
+#[derive(Clone, Copy, PartialEq, Eq)]
+pub(crate) struct Receiver {
+    pub(crate) class: u32,
+    pub(crate) named: u32,
+}
+
+/// The receiver of an invocation, which lies below so many slots, or what is thrown. `None`: that is undefined.
+#[inline(always)]
+pub(crate) fn receiver_of<W: CallWorld>(
+    world: &W,
+    naming: Naming,
+    slots: u16,
+    heap: &Heap,
+    mounted: &Mounted,
+) -> Option<Result<Receiver, Exception>>
+    requires { HasTop mounted.now }
+    ensures { IsReceiver (W.world world.now) naming slots heap.now mounted.now result }
+{
+    let reference = reference_operand(mounted, slots)?;
+    let Some(o) = reference else {
+        return Some(Err(Exception::NullPointerException));
+    };
+    let class = class_number(world, heap, o)?;
+    let named = naming.class?;
+    Some(Ok(Receiver { class, named }))
+}
