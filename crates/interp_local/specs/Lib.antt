@@ -3,3 +3,5 @@ pub mod Places
 pub mod QuickCode
 pub mod Runs
 pub mod Stops
+pub mod Fetched
+pub mod Tops

@@ -4,11 +4,13 @@ ghost use Rattle.std.specs.Prelude.{ℕ, ◌≡◌, ◌+◌, ◌<◌, ◌≤◌,
 ghost use Rattle.instruction_rows.specs.Pcs.{pc_after};
 ghost use Rattle.verify_types.specs.Typing.{AreTyped};
 ghost use Rattle.interp_local.specs.FrameRows.{way_to};
+ghost use Rattle.interp_local.specs.Places as places;
 ghost use Rattle.interp_local.specs.Places.{first_at};
 ghost use Rattle.interp_local.specs.QuickCode.{IsCodeOf};
 ghost use Rattle.interp_local.specs.Runs.{HasPc, IsAt, IsStep, Leads, StaysAt, step_by};
 
 use crate::execution::execute;
+use crate::fetched::Fetched;
 use crate::places::{naming_at, place};
 use crate::prepared::Prepared;
 use crate::prepared_code::PreparedCode;
@@ -68,6 +70,19 @@ pub(crate) fn pc_at(code: &[Instr], at: usize) -> u32
     ensures { (pc : ℕ) → first_at pc code.now ≡ Some at → result ≡ pc }
 {
     code[at].pc
+}
+
+/// The instruction with an index, and what its constant means.
+#[inline(always)]
+pub(crate) fn fetch_at<'a>(code: &PreparedCode<'a>, at: usize) -> Fetched<'a>
+    requires { at < length code.now.instrs.now }
+    ensures instr { slice_get code.now.instrs.now at ≡ Some result.instr.now }
+    ensures naming { result.naming ≡ places.naming_at code.now.namings.now at }
+{
+    Fetched {
+        instr: instr_at(code.instrs, at),
+        naming: naming_at(code.namings, at),
+    }
 }
 
 // The pc after an instruction.

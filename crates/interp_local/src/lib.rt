@@ -3,6 +3,7 @@
 
 mod constants;
 mod execution;
+mod fetched;
 mod frame_run;
 mod frame_step;
 mod places;
@@ -14,5 +15,6 @@ mod quick_run;
 mod run;
 mod staying;
 
+pub use fetched::Fetched;
 pub use prepared::Prepared;
-pub use run::{Local, run_local};
+pub use run::{Local, TopRun, run_and_fetch, run_local};

@@ -1,7 +1,6 @@
 -- Returns to callers, as local instructions, and where a run of them ends instead.
 use Rattle.std.proofs.Common.{◌≡◌, ℕ, ◌+◌, ◌-◌, ◌<◌, Bool, true, false, List, [], ◌∷◌, Option, Some, None, length, refl, ap, sym, ◌∙◌, arith}
-use Rattle.std.specs.Prelude.{IfSome}
-use Rattle.std.specs.Option.{option_map}
+use Rattle.std.specs.Prelude.{IsTrue}
 use Rattle.items.proofs.Binds.{bind_is}
 use Rattle.opcodes.specs.declared.op.Kind.{Kind}
 use Rattle.instruction_rows.specs.Rows.{Row, returns, invoke, static}
@@ -10,7 +9,6 @@ use Rattle.world_model.specs.World.{World}
 use Rattle.verify_types.specs.Environment.{Instruction}
 use Rattle.verify_types.specs.Typing.{AreTyped}
 use Rattle.state_model.specs.Frames.{Frame}
-use Rattle.frames.specs.Frames.{top_method, top_pc}
 use Rattle.ref_model.specs.Fetch.{fetched}
 use Rattle.ref_model.specs.LocalRows.{row, rows, local_act}
 use Rattle.typed_frames.specs.LocalLaws.{NamesStatic}
@@ -18,9 +16,9 @@ use Rattle.typed_frames.specs.Typed.{Typed}
 use Rattle.typed_frames.proofs.KeepLaws.{row_keeps}
 use Rattle.interp_local.specs.Runs.{stays_on}
 use Rattle.method_calls.specs.FrameSteps.{top_is_root, top_returned}
-use Rattle.ready_program.specs.declared.instructions.Fetched.{Fetched}
-use Rattle.ready_program.specs.Instructions.{instruction_at, instruction_of}
-use Rattle.machine.specs.LocalRuns.{GoesBack, IsTopAt, returned_kind}
+use Rattle.interp_local.specs.declared.fetched.Fetched.{Fetched}
+use Rattle.interp_local.specs.Fetched.{IsTopAt, instruction_of}
+use Rattle.machine.specs.LocalRuns.{GoesBack, returned_kind}
 use Rattle.machine.proofs.LocalLaws.{kind_row, not_back, root_ends, rows_join, row_behind}
 
 inside : {A : Type 0} (a b : A) → ◌≡◌ {A = Option A} (Some a) (Some b) → a ≡ b
@@ -33,15 +31,6 @@ no_call a kind index x y = let e = sym x ∙ y in cc
 names_none : (w : World) (f : Frame) (i : Instruction) (kind : Option Kind) → fetched w f ≡ Some i → row_of i.instr.op ≡ returns kind → NamesStatic w f
 names_none w f i kind at is = λ j index m found called named.
     absurd (no_call (row_of i.instr.op) kind index is (ap (λ (x : Instruction). row_of x.instr.op) (inside i j (sym at ∙ found)) ∙ called))
-
--- the instruction that was looked up
-pub looked_up : (w : World) (frames : List Frame) (method pc : ℕ) (o : Option Fetched) → 0 < length frames → method ≡ top_method frames → pc ≡ top_pc frames
-    → option_map instruction_of o ≡ instruction_at w method pc → IfSome o (IsTopAt w frames)
-looked_up w frames method pc None some is at found = tt
-looked_up w frames method pc (Some f) some is at found = record {
-  frame = some;
-  at = ap (λ m. instruction_at w m (top_pc frames)) (sym is) ∙ ap (instruction_at w method) (sym at) ∙ sym found;
-}
 
 -- the return to the caller was made
 pub back_made : (w : World) (frames after : List Frame) (f : Fetched) (kind : Option Kind) → AreTyped w → Typed w frames → IsTopAt w frames f
@@ -83,6 +72,6 @@ goes_again w a b first mid back last made returned more =
     rows_join w (1 + a) b (a + (1 + b)) first back last (turned a b) (row_behind w a (1 + a) first mid back refl made returned.0) more
 
 -- a run that made fewer instructions than it might is at none that stays in its frame
-pub stopped : (stays : Bool) (steps more : ℕ) → (stays ≡ true → more ≡ 10000 - 1 - steps) → steps < 10000 → steps + (1 + more) < 10000 → stays ≡ false
-stopped true steps more all few less = let whole = all refl in absurd (omega arith)
-stopped false steps more all few less = refl
+pub stopped : (found stays : Bool) (steps more : ℕ) → found ≡ stays → (IsTrue found → more ≡ 10000 - 1 - steps) → steps < 10000 → steps + (1 + more) < 10000 → stays ≡ false
+stopped true stays steps more is all few less = let whole = all tt in absurd (omega arith)
+stopped false stays steps more is all few less = sym is

@@ -19,7 +19,7 @@ use Rattle.typed_frames.proofs.ThreadLaws.{frames_keep}
 use Rattle.typed_steps.specs.Namings.{IsStepNaming}
 use Rattle.typed_steps.proofs.Steps.{step_keeps, running_is_typed}
 use Rattle.frames.specs.Frames.{top_method, top_pc}
-use Rattle.ready_program.specs.Instructions.{instruction_at}
+use Rattle.interp_local.specs.Fetched.{instruction_at}
 use Rattle.machine.specs.Concluding.{Steps}
 use Rattle.machine.specs.declared.parts.Parts.{Parts}
 use Rattle.machine.specs.Ready.{IsReady}

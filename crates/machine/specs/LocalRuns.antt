@@ -8,8 +8,8 @@ use Rattle.ref_model.specs.LocalRows.{row, rows}
 use Rattle.ref_model.specs.Entries.{may_be_last, most_local_steps, stands_at_static_call}
 use Rattle.frames.specs.Frames.{top_method, top_pc}
 use Rattle.typed_frames.specs.Typed.{Typed}
-use Rattle.ready_program.specs.declared.instructions.Fetched.{Fetched}
-use Rattle.ready_program.specs.Instructions.{instruction_at, instruction_of}
+use Rattle.interp_local.specs.declared.fetched.Fetched.{Fetched}
+use Rattle.interp_local.specs.Fetched.{IsTopAt}
 
 -- the kind of what a return gives back, where the row is that of a return
 abbrev pub returned_kind : Row → Option (Option Kind)
@@ -19,11 +19,6 @@ returned_kind r = None
 -- A run of local instructions ends with these frames: the next instruction isn't local, or it is an invokestatic. (own)
 abbrev pub ends_run : World → List Frame → Bool
 ends_run w frames = not (is_some (row w frames)) || stands_at_static_call w frames
-
--- the top frame is at this instruction
-pub record IsTopAt (w : World) (frames : List Frame) (f : Fetched) : Type 0 where
-  pub frame : 0 < length frames
-  pub at : instruction_at w (top_method frames) (top_pc frames) ≡ Some (instruction_of f)
 
 -- the frames stay, and a run ends with them, before this instruction
 pub record EndsAt (w : World) (old new : List Frame) (f : Fetched) : Type 0 where

@@ -7,23 +7,24 @@ ghost use Rattle.vthread_state.specs.declared.phase.Phase.TheVariants.{Run, Thro
 ghost use Rattle.vthread_state.specs.declared.thread.Status.TheVariants.{Live};
 ghost use Rattle.method_calls.specs.Selections.{AreSelected};
 ghost use Rattle.machine.specs.Concluding.{Steps};
-ghost use Rattle.machine.specs.LocalRuns.{IsTopAt};
+ghost use Rattle.interp_local.specs.Fetched.{IsTopAt};
 ghost use Rattle.machine.specs.Ready.{IsReady};
 ghost use Rattle.machine.specs.States.{state_of};
 ghost use Rattle.machine.specs.Steps.{IsKept};
 
 use crate::calls::invocation_step;
 use crate::events::event_step;
-use crate::local::{local_step, return_at, top_instruction};
+use crate::local::{local_step, return_at};
 use crate::parts::Parts;
 use crate::returns::return_step;
 use crate::throwing::throwing_step;
 use crate::world::MachineWorld;
 use continuation::Mounted;
+use interp_local::Fetched;
 use items::NoMemory;
 use method_calls::Selections;
 use opcodes::{Instr, Op};
-use ready_program::{Fetched, ReadyProgram};
+use ready_program::ReadyProgram;
 use std::alloc::Global;
 use world_model::Naming;
 
@@ -104,12 +105,9 @@ pub(crate) fn running_step(
         (state_of parts.new mounted.new.stack.frames)) }
     ensures selections { AreSelected program.now selections.new }
 {
-    if local_step(program, mounted) {
-        return Ok(());
-    }
-    match top_instruction(program, mounted) {
+    match local_step(program, mounted) {
         Some(fetched) => fetched_step(alloc, program, selections, parts, mounted, fetched),
-        None => Err(NoMemory),
+        None => Ok(()),
     }
 }
 

@@ -3,18 +3,13 @@
 ghost use Rattle.std.specs.Prelude.{◌≡◌, get_or};
 ghost use Rattle.std.specs.Option.{option_map};
 ghost use Rattle.world_model.specs.Sites.{plain};
-ghost use Rattle.ready_program.specs.Instructions.{instruction_by, instruction_of, instruction_at as instruction_found};
+ghost use Rattle.interp_local.specs.Fetched.{instruction_of, instruction_at as instruction_found};
+ghost use Rattle.ready_program.specs.Instructions.{instruction_by};
 
+use interp_local::Fetched;
 use opcodes::Instr;
 use world_model::{Naming, Site};
 use world_tables::Tables;
-
-/// An instruction, and what its constant means.
-#[derive(Clone, Copy)]
-pub struct Fetched<'a> {
-    pub instr: &'a Instr,
-    pub naming: Naming,
-}
 
 #[inline(always)]
 fn naming_at(namings: &[Naming], i: u32) -> Naming

@@ -21,5 +21,4 @@ mod typing;
 pub use array_classes::array_class;
 pub use class_numbers::named;
 pub use field_values::zero_of;
-pub use instructions::Fetched;
 pub use program::ReadyProgram;

@@ -1,6 +1,6 @@
 use Rattle.std.proofs.Common.{Option, subst, arith}
 use Rattle.interp_local.specs.Runs.{stays_on}
-use Rattle.ready_program.specs.declared.instructions.Fetched.{Fetched}
+use Rattle.interp_local.specs.declared.fetched.Fetched.{Fetched}
 use Rattle.machine.specs.LocalRuns.{GoesBack}
 use Rattle.machine.proofs.BackLaws.{goes_again, stopped}
 use Rattle.machine.proofs.local.run_rows.Goals as goal
@@ -10,14 +10,16 @@ loop-steps-preserved c =
     let w = c.args.program.now in
     let mid = c.loop-steps.mounted.stack.frames in
     let back = c.go_back.new.mounted.stack.frames in
-    let last = c.run_top-more.new.mounted.stack.frames in
+    let last = c.run_and_fetch-more.new.m.stack.frames in
     let returned = subst (λ (o : Option Fetched). GoesBack w mid back o) c.in-None.is c.in_ok-fetched.ensures in
-    let more = c.run_top-more.ensures in
+    let steps = c.run_and_fetch-more.result.steps in
+    let more = c.run_and_fetch-more.ensures in
     let most = more.few in
     let going = c.loop-steps-test.true in
     record {
       few = omega arith;
-      rows = goes_again w c.loop-steps.steps c.run_top-more.result c.args.mounted.now.stack.frames mid back last c.loop-steps.invariant.rows returned more.rows;
+      rows = goes_again w c.loop-steps.steps steps c.args.mounted.now.stack.frames mid back last c.loop-steps.invariant.rows returned more.rows;
       typed = more.typed;
-      stops = stopped (stays_on w last) c.loop-steps.steps c.run_top-more.result more.stops going;
+      next = more.next;
+      stops = stopped c.run_and_fetch-more.result.stays (stays_on w last) c.loop-steps.steps steps more.stays more.slice going;
     }

@@ -1,4 +1,5 @@
 use Rattle.std.proofs.Common.{◌-◌, ◌≡◌, ◌≤◌, ◌<◌, Some, false}
+use Rattle.interp_local.specs.Fetched.{IsTopAt}
 use Rattle.interp_local.specs.Runs.{stays_on}
 use Rattle.ref_model.specs.LocalRows.{rows}
 use Rattle.typed_frames.specs.Typed.{Typed}
@@ -9,6 +10,7 @@ invariant-loop-steps l = record {
   few : l.steps ≤ 10000;
   rows : rows l.program l.steps l.fn.mounted.stack.frames ≡ Some l.mounted.stack.frames;
   typed : Typed l.program l.mounted.stack.frames;
+  next : IsTopAt l.program l.mounted.stack.frames l.next;
   stops : l.steps < 10000 → stays_on l.program l.mounted.stack.frames ≡ false;
 }
 

@@ -1,4 +1,4 @@
-use Rattle.ready_program.specs.Instructions.{instruction_of}
+use Rattle.interp_local.specs.Fetched.{instruction_of}
 use Rattle.machine.proofs.ThrowLaws.{on_ok}
 use Rattle.machine.proofs.KeepLaws.{frames_kept}
 use Rattle.machine.proofs.steps.fetched_step.Goals as goal
