@@ -125,7 +125,8 @@ pub fn drop_operands(mounted: &mut Mounted, count: u16)
 #[inline(always)]
 pub fn push_value(mounted: &mut Mounted, value: Value)
     requires frame { HasTop mounted.old }
-    requires room { length (pushed value (operands mounted.old)) ≤ top_room mounted.old.stack.frames }
+    requires room { length (pushed value (operands mounted.old))
+        ≤ top_room mounted.old.stack.frames }
     ensures operands { operands mounted.new ≡ pushed value (operands mounted.old) }
     ensures only { ChangesOperands mounted.old mounted.new }
 {
