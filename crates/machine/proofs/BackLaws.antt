@@ -72,6 +72,11 @@ goes_again w a b first mid back last made returned more =
     rows_join w (1 + a) b (a + (1 + b)) first back last (turned a b) (row_behind w a (1 + a) first mid back refl made returned.0) more
 
 -- a run that made fewer instructions than it might is at none that stays in its frame
+pub stopped_first : (found stays : Bool) (steps : ℕ) → found ≡ stays → (IsTrue found → steps ≡ 10000) → steps < 10000 → stays ≡ false
+stopped_first true stays steps is all few = let whole = all tt in absurd (omega arith)
+stopped_first false stays steps is all few = sym is
+
+-- the same of one after a return
 pub stopped : (found stays : Bool) (steps more : ℕ) → found ≡ stays → (IsTrue found → more ≡ 10000 - 1 - steps) → steps < 10000 → steps + (1 + more) < 10000 → stays ≡ false
 stopped true stays steps more is all few less = let whole = all tt in absurd (omega arith)
 stopped false stays steps more is all few less = sym is

@@ -2,8 +2,19 @@ use Rattle.std.proofs.Common.{Option, subst, arith}
 use Rattle.interp_local.specs.Runs.{stays_on}
 use Rattle.interp_local.specs.declared.fetched.Fetched.{Fetched}
 use Rattle.machine.specs.LocalRuns.{GoesBack}
-use Rattle.machine.proofs.BackLaws.{goes_again, stopped}
+use Rattle.machine.proofs.BackLaws.{goes_again, stopped, stopped_first}
 use Rattle.machine.proofs.local.run_rows.Goals as goal
+
+pub loop-steps-init : goal.loop-steps-init
+loop-steps-init c =
+    let first = c.run_and_fetch-first in
+    record {
+      few = first.ensures.few;
+      rows = first.ensures.rows;
+      typed = first.ensures.typed;
+      next = first.ensures.next;
+      stops = stopped_first first.result.stays (stays_on c.args.program.now first.new.m.stack.frames) first.result.steps first.ensures.stays first.ensures.slice;
+    }
 
 pub loop-steps-preserved : goal.loop-steps-preserved
 loop-steps-preserved c =
