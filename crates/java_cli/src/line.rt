@@ -42,7 +42,8 @@ impl Line {
 /// The line that an answer to this command writes, with LF. Every case is listed, so that a new answer gets a line of
 /// its own.
 pub fn make_line(alloc: Global, why: &Why, command: &Command) -> Result<Line, AllocError>
-    ensures line { IfOk result (λ line. bytes_of line ≡ line_of (command_texts command.now) why.now) }
+    ensures line { IfOk result (λ line.
+        bytes_of line ≡ line_of (command_texts command.now) why.now) }
     ensures memory { OnErr result (NamesSomething why.now) }
 {
     let bytes = match why {

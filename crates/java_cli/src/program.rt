@@ -76,8 +76,8 @@ fn built_in_classes(alloc: Global) -> Result<Vec<ClassFile>, NoMemory>
 
 /// The number of the main method that is run, where main is in the class that the word names.
 pub fn start(alloc: Global, main: &str, world: &World) -> Result<u32, StartError>
-    ensures started { IfOk result (λ n. (classes : List class_files.ClassFile) → world.now ≡ program_of classes
-        → IsStarted (class_named_by main.now) classes n) }
+    ensures started { IfOk result (λ n. (classes : List class_files.ClassFile)
+        → world.now ≡ program_of classes → IsStarted (class_named_by main.now) classes n) }
     ensures main { IfOk result (IsMain (world_of world.now)) }
     ensures refused { IfErr result (λ error. (classes : List class_files.ClassFile)
         → world.now ≡ program_of classes → AllByRecursion IsSpelled classes

@@ -25,7 +25,8 @@ pub(crate) fn raise<W: MachineWorld>(
     exception: Exception,
 ) -> Result<(), NoMemory>
     ensures { OnOk result ((frames : List Frame) →
-        raised (W.world world.now) (state_of parts.old frames) 0 exception ≡ Some (state_of parts.new frames)) }
+        raised (W.world world.now) (state_of parts.old frames) 0 exception
+        ≡ Some (state_of parts.new frames)) }
 {
     let Some(class) = world.exception_class(exception) else {
         return Err(NoMemory);

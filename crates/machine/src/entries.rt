@@ -62,7 +62,8 @@ fn running_entry(
     requires going { ending (state_of parts.old mounted.old.stack.frames) ≡ None }
     requires selected { AreSelected program.now selections.old }
     ensures advances { IfOk result (λ n. Advances program.now n
-        (state_of parts.old mounted.old.stack.frames) (state_of parts.new mounted.new.stack.frames)) }
+        (state_of parts.old mounted.old.stack.frames)
+        (state_of parts.new mounted.new.stack.frames)) }
     ensures few { IfOk result (λ n. n ≤ 10000) }
     ensures selections { AreSelected program.now selections.new }
 {
@@ -84,7 +85,8 @@ fn throwing_entry(
     requires throws { parts.old.status ≡ Live (Throwing o) }
     requires going { ending (state_of parts.old mounted.old.stack.frames) ≡ None }
     ensures advances { IfOk result (λ n. Advances program.now n
-        (state_of parts.old mounted.old.stack.frames) (state_of parts.new mounted.new.stack.frames)) }
+        (state_of parts.old mounted.old.stack.frames)
+        (state_of parts.new mounted.new.stack.frames)) }
     ensures few { IfOk result (λ n. n ≤ 10000) }
 {
     unwinding_step(alloc, program, parts, mounted, o)?;
@@ -105,7 +107,8 @@ pub(crate) fn advance<G: Gate>(
     requires going { ending (state_of parts.old mounted.old.stack.frames) ≡ None }
     requires selected { AreSelected program.now selections.old }
     ensures advances { IfOk result (λ n. Advances program.now n
-        (state_of parts.old mounted.old.stack.frames) (state_of parts.new mounted.new.stack.frames)) }
+        (state_of parts.old mounted.old.stack.frames)
+        (state_of parts.new mounted.new.stack.frames)) }
     ensures few { IfOk result (λ n. n ≤ 10000) }
     ensures selections { AreSelected program.now selections.new }
 {

@@ -40,7 +40,8 @@ fn instruction_step<W: MachineWorld>(
 ) -> Result<(), NoMemory>
     requires frame { 0 < length mounted.old.stack.frames }
     requires selected { AreSelected (W.world world.now) selections.old }
-    ensures steps { OnOk result (Steps (W.world world.now) (record { instr = instr.now; naming = naming })
+    ensures steps { OnOk result (Steps (W.world world.now)
+        (record { instr = instr.now; naming = naming })
         parts.old mounted.old.stack.frames parts.new mounted.new.stack.frames) }
     ensures selections { AreSelected (W.world world.now) selections.new }
 {

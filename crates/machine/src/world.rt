@@ -14,11 +14,13 @@ use std::alloc::Global;
 pub trait MachineWorld: CallWorld + NativeWorld {
     /// The number of the class of an exception. `None`: no pool or descriptor has the name.
     fn exception_class(&self, exception: Exception) -> Option<u32>
-        ensures { result ≡ spec.name_number (Self.world self.now) (throwing.exception_name exception) };
+        ensures { result ≡
+            spec.name_number (Self.world self.now) (throwing.exception_name exception) };
 
     /// The name of a class as a program sees it (java.lang.Class.getName).
     fn class_name(&self, alloc: Global, class: u32) -> Result<Vec<u16>, NoMemory>
-        ensures { IfOk result (λ name. name.items ≡ classes.class_name (Self.world self.now) class) };
+        ensures { IfOk result (λ name.
+            name.items ≡ classes.class_name (Self.world self.now) class) };
 }
 
 impl MachineWorld for ReadyProgram {

@@ -32,11 +32,13 @@ pub trait CallWorld: EventWorld {
 
     /// What an invocation of a method selects on an object of a class (JVMS 5.4.6).
     fn choice(&self, alloc: Global, class: u32, method: u32) -> Result<Option<Choice>, NoMemory>
-        ensures { IfOk result (λ found. found ≡ calls.choice_of (Self.world self.now) class method) };
+        ensures { IfOk result (λ found.
+            found ≡ calls.choice_of (Self.world self.now) class method) };
 
     /// The number of a method that is declared at a place. `None`: there is no such method.
     fn method_number(&self, place: Place) -> Option<u32>
-        ensures { IfSome result (λ n. n ≡ linked.method_number (Self.world self.now).program place) };
+        ensures { IfSome result (λ n.
+            n ≡ linked.method_number (Self.world self.now).program place) };
 
     /// Whether it is jvt.Native.hold, whose frame pins its thread (own).
     fn is_hold(&self, method: &MethodInfo) -> bool
@@ -44,7 +46,8 @@ pub trait CallWorld: EventWorld {
 
     /// Whether a method is a class initializer (JVMS 2.9.2).
     fn is_initializer(&self, n: u32) -> bool
-        ensures { result ≡ option_map_or members.is_initializer (slice_get (Self.world self.now).methods n) false };
+        ensures { result ≡ option_map_or members.is_initializer
+            (slice_get (Self.world self.now).methods n) false };
 
     /// The pc after the instruction at a pc of a method. `None`: there is no instruction.
     fn next(&self, method: u32, pc: u32) -> Option<u32>

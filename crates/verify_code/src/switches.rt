@@ -49,7 +49,8 @@ impl<'a, L: Lookups> Environment<'a, L> {
         requires holds { Holds self.now s.now }
         requires fitted { MayFit self.now (type_state s.now) fitted }
         ensures { result ≡
-            option_map_or (handlers.fits_frame self.now (type_state s.now)) (map_at self.now pc) true }
+            option_map_or (handlers.fits_frame self.now (type_state s.now))
+            (map_at self.now pc) true }
     {
         match self.fitted(fitted, pc) {
             Some(frame) => frame.fits_stack(self.world, true, s.state.types.stack()),
@@ -99,7 +100,8 @@ impl<'a, L: Lookups> Environment<'a, L> {
     pub fn fits_there(&self, s: &KnownState, pc: u32) -> bool
         requires { Holds self.now s.now }
         ensures { result ≡
-            option_map_or (handlers.fits_frame self.now (type_state s.now)) (map_at self.now pc) true }
+            option_map_or (handlers.fits_frame self.now (type_state s.now))
+            (map_at self.now pc) true }
     {
         self.fits_as(s, s.fitted, pc)
     }
@@ -116,7 +118,8 @@ impl<'a, L: Lookups> Environment<'a, L> {
     pub fn fitted_after(&self, s: KnownState, op: &Op, fits: bool) -> KnownState
         requires holds { Holds self.now s }
         requires fits { fits ≡ true
-            → list_all (spec.fits_target self.now (type_state s)) (targets_of_row (row op.now)) ≡ true }
+            → list_all (spec.fits_target self.now (type_state s))
+            (targets_of_row (row op.now)) ≡ true }
         ensures same { type_state result ≡ type_state s }
         ensures holds { Holds self.now result }
     {
@@ -164,7 +167,8 @@ impl<'a, L: Lookups> Environment<'a, L> {
     fn fits_matches(&self, s: &KnownState, matches: &[Match]) -> bool
         requires { Holds self.now s.now }
         ensures { result ≡
-            list_all (λ m. spec.fits_target self.now (type_state s.now) (match_target m)) matches.now }
+            list_all (λ m. spec.fits_target self.now (type_state s.now) (match_target m))
+            matches.now }
     {
         let mut fitted = s.fitted;
         let mut rest = matches;

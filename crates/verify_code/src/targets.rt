@@ -147,7 +147,8 @@ impl<'a, L: Lookups> Environment<'a, L> {
     pub fn fits_at(&self, s: &KnownState, pc: u32) -> bool
         requires { Holds self.now s.now }
         ensures { result ≡
-            option_map_or (handlers.fits_frame self.now (type_state s.now)) (map_at self.now pc) true }
+            option_map_or (handlers.fits_frame self.now (type_state s.now))
+            (map_at self.now pc) true }
     {
         match self.shared(s, pc) {
             Some(frame) => {
