@@ -3,7 +3,7 @@
 
 usage: classes.py FOLDER OUT
 
-FOLDER is searched for *.class files. In OUT it writes files of class files, each behind its length in four bytes, the
+FOLDER is searched for *.class files. In OUT it writes files of class files, each after its length in four bytes, the
 highest first:
 
   classes   all of them
@@ -57,7 +57,7 @@ def skip_attribute(reader):
 
 
 def pool_of(reader):
-    """The number of places behind place 0, and the bytes of the constants."""
+    """The number of places after place 0, and the bytes of the constants."""
     count = reader.number(2) - 1
     start = reader.at
     place = 0
@@ -95,7 +95,7 @@ def text(letters):
 
 
 def class_file(constants, interfaces=(0, b""), fields=(0, b""), methods=(0, b""), attributes=(0, b"")):
-    """A class file. Its first constants are names, descriptors and the like, and `constants` stand behind them."""
+    """A class file. Its first constants are names, descriptors and the like, and `constants` follow them."""
     first = [
         text(b"A"),
         b"\x07" + u2(1),

@@ -4,7 +4,7 @@
 usage: programs.py SOURCES OUT
 
 The Java sources of the folder SOURCES whose first line says that they link are compiled with the javac of this machine. In OUT it writes files of class
-files, each behind its length in four bytes, the highest first:
+files, each after its length in four bytes, the highest first:
 
   classes-N     N of the classes that javac wrote, or a few more, for 10, 50, 250 and 1,250: they stand there again and again under other names
   KIND          a class file or more that are meant to be slow or to want much memory, for each kind below
@@ -164,7 +164,7 @@ def methods_of(add, count):
 
 
 def many_frames(c):
-    """A frame of 65,535 local variables, and 65,532 frames of one byte behind it, each like the one before."""
+    """A frame of 65,535 local variables, and 65,532 frames of one byte after it, each like the one before."""
     c.method(RETURN + NOP * 65533 + RETURN, [full_frame(1, [INTEGER] * LOCALS)] + [SAME] * 65533)
 
 

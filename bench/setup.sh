@@ -1,9 +1,6 @@
-# Read by the scripts beside it. It sets `top`, the repository; `work`, a folder that goes away when the script ends; and
-# `classes`, the folder that the script was given, or one with the class files of the JDK on this machine.
-top=$(CDPATH='' cd -- "$(dirname -- "$0")/.." && pwd)
-work=$(mktemp -d)
-trap 'rm -rf "$work"' EXIT
-
+# Read by the scripts beside it. It sets what work.sh does, and `classes`, the folder that the script was given, or one with the class
+# files of the JDK on this machine.
+. "$(dirname -- "$0")/work.sh"
 classes=${1:-}
 if [ -z "$classes" ]; then
     classes=$work/classes
