@@ -3,7 +3,8 @@
 # with the javac of this machine, for Java 8, 11 and 17 in turn, and writes the class files and the table of calls to crates/java_programs/data.
 # Runs each with the java of this machine, and writes what that printed to crates/java_programs/stdout; jvt takes no part in it. Of an
 # exception that nothing catches only the class is kept, since jvt prints no message and no trace. Main's file comes first, since class
-# initializers run in the order of the files. usage: bench/java_programs.sh
+# initializers run in the order of the files. After these come the calls whose outcome is a matter of jvt's own rules: usage, refusals and
+# limits. What they have to print is bench/own/stdout, which is written by hand. usage: bench/java_programs.sh
 set -eu
 export LC_ALL=C
 # What has no step yet: threads, monitors, the clock.
@@ -11,10 +12,8 @@ left_out='Monitors Parking PlatformThreads Queue States SystemCalls WaitNotify'
 # Programs in which rules of jvt show: initializers run before main, and an exception's toString is that of Object.
 left_out="$left_out Main2 Exceptions ErrorKinds"
 
-top=$(CDPATH='' cd -- "$(dirname -- "$0")/.." && pwd)
+. "$(dirname -- "$0")/work.sh"
 data=$top/crates/java_programs/data
-work=$(mktemp -d)
-trap 'rm -rf "$work"' EXIT
 rm -rf "$data"
 
 # Each program with the release that it is compiled for, a line each.
@@ -48,9 +47,18 @@ classes() {
     done <"$work/classes" | sort -u | grep -vxF "$2/$1.class")
 }
 
-# The error output of java as jvt has it: no message behind an exception's class, and no trace.
+# The error output of java as jvt has it: no message after an exception's class, and no trace.
 without_traces() {
     sed -e 's/^\(Exception in thread "main" [A-Za-z0-9_.$]*\).*/\1/' -e '/^	/d' "$1"
+}
+
+# Adds the calls of bench/own, and their class files.
+own_rules() {
+    mkdir "$data/own"
+    python3 "$top/bench/own/classes.py" "$top/crates/jvt/data/A.class" "$data/own"
+    javac --release 8 -Xlint:-options -g -d "$data/own" "$top/bench/own/Limits.java"
+    sed -n -e '/^== status /d' -e 's/^== //p' "$top/bench/own/stdout" >>"$data/programs.txt"
+    cat "$top/bench/own/stdout" >>"$work/stdout"
 }
 
 programs >"$work/programs"
@@ -62,5 +70,6 @@ while read -r name release; do
     (cd "$data/$release" && java -Dfile.encoding=UTF-8 -Dstdout.encoding=UTF-8 -cp . "$name" >"$work/out" 2>"$work/err") || status=$?
     { echo "== $words"; cat "$work/out"; without_traces "$work/err"; echo "== status $status"; } >>"$work/stdout"
 done <"$work/programs"
+own_rules
 cp "$work/stdout" "$top/crates/java_programs/stdout"
 echo "$(wc -l <"$work/programs") programs, $(cat "$data"/*/*.class | wc -c) bytes of class files"

@@ -3,7 +3,7 @@
 use std::alloc::{AllocError, Global};
 
 /// Puts the units of a text after those that are there.
-pub fn append(units: &mut Vec<u16>, text: &[u8]) -> Result<(), AllocError> {
+pub(crate) fn append(units: &mut Vec<u16>, text: &[u8]) -> Result<(), AllocError> {
     for byte in text {
         units.push(u16::from(*byte))?;
     }
@@ -11,13 +11,13 @@ pub fn append(units: &mut Vec<u16>, text: &[u8]) -> Result<(), AllocError> {
 }
 
 /// The units of a text.
-pub fn units_of(alloc: Global, text: &[u8]) -> Result<Vec<u16>, AllocError> {
+pub(crate) fn units_of(alloc: Global, text: &[u8]) -> Result<Vec<u16>, AllocError> {
     let mut units = Vec::new(alloc);
     append(&mut units, text)?;
     Ok(units)
 }
 
 /// Whether the units are those of the text.
-pub fn is_text(units: &[u16], text: &str) -> bool {
+pub(crate) fn is_text(units: &[u16], text: &str) -> bool {
     units.iter().copied().eq(text.bytes().map(u16::from))
 }

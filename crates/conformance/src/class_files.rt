@@ -36,32 +36,77 @@ fn code_of(file: &ClassFile) -> Option<&[u8]> {
     }
 }
 
+// Where each field of that class begins.
+const FIELD_STARTS: [u32; 76] = [
+    0, 4, 6, 8, 10, 11, 13, 14, 15, 17, 18, 20, 36, 37, 39, 40, 42, 46, 47, 49, 71, 72, 74, 78, 79,
+    81, 97, 98, 100, 101, 103, 106, 107, 109, 130, 131, 133, 135, 136, 138, 140, 141, 143, 162,
+    163, 165, 166, 168, 175, 176, 178, 182, 183, 185, 187, 188, 190, 192, 194, 196, 198, 200, 202,
+    204, 206, 208, 210, 212, 214, 218, 220, 222, 226, 235, 237, 239,
+];
+
+#[test]
+fn a_file_that_is_cut_is_short_where_its_last_field_begins(rt: HostRuntime) -> Result<(), Fail> {
+    let (mut at, why) = (0, ClassWhy::Short);
+    for size in 0..241u32 {
+        if FIELD_STARTS.contains(&size) {
+            at = size;
+        }
+        let refusal = read(rt.alloc(), &PRINTS_42[..size as usize]).err();
+        assert_eq!(rt; refusal, Some(ReadError::Bad { at, why }));
+    }
+    Ok(())
+}
+
+// The class as javac writes it, with the name of its source file.
+fn with_source_file(alloc: Global) -> Result<Vec<u8>, AllocError> {
+    let mut bytes = Vec::from_slice(alloc, &PRINTS_42[..8])?;
+    bytes.extend_from_slice(b"\x00\x16")?;
+    bytes.extend_from_slice(&PRINTS_42[10..192])?;
+    bytes.extend_from_slice(b"\x01\x00\x0aSourceFile")?;
+    bytes.extend_from_slice(b"\x01\x00\x06A.java")?;
+    bytes.extend_from_slice(&PRINTS_42[192..239])?;
+    bytes.extend_from_slice(b"\x00\x01\x00\x14\x00\x00\x00\x02\x00\x15")?;
+    Ok(bytes)
+}
+
+// The file with other bytes at these offsets.
+fn changed(alloc: Global, file: &[u8], changes: &[(usize, u8)]) -> Result<Vec<u8>, AllocError> {
+    let mut bytes = Vec::from_slice(alloc, file)?;
+    for (offset, byte) in changes {
+        if *offset < bytes.len() {
+            bytes[*offset] = *byte;
+        }
+    }
+    Ok(bytes)
+}
+
 #[test]
 fn the_first_failing_check_is_named(rt: HostRuntime) -> Result<(), Fail> {
-    let mut one_more = Vec::from_slice(rt.alloc(), &PRINTS_42)?;
-    one_more.push(0)?;
-    let mut other_magic = PRINTS_42;
-    other_magic[0] = 0xcb;
-    let mut other_version = PRINTS_42;
-    other_version[7] = 0x32;
-    let mut other_tag = PRINTS_42;
-    other_tag[14] = 2;
-    let mut other_name = PRINTS_42;
-    other_name[13] = b'.';
-    let cases = [
-        ([].as_slice(), 0, ClassWhy::Short),
-        (&PRINTS_42[..240], 239, ClassWhy::Short),
-        (one_more.as_slice(), 241, ClassWhy::Trailing),
-        (&other_magic, 0, ClassWhy::Magic),
-        (&other_version, 4, ClassWhy::Version),
-        (&other_tag, 14, ClassWhy::Tag),
-        (&other_name, 15, ClassWhy::Name),
+    let mut longer = Vec::from_slice(rt.alloc(), &PRINTS_42)?;
+    longer.push(0)?;
+    let variant = with_source_file(rt.alloc())?;
+    let (a, v) = (PRINTS_42.as_slice(), variant.as_slice());
+    let table: [(&[u8], &[(usize, u8)], u32, ClassWhy); 16] = [
+        (longer.as_slice(), &[], 241, ClassWhy::Trailing),
+        (a, &[(0, 0)], 0, ClassWhy::Magic),
+        (a, &[(7, 50)], 4, ClassWhy::Version),
+        (a, &[(7, 70)], 4, ClassWhy::Version),
+        (a, &[(8, 0), (9, 0)], 8, ClassWhy::Count),
+        (a, &[(13, 0)], 13, ClassWhy::Utf8),
+        (a, &[(13, b'.')], 15, ClassWhy::Name),
+        (a, &[(14, 2)], 14, ClassWhy::Tag),
+        (a, &[(15, 0), (16, 0)], 15, ClassWhy::Index),
+        (a, &[(179, b'Q')], 185, ClassWhy::Descriptor),
+        (a, &[(196, 0), (197, 0)], 196, ClassWhy::Index),
+        (a, &[(214, 255)], 214, ClassWhy::Length),
+        (a, &[(217, 0x14)], 214, ClassWhy::Length),
+        (a, &[(225, 0)], 222, ClassWhy::Length),
+        (v, &[(265, 255)], 269, ClassWhy::Short),
+        (v, &[(268, 1)], 270, ClassWhy::Trailing),
     ];
-    for (bytes, at, why) in cases {
-        assert_eq!(rt;
-            read(rt.alloc(), bytes).err(),
-            Some(ReadError::Bad { at, why })
-        );
+    for (file, changes, at, why) in table {
+        let refusal = read(rt.alloc(), &changed(rt.alloc(), file, changes)?).err();
+        assert_eq!(rt; refusal, Some(ReadError::Bad { at, why }));
     }
     Ok(())
 }

@@ -295,7 +295,7 @@ fn class_file(alloc: Global, text: &str) -> Result<ClassFile, NoMemory> {
 }
 
 /// The class files of texts with a bar between them.
-pub fn class_files(alloc: Global, classes: &str) -> Result<Vec<ClassFile>, NoMemory> {
+pub(crate) fn class_files(alloc: Global, classes: &str) -> Result<Vec<ClassFile>, NoMemory> {
     let mut files = Vec::new(alloc);
     for text in classes.split('|') {
         files.push(class_file(alloc, text)?)?;

@@ -6,7 +6,7 @@ use std::alloc::Global;
 
 /// The code of a method that is being written. Where nothing else is said, it may have four slots of each kind.
 #[derive(Drop)]
-pub struct CodeSketch {
+pub(crate) struct CodeSketch {
     alloc: Global,
     max_stack: u16,
     max_locals: u16,
@@ -18,14 +18,14 @@ pub struct CodeSketch {
 }
 
 /// Puts a number after the bytes.
-pub fn push_number(bytes: &mut Vec<u8>, number: u16) -> Result<(), NoMemory> {
+pub(crate) fn push_number(bytes: &mut Vec<u8>, number: u16) -> Result<(), NoMemory> {
     bytes.push((number >> 8) as u8)?;
     bytes.push((number & 0xff) as u8)?;
     Ok(())
 }
 
 impl CodeSketch {
-    pub fn new(alloc: Global) -> Self {
+    pub(crate) fn new(alloc: Global) -> Self {
         CodeSketch {
             alloc,
             max_stack: 4,
@@ -39,32 +39,32 @@ impl CodeSketch {
     }
 
     /// Says how many slots the operand stack and the local variables may have.
-    pub fn limit(&mut self, max_stack: u16, max_locals: u16) {
+    pub(crate) fn limit(&mut self, max_stack: u16, max_locals: u16) {
         self.max_stack = max_stack;
         self.max_locals = max_locals;
     }
 
     /// Puts a byte after the code.
-    pub fn byte(&mut self, byte: u8) -> Result<(), NoMemory> {
+    pub(crate) fn byte(&mut self, byte: u8) -> Result<(), NoMemory> {
         Ok(self.code.push(byte)?)
     }
 
     /// Puts the index of a constant after the code.
-    pub fn index(&mut self, index: u16) -> Result<(), NoMemory> {
+    pub(crate) fn index(&mut self, index: u16) -> Result<(), NoMemory> {
         push_number(&mut self.code, index)
     }
 
-    pub fn row(&mut self, row: Row) -> Result<(), NoMemory> {
+    pub(crate) fn row(&mut self, row: Row) -> Result<(), NoMemory> {
         Ok(self.rows.push(row)?)
     }
 
     /// Puts a byte after the stack map.
-    pub fn map_byte(&mut self, byte: u8) -> Result<(), NoMemory> {
+    pub(crate) fn map_byte(&mut self, byte: u8) -> Result<(), NoMemory> {
         Ok(self.map.push(byte)?)
     }
 
     /// Begins a frame of the stack map; its types follow.
-    pub fn frame(&mut self, pc: u16) -> Result<(), NoMemory> {
+    pub(crate) fn frame(&mut self, pc: u16) -> Result<(), NoMemory> {
         let delta = if self.frames == 0 {
             pc
         } else {
@@ -77,7 +77,7 @@ impl CodeSketch {
     }
 
     /// Types of a frame, each with its tag, and how many they are.
-    pub fn types(&mut self, count: u16, types: &[u8]) -> Result<(), NoMemory> {
+    pub(crate) fn types(&mut self, count: u16, types: &[u8]) -> Result<(), NoMemory> {
         push_number(&mut self.map, count)?;
         self.map.extend_from_slice(types)?;
         Ok(())
@@ -94,7 +94,7 @@ impl CodeSketch {
     }
 
     /// The code, with its stack map under this name where it has one.
-    pub fn body(&self, map_name: u16) -> Result<CodeBody, NoMemory> {
+    pub(crate) fn body(&self, map_name: u16) -> Result<CodeBody, NoMemory> {
         let mut attributes = Vec::new(self.alloc);
         if !self.map.is_empty() {
             attributes.push(CodeAttribute {

@@ -14,13 +14,13 @@ fn units_of(
     before: &str,
     count: usize,
     letter: u8,
-    behind: &str,
+    after: &str,
 ) -> Result<Vec<u16>, AllocError> {
     let mut units = ascii::units_of(alloc, before.as_bytes())?;
     for _ in 0..count {
         units.push(u16::from(letter))?;
     }
-    ascii::append(&mut units, behind.as_bytes())?;
+    ascii::append(&mut units, after.as_bytes())?;
     Ok(units)
 }
 
@@ -70,8 +70,8 @@ fn descriptors_of_fields_are_read(rt: HostRuntime) -> Result<(), Fail> {
         ("", 2, "La/b;", 2, 'L'),
         ("", 255, "I", 255, 'I'),
     ];
-    for (before, count, behind, dims, letter) in table.iter() {
-        let units = units_of(rt.alloc(), *before, *count, b'[', *behind)?;
+    for (before, count, after, dims, letter) in table.iter() {
+        let units = units_of(rt.alloc(), *before, *count, b'[', *after)?;
         assert!(rt; is_field_descriptor(&units));
         let kind = field(rt.alloc(), &units).ok().ok_or("refused")?;
         assert!(rt; is_like(&kind, *dims, *letter));
@@ -97,8 +97,8 @@ fn the_first_bad_unit_of_a_field_is_named(rt: HostRuntime) -> Result<(), Fail> {
         ("(I)V", 0, "", 0),
         ("", 256, "I", 255),
     ];
-    for (before, count, behind, bad) in table.iter() {
-        let units = units_of(rt.alloc(), *before, *count, b'[', *behind)?;
+    for (before, count, after, bad) in table.iter() {
+        let units = units_of(rt.alloc(), *before, *count, b'[', *after)?;
         assert!(rt; !is_field_descriptor(&units));
         assert!(rt;
             matches!(field(rt.alloc(), &units), Err(DescriptorError::Bad { at }) if at == *bad)
@@ -144,8 +144,8 @@ fn methods_are_taken_or_the_first_bad_unit_is_named(rt: HostRuntime) -> Result<(
         ("(", 253, "J)V"),
         ("(", 254, "[J)V"),
     ];
-    for (before, ints, behind) in taken.iter() {
-        let units = units_of(rt.alloc(), *before, *ints, b'I', *behind)?;
+    for (before, ints, after) in taken.iter() {
+        let units = units_of(rt.alloc(), *before, *ints, b'I', *after)?;
         assert!(rt; is_method_descriptor(&units));
         let signature = method(rt.alloc(), &units).ok().ok_or("refused")?;
         assert!(rt; matches!(signature.result, None));
@@ -166,8 +166,8 @@ fn methods_are_taken_or_the_first_bad_unit_is_named(rt: HostRuntime) -> Result<(
         ("(", 254, "J)V", 255),
         ("(", 255, "[J)V", 256),
     ];
-    for (before, ints, behind, bad) in refused.iter() {
-        let units = units_of(rt.alloc(), *before, *ints, b'I', *behind)?;
+    for (before, ints, after, bad) in refused.iter() {
+        let units = units_of(rt.alloc(), *before, *ints, b'I', *after)?;
         assert!(rt; !is_method_descriptor(&units));
         assert!(rt;
             matches!(method(rt.alloc(), &units), Err(DescriptorError::Bad { at }) if at == *bad)

@@ -21,7 +21,7 @@ const MNEMONICS: &str = "\
     wide multianewarray ifnull ifnonnull goto_w jsr_w";
 
 /// The opcode of this name, 0 where it is none.
-pub fn opcode_of(name: &str) -> u8 {
+pub(crate) fn opcode_of(name: &str) -> u8 {
     for (opcode, mnemonic) in MNEMONICS.split_whitespace().enumerate() {
         if mnemonic == name {
             return u8::try_from(opcode).unwrap_or(0);

@@ -4,6 +4,7 @@ ghost use Rattle.std.specs.Prelude.{◌≡◌, length};
 
 use history::{Entry, Kept, TraceError, What, java, print, read};
 use std::alloc::Global;
+use std::process::Abort;
 use std::test::Fail;
 
 /// The trace of a program that prints one number.
@@ -67,8 +68,15 @@ const fn bad(line: u32) -> Result<usize, TraceError> {
     Err(TraceError::Bad { line })
 }
 
+// Each text is read as so many entries, or refused so.
+fn expect_counts(rt: &impl Abort, alloc: Global, table: &[(&[u8], Result<usize, TraceError>)]) {
+    for (text, outcome) in table {
+        assert_eq!(rt; count_of(alloc, text), *outcome);
+    }
+}
+
 #[test]
-fn first_lines_are_read_or_refused(rt: HostRuntime) -> Result<(), Fail> {
+fn first_lines_are_read_or_refused(rt: HostRuntime) {
     let table: [(&[u8], Result<usize, TraceError>); 14] = [
         (b"", bad(1)),
         (b"X\n", bad(1)),
@@ -85,14 +93,11 @@ fn first_lines_are_read_or_refused(rt: HostRuntime) -> Result<(), Fail> {
         (b"jvt-trace carriers 0\nend 0\n", Ok(0)),
         (b"end 0\n", bad(1)),
     ];
-    for (text, outcome) in table.iter() {
-        assert_eq!(rt; count_of(rt.alloc(), *text), *outcome);
-    }
-    Ok(())
+    expect_counts(&rt, rt.alloc(), &table);
 }
 
 #[test]
-fn lines_of_entries_are_read_or_refused(rt: HostRuntime) -> Result<(), Fail> {
+fn lines_of_entries_are_read_or_refused(rt: HostRuntime) {
     let table: [(&[u8], Result<usize, TraceError>); 20] = [
         (b"jvt-trace carriers 1\nS 0 0 0 -\nend 1\n", bad(2)),
         (b"jvt-trace carriers 1\nS 0 0 1\nend 1\n", bad(2)),
@@ -124,14 +129,11 @@ fn lines_of_entries_are_read_or_refused(rt: HostRuntime) -> Result<(), Fail> {
         ),
         (b"jvt-trace carriers 1\nM 0 0\nU 0 0\nC 0 1\nend 3\n", Ok(3)),
     ];
-    for (text, outcome) in table.iter() {
-        assert_eq!(rt; count_of(rt.alloc(), *text), *outcome);
-    }
-    Ok(())
+    expect_counts(&rt, rt.alloc(), &table);
 }
 
 #[test]
-fn last_lines_are_read_or_refused(rt: HostRuntime) -> Result<(), Fail> {
+fn last_lines_are_read_or_refused(rt: HostRuntime) {
     let table: [(&[u8], Result<usize, TraceError>); 13] = [
         (b"jvt-trace carriers 1\n", bad(2)),
         (b"jvt-trace carriers 1\nM 0 0\n", bad(3)),
@@ -147,10 +149,7 @@ fn last_lines_are_read_or_refused(rt: HostRuntime) -> Result<(), Fail> {
         (b"jvt-trace carriers 1\nend 0\nM 0 0\n", bad(3)),
         (b"jvt-trace carriers 1\nM 0 0\nend 1\nX", bad(4)),
     ];
-    for (text, outcome) in table.iter() {
-        assert_eq!(rt; count_of(rt.alloc(), *text), *outcome);
-    }
-    Ok(())
+    expect_counts(&rt, rt.alloc(), &table);
 }
 
 /// A history by itself, made with a number.

@@ -18,6 +18,3 @@ mod words;
 pub use laws::one_answer;
 pub use report::{Report, SinkName, Which, Why};
 pub use top_call::{jvt, no_memory};
-
-#[cfg(test)]
-mod tests;

@@ -1,5 +1,5 @@
-//! Runs Java programs as javac compiled them, each by a call of `jvt`, and prints what came of each: the words of the call,
-//! what the program wrote, and its status. The words are the lines of `programs.txt`.
+//! Calls `jvt` with the words of each line of `programs.txt`, and prints what came of it: the words, what the program wrote, or
+//! the line of a refusal, and the status.
 #![tactic(auto)]
 
 use java_cli::jvt;
@@ -22,7 +22,17 @@ fn main(rt: HostRuntime) -> io::Result<ExitCode> {
     Ok(ExitCode::SUCCESS)
 }
 
-// Calls `jvt` with these words after the program's name, and gives the status.
+// The program's name, and the words of a line.
+fn words_of(alloc: Global, line: &str) -> Result<Vec<String>, AllocError> {
+    let mut words = Vec::new(alloc);
+    words.push(String::from_str(alloc, "jvt")?)?;
+    for word in line.split_whitespace() {
+        words.push(String::from_str(alloc, word)?)?;
+    }
+    Ok(words)
+}
+
+// Calls `jvt` with the words of a line, and gives the status.
 fn run_program<S: Store, O: Sink, E: Sink>(
     alloc: Global,
     line: &str,
@@ -30,12 +40,11 @@ fn run_program<S: Store, O: Sink, E: Sink>(
     out: &mut O,
     err: &mut E,
 ) -> Result<u8, AllocError> {
-    let mut words = Vec::new(alloc);
-    words.push(String::from_str(alloc, "jvt")?)?;
-    for word in line.split_whitespace() {
-        words.push(String::from_str(alloc, word)?)?;
-    }
+    let words = words_of(alloc, line)?;
     let (clock, gate) = (StepClock::new(0), OpenGate::new());
     let report = jvt(alloc, &words, store, out, err, &clock, &gate);
     Ok(report.why.status())
 }
+
+#[cfg(test)]
+mod tests;
