@@ -1,12 +1,11 @@
 -- Runs of local instructions of a thread, in its top frame and in those to which it returns.
-use Rattle.std.specs.Prelude.{◌≡◌, ℕ, ◌<◌, ◌≤◌, Bool, true, not, List, Option, Some, None, is_some, length, ◌||◌}
+use Rattle.std.specs.Prelude.{◌≡◌, ℕ, ◌≤◌, Bool, true, not, List, Option, Some, None, is_some, ◌||◌}
 use Rattle.opcodes.specs.declared.op.Kind.{Kind}
 use Rattle.instruction_rows.specs.Rows.{Row, returns}
 use Rattle.world_model.specs.World.{World}
 use Rattle.state_model.specs.Frames.{Frame}
 use Rattle.ref_model.specs.LocalRows.{row, rows}
 use Rattle.ref_model.specs.Entries.{may_be_last, most_local_steps, stands_at_static_call}
-use Rattle.frames.specs.Frames.{top_method, top_pc}
 use Rattle.typed_frames.specs.Typed.{Typed}
 use Rattle.interp_local.specs.declared.fetched.Fetched.{Fetched}
 use Rattle.interp_local.specs.Fetched.{IsTopAt}

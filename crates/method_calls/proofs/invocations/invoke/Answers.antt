@@ -1,4 +1,4 @@
-use Rattle.std.proofs.Common.{ℕ, ◌≡◌, Some, Option, ap, ◌∙◌}
+use Rattle.std.proofs.Common.{◌≡◌, Some, ap, ◌∙◌}
 use Rattle.opcodes.specs.declared.op.Op.{Op}
 use Rattle.instruction_rows.specs.Table.{row}
 use Rattle.ref_model.specs.Fetch.{method_of}

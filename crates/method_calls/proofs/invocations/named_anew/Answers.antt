@@ -1,4 +1,4 @@
-use Rattle.std.proofs.Common.{ℕ, suc, ◌≡◌, ◌+◌, subst, arith}
+use Rattle.std.proofs.Common.{suc, ◌≡◌, ◌+◌, subst, arith}
 use Rattle.method_calls.specs.Targets.{IsNumbered}
 use Rattle.method_calls.proofs.invocations.named_anew.Goals as goal
 

@@ -1,5 +1,5 @@
 use Rattle.std.proofs.Common.{sym, ◌∙◌}
-use Rattle.method_calls.proofs.InvocationLaws.{fits_is_received, if_ok_mapped}
+use Rattle.method_calls.proofs.InvocationLaws.{fits_is_received}
 use Rattle.method_calls.proofs.invocations.received_anew.Goals as goal
 
 pub returns-clause-target : goal.returns-clause-target
