@@ -105,7 +105,9 @@ fn the_first_failing_check_is_named(rt: HostRuntime) -> Result<(), Fail> {
         (v, &[(268, 1)], 270, ClassWhy::Trailing),
     ];
     for (file, changes, at, why) in table {
-        let refusal = read(rt.alloc(), &changed(rt.alloc(), file, changes)?).err();
+        let bytes = changed(rt.alloc(), file, changes)?;
+        assert!(rt; bytes.len() < 1000);
+        let refusal = read(rt.alloc(), &bytes).err();
         assert_eq!(rt; refusal, Some(ReadError::Bad { at, why }));
     }
     Ok(())

@@ -73,10 +73,10 @@ goes_again w a b first mid back last made returned more =
 
 -- a run that made fewer instructions than it might is at none that stays in its frame
 pub stopped_first : (found stays : Bool) (steps : ℕ) → found ≡ stays → (IsTrue found → steps ≡ 10000) → steps < 10000 → stays ≡ false
-stopped_first true stays steps is all few = let whole = all tt in absurd (omega arith)
+stopped_first true stays steps is all few = let whole = all refl in absurd (omega arith)
 stopped_first false stays steps is all few = sym is
 
 -- the same of one after a return
 pub stopped : (found stays : Bool) (steps more : ℕ) → found ≡ stays → (IsTrue found → more ≡ 10000 - 1 - steps) → steps < 10000 → steps + (1 + more) < 10000 → stays ≡ false
-stopped true stays steps more is all few less = let whole = all tt in absurd (omega arith)
+stopped true stays steps more is all few less = let whole = all refl in absurd (omega arith)
 stopped false stays steps more is all few less = sym is

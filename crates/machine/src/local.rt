@@ -1,6 +1,6 @@
 //! Runs of local instructions: those of the top frame, and of the frames to which it returns.
 
-ghost use Rattle.std.specs.Prelude.{◌≡◌, Some, false, IfNone, IfOk, IfSome};
+ghost use Rattle.std.specs.Prelude.{◌≡◌, ◌≤◌, Some, false, IfNone, IfOk, IfSome, IsTrue};
 ghost use Rattle.std.specs.Option.{option_map};
 ghost use Rattle.instruction_rows.specs.Table.{row as row_of, simple_row};
 ghost use Rattle.interp_local.specs.Runs.{stays_on};
@@ -11,7 +11,7 @@ ghost use Rattle.machine.specs.LocalRuns.{GoesBack, IsLocalRun, returned_kind};
 ghost use Rattle.machine.specs.Ready.{IsReady};
 
 use continuation::Mounted;
-use interp_local::{Fetched, run_and_fetch};
+use interp_local::{Fetched, TopRun, run_and_fetch};
 use items::NoMemory;
 use method_calls::{Left, leave};
 use opcodes::{Kind, Op, Simple};
@@ -46,6 +46,21 @@ pub(crate) fn return_at(op: &Op) -> Option<Return>
     }
 }
 
+// Executes the instructions that stay in the top frame, at most so many.
+#[inline(always)]
+fn run_top<'a>(program: &'a ReadyProgram, mounted: &mut Mounted, most: u32) -> TopRun<'a>
+    requires { Typed program.now mounted.old.stack.frames }
+    ensures rows { rows program.now result.steps mounted.old.stack.frames
+        ≡ Some mounted.new.stack.frames }
+    ensures typed { Typed program.now mounted.new.stack.frames }
+    ensures few { result.steps ≤ most }
+    ensures stays { result.stays ≡ stays_on program.now mounted.new.stack.frames }
+    ensures slice { IsTrue result.stays → result.steps ≡ most }
+    ensures next { IsTopAt program.now mounted.new.stack.frames result.next }
+{
+    run_and_fetch(program.prepared(), mounted, most)
+}
+
 /// The next local instruction of a thread, if it is at one that stays in its frame. The answer is the instruction at which it is where it
 /// isn't; then nothing has changed.
 pub(crate) fn local_step<'a>(
@@ -59,7 +74,7 @@ pub(crate) fn local_step<'a>(
     ensures next { IfSome result (IsTopAt program.now mounted.new.stack.frames) }
     ensures typed { Typed program.now mounted.new.stack.frames }
 {
-    let stop = run_and_fetch(program.prepared(), mounted, 1);
+    let stop = run_top(program, mounted, 1);
     if stop.steps == 1 {
         None
     } else {
@@ -113,8 +128,7 @@ pub(crate) fn run_rows<'a>(
     ensures next { IfOk result (λ r. IfSome r.next
         (IsTopAt program.now mounted.new.stack.frames)) }
 {
-    let prepared = program.prepared();
-    let first = run_and_fetch(prepared, mounted, MOST_LOCAL);
+    let first = run_top(program, mounted, MOST_LOCAL);
     let mut steps = first.steps;
     let mut next = first.next;
     while steps < MOST_LOCAL {
@@ -126,7 +140,7 @@ pub(crate) fn run_rows<'a>(
                 });
             }
             None => {
-                let more = run_and_fetch(prepared, mounted, MOST_LOCAL - 1 - steps);
+                let more = run_top(program, mounted, MOST_LOCAL - 1 - steps);
                 steps += 1 + more.steps;
                 next = more.next;
             }
