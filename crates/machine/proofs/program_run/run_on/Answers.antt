@@ -1,4 +1,4 @@
-use Rattle.std.proofs.Common.{List, [], ◌∷◌, ◌++◌, length, ◌+◌, refl, ap, sym, subst, ◌∙◌}
+use Rattle.std.proofs.Common.{◌≡◌, List, [], ◌∷◌, ◌++◌, length, ◌+◌, ap, sym, subst, ◌∙◌}
 use Rattle.history.specs.declared.entry.Entry.{Entry}
 use Rattle.machine.specs.Runs.{Ran}
 use Rattle.machine.specs.States.{state_of}
@@ -6,11 +6,15 @@ use Rattle.machine.proofs.HistoryLaws.{goes_on, is_over, more_ran, none_ran, one
 use Rattle.machine.proofs.program_run.run_on.Goals as goal
 
 pub loop-init : goal.loop-init
-loop-init g c = record {
-  ran = none_ran c.args.program.now (state_of c.args.parts.now c.args.mounted.now.stack.frames) c.requires.typed;
-  count = refl;
-  selected = c.in_ok-selections.ensures c.args.program.now;
-}
+loop-init g c =
+    let w = c.args.program.now in
+    let first = state_of c.args.parts.now c.args.mounted.now.stack.frames in
+    let empty : c.new-history.result.items ≡ [] = c.new-history.ensures.items in
+    record {
+      ran = subst (λ (h : List Entry). Ran w first h first) (sym empty) (none_ran w first c.requires.typed);
+      count = ap (λ (h : List Entry). length h) empty;
+      selected = c.in_ok-selections.ensures w;
+    }
 
 pub returns-then-is_some-clause-stops : goal.returns-then-is_some-clause-stops
 returns-then-is_some-clause-stops g c = λ none.
