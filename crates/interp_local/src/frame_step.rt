@@ -74,10 +74,10 @@ pub(crate) fn pc_at(code: &[Instr], at: usize) -> u32
 
 /// The instruction with an index, and what its constant means.
 #[inline(always)]
-pub(crate) fn fetch_at(code: PreparedCode<'_>, at: usize) -> Fetched<'_>
-    requires { at < length code.instrs.now }
-    ensures instr { slice_get code.entry.instrs.now at ≡ Some result.instr.now }
-    ensures naming { result.naming ≡ places.naming_at code.entry.namings.now at }
+pub(crate) fn fetch_at<'a>(code: &PreparedCode<'a>, at: usize) -> Fetched<'a>
+    requires { at < length code.now.instrs.now }
+    ensures instr { slice_get code.now.instrs.now at ≡ Some result.instr.now }
+    ensures naming { result.naming ≡ places.naming_at code.now.namings.now at }
 {
     Fetched {
         instr: instr_at(code.instrs, at),
@@ -101,17 +101,17 @@ fn next_pc(next: u32, target: Option<i64>) -> u32
 #[inline(always)]
 pub(crate) fn stays_at<L: Lookups>(
     p: &Prepared<L>,
-    code: PreparedCode,
+    code: &PreparedCode,
     frame: FrameLayout,
     at: usize,
     used: usize,
     row: &[Cell],
 ) -> bool
     requires typed { AreTyped p.now }
-    requires code { IsCodeOf p.now frame.method code }
+    requires code { IsCodeOf p.now frame.method code.now }
     requires fits { frame.locals + frame.room ≤ length row.now }
-    requires at { IsAt p.now code.instrs.now frame row.now used at }
-    ensures { StaysAt p.now code.entry.instrs.now frame row.now used at result }
+    requires at { IsAt p.now code.now.instrs.now frame row.now used at }
+    ensures { StaysAt p.now code.now.instrs.now frame row.now used at result }
 {
     let instr = instr_at(code.instrs, at);
     does_stay(&instr.op, row, frame.locals, used)
@@ -121,18 +121,18 @@ pub(crate) fn stays_at<L: Lookups>(
 #[inline(always)]
 pub(crate) fn execute_at<L: Lookups>(
     p: &Prepared<L>,
-    code: PreparedCode,
+    code: &PreparedCode,
     frame: FrameLayout,
     at: usize,
     used: usize,
     row: &mut [Cell],
 ) -> Position
     requires typed { AreTyped p.now }
-    requires code { IsCodeOf p.now frame.method code }
+    requires code { IsCodeOf p.now frame.method code.now }
     requires fits { frame.locals + frame.room ≤ length row.old }
-    requires at { IsAt p.now code.instrs.now frame row.old used at }
-    requires stays { StaysAt p.now code.instrs.now frame row.old used at true }
-    ensures { Leads p.now code.entry.instrs.now frame row.old used at
+    requires at { IsAt p.now code.now.instrs.now frame row.old used at }
+    requires stays { StaysAt p.now code.now.instrs.now frame row.old used at true }
+    ensures { Leads p.now code.now.instrs.now frame row.old used at
         row.new result.used result.index 1 }
 {
     let instr = instr_at(code.instrs, at);
@@ -149,17 +149,17 @@ pub(crate) fn execute_at<L: Lookups>(
 #[inline(never)]
 fn plain_step<L: Lookups>(
     p: &Prepared<L>,
-    code: PreparedCode,
+    code: &PreparedCode,
     frame: FrameLayout,
     at: usize,
     used: usize,
     row: &mut [Cell],
 ) -> Step
     requires typed { AreTyped p.now }
-    requires code { IsCodeOf p.now frame.method code }
+    requires code { IsCodeOf p.now frame.method code.now }
     requires fits { frame.locals + frame.room ≤ length row.old }
-    requires at { IsAt p.now code.instrs.now frame row.old used at }
-    ensures { IsStep p.now code.entry.instrs.now frame row.old used at row.new result }
+    requires at { IsAt p.now code.now.instrs.now frame row.old used at }
+    ensures { IsStep p.now code.now.instrs.now frame row.old used at row.new result }
 {
     if !stays_at(p, code, frame, at, used, row) {
         return Step::Leave;
@@ -194,17 +194,17 @@ fn step_of(turn: Turn) -> Step
 #[inline(always)]
 pub(crate) fn step_at<L: Lookups>(
     p: &Prepared<L>,
-    code: PreparedCode,
+    code: &PreparedCode,
     frame: FrameLayout,
     at: usize,
     used: usize,
     row: &mut [Cell],
 ) -> Step
     requires typed { AreTyped p.now }
-    requires code { IsCodeOf p.now frame.method code }
+    requires code { IsCodeOf p.now frame.method code.now }
     requires fits { frame.locals + frame.room ≤ length row.old }
-    requires at { IsAt p.now code.instrs.now frame row.old used at }
-    ensures { IsStep p.now code.entry.instrs.now frame row.old used at row.new result }
+    requires at { IsAt p.now code.now.instrs.now frame row.old used at }
+    ensures { IsStep p.now code.now.instrs.now frame row.old used at row.new result }
 {
     let quick = quick_at(code.quicks, at);
     if is_left(quick) {

@@ -12,13 +12,13 @@ not_left false e = absurd cc
 
 pub quick_at-quick-requires : goal.quick_at-quick-requires
 quick_at-quick-requires g c =
-    let inside = inside_at c.args.p.now c.args.code c.args.frame c.args.row.now c.args.used c.args.at c.requires.code c.requires.at in
+    let inside = inside_at c.args.p.now c.args.code.now c.args.frame c.args.row.now c.args.used c.args.at c.requires.code c.requires.at in
     omega (arith, inside, c.requires.code.quicks.count)
 
 pub make_quick-turn-requires : goal.make_quick-turn-requires
 make_quick-turn-requires g c =
     let w = c.args.p.now in
-    let code = c.args.code in
+    let code = c.args.code.now in
     let f = c.args.frame in
     let row = c.args.row.now in
     let q = c.quick_at-quick.result.now in
@@ -32,7 +32,7 @@ make_quick-turn-requires g c =
 pub returns : goal.returns
 returns g c =
     let w = c.args.p.now in
-    let code = c.args.code in
+    let code = c.args.code.now in
     let f = c.args.frame in
     let row = c.args.row.now in
     let q = c.quick_at-quick.result.now in
