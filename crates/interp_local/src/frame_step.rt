@@ -98,41 +98,41 @@ fn next_pc(next: u32, target: Option<i64>) -> u32
 }
 
 /// Whether the instruction with an index stays in its frame.
-#[inline(always)]
+#[inline(never)]
 pub(crate) fn stays_at<L: Lookups>(
     p: &Prepared<L>,
     code: &PreparedCode,
-    frame: FrameLayout,
+    frame: &FrameLayout,
     at: usize,
     used: usize,
     row: &[Cell],
 ) -> bool
     requires typed { AreTyped p.now }
-    requires code { IsCodeOf p.now frame.method code.now }
-    requires fits { frame.locals + frame.room ≤ length row.now }
-    requires at { IsAt p.now code.now.instrs.now frame row.now used at }
-    ensures { StaysAt p.now code.now.instrs.now frame row.now used at result }
+    requires code { IsCodeOf p.now frame.now.method code.now }
+    requires fits { frame.now.locals + frame.now.room ≤ length row.now }
+    requires at { IsAt p.now code.now.instrs.now frame.now row.now used at }
+    ensures { StaysAt p.now code.now.instrs.now frame.now row.now used at result }
 {
     let instr = instr_at(code.instrs, at);
     does_stay(&instr.op, row, frame.locals, used)
 }
 
 /// Executes the instruction with an index, which stays in its frame.
-#[inline(always)]
+#[inline(never)]
 pub(crate) fn execute_at<L: Lookups>(
     p: &Prepared<L>,
     code: &PreparedCode,
-    frame: FrameLayout,
+    frame: &FrameLayout,
     at: usize,
     used: usize,
     row: &mut [Cell],
 ) -> Position
     requires typed { AreTyped p.now }
-    requires code { IsCodeOf p.now frame.method code.now }
-    requires fits { frame.locals + frame.room ≤ length row.old }
-    requires at { IsAt p.now code.now.instrs.now frame row.old used at }
-    requires stays { StaysAt p.now code.now.instrs.now frame row.old used at true }
-    ensures { Leads p.now code.now.instrs.now frame row.old used at
+    requires code { IsCodeOf p.now frame.now.method code.now }
+    requires fits { frame.now.locals + frame.now.room ≤ length row.old }
+    requires at { IsAt p.now code.now.instrs.now frame.now row.old used at }
+    requires stays { StaysAt p.now code.now.instrs.now frame.now row.old used at true }
+    ensures { Leads p.now code.now.instrs.now frame.now row.old used at
         row.new result.used result.index 1 }
 {
     let instr = instr_at(code.instrs, at);
@@ -142,33 +142,6 @@ pub(crate) fn execute_at<L: Lookups>(
     Position {
         index: place(code.instrs, code.places, pc),
         used: left.used,
-    }
-}
-
-// The step of an instruction that has no quick one.
-#[inline(never)]
-fn plain_step<L: Lookups>(
-    p: &Prepared<L>,
-    code: &PreparedCode,
-    frame: FrameLayout,
-    at: usize,
-    used: usize,
-    row: &mut [Cell],
-) -> Step
-    requires typed { AreTyped p.now }
-    requires code { IsCodeOf p.now frame.method code.now }
-    requires fits { frame.locals + frame.room ≤ length row.old }
-    requires at { IsAt p.now code.now.instrs.now frame row.old used at }
-    ensures { IsStep p.now code.now.instrs.now frame row.old used at row.new result }
-{
-    if !stays_at(p, code, frame, at, used, row) {
-        return Step::Leave;
-    }
-    let position = execute_at(p, code, frame, at, used, row);
-    Step::Jump {
-        used: position.used,
-        index: position.index,
-        count: 1,
     }
 }
 
@@ -195,20 +168,28 @@ fn step_of(turn: Turn) -> Step
 pub(crate) fn step_at<L: Lookups>(
     p: &Prepared<L>,
     code: &PreparedCode,
-    frame: FrameLayout,
+    frame: &FrameLayout,
     at: usize,
     used: usize,
     row: &mut [Cell],
 ) -> Step
     requires typed { AreTyped p.now }
-    requires code { IsCodeOf p.now frame.method code.now }
-    requires fits { frame.locals + frame.room ≤ length row.old }
-    requires at { IsAt p.now code.now.instrs.now frame row.old used at }
-    ensures { IsStep p.now code.now.instrs.now frame row.old used at row.new result }
+    requires code { IsCodeOf p.now frame.now.method code.now }
+    requires fits { frame.now.locals + frame.now.room ≤ length row.old }
+    requires at { IsAt p.now code.now.instrs.now frame.now row.old used at }
+    ensures { IsStep p.now code.now.instrs.now frame.now row.old used at row.new result }
 {
     let quick = quick_at(code.quicks, at);
     if is_left(quick) {
-        return plain_step(p, code, frame, at, used, row);
+        if !stays_at(p, code, frame, at, used, row) {
+            return Step::Leave;
+        }
+        let Position { index, used } = execute_at(p, code, frame, at, used, row);
+        return Step::Jump {
+            used,
+            index,
+            count: 1,
+        };
     }
     let turn = make_quick(quick, row, frame.locals, used);
     step_of(turn)
