@@ -1,53 +1,57 @@
 use Rattle.std.proofs.Common.{arith}
 use Rattle.verify_types.specs.Environment.{Instruction}
-use Rattle.interp_local.specs.Runs.{frame_of}
-use Rattle.interp_local.proofs.LoopLaws.{inside_at, goes_at, used_at, fits_at, leads, next_frame, has_place}
+use Rattle.interp_local.specs.Runs.{IsAt, frame_of}
+use Rattle.interp_local.proofs.FrameSteps.{GoesOn}
+use Rattle.interp_local.proofs.LoopLaws.{Next, inside_at, goes_at, used_at, fits_at, leads, next_frame, has_place}
 use Rattle.interp_local.proofs.RunLaws.{one_ran}
+use Rattle.interp_local.proofs.frame_step.execute_at.Given as given
 use Rattle.interp_local.proofs.frame_step.execute_at.Goals as goal
+use Rattle.interp_local.proofs.frame_step.execute_at.Goals.{After-naming_at-naming, After-next_pc-pc}
+
+-- the instruction goes on, from each frame at the index
+goes : (g : given.Over) (c : After-naming_at-naming g) (here : IsAt c.args.p.now c.args.code.now.instrs.now c.args.frame.now c.args.row.now c.args.used c.args.at)
+    → GoesOn c.args.p.now (frame_of c.args.frame.now here.pc c.args.row.now c.args.used) (record { instr = c.instr_at-instr.result.now; naming = c.naming_at-naming.result })
+goes g c here =
+    goes_at c.args.p.now c.args.code.now c.args.frame.now c.args.row.now c.args.used c.args.at c.instr_at-instr.result.now c.naming_at-naming.result
+    c.requires.typed c.requires.code here c.instr_at-instr.ensures c.naming_at-naming.ensures c.requires.stays
+
+next : (g : given.Over) (c : After-next_pc-pc g) (here : IsAt c.args.p.now c.args.code.now.instrs.now c.args.frame.now c.args.row.now c.args.used c.args.at)
+    → GoesOn c.args.p.now (frame_of c.args.frame.now here.pc c.args.row.now c.args.used) (record { instr = c.instr_at-instr.result.now; naming = c.naming_at-naming.result })
+    → Next c.args.p.now (frame_of c.args.frame.now here.pc c.args.row.now c.args.used) (frame_of c.args.frame.now c.next_pc-pc.result c.execute-left.new.row c.execute-left.result.used)
+next g c here on =
+    next_frame c.args.p.now (frame_of c.args.frame.now here.pc c.args.row.now c.args.used) (record { instr = c.instr_at-instr.result.now; naming = c.naming_at-naming.result })
+    on _ c.next_pc-pc.result c.execute-left.ensures c.next_pc-pc.ensures
 
 pub instr_at-instr-requires : goal.instr_at-instr-requires
 instr_at-instr-requires g c = inside_at c.args.p.now c.args.code.now c.args.frame.now c.args.row.now c.args.used c.args.at c.requires.code c.requires.at
 
 pub execute-left-requires : goal.execute-left-requires
 execute-left-requires g c =
-    let w = c.args.p.now in
-    let code = c.args.code.now in
     let f = c.args.frame.now in
     let row = c.args.row.now in
     let i : Instruction = record { instr = c.instr_at-instr.result.now; naming = c.naming_at-naming.result } in
-    let goes = goes_at w code f row c.args.used c.args.at i.instr i.naming c.requires.typed c.requires.code c.requires.at c.instr_at-instr.ensures c.naming_at-naming.ensures c.requires.stays in
     record {
-      fits = omega (arith, used_at w code.instrs.now f row c.args.used c.args.at c.requires.typed c.requires.at);
-      made = fits_at w f c.requires.at.pc row c.args.used i goes c.requires.fits;
+      fits = omega (arith, used_at c.args.p.now c.args.code.now.instrs.now f row c.args.used c.args.at c.requires.typed c.requires.at);
+      made = fits_at c.args.p.now f c.requires.at.pc row c.args.used i (goes g (goal.at.execute-left-requires g c).After-naming_at-naming c.requires.at) c.requires.fits;
     }
 
 pub next_pc-pc-requires : goal.next_pc-pc-requires
 next_pc-pc-requires g c =
-    let w = c.args.p.now in
-    let code = c.args.code.now in
-    let f = c.args.frame.now in
-    let row = c.args.row.now in
     let i : Instruction = record { instr = c.instr_at-instr.result.now; naming = c.naming_at-naming.result } in
-    let goes = goes_at w code f row c.args.used c.args.at i.instr i.naming c.requires.typed c.requires.code c.requires.at c.instr_at-instr.ensures c.naming_at-naming.ensures c.requires.stays in
-    record { pc = goes.pc; is = leads w (frame_of f c.requires.at.pc row c.args.used) i goes _ c.execute-left.ensures }
+    let on = goes g (goal.at.next_pc-pc-requires g c).After-naming_at-naming c.requires.at in
+    record { pc = on.pc; is = leads c.args.p.now (frame_of c.args.frame.now c.requires.at.pc c.args.row.now c.args.used) i on _ c.execute-left.ensures }
 
 pub place-requires : goal.place-requires
-place-requires g c =
-    let w = c.args.p.now in
-    let code = c.args.code.now in
-    let f = c.args.frame.now in
-    let row = c.args.row.now in
-    let i : Instruction = record { instr = c.instr_at-instr.result.now; naming = c.naming_at-naming.result } in
-    let goes = goes_at w code f row c.args.used c.args.at i.instr i.naming c.requires.typed c.requires.code c.requires.at c.instr_at-instr.ensures c.naming_at-naming.ensures c.requires.stays in
-    let next = next_frame w (frame_of f c.requires.at.pc row c.args.used) i goes _ c.next_pc-pc.result c.execute-left.ensures c.next_pc-pc.ensures in
-    record { places = c.requires.code.places; there = has_place w (frame_of f c.next_pc-pc.result c.execute-left.new.row c.execute-left.result.used) code c.requires.code next.stands }
+place-requires g c = record {
+  places = c.requires.code.places;
+  there = has_place c.args.p.now (frame_of c.args.frame.now c.next_pc-pc.result c.execute-left.new.row c.execute-left.result.used) c.args.code.now c.requires.code
+      (next g (goal.at.place-requires g c).After-next_pc-pc c.requires.at (goes g (goal.at.place-requires g c).After-naming_at-naming c.requires.at)).stands;
+}
 
 pub returns : goal.returns
 returns g c = λ here.
-    let w = c.args.p.now in
-    let code = c.args.code.now in
-    let i : Instruction = record { instr = c.instr_at-instr.result.now; naming = c.naming_at-naming.result } in
-    let start = frame_of c.args.frame.now here.pc c.args.row.now c.args.used in
-    let goes = goes_at w code c.args.frame.now c.args.row.now c.args.used c.args.at i.instr i.naming c.requires.typed c.requires.code here c.instr_at-instr.ensures c.naming_at-naming.ensures c.requires.stays in
-    let next = next_frame w start i goes _ c.next_pc-pc.result c.execute-left.ensures c.next_pc-pc.ensures in
-    record { to = record { pc = c.next_pc-pc.result; first = c.place.ensures; stands = next.stands }; ran = one_ran w start _ next }
+    let after = next g (goal.at.returns g c).After-next_pc-pc here (goes g (goal.at.returns g c).After-naming_at-naming here) in
+    record {
+      to = record { pc = c.next_pc-pc.result; first = c.place.ensures; stands = after.stands };
+      ran = one_ran c.args.p.now (frame_of c.args.frame.now here.pc c.args.row.now c.args.used) _ after;
+    }
