@@ -11,4 +11,4 @@ pub use class_why::{ClassFault, ClassWhy};
 pub use holder::Holder;
 pub use laws::{items_are_whole, one_spelling};
 pub use pool::{class_name_at, has_text, is_class_named, text_at};
-pub use text::is_same;
+pub use text::{is_same, is_same_counted};

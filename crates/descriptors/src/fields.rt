@@ -12,12 +12,35 @@ use crate::fronts::{BYTE, CHAR, DOUBLE, FLOAT, INT, LONG, SHORT, field_bad};
 use crate::kind::{ElementType, Kind};
 use items::Items;
 use std::alloc::{AllocError, Global};
+use std::marker::Brand;
+use std::sync::ledger::{Blank, Ledger};
+use steps::Steps;
 
 /// Whether the units are the descriptor of a field (JVMS 4.3.2). This takes no memory.
 pub fn is_field_descriptor(units: &[u16]) -> bool
     ensures { result ≡ spec.is_field units.now }
 {
-    field_bad(units, 0).is_none()
+    is_field_on::<Brand>(units, Blank::new(1))
+}
+
+// `is_field_descriptor`, on a ledger that nobody reads.
+fn is_field_on<L: Ledger>(units: &[u16], blank: Blank) -> bool
+    requires name { blank.name ≡ L.name }
+    requires parts { blank.parts ≡ L.parts }
+    requires some { 0 < L.parts }
+    ensures { result ≡ spec.is_field units.now }
+{
+    let mut steps = Steps::<L>::new(blank);
+    is_field_counted(units, &mut steps)
+}
+
+/// `is_field_descriptor`, with its steps counted.
+pub fn is_field_counted<L: Ledger>(units: &[u16], steps: &mut Steps<L>) -> bool
+    ensures test { result ≡ spec.is_field units.now }
+    // Each unit takes one step, whatever the answer is.
+    ensures cost { steps.new ≡ steps.old + length units.now }
+{
+    field_bad(units, 0, steps).is_none()
 }
 
 /// The kind whose descriptor the units are (JVMS 4.3.2): of a class with a name by JVMS 4.2.1, of
@@ -34,7 +57,47 @@ pub fn field_kind(alloc: Global, units: &[u16]) -> Result<Kind, DescriptorError>
     ensures bad { (at : ℕ) → result ≡ Err (errors.Bad at) → IsFirstBad IsField units.now at }
     ensures none { (at : ℕ) → result ≡ Err (errors.Bad at) → spec.is_field units.now ≡ false }
 {
-    if let Some(at) = field_bad(units, 0) {
+    field_kind_on::<Brand>(alloc, units, Blank::new(1))
+}
+
+// `field_kind`, on a ledger that nobody reads.
+fn field_kind_on<L: Ledger>(
+    alloc: Global,
+    units: &[u16],
+    blank: Blank,
+) -> Result<Kind, DescriptorError>
+    requires name { blank.name ≡ L.name }
+    requires parts { blank.parts ≡ L.parts }
+    requires some { 0 < L.parts }
+    requires size { length units.now < 2 ^ 32 }
+    ensures found { IfOk result (λ kind. IsKind kind × (units.now ≡ spelling kind)) }
+    ensures value { IfOk result (λ kind. kind ≡ meaning.kind_of units.now) }
+    ensures only { (kind : AnyKind) → IsKind kind → units.now ≡ spelling kind
+        → OkUnless result errors.NoMemory (λ found. found ≡ kind) }
+    ensures bad { (at : ℕ) → result ≡ Err (errors.Bad at) → IsFirstBad IsField units.now at }
+    ensures none { (at : ℕ) → result ≡ Err (errors.Bad at) → spec.is_field units.now ≡ false }
+{
+    let mut steps = Steps::<L>::new(blank);
+    field_kind_counted(alloc, units, &mut steps)
+}
+
+/// `field_kind`, with its steps counted.
+pub fn field_kind_counted<L: Ledger>(
+    alloc: Global,
+    units: &[u16],
+    steps: &mut Steps<L>,
+) -> Result<Kind, DescriptorError>
+    requires { length units.now < 2 ^ 32 }
+    ensures found { IfOk result (λ kind. IsKind kind × (units.now ≡ spelling kind)) }
+    ensures value { IfOk result (λ kind. kind ≡ meaning.kind_of units.now) }
+    ensures only { (kind : AnyKind) → IsKind kind → units.now ≡ spelling kind
+        → OkUnless result errors.NoMemory (λ found. found ≡ kind) }
+    ensures bad { (at : ℕ) → result ≡ Err (errors.Bad at) → IsFirstBad IsField units.now at }
+    ensures none { (at : ℕ) → result ≡ Err (errors.Bad at) → spec.is_field units.now ≡ false }
+    // Each unit takes one step, whatever the answer is. What is kept of it is part of that step.
+    ensures cost { steps.new ≡ steps.old + length units.now }
+{
+    if let Some(at) = field_bad(units, 0, steps) {
         return Err(DescriptorError::Bad { at: at as u32 });
     }
     let (kind, _) = kind_at(alloc, units)?;

@@ -1,10 +1,13 @@
 //! What each unit of a descriptor does (JVMS 4.3), and the first that is not allowed: for the
 //! tests and for the readers.
 
-ghost use Rattle.std.specs.Prelude.{◌≡◌, ◌≤◌, length, drop, IfSome};
+ghost use Rattle.std.specs.Prelude.{◌≡◌, ◌≤◌, ◌+◌, ◌-◌, length, drop, IfSome};
 ghost use Rattle.descriptors.specs.Descriptors as chars;
 ghost use Rattle.descriptors.specs.declared.fronts.Front.TheVariants as fronts;
 ghost use Rattle.descriptors.specs.States as spec;
+
+use std::sync::ledger::Ledger;
+use steps::Steps;
 
 pub const BYTE: u16 = b'B' as u16;
 
@@ -141,61 +144,79 @@ fn whole_bad(units: &[u16], start: usize) -> Option<usize>
 }
 
 /// The offset of the first unit from `start` on that is not allowed in the descriptor of a kind,
-/// the number of units where they end too early, or none.
-pub fn field_bad(units: &[u16], start: usize) -> Option<usize>
+/// the number of units where they end too early, or none. Each unit takes a step.
+pub fn field_bad<L: Ledger>(units: &[u16], start: usize, steps: &mut Steps<L>) -> Option<usize>
     requires { start ≤ length units.now }
     ensures first { result ≡
         spec.first_bad (spec.Field (fronts.Brackets 0)) start (drop start units.now) }
     ensures within { IfSome result (λ at. at ≤ length units.now) }
+    ensures cost { steps.new + start ≡ steps.old + length units.now }
 {
     let mut front = START;
     for index in start..units.len() {
         match front.turn(units[index]) {
-            Turn::Ends => return whole_bad(units, index + 1),
+            Turn::Ends => {
+                steps.spend(units.len() - index);
+                return whole_bad(units, index + 1);
+            }
             Turn::GoesOn(more) => front = more,
-            Turn::Stops => return Some(index),
+            Turn::Stops => {
+                steps.spend(units.len() - index);
+                return Some(index);
+            }
         }
+        steps.spend(1);
     }
     Some(units.len())
 }
 
 // The same for the result of a method.
-fn result_bad(units: &[u16], start: usize) -> Option<usize>
+fn result_bad<L: Ledger>(units: &[u16], start: usize, steps: &mut Steps<L>) -> Option<usize>
     requires { start ≤ length units.now }
     ensures first { result ≡ spec.first_bad spec.Result start (drop start units.now) }
     ensures within { IfSome result (λ at. at ≤ length units.now) }
+    ensures cost { steps.new + start ≡ steps.old + length units.now }
 {
     if start < units.len() && units[start] == u16::from(b'V') {
-        whole_bad(units, start + 1)
-    } else {
-        field_bad(units, start)
+        steps.spend(units.len() - start);
+        return whole_bad(units, start + 1);
     }
+    field_bad(units, start, steps)
 }
 
 /// The same for the descriptor of a method, from its first unit on.
-pub fn method_bad(units: &[u16]) -> Option<usize>
+pub fn method_bad<L: Ledger>(units: &[u16], steps: &mut Steps<L>) -> Option<usize>
     ensures first { result ≡ spec.first_bad spec.Method 0 units.now }
     ensures within { IfSome result (λ at. at ≤ length units.now) }
+    ensures cost { steps.new ≡ steps.old + length units.now }
 {
     if units.is_empty() || units[0] != u16::from(b'(') {
+        steps.spend(units.len());
         return Some(0);
     }
+    steps.spend(1);
     let mut slots = 0u16;
     let mut front = START;
     for index in 1..units.len() {
         let unit = units[index];
         if front.is_start() && unit == u16::from(b')') {
-            return result_bad(units, index + 1);
+            steps.spend(1);
+            return result_bad(units, index + 1, steps);
         }
         slots = slots_with(slots, front, unit);
         if slots > 255 {
+            steps.spend(units.len() - index);
             return Some(index);
         }
         match front.turn(unit) {
             Turn::Ends => front = START,
             Turn::GoesOn(more) => front = more,
-            Turn::Stops => return Some(index),
+            Turn::Stops => {
+                steps.spend(units.len() - index);
+                return Some(index);
+            }
         }
+        steps.spend(1);
     }
     Some(units.len())
 }

@@ -9,7 +9,7 @@ mod laws;
 mod methods;
 
 pub use error::DescriptorError;
-pub use fields::{field_kind, is_field_descriptor};
+pub use fields::{field_kind, field_kind_counted, is_field_counted, is_field_descriptor};
 pub use kind::{ElementType, Kind, Signature};
 pub use laws::{one_first_bad, one_kind, one_signature, tests_decide};
-pub use methods::{is_method_descriptor, method_kind};
+pub use methods::{is_method_counted, is_method_descriptor, method_kind, method_kind_counted};

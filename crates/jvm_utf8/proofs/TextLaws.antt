@@ -1,6 +1,7 @@
 -- Reading a text gives its units back, and what is read is a text; where reading stops, no unit begins.
-use Rattle.std.proofs.Common.{◌≡◌, ℕ, zero, suc, ◌+◌, ◌-◌, ◌^◌, ◌<◌, ◌≤◌, List, [], ◌∷◌, ◌++◌, length, get_or, take, drop, drop-cons, Option, Some, None, Result, Ok, Err, refl, sym, ap, subst, ◌∙◌, append_assoc, length-append, arith, ◌⊎◌, inl, inr}
-use Rattle.std.specs.Prelude.{IfOk}
+use Rattle.std.proofs.Common.{◌≡◌, ℕ, zero, suc, ◌+◌, ◌-◌, ◌^◌, ◌<◌, ◌≤◌, List, [], ◌∷◌, ◌++◌, length, get_or, take, drop, drop-cons, Option, Some, None, Result, Ok, Err, refl, sym, ap, subst, ◌∙◌, append_assoc, length-append, arith, ◌⊎◌, inl, inr, Bool, true, false, cond}
+use Rattle.std.specs.Prelude.{IfOk, ◌&&◌}
+use Rattle.std.specs.List.{list_all}
 use Rattle.items.specs.Memory.{OkUnless}
 use Rattle.std.proofs.lemmas.List.Concat.{flat_map-cons}
 use Rattle.std.specs.Io.{StartsWith}
@@ -10,7 +11,7 @@ use Rattle.std.proofs.Math.Seq.{take-append_seam, drop-append_seam}
 use Rattle.jvm_utf8.specs.declared.error.Utf8Error.{Utf8Error}
 use Rattle.jvm_utf8.specs.declared.error.Utf8Error.TheVariants.{Bad, NoMemory}
 use Rattle.jvm_utf8.specs.Text.{unit, text, AreUnits}
-use Rattle.jvm_utf8.specs.Units.{unit_at, with_front, units_from, units_of}
+use Rattle.jvm_utf8.specs.Units.{is_plain, unit_at, with_front, units_from, units_of}
 use Rattle.jvm_utf8.specs.Refusal.{IsFirstBad}
 use Rattle.jvm_utf8.proofs.UnitLaws.{unit_takes, unit_again, some_bytes}
 
@@ -57,6 +58,36 @@ read_text (suc most) at (u ∷ us) fit h =
 pub units_of_text : (us : List ℕ) → AreUnits us → units_of (text us) ≡ Ok us
 unfolding units_of
 units_of_text us fit = read_text (length (text us)) 0 us fit (omega arith)
+
+-- what is after a unit is no longer
+pub shorter : (bytes : List ℕ) (x : ℕ × List ℕ) → unit_at bytes ≡ Some x → length x.1 ≤ length bytes
+shorter bytes x e = let t = unit_takes bytes x e in omega (arith, ap length t.parts, length-append (unit x.0) x.1)
+
+-- ---- bytes that are units by themselves
+
+first_chosen : {A : Type 0} (b : Bool) (x y : A) → b ≡ true → cond b x y ≡ x
+first_chosen true x y e = refl
+first_chosen false x y e = absurd cc
+
+both_true : (a b : Bool) → (a && b) ≡ true → (a ≡ true) × (b ≡ true)
+both_true true true e = (refl, refl)
+both_true true false e = absurd cc
+both_true false b e = absurd cc
+
+plain_at : (b : ℕ) (bytes : List ℕ) → is_plain b ≡ true → unit_at (b ∷ bytes) ≡ Some (b, bytes)
+plain_at b bytes h = first_chosen (is_plain b) (Some (b, bytes)) _ h
+
+plain_from : (most at : ℕ) (bytes : List ℕ) → length bytes ≤ most → list_all is_plain bytes ≡ true → units_from most at bytes ≡ Ok bytes
+plain_from zero at [] le h = refl
+plain_from (suc most) at [] le h = refl
+plain_from zero at (b ∷ bytes) le h = absurd (omega arith)
+plain_from (suc most) at (b ∷ bytes) le h =
+    let p = both_true (is_plain b) (list_all is_plain bytes) h in
+    step most at (b ∷ bytes) (b, bytes) (plain_at b bytes p.0) ∙ ap (with_front b) (plain_from most (at + length (unit b)) bytes (omega arith) p.1)
+
+pub plain_units : (bytes : List ℕ) → list_all is_plain bytes ≡ true → units_of bytes ≡ Ok bytes
+unfolding units_of
+plain_units bytes h = plain_from (length bytes) 0 bytes (omega arith) h
 
 -- ---- reading stops at the first offset at which no unit begins
 

@@ -6,6 +6,10 @@ use Rattle.std.specs.Int.{is_in_range}
 abbrev pub is_later : ℕ → Bool
 is_later b = is_in_range 128 191 b
 
+-- a byte that is a unit by itself
+abbrev pub is_plain : ℕ → Bool
+is_plain b = is_in_range 1 127 b
+
 -- the unit of two bytes, of which this is the first, and the bytes after it
 abbrev pub two_at : ℕ → List ℕ → Option (ℕ × List ℕ)
 two_at a [] = None
@@ -24,7 +28,7 @@ three_at a short = None
 abbrev pub unit_at : List ℕ → Option (ℕ × List ℕ)
 unit_at [] = None
 unit_at (a ∷ rest) =
-    if is_in_range 1 127 a then Some (a, rest)
+    if is_plain a then Some (a, rest)
     else if is_in_range 192 223 a then two_at a rest
     else if is_in_range 224 239 a then three_at a rest
     else None

@@ -1,5 +1,6 @@
-ghost use Rattle.std.specs.Prelude.{◌≡◌, ◌<◌, ◌^◌, List, ℕ, length, IfOk, Ok, Err, IsTrue};
+ghost use Rattle.std.specs.Prelude.{◌≡◌, ◌<◌, ◌^◌, ◌+◌, List, ℕ, length, IfOk, Ok, Err, IsTrue, true};
 ghost use Rattle.std.specs.Int.{is_in_range};
+ghost use Rattle.std.specs.List.{list_all};
 ghost use Rattle.std.specs.Option.{option_map};
 ghost use Rattle.items.specs.Memory.{OkUnless};
 ghost use Rattle.jvm_utf8.specs.declared.error.Utf8Error.TheVariants as errors;
@@ -8,7 +9,10 @@ ghost use Rattle.jvm_utf8.specs.Units as spec;
 ghost use Rattle.jvm_utf8.specs.Refusal.{IsFirstBad};
 
 use crate::error::Utf8Error;
-use std::alloc::Global;
+use std::alloc::{AllocError, Global};
+use std::marker::Brand;
+use std::sync::ledger::{Blank, Ledger};
+use steps::Steps;
 
 /// The units that the bytes spell (JVMS 4.4.7). A unit has one form, the shortest: no byte is 0
 /// or from `f0` on, and a surrogate is a unit of three bytes by itself.
@@ -25,24 +29,133 @@ pub fn decode(alloc: Global, bytes: &[u8]) -> Result<Vec<u16>, Utf8Error>
     ensures value { IfOk result (λ v. spec.units_of bytes.now ≡ Ok v.items) }
     ensures offset { (at : ℕ) → result ≡ Err (errors.Bad at) → spec.units_of bytes.now ≡ Err at }
 {
-    units_of(alloc, bytes)
+    decode_on::<Brand>(alloc, bytes, Blank::new(1))
 }
 
-// The loop of `decode`. The clauses of `decode` on texts follow from these two.
-fn units_of(alloc: Global, bytes: &[u8]) -> Result<Vec<u16>, Utf8Error>
-    requires { length bytes.now < 2 ^ 32 }
+// `decode`, on a ledger that nobody reads.
+fn decode_on<L: Ledger>(alloc: Global, bytes: &[u8], blank: Blank) -> Result<Vec<u16>, Utf8Error>
+    requires name { blank.name ≡ L.name }
+    requires parts { blank.parts ≡ L.parts }
+    requires some { 0 < L.parts }
+    requires size { length bytes.now < 2 ^ 32 }
+    ensures found { IfOk result (λ v. AreUnits v.items × (bytes.now ≡ text v.items)) }
+    ensures only { (units : List ℕ) → AreUnits units → bytes.now ≡ text units
+        → OkUnless result errors.NoMemory (λ v. v.items ≡ units) }
+    ensures bad { (at : ℕ) → result ≡ Err (errors.Bad at) → IsFirstBad bytes.now at }
     ensures value { IfOk result (λ v. spec.units_of bytes.now ≡ Ok v.items) }
     ensures offset { (at : ℕ) → result ≡ Err (errors.Bad at) → spec.units_of bytes.now ≡ Err at }
 {
-    let mut units = Vec::with_capacity(alloc, bytes.len())?;
+    let mut steps = Steps::<L>::new(blank);
+    decode_counted(alloc, bytes, &mut steps)
+}
+
+/// `decode`, with its steps counted.
+pub fn decode_counted<L: Ledger>(
+    alloc: Global,
+    bytes: &[u8],
+    steps: &mut Steps<L>,
+) -> Result<Vec<u16>, Utf8Error>
+    requires { length bytes.now < 2 ^ 32 }
+    ensures found { IfOk result (λ v. AreUnits v.items × (bytes.now ≡ text v.items)) }
+    ensures only { (units : List ℕ) → AreUnits units → bytes.now ≡ text units
+        → OkUnless result errors.NoMemory (λ v. v.items ≡ units) }
+    ensures bad { (at : ℕ) → result ≡ Err (errors.Bad at) → IsFirstBad bytes.now at }
+    ensures value { IfOk result (λ v. spec.units_of bytes.now ≡ Ok v.items) }
+    ensures offset { (at : ℕ) → result ≡ Err (errors.Bad at) → spec.units_of bytes.now ≡ Err at }
+    // Each byte takes one step, whatever the answer is.
+    ensures cost { steps.new ≡ steps.old + length bytes.now }
+{
+    units_of(alloc, bytes, steps)
+}
+
+// The clauses of `decode` on texts follow from these.
+fn units_of<L: Ledger>(
+    alloc: Global,
+    bytes: &[u8],
+    steps: &mut Steps<L>,
+) -> Result<Vec<u16>, Utf8Error>
+    requires { length bytes.now < 2 ^ 32 }
+    ensures value { IfOk result (λ v. spec.units_of bytes.now ≡ Ok v.items) }
+    ensures offset { (at : ℕ) → result ≡ Err (errors.Bad at) → spec.units_of bytes.now ≡ Err at }
+    ensures cost { steps.new ≡ steps.old + length bytes.now }
+{
+    if are_plain(bytes) {
+        return plain_units(alloc, bytes, steps);
+    }
+    units_by_form(alloc, bytes, steps)
+}
+
+// Whether each byte is a unit by itself. That a byte is looked at here is part of the step in
+// which its unit is made.
+#[inline]
+fn are_plain(bytes: &[u8]) -> bool
+    ensures { result ≡ list_all spec.is_plain bytes.now }
+{
+    let mut plain = true;
+    for byte in bytes {
+        plain &= is_plain(*byte);
+    }
+    plain
+}
+
+// Whether the byte is a unit by itself.
+fn is_plain(byte: u8) -> bool
+    ensures { result ≡ spec.is_plain byte }
+{
+    byte.wrapping_sub(1) < 0x7f
+}
+
+// The units of bytes that are units by themselves, as most texts are.
+fn plain_units<L: Ledger>(
+    alloc: Global,
+    bytes: &[u8],
+    steps: &mut Steps<L>,
+) -> Result<Vec<u16>, Utf8Error>
+    requires { list_all spec.is_plain bytes.now ≡ true }
+    ensures value { IfOk result (λ v. spec.units_of bytes.now ≡ Ok v.items) }
+    ensures offset { (at : ℕ) → result ≡ Err (errors.Bad at) → spec.units_of bytes.now ≡ Err at }
+    ensures cost { steps.new ≡ steps.old + length bytes.now }
+{
+    steps.spend(bytes.len());
+    let units = widened(alloc, bytes)?;
+    Ok(units)
+}
+
+// Each byte as a unit.
+fn widened(alloc: Global, bytes: &[u8]) -> Result<Vec<u16>, AllocError>
+    ensures { IfOk result (λ v. v.items ≡ bytes.now) }
+{
+    bytes.iter().map(|byte| u16::from(*byte)).collect(alloc)
+}
+
+// The units of any bytes.
+fn units_by_form<L: Ledger>(
+    alloc: Global,
+    bytes: &[u8],
+    steps: &mut Steps<L>,
+) -> Result<Vec<u16>, Utf8Error>
+    requires { length bytes.now < 2 ^ 32 }
+    ensures value { IfOk result (λ v. spec.units_of bytes.now ≡ Ok v.items) }
+    ensures offset { (at : ℕ) → result ≡ Err (errors.Bad at) → spec.units_of bytes.now ≡ Err at }
+    ensures cost { steps.new ≡ steps.old + length bytes.now }
+{
+    let Ok(mut units) = Vec::with_capacity(alloc, bytes.len()) else {
+        steps.spend(bytes.len());
+        return Err(Utf8Error::NoMemory);
+    };
     let mut rest = bytes;
     while !rest.is_empty() {
         let Some((unit, behind)) = unit_at(rest) else {
+            steps.spend(rest.len());
             return Err(Utf8Error::Bad {
                 at: (bytes.len() - rest.len()) as u32,
             });
         };
-        units.push(unit)?;
+        let Ok(()) = units.push(unit) else {
+            steps.spend(rest.len());
+            return Err(Utf8Error::NoMemory);
+        };
+        steps.spend(rest.len() - behind.len());
         rest = behind;
     }
     Ok(units)

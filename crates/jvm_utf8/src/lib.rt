@@ -6,7 +6,7 @@ mod encoder;
 mod error;
 mod laws;
 
-pub use decoder::decode;
+pub use decoder::{decode, decode_counted};
 pub use encoder::{append, encode};
 pub use error::Utf8Error;
 pub use laws::{one_first_bad, one_text};

@@ -1,7 +1,10 @@
-use Rattle.std.proofs.Common.{◌≡◌, drop}
+use Rattle.std.proofs.Common.{◌≡◌, ◌+◌, drop}
 use Rattle.descriptors.specs.declared.fronts.Front.TheVariants.{Brackets}
 use Rattle.descriptors.specs.States.{Field, first_bad}
 use Rattle.descriptors.proofs.fronts.field_bad.Given as goal
 
 abbrev pub invariant-loop-index : goal.invariant-loop-index
-invariant-loop-index l = first_bad (Field l.front) l.index (drop l.index l.units) ≡ first_bad (Field (Brackets 0)) l.fn.start (drop l.fn.start l.units)
+invariant-loop-index g l = record {
+  same : first_bad (Field l.front) l.index (drop l.index l.units) ≡ first_bad (Field (Brackets 0)) l.fn.start (drop l.fn.start l.units);
+  spent : l.steps + l.fn.start ≡ l.fn.steps + l.index;
+}
