@@ -1,15 +1,17 @@
 -- Going over items one after the other.
-use Rattle.std.proofs.Common.{◌≡◌, ℕ, ◌+◌, ◌-◌, ◌<◌, List, [], ◌∷◌, ◌++◌, length, map, drop, get_or, Option, Some, None, Result, Ok, Err, refl, sym, ap, ◌∙◌, arith}
-use Rattle.std.specs.List.{flat_map}
+use Rattle.std.proofs.Common.{◌≡◌, ℕ, ◌+◌, ◌-◌, ◌<◌, List, [], ◌∷◌, ◌++◌, length, map, take, drop, get_or, Option, Some, None, Result, Ok, Err, refl, sym, ap, ◌∙◌, arith}
+use Rattle.std.specs.List.{flat_map, sum_by}
 use Rattle.std.specs.Result.{IsErrAnd}
 use Rattle.std.proofs.lemmas.List.{at_drop_more}
-use Rattle.std.proofs.lemmas.List.Sums.{sum_by-cons}
+use Rattle.std.proofs.lemmas.List.Sums.{sum_by-cons, sum_by_more}
 use Rattle.std.proofs.lemmas.Result.{err_from_is_err_and}
 use Rattle.jvm_utf8.specs.Text.{unit}
 use Rattle.class_grammar.specs.declared.class_why.ClassWhy.{ClassWhy}
 use Rattle.byte_reader.specs.declared.fault.Fault.{Fault}
-use Rattle.class_grammar.specs.Checks.{Item, left_after, sound_bytes, u2_item}
-use Rattle.class_checks.specs.Sizes.{text_size}
+use Rattle.class_model.specs.declared.constant.Const.{Const}
+use Rattle.class_model.specs.declared.constant.Const.TheVariants.{Utf8}
+use Rattle.class_grammar.specs.Checks.{Item, left_after, sound_bytes, u2_item, constant_items}
+use Rattle.class_checks.specs.Sizes.{text_size, const_size, less, less_at_end, bare_items}
 
 -- going on from a result
 abbrev pub then_on : Result ℕ (Fault ClassWhy) → List Item → Result ℕ (Fault ClassWhy)
@@ -36,6 +38,30 @@ text_on left (u ∷ us) =
     let size = sum_by-cons (λ (u : ℕ). length (unit u)) u us in
     text_on (left - length (unit u)) us ∙ ap (λ (n : ℕ). Ok n) (omega arith)
 
+-- ---- the units of texts, which are taken off afterwards
+
+shifted_one : (k left size : ℕ) (is : List Item) (fault : Option ClassWhy) → left_after ((left - size) - k) is ≡ less k (left_after (left - size) is) → first (left - k) size is fault ≡ less k (first left size is fault)
+shifted_one k left size is None more = ap (λ (n : ℕ). left_after n is) (let e : (left - k) - size ≡ (left - size) - k = omega arith in e) ∙ more
+shifted_one k left size is (Some why) more = refl
+
+-- what was in front is taken off afterwards
+pub shifted : (k left : ℕ) (is : List Item) → left_after (left - k) is ≡ less k (left_after left is)
+shifted k left [] = refl
+shifted k left (i ∷ is) = shifted_one k left i.size is i.fault (shifted k (left - i.size) is)
+
+none_at_end : (r : Result ℕ (Fault ClassWhy)) → less_at_end 0 r ≡ r
+none_at_end (Ok left) = ap (λ (n : ℕ). Ok n) (omega arith)
+none_at_end (Err fault) = refl
+
+bare_whole : (pool : List Const) (left : ℕ) (c : Const) → less_at_end (const_size c) (left_after left (bare_items pool c)) ≡ left_after left (constant_items pool c)
+bare_whole pool left (Utf8 units) = sym (text_on (left - 3) units)
+bare_whole pool left c = none_at_end (left_after left (constant_items pool c))
+
+-- a constant, where the texts in front of it are taken off afterwards
+one_constant : (pool : List Const) (k left : ℕ) (c : Const) (r : Result ℕ (Fault ClassWhy)) → r ≡ left_after left (bare_items pool c) → left_after (left - k) (constant_items pool c) ≡ less k (less_at_end (const_size c) r)
+one_constant pool k left c r e =
+    shifted k left (constant_items pool c) ∙ ap (less k) (sym (bare_whole pool left c) ∙ ap (less_at_end (const_size c)) (sym e))
+
 -- ---- what answers cite
 
 -- what a `?` hands on
@@ -56,3 +82,21 @@ pub faults_first : (left : ℕ) (found wanted : List (Option ClassWhy)) (r : Res
     → then_on r is ≡ left_after left (map u2_item wanted ++ is)
 faults_first left found wanted r is one same =
     ap (λ (q : Result ℕ (Fault ClassWhy)). then_on q is) (one ∙ ap (λ (fs : List (Option ClassWhy)). left_after left (map u2_item fs)) same) ∙ sym (left_after_append left (map u2_item wanted) is)
+
+-- constants, where the texts are taken off afterwards
+pub constants_on : (pool cs : List Const) (i : ℕ) (c : Const) (left more : ℕ) (total : Result ℕ (Fault ClassWhy)) → i < length cs → c ≡ get_or cs i c → Ok more ≡ left_after left (bare_items pool c)
+    → left_after (left - sum_by const_size (take i cs)) (flat_map (constant_items pool) (drop i cs)) ≡ total
+    → left_after (more - sum_by const_size (take (i + 1) cs)) (flat_map (constant_items pool) (drop (i + 1) cs)) ≡ total
+constants_on pool cs i c left more total lt is one so_far =
+    let k = sum_by const_size (take i cs) in
+    let all : sum_by const_size (take (i + 1) cs) ≡ k + const_size c = sum_by_more const_size cs i c lt ∙ ap (λ x. k + const_size x) (sym is) in
+    let size : more - sum_by const_size (take (i + 1) cs) ≡ (more - const_size c) - k = omega (arith, all) in
+    looped (constant_items pool) cs i c (left - k) (Ok (more - sum_by const_size (take (i + 1) cs))) total lt is
+    (ap (λ (n : ℕ). Ok n) size ∙ sym (one_constant pool k left c (Ok more) one)) so_far
+
+pub constants_bad : (pool cs : List Const) (i : ℕ) (c : Const) (left : ℕ) (fault : Fault ClassWhy) (total : Result ℕ (Fault ClassWhy)) → i < length cs → c ≡ get_or cs i c → Err fault ≡ left_after left (bare_items pool c)
+    → left_after (left - sum_by const_size (take i cs)) (flat_map (constant_items pool) (drop i cs)) ≡ total
+    → less (sum_by const_size (take i cs)) (Err fault) ≡ total
+constants_bad pool cs i c left fault total lt is one so_far =
+    let k = sum_by const_size (take i cs) in
+    looped (constant_items pool) cs i c (left - k) (less k (Err fault)) total lt is (sym (one_constant pool k left c (Err fault) one)) so_far

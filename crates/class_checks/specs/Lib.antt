@@ -1,3 +1,4 @@
 pub mod Names
 pub mod TextRoles
 pub mod Sizes
+pub mod Costs

@@ -1,6 +1,6 @@
 //! The class itself (JVMS 4.1).
 
-ghost use Rattle.std.specs.Prelude.{◌≡◌};
+ghost use Rattle.std.specs.Prelude.{◌≡◌, ◌≤◌, ◌+◌};
 ghost use Rattle.class_grammar.specs.Checks as checks;
 ghost use Rattle.class_grammar.specs.Checks.{left_after, class_items};
 
@@ -8,16 +8,24 @@ use crate::pool::{Pool, unless};
 use crate::sizes::check_numbers;
 use class_grammar::{ClassFault, ClassWhy};
 use class_model::{ACC_MODULE, ClassFile};
+use std::sync::ledger::Ledger;
+use steps::Steps;
 
 /// Goes over the class's flags, its own name, its parent and its interfaces.
-pub fn check_class(pool: &Pool, left: usize, file: &ClassFile) -> Result<usize, ClassFault>
+pub fn check_class<L: Ledger>(
+    pool: &Pool,
+    left: usize,
+    file: &ClassFile,
+    steps: &mut Steps<L>,
+) -> Result<usize, ClassFault>
     requires { pool.now ≡ file.now.pool }
-    ensures { result ≡ left_after left (class_items file.now) }
+    ensures left { result ≡ left_after left (class_items file.now) }
+    ensures cost { steps.new ≤ steps.old + 16 }
 {
     let faults = [
         flags_fault(file.flags),
         pool.class_fault(file.own),
-        pool.parent_fault(file.own, file.parent),
+        pool.parent_fault(file.own, file.parent, steps),
     ];
     let left = check_numbers(left, &faults)?;
     check_interfaces(pool, left.saturating_sub(2), &file.interfaces)

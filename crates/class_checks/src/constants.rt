@@ -1,32 +1,55 @@
 //! The constants of the pool (JVMS 4.4).
 
-ghost use Rattle.std.specs.Prelude.{◌≡◌, ◌∷◌, []};
-ghost use Rattle.std.specs.List.{flat_map};
+ghost use Rattle.std.specs.Prelude.{◌≡◌, ◌≤◌, ◌+◌, ◌∷◌, [], OnOk};
+ghost use Rattle.std.specs.List.{flat_map, sum_by};
 ghost use Rattle.class_grammar.specs.Checks.{left_after, sound_bytes, u2_item as item, constant_items};
+ghost use Rattle.class_checks.specs.Costs as costs;
+ghost use Rattle.class_checks.specs.Sizes.{bare_items, const_size, less_at_end};
 
 use crate::pool::Pool;
-use crate::sizes::{check_numbers, skip_text};
+use crate::sizes::{check_numbers, left_behind_text};
+use byte_reader::Fault;
 use class_grammar::{ClassFault, ClassWhy};
 use class_model::Const;
+use std::sync::ledger::Ledger;
+use steps::Steps;
 
-/// Goes over constants (JVMS 4.4).
-pub fn check_constants(pool: &Pool, left: usize, constants: &[Const]) -> Result<usize, ClassFault>
-    ensures { result ≡ left_after left (flat_map (constant_items pool.now) constants.now) }
+/// Goes over constants (JVMS 4.4). The units of their texts are added up where a fault is found; where none is, they are not
+/// counted in what is left.
+pub fn check_constants<L: Ledger>(
+    pool: &Pool,
+    left: usize,
+    constants: &[Const],
+    steps: &mut Steps<L>,
+) -> Result<usize, ClassFault>
+    ensures left { less_at_end (sum_by const_size constants.now) result
+        ≡ left_after left (flat_map (constant_items pool.now) constants.now) }
+    ensures cost { steps.new ≤ steps.old + sum_by costs.adding constants.now }
+    ensures none { OnOk result (steps.new ≡ steps.old) }
 {
     let mut left = left;
-    for constant in constants {
-        left = check_constant(pool, left, constant)?;
+    for (index, constant) in constants.iter().enumerate() {
+        match check_constant(pool, left, constant) {
+            Ok(after) => left = after,
+            Err(fault) => {
+                let (before, _) = constants.split_at(index);
+                return Err(Fault {
+                    left: left_behind_text(fault.left, before, steps),
+                    why: fault.why,
+                });
+            }
+        }
     }
     Ok(left)
 }
 
+// The same of one constant.
 fn check_constant(pool: &Pool, left: usize, constant: &Const) -> Result<usize, ClassFault>
-    ensures { result ≡ left_after left (constant_items pool.now constant.now) }
+    ensures { result ≡ left_after left (bare_items pool.now constant.now) }
 {
     match constant {
         Const::Unused => Ok(left),
-        Const::Utf8(text) => Ok(skip_text(left.saturating_sub(3), text)),
-        Const::Module(_) | Const::Package(_) => Ok(left.saturating_sub(3)),
+        Const::Utf8(_) | Const::Module(_) | Const::Package(_) => Ok(left.saturating_sub(3)),
         Const::MethodHandle(_, _) => Ok(left.saturating_sub(4)),
         Const::Integer(_) | Const::Float(_) | Const::Dynamic(_, _) | Const::InvokeDynamic(_, _) =>
             Ok(left.saturating_sub(5)),

@@ -13,4 +13,4 @@ mod sizes;
 mod text_roles;
 mod values;
 
-pub use file::check;
+pub use file::{check, check_counted};

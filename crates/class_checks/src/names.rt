@@ -1,11 +1,13 @@
 //! Names of fields, methods and classes, in the units of UTF-16 (JVMS 4.2).
 
-ghost use Rattle.std.specs.Prelude.{◌≡◌, ◌∷◌, [], ◌||◌, codes, false};
+ghost use Rattle.std.specs.Prelude.{◌≡◌, ◌≤◌, ◌+◌, ◌∷◌, [], ◌||◌, codes, false, length};
 ghost use Rattle.class_grammar.specs.Text.{same_text, is_one_of};
 ghost use Rattle.class_grammar.specs.Names as grammar;
 ghost use Rattle.class_checks.specs.Names as spec;
 
-use class_grammar::is_same;
+use class_grammar::is_same_counted;
+use std::sync::ledger::Ledger;
+use steps::Steps;
 
 /// What a text may be the name of.
 #[derive(Clone, Copy, Debug)]
@@ -16,7 +18,8 @@ pub struct Names {
     pub of_class: bool,
 }
 
-const NOTHING: Names = Names {
+/// What no name has.
+pub const NOTHING: Names = Names {
     of_field: false,
     of_method: false,
     of_class: false,
@@ -33,35 +36,47 @@ pub fn begins_with(unit: u8, units: &[u16]) -> bool
 }
 
 /// What the text may be the name of (JVMS 4.2.1, 4.2.2).
-pub fn names_of(units: &[u16]) -> Names
-    ensures { result ≡ spec.names_of units.now }
+pub fn names_of<L: Ledger>(units: &[u16], steps: &mut Steps<L>) -> Names
+    ensures names { result ≡ spec.names_of units.now }
+    ensures cost { steps.new ≤ steps.old + length units.now + 8 }
 {
     if units.is_empty() {
         return NOTHING;
     }
-    let names = names_by_unit(units);
+    let is_initializer = is_initializer(units, steps);
+    let names = names_by_unit(units, steps);
     Names {
-        of_method: is_initializer(units) || names.of_method,
+        of_method: is_initializer || names.of_method,
         ..names
     }
 }
 
 // The names with angle brackets that a method may have (JVMS 2.9).
-fn is_initializer(units: &[u16]) -> bool
-    ensures { result ≡ grammar.is_initializer units.now }
+fn is_initializer<L: Ledger>(units: &[u16], steps: &mut Steps<L>) -> bool
+    ensures test { result ≡ grammar.is_initializer units.now }
+    ensures cost { steps.new ≤ steps.old + 8 }
 {
-    is_same(units, b"<init>") || is_same(units, b"<clinit>")
+    if is_same_counted(units, b"<init>", steps) {
+        return true;
+    }
+    is_same_counted(units, b"<clinit>", steps)
 }
 
 // What the text may be by its units alone.
 #[inline(never)]
-fn names_by_unit(units: &[u16]) -> Names
-    ensures { result ≡ spec.names_by false false false units.now }
+fn names_by_unit<L: Ledger>(units: &[u16], steps: &mut Steps<L>) -> Names
+    ensures names { result ≡ spec.names_by false false false units.now }
+    ensures cost { steps.new ≤ steps.old + length units.now }
 {
     let mut slashed = false;
     let mut angled = false;
     let mut begun = false;
     for unit in units {
+        steps.spend(1);
+        if is_in_every_name(*unit) {
+            begun = true;
+            continue;
+        }
         if *unit == u16::from(b'/') {
             if !begun {
                 return NOTHING;
@@ -80,6 +95,13 @@ fn names_by_unit(units: &[u16]) -> Names
         of_method: !slashed && !angled,
         of_class: begun,
     }
+}
+
+// Whether the unit is one that every name may have, as letters are.
+fn is_in_every_name(unit: u16) -> bool
+    ensures { result ≡ spec.is_in_every_name unit }
+{
+    unit > u16::from(b'[') || u16::from(b'A') <= unit && unit <= u16::from(b'Z')
 }
 
 // Whether no name has the unit (JVMS 4.2.2).

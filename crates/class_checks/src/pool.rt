@@ -1,21 +1,25 @@
 //! The constant pool with the roles of its texts, and what is wrong with an index of it (JVMS 4.4).
 
-ghost use Rattle.std.specs.Prelude.{◌≡◌, IfOk, false};
+ghost use Rattle.std.specs.Prelude.{◌≡◌, ◌≤◌, ◌+◌, IfOk, false};
+ghost use Rattle.std.specs.List.{sum_by};
 ghost use Rattle.std.specs.Option.{option_map, option_map_or};
 ghost use Rattle.descriptors.specs.States as descriptors;
 ghost use Rattle.class_grammar.specs.Names as grammar;
 ghost use Rattle.class_grammar.specs.Pool as entries;
 ghost use Rattle.class_grammar.specs.Checks as checks;
 ghost use Rattle.class_grammar.specs.declared.class_why.ClassWhy.TheVariants as whys;
+ghost use Rattle.class_checks.specs.Costs as costs;
 ghost use Rattle.class_checks.specs.TextRoles as spec;
 
 use crate::names::begins_with;
 use crate::text_roles::{NO_TEXT, TextRoles, roles_of};
 use crate::values::has_type;
-use class_grammar::{ClassWhy, class_name_at, is_same, text_at};
+use class_grammar::{ClassWhy, class_name_at, is_same_counted, text_at};
 use class_model::{ACC_STATIC, Const, Member};
 use std::alloc::{AllocError, Global};
 use std::marker::Model;
+use std::sync::ledger::Ledger;
+use steps::Steps;
 
 /// A constant pool with the roles of its texts. Contracts see the list of its constants.
 #[derive(Debug, Drop)]
@@ -45,10 +49,15 @@ pub fn unless(passed: bool, why: ClassWhy) -> Option<ClassWhy>
 
 impl<'a> Pool<'a> {
     /// The pool of these constants.
-    pub fn new(alloc: Global, constants: &'a [Const]) -> Result<Self, AllocError>
-        ensures { IfOk result (λ pool. pool ≡ constants.now) }
+    pub fn new<L: Ledger>(
+        alloc: Global,
+        constants: &'a [Const],
+        steps: &mut Steps<L>,
+    ) -> Result<Self, AllocError>
+        ensures pool { IfOk result (λ pool. pool ≡ constants.now) }
+        ensures cost { steps.new ≤ steps.old + sum_by costs.judging constants.now }
     {
-        let roles = roles_of(alloc, constants)?;
+        let roles = roles_of(alloc, constants, steps)?;
         Ok(Pool { constants, roles })
     }
 
@@ -204,20 +213,27 @@ impl<'a> Pool<'a> {
     }
 
     // Whether the class at the index is java/lang/Object.
-    fn is_object(&self, own: u16) -> bool
-        ensures { result ≡ checks.is_object self.now own }
+    fn is_object<L: Ledger>(&self, own: u16, steps: &mut Steps<L>) -> bool
+        ensures test { result ≡ checks.is_object self.now own }
+        ensures cost { steps.new ≤ steps.old + 16 }
     {
         match class_name_at(self.constants, own) {
-            Some(name) => is_same(name, b"java/lang/Object"),
+            Some(name) => is_same_counted(name, b"java/lang/Object", steps),
             None => false,
         }
     }
 
     /// The index of the parent of the class at `own`. Object has none, and every other class has one (JVMS 4.1).
-    pub fn parent_fault(&self, own: u16, parent: u16) -> Option<ClassWhy>
-        ensures { result ≡ checks.parent_fault self.now own parent }
+    pub fn parent_fault<L: Ledger>(
+        &self,
+        own: u16,
+        parent: u16,
+        steps: &mut Steps<L>,
+    ) -> Option<ClassWhy>
+        ensures fault { result ≡ checks.parent_fault self.now own parent }
+        ensures cost { steps.new ≤ steps.old + 16 }
     {
-        if self.is_object(own) {
+        if self.is_object(own, steps) {
             return unless(parent == 0, ClassWhy::Index);
         }
         self.class_fault(parent)
@@ -245,7 +261,7 @@ impl<'a> Pool<'a> {
     {
         match text_at(self.constants, descriptor) {
             Some(units) => match self.constants.get(usize::from(index)) {
-                Some(constant) => has_type(units, constant),
+                Some(constant) => has_type(units, self.roles(descriptor).is_string, constant),
                 None => false,
             },
             None => false,

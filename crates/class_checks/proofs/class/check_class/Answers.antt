@@ -18,19 +18,19 @@ same pool f a b c p x y z =
 abbrev behind : List Const → List ℕ → List Item
 behind pool entries = map (λ index. u2_item (class_fault pool index)) entries
 
-pub returns-in_err-left : goal.returns-in_err-left
-returns-in_err-left c =
+pub returns-in_err-left-clause-left : goal.returns-in_err-left-clause-left
+returns-in_err-left-clause-left g c =
     let f = c.args.file.now in
     handed_on c.from_residual.result _ c.in_err-left.field-0.0 c.from_residual.ensures.1
     (faults_first c.args.left _ _ (Err c.in_err-left.field-0.0) (sound_bytes 2 ∷ behind f.pool f.interfaces) c.in_err-left.ensures
-    (same c.args.pool.now f _ _ _ c.requires c.flags_fault.ensures c.class_fault.ensures c.parent_fault.ensures))
+    (same c.args.pool.now f _ _ _ c.requires c.flags_fault.ensures c.class_fault.ensures c.parent_fault.ensures.fault))
 
-pub returns : goal.returns
-returns c =
+pub returns-clause-left : goal.returns-clause-left
+returns-clause-left g c =
     let f = c.args.file.now in
     c.check_interfaces.ensures
     ∙ ap (λ (n : ℕ). left_after n (behind c.args.pool.now c.deref.result.now)) c.saturating_sub.ensures
     ∙ ap (λ (entries : List ℕ). left_after (c.in_ok-left.left - 2) (behind c.args.pool.now entries)) c.deref.ensures
     ∙ ap (λ (pool : List Const). left_after (c.in_ok-left.left - 2) (behind pool f.interfaces)) c.requires
     ∙ faults_first c.args.left _ _ (Ok c.in_ok-left.left) (sound_bytes 2 ∷ behind f.pool f.interfaces) c.in_ok-left.ensures
-    (same c.args.pool.now f _ _ _ c.requires c.flags_fault.ensures c.class_fault.ensures c.parent_fault.ensures)
+    (same c.args.pool.now f _ _ _ c.requires c.flags_fault.ensures c.class_fault.ensures c.parent_fault.ensures.fault)

@@ -1,13 +1,24 @@
-use Rattle.std.proofs.Common.{Ok, Err}
-use Rattle.class_grammar.specs.Checks.{constant_items}
-use Rattle.class_checks.proofs.ItemLaws.{looped, handed_on}
+use Rattle.std.proofs.Common.{ℕ, ◌-◌, List, Err, ap, ◌∙◌, arith}
+use Rattle.std.specs.List.{sum_by}
+use Rattle.std.proofs.lemmas.List.Sums.{sum_by-take-le}
+use Rattle.class_model.specs.declared.constant.Const.{Const}
+use Rattle.class_checks.specs.Costs.{adding}
+use Rattle.class_checks.specs.Sizes.{const_size}
+use Rattle.class_checks.proofs.ItemLaws.{constants_on, constants_bad}
 use Rattle.class_checks.proofs.constants.check_constants.Goals as goal
 
-pub returns-in_err-left : goal.returns-in_err-left
-returns-in_err-left c =
-    handed_on c.from_residual.result _ c.in_err-left.field-0.0 c.from_residual.ensures.1
-    (looped (constant_items c.args.pool.now) c.args.constants.now c.loop-constant.constant-index c.constant-item.result c.loop-constant.left (Err c.in_err-left.field-0.0) _ c.loop-constant-test.true c.constant-item.is c.in_err-left.ensures c.loop-constant.invariant)
+pub returns-in-Err-clause-left : goal.returns-in-Err-clause-left
+returns-in-Err-clause-left g c =
+    let fault = c.in-Err.fault in
+    ap (λ (n : ℕ). Err (record { left = n; why = fault.why })) (c.left_behind_text.ensures.left ∙ ap (λ (cs : List Const). fault.left - sum_by const_size cs) c.split_at.ensures.front)
+    ∙ constants_bad c.args.pool.now c.args.constants.now c.loop-index.index c.index-constants-index.result c.loop-index.left fault _ c.loop-index-test.true c.index-constants-index.is c.in-Err.ensures c.loop-index.invariant.left
 
-pub loop-constant-preserved : goal.loop-constant-preserved
-loop-constant-preserved c =
-    looped (constant_items c.args.pool.now) c.args.constants.now c.loop-constant.constant-index c.constant-item.result c.loop-constant.left (Ok c.in_ok-left.left) _ c.loop-constant-test.true c.constant-item.is c.in_ok-left.ensures c.loop-constant.invariant
+pub returns-in-Err-clause-cost : goal.returns-in-Err-clause-cost
+returns-in-Err-clause-cost g c =
+    omega (arith, c.left_behind_text.ensures.cost, ap (sum_by adding) c.split_at.ensures.front, sum_by-take-le adding c.args.constants.now c.loop-index.index, c.loop-index.invariant.spent)
+
+pub loop-index-preserved : goal.loop-index-preserved
+loop-index-preserved g c = record {
+  left = constants_on c.args.pool.now c.args.constants.now c.loop-index.index c.index-constants-index.result c.loop-index.left c.in-Ok.after _ c.loop-index-test.true c.index-constants-index.is c.in-Ok.ensures c.loop-index.invariant.left;
+  spent = c.loop-index.invariant.spent;
+}

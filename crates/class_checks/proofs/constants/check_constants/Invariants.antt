@@ -1,8 +1,12 @@
-use Rattle.std.proofs.Common.{◌≡◌, drop}
-use Rattle.std.specs.List.{flat_map}
+use Rattle.std.proofs.Common.{◌≡◌, ◌-◌, drop, take}
+use Rattle.std.specs.List.{flat_map, sum_by}
 use Rattle.class_grammar.specs.Checks.{left_after, constant_items}
+use Rattle.class_checks.specs.Sizes.{const_size}
 use Rattle.class_checks.proofs.constants.check_constants.Given as goal
 
-abbrev pub invariant-loop-constant : goal.invariant-loop-constant
-invariant-loop-constant l =
-    left_after l.left (flat_map (constant_items l.pool) (drop l.constant-index l.constants)) ≡ left_after l.fn.left (flat_map (constant_items l.pool) l.constants)
+-- what is left, less the texts so far
+abbrev pub invariant-loop-index : goal.invariant-loop-index
+invariant-loop-index g l = record {
+  left : left_after (l.left - sum_by const_size (take l.index l.constants)) (flat_map (constant_items l.pool) (drop l.index l.constants)) ≡ left_after l.fn.left (flat_map (constant_items l.pool) l.constants);
+  spent : l.steps ≡ l.fn.steps;
+}

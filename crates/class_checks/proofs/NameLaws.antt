@@ -1,0 +1,130 @@
+-- What the units of a text say of it as a name and as a descriptor.
+use Rattle.std.proofs.Common.{◌≡◌, ℕ, suc, ◌+◌, ◌<◌, ◌≤◌, ◌≢◌, Bool, true, false, cond, eqb, ltb, List, [], ◌∷◌, length, get_or, drop, drop-cons, Option, Some, None, ◌⊎◌, inl, inr, ◌*◌, refl, sym, ap, subst, ◌∙◌, arith}
+use Rattle.std.specs.Prelude.{not, codes, ◌&&◌, ◌||◌}
+use Rattle.std.specs.Option.{is_none}
+use Rattle.std.specs.List.{list_all}
+use Rattle.std.proofs.lemmas.Bool.{eqb-true}
+use Rattle.std.proofs.lemmas.Bool.Decides.{nat_tests}
+use Rattle.descriptors.specs.Descriptors.{are_parts}
+use Rattle.descriptors.specs.Descriptors as chars
+use Rattle.descriptors.specs.declared.fronts.Front.TheVariants.{Brackets, Name}
+use Rattle.descriptors.specs.declared.fronts.Turn.TheVariants.{Ends, GoesOn, Stops}
+use Rattle.descriptors.specs.States.{State, Field, Args, first_bad, in_field, name_goes_on, is_field, is_method}
+use Rattle.class_grammar.specs.Names.{is_name_unit, is_method_unit, begins_with}
+use Rattle.class_checks.specs.TextRoles.{is_class_descriptor}
+use Rattle.class_checks.specs.declared.names.Names.{Names}
+use Rattle.class_checks.specs.Names.{names_of, names_by, is_in_every_name}
+
+-- ---- a unit that every name may have
+
+in_each : (u : ℕ) → is_in_every_name u ≡ true → (is_name_unit u ≡ true) × (is_method_unit u ≡ true) × (chars.is_name_unit u ≡ true) × (eqb u 47 ≡ false)
+in_each u h = (grind (arith, nat_tests), grind (arith, nat_tests), grind (arith, nat_tests), grind (arith, nat_tests))
+
+same_names : (slashed angled begun : Bool) (u : ℕ) (us : List ℕ) (a b c d : Bool) → a ≡ true → b ≡ true → c ≡ true → d ≡ false
+    → (record { of_field = not slashed && (a && list_all is_name_unit us); of_method = not slashed && not angled && (b && list_all is_method_unit us); of_class = cond d (begun && are_parts false us) (c && are_parts true us) }) ≡ names_by slashed angled true us
+same_names slashed angled begun u us a b c d p q r s = rw (p, q, r, s) refl
+
+one_on : (slashed angled begun : Bool) (u : ℕ) (us : List ℕ) → is_in_every_name u ≡ true → names_by slashed angled begun (u ∷ us) ≡ names_by slashed angled true us
+one_on slashed angled begun u us h = let e = in_each u h in same_names slashed angled begun u us _ _ _ _ e.0 e.1 e.2 e.3
+
+pub letter_on : (slashed angled begun : Bool) (units : List ℕ) (i : ℕ) (total : Names) → i < length units → is_in_every_name (get_or units i 0) ≡ true
+    → names_by slashed angled begun (drop i units) ≡ total → names_by slashed angled true (drop (i + 1) units) ≡ total
+letter_on slashed angled begun units i total lt h so_far =
+    let e : i + 1 ≡ suc i = omega arith in
+    ap (λ (n : ℕ). names_by slashed angled true (drop n units)) e
+    ∙ sym (one_on slashed angled begun (get_or units i 0) (drop (suc i) units) h) ∙ ap (names_by slashed angled begun) (sym (drop-cons units i 0 lt)) ∙ so_far
+
+-- ---- the first unit of a descriptor
+
+or_none : (b : Bool) → (b || false) ≡ true → b ≡ true
+or_none true h = refl
+or_none false h = absurd cc
+
+no_parenthesis : (us : List ℕ) (b : Bool) → (b || false) ≡ false → is_none {T = ℕ} (elim (cond b (Some (Args 0 (Brackets 0))) None) [ None ↦ Some 0 | Some state ↦ first_bad state (0 + 1) us ]) ≡ false
+no_parenthesis us true h = absurd cc
+no_parenthesis us false h = refl
+
+pub no_method : (units : List ℕ) → begins_with (40 ∷ []) units ≡ false → is_method units ≡ false
+no_method [] h = refl
+no_method (u ∷ us) h = no_parenthesis us _ h
+
+pub no_field : (units : List ℕ) → begins_with (40 ∷ []) units ≡ true → is_field units ≡ false
+no_field [] h = refl
+no_field (u ∷ us) h = subst (λ (n : ℕ). is_field (n ∷ us) ≡ false) (sym (eqb-true u 40 (or_none _ h))) refl
+
+-- ---- the descriptor of a class is no name
+
+-- they are no name, nor the rest of one
+record NoName (us : List ℕ) : Type 0 where
+  plain : list_all is_name_unit us ≡ false
+  angled : list_all is_method_unit us ≡ false
+  parts : (begun : Bool) → are_parts begun us ≡ false
+
+after : (ends more begun slash : Bool) (at : ℕ) (us : List ℕ)
+    → is_none {T = ℕ} (elim (in_field (cond ends (cond begun Ends Stops) (cond more (GoesOn (Name (not slash))) Stops))) [ None ↦ Some at | Some state ↦ first_bad state (at + 1) us ]) ≡ true
+    → (ends ≡ true) ⊎ (is_none (first_bad (Field (Name (not slash))) (at + 1) us) ≡ true)
+after true more begun slash at us h = inl refl
+after false true begun slash at us h = inr h
+after false false begun slash at us h = absurd cc
+
+and_last : (a b : Bool) → b ≡ false → (a && b) ≡ false
+and_last true b e = e
+and_last false b e = refl
+
+either_last : (s a b x y : Bool) → x ≡ false → y ≡ false → cond s (a && x) (b && y) ≡ false
+either_last true a b x y p q = and_last a x p
+either_last false a b x y p q = and_last b y q
+
+semicolon_first : (us : List ℕ) → NoName (59 ∷ us)
+semicolon_first us = record { plain = refl; angled = refl; parts = λ begun. refl }
+
+ended : (begun : Bool) (at : ℕ) (us : List ℕ) → is_none (first_bad (Field (Name begun)) at us) ≡ true → NoName us
+ended begun at [] h = absurd cc
+ended begun at (u ∷ us) h =
+    elim (after (eqb u 59) (name_goes_on begun u) begun (eqb u 47) at us h) [
+      | inl e ↦ subst (λ (n : ℕ). NoName (n ∷ us)) (sym (eqb-true u 59 e)) (semicolon_first us)
+      | inr more ↦
+          let r = ended (not (eqb u 47)) (at + 1) us more in
+          record {
+            plain = and_last (is_name_unit u) (list_all is_name_unit us) r.plain;
+            angled = and_last (is_method_unit u) (list_all is_method_unit us) r.angled;
+            parts = λ b. either_last (eqb u 47) b (chars.is_name_unit u) (are_parts false us) (are_parts true us) (r.parts false) (r.parts true);
+          }
+    ]
+
+abbrev pub nothing : Names
+nothing = record { of_field = false; of_method = false; of_class = false }
+
+made : (a b c : Bool) → a ≡ false → b ≡ false → c ≡ false → (record { of_field = a; of_method = b; of_class = c }) ≡ nothing
+made a b c p q r = rw (p, q, r) refl
+
+letter_l : (us : List ℕ) → is_field (76 ∷ us) ≡ true → names_of (76 ∷ us) ≡ nothing
+letter_l us h =
+    let r = ended false 1 us h in
+    made (list_all is_name_unit us) (list_all is_method_unit us) (are_parts true us) r.plain r.angled (r.parts true)
+
+pub class_names : (units : List ℕ) → is_field units ≡ true → begins_with (76 ∷ []) units ≡ true → names_of units ≡ nothing
+class_names [] field first = absurd cc
+class_names (u ∷ us) field first =
+    let e : u ≡ 76 = eqb-true u 76 (or_none _ first) in
+    subst (λ (n : ℕ). names_of (n ∷ us) ≡ nothing) (sym e) (letter_l us (subst (λ (n : ℕ). is_field (n ∷ us) ≡ true) e field))
+
+both_true : (a b : Bool) → (a && b) ≡ true → (a ≡ true) × (b ≡ true)
+both_true true true e = (refl, refl)
+both_true true false e = absurd cc
+both_true false b e = absurd cc
+
+pub no_name : (is_class : Bool) (units : List ℕ) → is_class ≡ is_class_descriptor units → is_class ≡ true → nothing ≡ names_of units
+no_name is_class units e h =
+    let p = both_true (is_field units) (begins_with (76 ∷ []) units) (sym e ∙ h) in
+    sym (class_names units p.0 p.1)
+
+-- ---- the steps of one text
+
+-- what the four goes over a text take, of which some are left out
+pub roles_cost : (n a b c d e : ℕ) (parenthesis is_class : Bool) → b ≤ a + n → (parenthesis ≡ false → b ≡ a) → c ≤ b + n → (parenthesis ≡ true → c ≡ b)
+    → d ≤ c + n + 8 → (is_class ≡ true → d ≡ c) → e ≤ d + n → (is_class ≡ false → e ≡ d) → e ≤ a + 2 * n + 8
+roles_cost n a b c d e true true m m0 f f0 s s0 t t0 = let p = f0 refl in let q = s0 refl in omega arith
+roles_cost n a b c d e true false m m0 f f0 s s0 t t0 = let p = f0 refl in let q = t0 refl in omega arith
+roles_cost n a b c d e false true m m0 f f0 s s0 t t0 = let p = m0 refl in let q = s0 refl in omega arith
+roles_cost n a b c d e false false m m0 f f0 s s0 t t0 = let p = m0 refl in let q = t0 refl in omega arith
