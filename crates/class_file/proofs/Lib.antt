@@ -5,3 +5,4 @@ pub mod AttributeLaws
 pub mod FileLaws
 pub mod SoundLaws
 pub mod OutcomeLaws
+pub mod CostLaws

@@ -3,3 +3,4 @@ pub mod Constants
 pub mod Attributes
 pub mod AttributeNames
 pub mod File
+pub mod Costs

@@ -1,6 +1,6 @@
 //! The attributes of a class, a field or a method (JVMS 4.7).
 
-ghost use Rattle.std.specs.Prelude.{◌≡◌, false};
+ghost use Rattle.std.specs.Prelude.{◌≡◌, ◌≤◌, ◌+◌, ◌*◌, false, length, IfOk};
 ghost use Rattle.byte_reader.specs.Reader.{Reads, map_value};
 ghost use Rattle.class_model.specs.declared.attribute.Body.TheVariants as bodies;
 ghost use Rattle.class_file.specs.Numbers.{sized_bytes_at, sized_value_at, u2_at};
@@ -8,16 +8,19 @@ ghost use Rattle.class_file.specs.Attributes as spec;
 
 use crate::code::sized_code_of;
 use crate::names::{is_recognized, name_of};
-use crate::numbers::sized_bytes_of;
-use byte_reader::{Stop, u2_of, u4_of};
+use crate::numbers::{sized_bytes_of, u2_of, u4_of};
+use byte_reader::Stop;
 use class_grammar::{ClassWhy, Holder};
 use class_model::{Attribute, Body, Const};
 use items::Items;
 use std::alloc::Global;
+use std::sync::ledger::Ledger;
+use steps::Steps;
 
 // The body of a ConstantValue after its length: the index of the value (JVMS 4.7.2).
 fn sized_value_of(bytes: &[u8]) -> Result<(u16, &[u8]), Stop<ClassWhy>>
-    ensures { Reads result (sized_value_at u2_at bytes.now) }
+    ensures read { Reads result (sized_value_at u2_at bytes.now) }
+    ensures size { IfOk result (λ x. length x.1.now + 4 ≤ length bytes.now) }
 {
     let (size, front) = u4_of(bytes)?;
     let (value, rest) = u2_of(front)?;
@@ -27,28 +30,40 @@ fn sized_value_of(bytes: &[u8]) -> Result<(u16, &[u8]), Stop<ClassWhy>>
     Ok((value, rest))
 }
 
-// The bytes of an attribute that isn't recognized, after their length.
-fn other_body_of(alloc: Global, bytes: &[u8]) -> Result<(Body, &[u8]), Stop<ClassWhy>>
-    ensures { Reads result (map_value bodies.Other sized_bytes_at bytes.now) }
+// The bytes of an attribute that isn't recognized, after their length. That length leaves sixteen steps for the name.
+fn other_body_of<'a, L: Ledger>(
+    alloc: Global,
+    bytes: &'a [u8],
+    steps: &mut Steps<L>,
+) -> Result<(Body, &'a [u8]), Stop<ClassWhy>>
+    ensures read { Reads result (map_value bodies.Other sized_bytes_at bytes.now) }
+    ensures cost { steps.new ≤ steps.old + 4 * length bytes.now }
+    ensures rest { IfOk result (λ x.
+        steps.new + 16 + 4 * length x.1.now ≤ steps.old + 4 * length bytes.now) }
 {
     let (body, rest) = sized_bytes_of(bytes)?;
+    steps.spend(body.len());
     let body = Body::Other(Items::from(Vec::from_slice(alloc, body)?));
     Ok((body, rest))
 }
 
-// A recognized attribute of the holder.
-fn recognized_of<'a>(
+// A recognized attribute of the holder. Its length leaves sixteen steps for the name.
+fn recognized_of<'a, L: Ledger>(
     alloc: Global,
     pool: &[Const],
     holder: Holder,
     name: u16,
     bytes: &'a [u8],
+    steps: &mut Steps<L>,
 ) -> Result<(Attribute, &'a [u8]), Stop<ClassWhy>>
-    ensures { Reads result (spec.recognized_at pool.now holder name bytes.now) }
+    ensures read { Reads result (spec.recognized_at pool.now holder name bytes.now) }
+    ensures cost { steps.new ≤ steps.old + 4 * length bytes.now }
+    ensures rest { IfOk result (λ x.
+        steps.new + 16 + 4 * length x.1.now ≤ steps.old + 4 * length bytes.now) }
 {
     match holder {
         Holder::Method => {
-            let (code, rest) = sized_code_of(alloc, pool, bytes)?;
+            let (code, rest) = sized_code_of(alloc, pool, bytes, steps)?;
             let body = Body::Code(code);
             Ok((Attribute { name, body }, rest))
         }
@@ -58,7 +73,7 @@ fn recognized_of<'a>(
             Ok((Attribute { name, body }, rest))
         }
         Holder::Class => {
-            let (body, rest) = other_body_of(alloc, bytes)?;
+            let (body, rest) = other_body_of(alloc, bytes, steps)?;
             Ok((Attribute { name, body }, rest))
         }
     }
@@ -66,25 +81,29 @@ fn recognized_of<'a>(
 
 // An attribute. `seen` says that the holder has a recognized one before it.
 #[tactic(auto, unfolding(crate::specs::Attributes::attribute_at))]
-fn attribute_of<'a>(
+fn attribute_of<'a, L: Ledger>(
     alloc: Global,
     pool: &[Const],
     holder: Holder,
     seen: bool,
     bytes: &'a [u8],
+    steps: &mut Steps<L>,
 ) -> Result<(Attribute, &'a [u8]), Stop<ClassWhy>>
-    ensures { Reads result (spec.attribute_at pool.now holder seen bytes.now) }
+    ensures read { Reads result (spec.attribute_at pool.now holder seen bytes.now) }
+    ensures cost { steps.new ≤ steps.old + 4 * length bytes.now + 13 }
+    ensures rest { IfOk result (λ x.
+        steps.new + 4 * length x.1.now ≤ steps.old + 4 * length bytes.now) }
 {
     let (name, rest) = name_of(pool, bytes)?;
-    if !is_recognized(holder, name.text) {
-        let (body, rest) = other_body_of(alloc, rest)?;
+    if !is_recognized(holder, name.text, steps) {
+        let (body, rest) = other_body_of(alloc, rest, steps)?;
         let name = name.index;
         return Ok((Attribute { name, body }, rest));
     }
     if seen {
         return Err(Stop::at(bytes, ClassWhy::Duplicate));
     }
-    recognized_of(alloc, pool, holder, name.index, rest)
+    recognized_of(alloc, pool, holder, name.index, rest, steps)
 }
 
 // Whether there is a recognized attribute up to this one.
@@ -95,21 +114,25 @@ fn is_one_seen(seen: bool, attribute: &Attribute) -> bool
 }
 
 /// That many attributes (JVMS 4.7).
-pub fn attributes_of<'a>(
+pub fn attributes_of<'a, L: Ledger>(
     alloc: Global,
     pool: &[Const],
     holder: Holder,
     count: u16,
     bytes: &'a [u8],
+    steps: &mut Steps<L>,
 ) -> Result<(Items<Attribute>, &'a [u8]), Stop<ClassWhy>>
-    ensures { Reads result (spec.attributes_at pool.now holder false count bytes.now) }
+    ensures read { Reads result (spec.attributes_at pool.now holder false count bytes.now) }
+    ensures cost { steps.new ≤ steps.old + 4 * length bytes.now + 13 }
+    ensures rest { IfOk result (λ x.
+        steps.new + 4 * length x.1.now ≤ steps.old + 4 * length bytes.now) }
 {
     let most = usize::from(count).min(bytes.len() / 6);
     let mut attributes = Vec::with_capacity(alloc, most)?;
     let mut rest = bytes;
     let mut seen = false;
     for _ in 0..count {
-        let (attribute, after) = attribute_of(alloc, pool, holder, seen, rest)?;
+        let (attribute, after) = attribute_of(alloc, pool, holder, seen, rest, steps)?;
         seen = is_one_seen(seen, &attribute);
         attributes.push(attribute)?;
         rest = after;

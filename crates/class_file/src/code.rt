@@ -1,37 +1,44 @@
 //! A Code attribute (JVMS 4.7.3).
 
-ghost use Rattle.std.specs.Prelude.{◌≡◌, false};
+ghost use Rattle.std.specs.Prelude.{◌≡◌, ◌≤◌, ◌+◌, ◌*◌, false, length, IfOk};
 ghost use Rattle.byte_reader.specs.Reader.{Reads, ReadsBytes};
 ghost use Rattle.class_file.specs.Numbers.{sized_value_at};
 ghost use Rattle.class_file.specs.Attributes.{extra_at, next_extra, extras_at, row_at, rows_at, code_bytes_at, code_at};
 
 use crate::names::{is_stack_map_name, name_of};
-use crate::numbers::sized_bytes_of;
-use byte_reader::{Stop, bytes_of, pair_of, u2_of, u4_of};
+use crate::numbers::{bytes_of, pair_of, sized_bytes_of, u2_of, u4_of};
+use byte_reader::Stop;
 use class_grammar::ClassWhy;
 use class_model::{CodeAttribute, CodeBody, CodeExtra, Const, Row};
 use items::Items;
 use std::alloc::Global;
+use std::sync::ledger::Ledger;
+use steps::Steps;
 
 /// The greatest length of code, in bytes (JVMS 4.7.3).
 const MOST_CODE: u32 = 0xffff;
 
 // An attribute of a Code. `seen` says that there is a StackMapTable before it (JVMS 4.7.4).
 #[tactic(auto, unfolding(crate::specs::Attributes::extra_at))]
-fn extra_of<'a>(
+fn extra_of<'a, L: Ledger>(
     alloc: Global,
     pool: &[Const],
     seen: bool,
     bytes: &'a [u8],
+    steps: &mut Steps<L>,
 ) -> Result<(CodeAttribute, &'a [u8]), Stop<ClassWhy>>
-    ensures { Reads result (extra_at pool.now seen bytes.now) }
+    ensures read { Reads result (extra_at pool.now seen bytes.now) }
+    ensures cost { steps.new ≤ steps.old + 4 * length bytes.now + 13 }
+    ensures rest { IfOk result (λ x.
+        steps.new + 4 * length x.1.now ≤ steps.old + 4 * length bytes.now) }
 {
     let (name, rest) = name_of(pool, bytes)?;
-    let is_map = is_stack_map_name(name.text);
+    let is_map = is_stack_map_name(name.text, steps);
     if is_map && seen {
         return Err(Stop::at(bytes, ClassWhy::Duplicate));
     }
     let (body, rest) = sized_bytes_of(rest)?;
+    steps.spend(body.len());
     let body = Items::from(Vec::from_slice(alloc, body)?);
     let body = if is_map {
         CodeExtra::StackMap(body)
@@ -50,20 +57,24 @@ fn is_map_seen(seen: bool, extra: &CodeAttribute) -> bool
 }
 
 // That many attributes of a Code.
-fn extras_of<'a>(
+fn extras_of<'a, L: Ledger>(
     alloc: Global,
     pool: &[Const],
     count: u16,
     bytes: &'a [u8],
+    steps: &mut Steps<L>,
 ) -> Result<(Items<CodeAttribute>, &'a [u8]), Stop<ClassWhy>>
-    ensures { Reads result (extras_at pool.now false count bytes.now) }
+    ensures read { Reads result (extras_at pool.now false count bytes.now) }
+    ensures cost { steps.new ≤ steps.old + 4 * length bytes.now + 13 }
+    ensures rest { IfOk result (λ x.
+        steps.new + 4 * length x.1.now ≤ steps.old + 4 * length bytes.now) }
 {
     let most = usize::from(count).min(bytes.len() / 6);
     let mut extras = Vec::with_capacity(alloc, most)?;
     let mut rest = bytes;
     let mut seen = false;
     for _ in 0..count {
-        let (extra, after) = extra_of(alloc, pool, seen, rest)?;
+        let (extra, after) = extra_of(alloc, pool, seen, rest, steps)?;
         seen = is_map_seen(seen, &extra);
         extras.push(extra)?;
         rest = after;
@@ -74,7 +85,8 @@ fn extras_of<'a>(
 // A row of the exception table.
 #[tactic(auto, unfolding(crate::specs::Attributes::row_at))]
 fn row_of(bytes: &[u8]) -> Result<(Row, &[u8]), Stop<ClassWhy>>
-    ensures { Reads result (row_at bytes.now) }
+    ensures read { Reads result (row_at bytes.now) }
+    ensures size { IfOk result (λ x. length x.1.now + 8 ≡ length bytes.now) }
 {
     let ((start, end), rest) = pair_of(bytes)?;
     let ((handler, catch_type), rest) = pair_of(rest)?;
@@ -89,7 +101,8 @@ fn row_of(bytes: &[u8]) -> Result<(Row, &[u8]), Stop<ClassWhy>>
 
 // That many rows of the exception table.
 fn rows_of(alloc: Global, count: u16, bytes: &[u8]) -> Result<(Items<Row>, &[u8]), Stop<ClassWhy>>
-    ensures { Reads result (rows_at count bytes.now) }
+    ensures read { Reads result (rows_at count bytes.now) }
+    ensures size { IfOk result (λ x. length x.1.now ≤ length bytes.now) }
 {
     let most = usize::from(count).min(bytes.len() / 8);
     let mut rows = Vec::with_capacity(alloc, most)?;
@@ -105,7 +118,8 @@ fn rows_of(alloc: Global, count: u16, bytes: &[u8]) -> Result<(Items<Row>, &[u8]
 // The bytes of the code after their number.
 #[tactic(auto, unfolding(crate::specs::Attributes::code_bytes_at))]
 fn code_bytes_of(bytes: &[u8]) -> Result<(&[u8], &[u8]), Stop<ClassWhy>>
-    ensures { ReadsBytes result (code_bytes_at bytes.now) }
+    ensures read { ReadsBytes result (code_bytes_at bytes.now) }
+    ensures size { IfOk result (λ x. length x.0.now + length x.1.now + 4 ≡ length bytes.now) }
 {
     let (count, rest) = u4_of(bytes)?;
     if count < 1 || MOST_CODE < count {
@@ -116,19 +130,24 @@ fn code_bytes_of(bytes: &[u8]) -> Result<(&[u8], &[u8]), Stop<ClassWhy>>
 
 // A Code after its length.
 #[tactic(auto, unfolding(crate::specs::Attributes::code_at))]
-fn code_of<'a>(
+fn code_of<'a, L: Ledger>(
     alloc: Global,
     pool: &[Const],
     bytes: &'a [u8],
+    steps: &mut Steps<L>,
 ) -> Result<(CodeBody, &'a [u8]), Stop<ClassWhy>>
-    ensures { Reads result (code_at pool.now bytes.now) }
+    ensures read { Reads result (code_at pool.now bytes.now) }
+    ensures cost { steps.new ≤ steps.old + 4 * length bytes.now + 13 }
+    ensures rest { IfOk result (λ x.
+        steps.new + 4 * length x.1.now ≤ steps.old + 4 * length bytes.now) }
 {
     let ((max_stack, max_locals), rest) = pair_of(bytes)?;
     let (code, rest) = code_bytes_of(rest)?;
     let (row_count, rest) = u2_of(rest)?;
     let (rows, rest) = rows_of(alloc, row_count, rest)?;
     let (extra_count, rest) = u2_of(rest)?;
-    let (attributes, rest) = extras_of(alloc, pool, extra_count, rest)?;
+    let (attributes, rest) = extras_of(alloc, pool, extra_count, rest, steps)?;
+    steps.spend(code.len());
     let body = CodeBody {
         max_stack,
         max_locals,
@@ -139,16 +158,20 @@ fn code_of<'a>(
     Ok((body, rest))
 }
 
-/// A length in four bytes, and a Code of that length (JVMS 4.7.3).
-pub fn sized_code_of<'a>(
+/// A length in four bytes, and a Code of that length (JVMS 4.7.3). The length leaves sixteen steps for the attribute's name.
+pub fn sized_code_of<'a, L: Ledger>(
     alloc: Global,
     pool: &[Const],
     bytes: &'a [u8],
+    steps: &mut Steps<L>,
 ) -> Result<(CodeBody, &'a [u8]), Stop<ClassWhy>>
-    ensures { Reads result (sized_value_at (code_at pool.now) bytes.now) }
+    ensures read { Reads result (sized_value_at (code_at pool.now) bytes.now) }
+    ensures cost { steps.new ≤ steps.old + 4 * length bytes.now }
+    ensures rest { IfOk result (λ x.
+        steps.new + 16 + 4 * length x.1.now ≤ steps.old + 4 * length bytes.now) }
 {
     let (size, front) = u4_of(bytes)?;
-    let (code, rest) = code_of(alloc, pool, front)?;
+    let (code, rest) = code_of(alloc, pool, front, steps)?;
     if front.len().saturating_sub(rest.len()) != size as usize {
         return Err(Stop::at(bytes, ClassWhy::Length));
     }

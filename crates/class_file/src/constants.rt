@@ -1,12 +1,14 @@
 //! The constant pool (JVMS 4.4).
 
-ghost use Rattle.std.specs.Prelude.{◌≡◌, ◌<◌, ◌≤◌, ◌^◌, length};
+ghost use Rattle.std.specs.Prelude.{◌≡◌, ◌<◌, ◌≤◌, ◌+◌, ◌*◌, ◌^◌, length, IfOk};
 ghost use Rattle.class_grammar.specs.Ranges as ranges;
 ghost use Rattle.jvm_utf8.specs.Units as utf8;
 ghost use Rattle.byte_reader.specs.Reader.{Gives, Reads};
 ghost use Rattle.class_file.specs.Constants as spec;
+ghost use Rattle.class_file.specs.Costs.{later, later_of_pool};
 
-use byte_reader::{Fault, Stop, bytes_of, pair_of, u1_of, u2_of, u4_of, u8_of};
+use crate::numbers::{bytes_of, pair_of, u1_of, u2_of, u4_of, u8_of};
+use byte_reader::{Fault, Stop};
 use class_grammar::{ClassFault, ClassWhy};
 use class_model::{
     Const, TAG_CLASS, TAG_DOUBLE, TAG_DYNAMIC, TAG_FIELDREF, TAG_FLOAT, TAG_INTEGER,
@@ -14,15 +16,24 @@ use class_model::{
     TAG_METHODREF, TAG_MODULE, TAG_NAME_AND_TYPE, TAG_PACKAGE, TAG_STRING, TAG_UTF8,
 };
 use items::Items;
-use jvm_utf8::{Utf8Error, decode};
+use jvm_utf8::{Utf8Error, decode_counted};
 use std::alloc::Global;
+use std::sync::ledger::Ledger;
+use steps::Steps;
 
 // The units of a text, where so many bytes are left before it.
-fn units_of(alloc: Global, text: &[u8], left: usize) -> Result<Items<u16>, Stop<ClassWhy>>
+fn units_of<L: Ledger>(
+    alloc: Global,
+    text: &[u8],
+    left: usize,
+    steps: &mut Steps<L>,
+) -> Result<Items<u16>, Stop<ClassWhy>>
     requires { length text.now < 2 ^ 32 }
-    ensures { Gives result (spec.units_of left (utf8.units_of text.now)) }
+    ensures read { Gives result (spec.units_of left (utf8.units_of text.now)) }
+    ensures few { IfOk result (λ units. length units ≤ length text.now) }
+    ensures cost { steps.new ≡ steps.old + length text.now }
 {
-    match decode(alloc, text) {
+    match decode_counted(alloc, text, steps) {
         Ok(units) => Ok(Items::from(units)),
         Err(Utf8Error::Bad { at }) => Err(Stop::Fault(Fault {
             left: left.saturating_sub(at as usize),
@@ -34,12 +45,20 @@ fn units_of(alloc: Global, text: &[u8], left: usize) -> Result<Items<u16>, Stop<
 
 // A text after its length (JVMS 4.4.7).
 #[tactic(auto, unfolding(crate::specs::Constants::text_at))]
-fn text_of(alloc: Global, bytes: &[u8]) -> Result<(Items<u16>, &[u8]), Stop<ClassWhy>>
-    ensures { Reads result (spec.text_at bytes.now) }
+fn text_of<'a, L: Ledger>(
+    alloc: Global,
+    bytes: &'a [u8],
+    steps: &mut Steps<L>,
+) -> Result<(Items<u16>, &'a [u8]), Stop<ClassWhy>>
+    ensures read { Reads result (spec.text_at bytes.now) }
+    ensures cost { steps.new ≤ steps.old + 4 * length bytes.now }
+    // A step for each byte was spent, and two goes over the units and their size are still to come.
+    ensures rest { IfOk result (λ x.
+        steps.new + 3 * length x.0 + 8 + 4 * length x.1.now ≤ steps.old + 4 * length bytes.now) }
 {
     let (count, front) = u2_of(bytes)?;
     let (text, rest) = bytes_of(usize::from(count), front)?;
-    let units = units_of(alloc, text, front.len())?;
+    let units = units_of(alloc, text, front.len(), steps)?;
     Ok((units, rest))
 }
 
@@ -47,7 +66,8 @@ fn text_of(alloc: Global, bytes: &[u8]) -> Result<(Items<u16>, &[u8]), Stop<Clas
 #[tactic(auto, unfolding(crate::specs::Constants::tagged_at))]
 fn later_of(unknown: ClassFault, tag: u8, bytes: &[u8]) -> Result<(Const, &[u8]), Stop<ClassWhy>>
     requires { TAG_METHOD_HANDLE ≤ tag }
-    ensures { Reads result (spec.tagged_at unknown tag bytes.now) }
+    ensures read { Reads result (spec.tagged_at unknown tag bytes.now) }
+    ensures rest { IfOk result (λ x. later x.0 + length x.1.now ≤ length bytes.now) }
 {
     match tag {
         TAG_METHOD_HANDLE => {
@@ -87,7 +107,8 @@ fn reference_of(
     bytes: &[u8],
 ) -> Result<(Const, &[u8]), Stop<ClassWhy>>
     requires { TAG_CLASS ≤ tag }
-    ensures { Reads result (spec.tagged_at unknown tag bytes.now) }
+    ensures read { Reads result (spec.tagged_at unknown tag bytes.now) }
+    ensures rest { IfOk result (λ x. later x.0 + length x.1.now ≤ length bytes.now) }
 {
     match tag {
         TAG_CLASS => {
@@ -121,17 +142,21 @@ fn reference_of(
 
 // The constant after a tag (JVMS 4.4). `unknown` is the fault where no constant has the tag.
 #[tactic(auto, unfolding(crate::specs::Constants::tagged_at))]
-fn tagged_of(
+fn tagged_of<'a, L: Ledger>(
     alloc: Global,
     unknown: ClassFault,
     tag: u8,
-    bytes: &[u8],
-) -> Result<(Const, &[u8]), Stop<ClassWhy>>
-    ensures { Reads result (spec.tagged_at unknown tag bytes.now) }
+    bytes: &'a [u8],
+    steps: &mut Steps<L>,
+) -> Result<(Const, &'a [u8]), Stop<ClassWhy>>
+    ensures read { Reads result (spec.tagged_at unknown tag bytes.now) }
+    ensures cost { steps.new ≤ steps.old + 4 * length bytes.now }
+    ensures rest { IfOk result (λ x.
+        steps.new + later x.0 + 4 * length x.1.now ≤ steps.old + 4 * length bytes.now) }
 {
     match tag {
         TAG_UTF8 => {
-            let (units, rest) = text_of(alloc, bytes)?;
+            let (units, rest) = text_of(alloc, bytes, steps)?;
             Ok((Const::Utf8(units), rest))
         }
         TAG_INTEGER => {
@@ -157,8 +182,16 @@ fn tagged_of(
 
 // A constant, where so many entries follow. A Long or a Double needs one of them (JVMS 4.4.5).
 #[tactic(auto, unfolding(crate::specs::Constants::constant_at))]
-fn constant_of(alloc: Global, more: u16, bytes: &[u8]) -> Result<(Const, &[u8]), Stop<ClassWhy>>
-    ensures { Reads result (spec.constant_at more bytes.now) }
+fn constant_of<'a, L: Ledger>(
+    alloc: Global,
+    more: u16,
+    bytes: &'a [u8],
+    steps: &mut Steps<L>,
+) -> Result<(Const, &'a [u8]), Stop<ClassWhy>>
+    ensures read { Reads result (spec.constant_at more bytes.now) }
+    ensures cost { steps.new ≤ steps.old + 4 * length bytes.now }
+    ensures rest { IfOk result (λ x.
+        steps.new + later x.0 + 4 * length x.1.now ≤ steps.old + 4 * length bytes.now) }
 {
     let (tag, rest) = u1_of(bytes)?;
     if (tag == TAG_LONG || tag == TAG_DOUBLE) && more == 0 {
@@ -168,22 +201,26 @@ fn constant_of(alloc: Global, more: u16, bytes: &[u8]) -> Result<(Const, &[u8]),
         left: bytes.len(),
         why: ClassWhy::Tag,
     };
-    tagged_of(alloc, unknown, tag, rest)
+    tagged_of(alloc, unknown, tag, rest, steps)
 }
 
 // An entry of the pool, which takes no bytes after a Long or a Double.
-fn entry_of(
+fn entry_of<'a, L: Ledger>(
     alloc: Global,
     behind: bool,
     more: u16,
-    bytes: &[u8],
-) -> Result<(Const, &[u8]), Stop<ClassWhy>>
-    ensures { Reads result (spec.entry_at behind more bytes.now) }
+    bytes: &'a [u8],
+    steps: &mut Steps<L>,
+) -> Result<(Const, &'a [u8]), Stop<ClassWhy>>
+    ensures read { Reads result (spec.entry_at behind more bytes.now) }
+    ensures cost { steps.new ≤ steps.old + 4 * length bytes.now }
+    ensures rest { IfOk result (λ x.
+        steps.new + later x.0 + 4 * length x.1.now ≤ steps.old + 4 * length bytes.now) }
 {
     if behind {
         return Ok((Const::Unused, bytes));
     }
-    constant_of(alloc, more, bytes)
+    constant_of(alloc, more, bytes, steps)
 }
 
 // Whether the constant takes two entries (JVMS 4.4.5).
@@ -194,12 +231,16 @@ fn is_wide(constant: &Const) -> bool
 }
 
 // Entry 0, which is not used, and that many entries after it.
-fn entries_of(
+fn entries_of<'a, L: Ledger>(
     alloc: Global,
     count: u16,
-    bytes: &[u8],
-) -> Result<(Items<Const>, &[u8]), Stop<ClassWhy>>
-    ensures { Reads result (spec.all_entries_at count bytes.now) }
+    bytes: &'a [u8],
+    steps: &mut Steps<L>,
+) -> Result<(Items<Const>, &'a [u8]), Stop<ClassWhy>>
+    ensures read { Reads result (spec.all_entries_at count bytes.now) }
+    ensures cost { steps.new ≤ steps.old + 4 * length bytes.now }
+    ensures rest { IfOk result (λ x.
+        steps.new + later_of_pool x.0 + 4 * length x.1.now ≤ steps.old + 4 * length bytes.now) }
 {
     // A constant has three bytes or more, and a Long or a Double nine for its two entries.
     let most = usize::from(count).min(bytes.len() / 3);
@@ -208,7 +249,7 @@ fn entries_of(
     let mut rest = bytes;
     let mut behind = false;
     for index in 0..count {
-        let (constant, after) = entry_of(alloc, behind, count - (index + 1), rest)?;
+        let (constant, after) = entry_of(alloc, behind, count - (index + 1), rest, steps)?;
         behind = is_wide(&constant);
         entries.push(constant)?;
         rest = after;
@@ -218,12 +259,19 @@ fn entries_of(
 
 /// The pool after the number of its entries (JVMS 4.1).
 #[tactic(auto, unfolding(crate::specs::Constants::pool_at))]
-pub fn pool_of(alloc: Global, bytes: &[u8]) -> Result<(Items<Const>, &[u8]), Stop<ClassWhy>>
-    ensures { Reads result (spec.pool_at bytes.now) }
+pub fn pool_of<'a, L: Ledger>(
+    alloc: Global,
+    bytes: &'a [u8],
+    steps: &mut Steps<L>,
+) -> Result<(Items<Const>, &'a [u8]), Stop<ClassWhy>>
+    ensures read { Reads result (spec.pool_at bytes.now) }
+    ensures cost { steps.new ≤ steps.old + 4 * length bytes.now }
+    ensures rest { IfOk result (λ x.
+        steps.new + later_of_pool x.0 + 4 * length x.1.now ≤ steps.old + 4 * length bytes.now) }
 {
     let (count, rest) = u2_of(bytes)?;
     if count == 0 {
         return Err(Stop::at(bytes, ClassWhy::Count));
     }
-    entries_of(alloc, count - 1, rest)
+    entries_of(alloc, count - 1, rest, steps)
 }

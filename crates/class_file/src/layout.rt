@@ -1,17 +1,21 @@
 //! The layout of a whole class file (JVMS 4.1).
 
-ghost use Rattle.std.specs.Prelude.{◌≡◌};
+ghost use Rattle.std.specs.Prelude.{◌≡◌, ◌≤◌, ◌+◌, ◌*◌, length, IfOk};
 ghost use Rattle.byte_reader.specs.Reader.{Gives, Reads};
+ghost use Rattle.class_checks.specs.Costs.{checking};
 ghost use Rattle.class_file.specs.File as spec;
 
 use crate::attributes::attributes_of;
 use crate::constants::pool_of;
 use crate::members::{interfaces_of, members_of};
-use byte_reader::{Stop, pair_of, u2_of, u4_of};
+use crate::numbers::{pair_of, u2_of, u4_of};
+use byte_reader::Stop;
 use class_grammar::{ClassWhy, Holder};
 use class_model::{ClassFile, Const};
 use items::Items;
 use std::alloc::Global;
+use std::sync::ledger::Ledger;
+use steps::Steps;
 
 /// The first bytes of every class file (JVMS 4.1).
 const MAGIC: u32 = 0xcafe_babe;
@@ -43,7 +47,8 @@ fn is_supported(version: Version) -> bool
 // The version after the magic number.
 #[tactic(auto, unfolding(crate::specs::File::version_at))]
 fn version_of(bytes: &[u8]) -> Result<(Version, &[u8]), Stop<ClassWhy>>
-    ensures { Reads result (spec.version_at bytes.now) }
+    ensures read { Reads result (spec.version_at bytes.now) }
+    ensures size { IfOk result (λ x. length x.1.now + 8 ≡ length bytes.now) }
 {
     let (magic, front) = u4_of(bytes)?;
     if magic != MAGIC {
@@ -59,7 +64,8 @@ fn version_of(bytes: &[u8]) -> Result<(Version, &[u8]), Stop<ClassWhy>>
 
 #[tactic(auto, unfolding(crate::specs::File::class_at))]
 fn class_of(alloc: Global, bytes: &[u8]) -> Result<(Class, &[u8]), Stop<ClassWhy>>
-    ensures { Reads result (spec.class_at bytes.now) }
+    ensures read { Reads result (spec.class_at bytes.now) }
+    ensures size { IfOk result (λ x. length x.1.now ≤ length bytes.now) }
 {
     let (flags, rest) = u2_of(bytes)?;
     let ((own, parent), rest) = pair_of(rest)?;
@@ -76,19 +82,24 @@ fn class_of(alloc: Global, bytes: &[u8]) -> Result<(Class, &[u8]), Stop<ClassWhy
 
 // What follows the pool.
 #[tactic(auto, unfolding(crate::specs::File::tail_at))]
-fn tail_of(
+fn tail_of<'a, L: Ledger>(
     alloc: Global,
     version: Version,
     pool: Items<Const>,
-    bytes: &[u8],
-) -> Result<(ClassFile, &[u8]), Stop<ClassWhy>>
-    ensures { Reads result (spec.tail_at version pool bytes.now) }
+    bytes: &'a [u8],
+    steps: &mut Steps<L>,
+) -> Result<(ClassFile, &'a [u8]), Stop<ClassWhy>>
+    ensures read { Reads result (spec.tail_at version pool bytes.now) }
+    ensures pool { IfOk result (λ x. x.0.pool ≡ pool) }
+    ensures cost { steps.new ≤ steps.old + 4 * length bytes.now + 13 }
+    ensures rest { IfOk result (λ x.
+        steps.new + 4 * length x.1.now ≤ steps.old + 4 * length bytes.now) }
 {
     let (class, rest) = class_of(alloc, bytes)?;
-    let (fields, rest) = members_of(alloc, &pool, Holder::Field, rest)?;
-    let (methods, rest) = members_of(alloc, &pool, Holder::Method, rest)?;
+    let (fields, rest) = members_of(alloc, &pool, Holder::Field, rest, steps)?;
+    let (methods, rest) = members_of(alloc, &pool, Holder::Method, rest, steps)?;
     let (count, rest) = u2_of(rest)?;
-    let (attributes, rest) = attributes_of(alloc, &pool, Holder::Class, count, rest)?;
+    let (attributes, rest) = attributes_of(alloc, &pool, Holder::Class, count, rest, steps)?;
     let file = ClassFile {
         minor: version.minor,
         major: version.major,
@@ -106,12 +117,19 @@ fn tail_of(
 
 /// A class file, and no byte more (JVMS 4.1). None of its items is checked.
 #[tactic(auto, unfolding(crate::specs::File::layout_of))]
-pub fn layout_of(alloc: Global, bytes: &[u8]) -> Result<ClassFile, Stop<ClassWhy>>
-    ensures { Gives result (spec.layout_of bytes.now) }
+pub fn layout_of<L: Ledger>(
+    alloc: Global,
+    bytes: &[u8],
+    steps: &mut Steps<L>,
+) -> Result<ClassFile, Stop<ClassWhy>>
+    ensures read { Gives result (spec.layout_of bytes.now) }
+    ensures cost { steps.new ≤ steps.old + 4 * length bytes.now }
+    // What the checks of the file may take is left.
+    ensures rest { IfOk result (λ file. steps.new + checking file ≤ steps.old + 4 * length bytes.now) }
 {
     let (version, rest) = version_of(bytes)?;
-    let (pool, rest) = pool_of(alloc, rest)?;
-    let (file, rest) = tail_of(alloc, version, pool, rest)?;
+    let (pool, rest) = pool_of(alloc, rest, steps)?;
+    let (file, rest) = tail_of(alloc, version, pool, rest, steps)?;
     if !rest.is_empty() {
         return Err(Stop::at(rest, ClassWhy::Trailing));
     }

@@ -15,4 +15,4 @@ mod reader;
 pub use class_grammar::ClassWhy;
 pub use error::ReadError;
 pub use laws::{one_outcome, one_value};
-pub use reader::read;
+pub use reader::{read, read_counted};

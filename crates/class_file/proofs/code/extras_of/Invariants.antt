@@ -1,7 +1,10 @@
-use Rattle.std.proofs.Common.{ℕ, ◌-◌, Bool, false}
+use Rattle.std.proofs.Common.{ℕ, ◌-◌, Bool, false, ◌+◌, ◌*◌, ◌≤◌, length}
 use Rattle.class_file.specs.Attributes.{extra_at, next_extra, extras_at}
 use Rattle.byte_reader.proofs.LoopLaws.{ReadsOn}
 use Rattle.class_file.proofs.code.extras_of.Given as goal
 
 abbrev pub invariant-loop : goal.invariant-loop
-invariant-loop l = ReadsOn (λ (seen : Bool) (more : ℕ). extra_at l.pool seen) next_extra l.extras.items l.seen (l.count - l.counter) l.rest (extras_at l.pool false l.count l.bytes)
+invariant-loop g l = record {
+  reads : ReadsOn (λ (seen : Bool) (more : ℕ). extra_at l.pool seen) next_extra l.extras.items l.seen (l.count - l.counter) l.rest (extras_at l.pool false l.count l.bytes);
+  spent : l.steps + 4 * length l.rest ≤ l.fn.steps + 4 * length l.bytes;
+}

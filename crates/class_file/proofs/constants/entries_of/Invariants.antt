@@ -1,7 +1,11 @@
-use Rattle.std.proofs.Common.{◌-◌}
+use Rattle.std.proofs.Common.{◌-◌, ◌+◌, ◌*◌, ◌≤◌, length}
 use Rattle.class_file.specs.Constants.{entry_at, next_entry, all_entries_at}
+use Rattle.class_file.specs.Costs.{later_of_pool}
 use Rattle.byte_reader.proofs.LoopLaws.{ReadsOn}
 use Rattle.class_file.proofs.constants.entries_of.Given as goal
 
 abbrev pub invariant-loop-index : goal.invariant-loop-index
-invariant-loop-index l = ReadsOn entry_at next_entry l.entries.items l.behind (l.count - l.index) l.rest (all_entries_at l.count l.bytes)
+invariant-loop-index g l = record {
+  reads : ReadsOn entry_at next_entry l.entries.items l.behind (l.count - l.index) l.rest (all_entries_at l.count l.bytes);
+  spent : l.steps + later_of_pool l.entries.items + 4 * length l.rest ≤ l.fn.steps + 4 * length l.bytes;
+}

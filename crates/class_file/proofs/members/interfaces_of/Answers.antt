@@ -1,4 +1,4 @@
-use Rattle.std.proofs.Common.{ℕ}
+use Rattle.std.proofs.Common.{ℕ, arith}
 use Rattle.std.proofs.lemmas.Result.{err_from_is_err_and}
 use Rattle.byte_reader.specs.Reader.{keep}
 use Rattle.class_file.specs.Numbers.{u2_at}
@@ -6,15 +6,21 @@ use Rattle.byte_reader.proofs.LoopLaws.{begins, goes_on, stops_at, is_done}
 use Rattle.class_file.proofs.members.interfaces_of.Goals as goal
 
 pub loop-init : goal.loop-init
-loop-init c = rw c.in_ok-interfaces.ensures.items (begins (λ (state : Unit {0}) (more : ℕ). u2_at) keep tt c.args.count c.args.bytes.now)
+loop-init c = record {
+  reads = rw c.in_ok-interfaces.ensures.items (begins (λ (state : Unit {0}) (more : ℕ). u2_at) keep tt c.args.count c.args.bytes.now);
+  less = omega arith;
+}
 
-pub returns-in_err-index : goal.returns-in_err-index
-returns-in_err-index c =
+pub returns-in_err-index-clause-read : goal.returns-in_err-index-clause-read
+returns-in_err-index-clause-read c =
     let p = err_from_is_err_and c.from_residual-in_err-index.result c.from_residual-in_err-index.ensures.1 in
-    rw (p.1, p.2) (stops_at c.args.count c.loop.counter c.in_err-index.field-0.0 c.loop-test.true c.loop.invariant c.in_err-index.ensures)
+    rw (p.1, p.2) (stops_at c.args.count c.loop.counter c.in_err-index.field-0.0 c.loop-test.true c.loop.invariant.reads c.in_err-index.ensures.read)
 
 pub loop-preserved : goal.loop-preserved
-loop-preserved c = rw (c.in_ok-push.ensures.items) (goes_on c.args.count c.loop.counter c.in_ok-index.index c.in_ok-index.after.now c.loop-test.true c.loop.invariant c.in_ok-index.ensures)
+loop-preserved c = record {
+  reads = rw (c.in_ok-push.ensures.items) (goes_on c.args.count c.loop.counter c.in_ok-index.index c.in_ok-index.after.now c.loop-test.true c.loop.invariant.reads c.in_ok-index.ensures.read);
+  less = omega (arith, c.in_ok-index.ensures.size, c.loop.invariant.less);
+}
 
-pub returns : goal.returns
-returns c = rw c.from-2.ensures (is_done c.args.count c.loop.counter c.loop-test.false c.loop.invariant)
+pub returns-clause-read : goal.returns-clause-read
+returns-clause-read c = rw c.from-2.ensures (is_done c.args.count c.loop.counter c.loop-test.false c.loop.invariant.reads)
