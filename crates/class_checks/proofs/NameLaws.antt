@@ -5,13 +5,14 @@ use Rattle.std.specs.Option.{is_none}
 use Rattle.std.specs.List.{list_all}
 use Rattle.std.proofs.lemmas.Bool.{eqb-true}
 use Rattle.std.proofs.lemmas.Bool.Decides.{nat_tests}
-use Rattle.descriptors.specs.Descriptors.{are_parts}
+use Rattle.descriptors.specs.Descriptors.{are_parts, is_base}
+use Rattle.descriptors.specs.declared.fronts.Turn.{Turn}
 use Rattle.descriptors.specs.Descriptors as chars
 use Rattle.descriptors.specs.declared.fronts.Front.TheVariants.{Brackets, Name}
 use Rattle.descriptors.specs.declared.fronts.Turn.TheVariants.{Ends, GoesOn, Stops}
 use Rattle.descriptors.specs.States.{State, Field, Args, first_bad, in_field, name_goes_on, is_field, is_method}
 use Rattle.class_grammar.specs.Names.{is_name_unit, is_method_unit, begins_with}
-use Rattle.class_checks.specs.TextRoles.{is_class_descriptor}
+use Rattle.class_checks.specs.TextRoles.{is_class_descriptor, begins_as_field}
 use Rattle.class_checks.specs.declared.names.Names.{Names}
 use Rattle.class_checks.specs.Names.{names_of, names_by, is_in_every_name}
 
@@ -48,9 +49,21 @@ pub no_method : (units : List ℕ) → begins_with (40 ∷ []) units ≡ false �
 no_method [] h = refl
 no_method (u ∷ us) h = no_parenthesis us _ h
 
-pub no_field : (units : List ℕ) → begins_with (40 ∷ []) units ≡ true → is_field units ≡ false
+no_kind : (us : List ℕ) (base class array : Bool) (more : Turn) → (base || class || array) ≡ false
+    → is_none {T = ℕ} (elim (in_field (cond array more (cond class (GoesOn (Name false)) (cond base Ends Stops)))) [ None ↦ Some 0 | Some state ↦ first_bad state (0 + 1) us ]) ≡ false
+no_kind us true class array more h = absurd cc
+no_kind us false true array more h = absurd cc
+no_kind us false false true more h = absurd cc
+no_kind us false false false more h = refl
+
+pub no_field : (units : List ℕ) → begins_as_field units ≡ false → is_field units ≡ false
 no_field [] h = refl
-no_field (u ∷ us) h = subst (λ (n : ℕ). is_field (n ∷ us) ≡ false) (sym (eqb-true u 40 (or_none _ h))) refl
+no_field (u ∷ us) h = no_kind us (is_base u) (eqb u 76) (eqb u 91) _ h
+
+-- what begins as a method's descriptor doesn't begin as a field's
+pub no_parenthesis_first : (units : List ℕ) → begins_with (40 ∷ []) units ≡ true → begins_as_field units ≡ false
+no_parenthesis_first [] h = refl
+no_parenthesis_first (u ∷ us) h = subst (λ (n : ℕ). begins_as_field (n ∷ us) ≡ false) (sym (eqb-true u 40 (or_none _ h))) refl
 
 -- ---- the descriptor of a class is no name
 

@@ -1,7 +1,8 @@
 -- What the text of an entry of the pool may be used as.
-use Rattle.std.specs.Prelude.{ℕ, Bool, false, List, [], ◌∷◌, Option, is_some, ◌&&◌, if◌then◌else◌}
+use Rattle.std.specs.Prelude.{ℕ, Bool, false, List, [], ◌∷◌, Option, is_some, ◌==◌, ◌&&◌, ◌||◌, if◌then◌else◌}
 use Rattle.std.specs.Option.{option_map_or}
 use Rattle.class_model.specs.declared.constant.Const.{Const}
+use Rattle.descriptors.specs.Descriptors.{bracket, class_letter, is_base}
 use Rattle.descriptors.specs.States.{is_field, is_method}
 use Rattle.class_grammar.specs.Names.{is_field_name, is_method_name, is_class_text, string_descriptor, begins_with}
 use Rattle.class_grammar.specs.Pool.{text_of, text_at, is_text}
@@ -30,3 +31,8 @@ reason_at why pool index = if is_some (text_at pool index) then why else Index
 -- whether the text is the descriptor of a field that is a class
 abbrev pub is_class_descriptor : List ℕ → Bool
 is_class_descriptor units = is_field units && begins_with (76 ∷ []) units
+
+-- whether the text begins as the descriptor of a field
+abbrev pub begins_as_field : List ℕ → Bool
+begins_as_field [] = false
+begins_as_field (u ∷ us) = is_base u || u == class_letter || u == bracket

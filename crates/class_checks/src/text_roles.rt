@@ -19,6 +19,26 @@ use std::alloc::{AllocError, Global};
 use std::sync::ledger::Ledger;
 use steps::Steps;
 
+const BYTE: u16 = b'B' as u16;
+
+const CHAR: u16 = b'C' as u16;
+
+const DOUBLE: u16 = b'D' as u16;
+
+const FLOAT: u16 = b'F' as u16;
+
+const INT: u16 = b'I' as u16;
+
+const LONG: u16 = b'J' as u16;
+
+const SHORT: u16 = b'S' as u16;
+
+const BOOL: u16 = b'Z' as u16;
+
+const CLASS: u16 = b'L' as u16;
+
+const ARRAY: u16 = b'[' as u16;
+
 /// What the text at an index of the pool may be used as. Where there is no text, all are false.
 #[derive(Clone, Copy, Debug)]
 pub struct TextRoles {
@@ -123,17 +143,30 @@ fn is_method_text<L: Ledger>(units: &[u16], steps: &mut Steps<L>) -> bool
     is_method_counted(units, steps)
 }
 
-// Whether the text is the descriptor of a field. It is gone over where it doesn't begin as a method's.
-#[tactic(auto, using(crate::proofs::NameLaws::no_field))]
+// Whether the text is the descriptor of a field. It is gone over where it begins as one.
+#[tactic(auto, using(crate::proofs::NameLaws::no_field, crate::proofs::NameLaws::no_parenthesis_first))]
 fn is_field_text<L: Ledger>(units: &[u16], steps: &mut Steps<L>) -> bool
     ensures test { result ≡ descriptors_spec.is_field units.now }
     ensures cost { steps.new ≤ steps.old + length units.now }
     ensures none { grammar.begins_with (40 ∷ []) units.now ≡ true → steps.new ≡ steps.old }
 {
-    if begins_with(b'(', units) {
+    if !begins_as_field(units) {
         return false;
     }
     is_field_counted(units, steps)
+}
+
+// Whether the text begins as the descriptor of a field.
+fn begins_as_field(units: &[u16]) -> bool
+    ensures { result ≡ spec.begins_as_field units.now }
+{
+    match units {
+        [first, ..] => matches!(
+            *first,
+            BYTE | CHAR | DOUBLE | FLOAT | INT | LONG | SHORT | BOOL | CLASS | ARRAY
+        ),
+        [] => false,
+    }
 }
 
 // What the text may be the name of: nothing, where it is the descriptor of a class.

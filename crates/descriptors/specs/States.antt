@@ -1,5 +1,5 @@
 -- What each unit of a descriptor does, and the first that is not allowed (JVMS 4.3).
-use Rattle.std.specs.Prelude.{ℕ, ◌+◌, Bool, false, not, nat_lt, List, [], ◌∷◌, Option, Some, None, ◌==◌, ◌&&◌, if◌then◌else◌}
+use Rattle.std.specs.Prelude.{ℕ, ◌+◌, Bool, false, not, nat_lt, nat_le, List, [], ◌∷◌, Option, Some, None, ◌==◌, ◌&&◌, ◌||◌, if◌then◌else◌}
 use Rattle.std.specs.Option.{is_none}
 use Rattle.descriptors.specs.declared.fronts.Front.{Front}
 use Rattle.descriptors.specs.declared.fronts.Front.TheVariants.{Brackets, Name}
@@ -12,6 +12,14 @@ use Rattle.descriptors.specs.Descriptors.{bracket, semicolon, slash, class_lette
 -- whether a unit is allowed in a name whose last part has a unit, or has none
 abbrev pub name_goes_on : Bool → ℕ → Bool
 name_goes_on begun u = if u == slash then begun else is_name_unit u
+
+-- a unit after `[`, or a capital letter: every name may have it
+abbrev pub is_letter : ℕ → Bool
+is_letter u = nat_lt 91 u || (nat_le 65 u && nat_le u 90)
+
+abbrev pub is_letter_of_name : Front → ℕ → Bool
+is_letter_of_name (Brackets n) u = false
+is_letter_of_name (Name begun) u = is_letter u
 
 abbrev pub bracket_turn : ℕ → ℕ → Turn
 bracket_turn n u =

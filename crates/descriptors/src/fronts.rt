@@ -72,6 +72,16 @@ impl Front {
         matches!(self, Front::Brackets(0))
     }
 
+    // Whether the unit is a letter in a name: all that it does is to begin the last part.
+    fn is_letter_of_name(self, unit: u16) -> bool
+        ensures { result ≡ spec.is_letter_of_name self unit }
+    {
+        match self {
+            Front::Brackets(_) => false,
+            Front::Name(_) => is_letter(unit),
+        }
+    }
+
     fn turn(self, unit: u16) -> Turn
         ensures { result ≡ spec.turn self unit }
     {
@@ -80,6 +90,13 @@ impl Front {
             Front::Name(begun) => name_turn(begun, unit),
         }
     }
+}
+
+// Whether the unit is one that every name may have, as letters are.
+fn is_letter(unit: u16) -> bool
+    ensures { result ≡ spec.is_letter unit }
+{
+    unit > u16::from(b'[') || u16::from(b'A') <= unit && unit <= u16::from(b'Z')
 }
 
 fn bracket_turn(count: u8, unit: u16) -> Turn
@@ -154,6 +171,11 @@ pub fn field_bad<L: Ledger>(units: &[u16], start: usize, steps: &mut Steps<L>) -
 {
     let mut front = START;
     for index in start..units.len() {
+        if front.is_letter_of_name(units[index]) {
+            steps.spend(1);
+            front = Front::Name(true);
+            continue;
+        }
         match front.turn(units[index]) {
             Turn::Ends => {
                 steps.spend(units.len() - index);
@@ -199,6 +221,11 @@ pub fn method_bad<L: Ledger>(units: &[u16], steps: &mut Steps<L>) -> Option<usiz
     let mut front = START;
     for index in 1..units.len() {
         let unit = units[index];
+        if front.is_letter_of_name(unit) {
+            steps.spend(1);
+            front = Front::Name(true);
+            continue;
+        }
         if front.is_start() && unit == u16::from(b')') {
             steps.spend(1);
             return result_bad(units, index + 1, steps);
