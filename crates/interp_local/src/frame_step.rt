@@ -99,7 +99,7 @@ fn next_pc(next: u32, target: Option<i64>) -> u32
 }
 
 /// Whether the instruction with an index stays in its frame.
-#[inline(never)]
+#[inline(always)]
 pub(crate) fn stays_at<L: Lookups>(
     p: &Prepared<L>,
     code: &PreparedCode,
@@ -119,7 +119,7 @@ pub(crate) fn stays_at<L: Lookups>(
 }
 
 /// Executes the instruction with an index, which stays in its frame.
-#[inline(never)]
+#[inline(always)]
 pub(crate) fn execute_at<L: Lookups>(
     p: &Prepared<L>,
     code: &PreparedCode,
