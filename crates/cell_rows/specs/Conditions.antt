@@ -19,6 +19,10 @@ pub record Condition : Type 0 where
 abbrev pub zero_condition : Comparison → Condition
 zero_condition order = record { takes = kinds.Int ∷ []; test = λ a. compares order a (pos 0) }
 
+-- the same against an int
+abbrev pub int_condition : Comparison → ℤ → Condition
+int_condition order n = record { takes = kinds.Int ∷ []; test = λ a. compares order a n }
+
 -- if_icmpeq to if_icmple
 abbrev pub ints_condition : Comparison → Condition
 ints_condition order = record { takes = kinds.Int ∷ kinds.Int ∷ []; test = λ b a. compares order a b }

@@ -9,7 +9,7 @@ ghost use Rattle.instruction_rows.specs.Rows.{select};
 ghost use Rattle.instruction_rows.specs.SlotEffect.{to};
 ghost use Rattle.instruction_rows.specs.Switches.{lookup_target, lookup_targets, table_target, table_targets};
 ghost use Rattle.cell_rows.specs.CellRows.{CanAct, Acts};
-ghost use Rattle.cell_rows.specs.Conditions.{CanBranch, Branches, zero_condition, ints_condition, references_condition, null_condition};
+ghost use Rattle.cell_rows.specs.Conditions.{CanBranch, Branches, zero_condition, int_condition, ints_condition, references_condition, null_condition};
 
 use instruction_rows::{Slot, Value, compares};
 use opcodes::{Comparison, LookupSwitch, Sameness, TableSwitch};
@@ -54,6 +54,18 @@ pub fn if_zero(order: Comparison, row: &[Cell], locals: usize, used: usize) -> b
     let at = locals + used - 1;
     let a = int_at(row, at);
     compares(order, a, 0)
+}
+
+/// if_icmpeq to if_icmple with this int on top, which isn't pushed: whether the branch is taken.
+#[inline(always)]
+pub fn if_int(order: Comparison, n: i32, row: &[Cell], locals: usize, used: usize) -> bool
+    requires fits { locals + used ≤ length row.now }
+    requires tests { CanBranch (int_condition order n) row.now locals used }
+    ensures { Branches (int_condition order n) row.now locals used (used - 1) result }
+{
+    let at = locals + used - 1;
+    let a = int_at(row, at);
+    compares(order, a, n)
 }
 
 /// if_icmpeq to if_icmple: whether the branch is taken.

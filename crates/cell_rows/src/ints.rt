@@ -44,6 +44,23 @@ pub fn int_binary(op: IntOp, row: &mut [Cell], locals: usize, used: usize) -> us
     used - 1
 }
 
+/// The same with this int on top, which isn't pushed.
+#[inline(always)]
+pub fn int_with(op: IntOp, n: i32, row: &mut [Cell], locals: usize, used: usize) -> usize
+    requires fits { locals + used ≤ length row.old }
+    requires acts { CanAct (int (kinds.Int ∷ []) (λ a. int_result op a n)) row.old locals used }
+    ensures { Acts (int (kinds.Int ∷ []) (λ a. int_result op a n))
+        row.old locals used row.new result on }
+{
+    let at = locals + used - 1;
+    let a = int_at(row, at);
+    match i_binary(op, a, n) {
+        Some(made) => put_int(row, at, made),
+        None => unreachable!(),
+    }
+    used
+}
+
 /// ineg.
 #[inline(always)]
 pub fn int_negate(row: &mut [Cell], locals: usize, used: usize) -> usize

@@ -7,7 +7,7 @@ ghost use Rattle.instruction_rows.specs.SlotEffect.{on};
 ghost use Rattle.stack_maps.specs.declared.types.VType.TheVariants as types;
 ghost use Rattle.instruction_rows.specs.declared.value.Value.TheVariants as values;
 ghost use Rattle.jvm_words.specs.declared.operation.LongOp.TheVariants as long_ops;
-ghost use Rattle.jvm_words.specs.Words.{long_result};
+ghost use Rattle.jvm_words.specs.Words.{long_result, long_shift_result};
 ghost use Rattle.cell_rows.specs.CellRows.{CanAct, Acts, shift_row};
 
 use crate::words::negated_long;
@@ -55,6 +55,21 @@ pub fn long_shift(op: ShiftOp, row: &mut [Cell], locals: usize, used: usize) -> 
     let b = int_at(row, at + 2);
     put_long(row, at, l_shift(op, a, b));
     used - 1
+}
+
+/// The same with this int on top, which isn't pushed.
+#[inline(always)]
+pub fn long_shift_by(op: ShiftOp, n: i32, row: &mut [Cell], locals: usize, used: usize) -> usize
+    requires fits { locals + used ≤ length row.old }
+    requires acts { CanAct (long (kinds.Long ∷ []) (λ a. Some (long_shift_result op a n)))
+        row.old locals used }
+    ensures { Acts (long (kinds.Long ∷ []) (λ a. Some (long_shift_result op a n)))
+        row.old locals used row.new result on }
+{
+    let at = locals + used - 2;
+    let a = long_at(row, at);
+    put_long(row, at, l_shift(op, a, n));
+    used
 }
 
 /// lneg.

@@ -4,6 +4,7 @@ pub mod FrameSteps
 pub mod PlaceLaws
 pub mod ReadyLaws
 pub mod LoopLaws
+pub mod SwitchLaws
 pub mod RunLaws
 pub mod Windows
 pub mod TopLaws

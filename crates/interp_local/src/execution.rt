@@ -41,7 +41,7 @@ fn branch(taken: bool, target: i64, used: usize) -> Left
 }
 
 // Executes an instruction that stays in its frame.
-#[inline(always)]
+#[inline(never)]
 pub(crate) fn execute(op: &Op, naming: Naming, row: &mut [Cell], locals: usize, used: usize) -> Left
     requires fits { locals + used ≤ length row.old }
     requires made { Fits (frame_row (table.row op.now) naming (contents_at row.old locals used))

@@ -1,6 +1,6 @@
 //! One step in a frame, from the instruction with one index to that with another.
 
-ghost use Rattle.std.specs.Prelude.{ℕ, ◌≡◌, ◌+◌, ◌<◌, ◌≤◌, Some, length, slice_get, true};
+ghost use Rattle.std.specs.Prelude.{ℕ, ◌≡◌, ◌+◌, ◌<◌, ◌≤◌, IfSome, Some, length, slice_get, true};
 ghost use Rattle.instruction_rows.specs.Pcs.{pc_after};
 ghost use Rattle.verify_types.specs.Typing.{AreTyped};
 ghost use Rattle.interp_local.specs.FrameRows.{way_to};
@@ -16,6 +16,7 @@ use crate::prepared::Prepared;
 use crate::prepared_code::PreparedCode;
 use crate::quick_code::quick_at;
 use crate::staying::does_stay;
+use crate::switching::switch_target;
 use opcodes::Instr;
 use quick_rows::{Turn, is_left, make_quick};
 use slot_block::Cell;
@@ -98,7 +99,7 @@ fn next_pc(next: u32, target: Option<i64>) -> u32
 }
 
 /// Whether the instruction with an index stays in its frame.
-#[inline(never)]
+#[inline(always)]
 pub(crate) fn stays_at<L: Lookups>(
     p: &Prepared<L>,
     code: &PreparedCode,
@@ -118,7 +119,7 @@ pub(crate) fn stays_at<L: Lookups>(
 }
 
 /// Executes the instruction with an index, which stays in its frame.
-#[inline(never)]
+#[inline(always)]
 pub(crate) fn execute_at<L: Lookups>(
     p: &Prepared<L>,
     code: &PreparedCode,
@@ -142,6 +143,36 @@ pub(crate) fn execute_at<L: Lookups>(
     Position {
         index: place(code.instrs, code.places, pc),
         used: left.used,
+    }
+}
+
+// Where the instruction with an index leads, if it is a switch.
+#[inline(always)]
+fn switch_at<L: Lookups>(
+    p: &Prepared<L>,
+    code: &PreparedCode,
+    frame: &FrameLayout,
+    at: usize,
+    used: usize,
+    row: &[Cell],
+) -> Option<Position>
+    requires typed { AreTyped p.now }
+    requires code { IsCodeOf p.now frame.now.method code.now }
+    requires fits { frame.now.locals + frame.now.room ≤ length row.now }
+    requires at { IsAt p.now code.now.instrs.now frame.now row.now used at }
+    ensures { IfSome result (λ to. Leads p.now code.now.instrs.now frame.now row.now used at
+        row.now to.used to.index 1) }
+{
+    let instr = instr_at(code.instrs, at);
+    match switch_target(&instr.op, row, frame.locals, used) {
+        Some(target) => {
+            let pc = next_pc(instr.next, Some(target));
+            Some(Position {
+                index: place(code.instrs, code.places, pc),
+                used: used - 1,
+            })
+        }
+        None => None,
     }
 }
 
@@ -181,6 +212,13 @@ pub(crate) fn step_at<L: Lookups>(
 {
     let quick = quick_at(code.quicks, at);
     if is_left(quick) {
+        if let Some(Position { index, used }) = switch_at(p, code, frame, at, used, row) {
+            return Step::Jump {
+                used,
+                index,
+                count: 1,
+            };
+        }
         if !stays_at(p, code, frame, at, used, row) {
             return Step::Leave;
         }

@@ -14,6 +14,7 @@ mod quick_forms;
 mod quick_run;
 mod run;
 mod staying;
+mod switching;
 
 pub use fetched::Fetched;
 pub use prepared::Prepared;

@@ -85,7 +85,7 @@ fn simple_stays(simple: Simple, row: &[Cell], locals: usize, used: usize) -> boo
 }
 
 // Whether the instruction stays in its frame.
-#[inline(always)]
+#[inline(never)]
 pub(crate) fn does_stay(op: &Op, row: &[Cell], locals: usize, used: usize) -> bool
     requires fits { locals + used ≤ length row.now }
     requires operands { HasOperands op.now row.now locals used }
