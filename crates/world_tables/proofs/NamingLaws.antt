@@ -1,5 +1,5 @@
 -- What the instructions of a file's methods name.
-use Rattle.std.proofs.Common.{Option, ◌≡◌, ℕ, List, [], ◌∷◌, map, refl, ap}
+use Rattle.std.proofs.Common.{◌≡◌, ℕ, List, [], ◌∷◌, map, refl, ap}
 use Rattle.class_model.specs.declared.constant.Const.{Const}
 use Rattle.class_model.specs.declared.member.Member.{Member}
 use Rattle.world_model.specs.Codes.{code_of}

@@ -1,6 +1,6 @@
 -- The fields that a class declares, among all fields by number.
-use Rattle.std.proofs.Common.{◌≡◌, ℕ, zero, suc, ◌+◌, ◌<◌, ◌≢◌, Bool, true, false, cond, not, List, [], ◌∷◌, ◌++◌, length, map, take, Option, Some, None, refl, sym, ap, ◌∙◌, ⊎_elim, nat_eq, arith, append-nil}
-use Rattle.std.specs.Prelude.{filter, filter_map, flat_map, position, reverse, slice_get, sum_by, ◌==◌, ◌&&◌}
+use Rattle.std.proofs.Common.{◌≡◌, ℕ, zero, suc, ◌+◌, ◌<◌, ◌≢◌, Bool, true, false, cond, not, List, [], ◌∷◌, ◌++◌, length, map, take, Option, Some, None, refl, sym, ap, ◌∙◌, nat_eq, arith, append-nil}
+use Rattle.std.specs.Prelude.{filter, filter_map, flat_map, position, reverse, slice_get, ◌==◌, ◌&&◌}
 use Rattle.std.specs.Option.{option_map_or, option_and_then}
 use Rattle.std.specs.List.{enumerate_from}
 use Rattle.std.specs.List.{cons_option}
@@ -9,18 +9,17 @@ use Rattle.std.proofs.lemmas.List.Elements.{filter-append}
 use Rattle.std.proofs.lemmas.List.Sums.{sum_by-cons}
 use Rattle.std.proofs.lemmas.Bool.Decides.{nat_tests}
 use Rattle.items.specs.Options.{◌>>=◌}
-use Rattle.class_model.specs.declared.access_flags.TheConstants.{ACC_STATIC}
 use Rattle.class_model.specs.declared.class_file.ClassFile.{ClassFile}
 use Rattle.class_model.specs.declared.constant.Const.{Const}
 use Rattle.class_model.specs.declared.member.Member.{Member}
-use Rattle.linkage.specs.Program.{Program, has_flag}
+use Rattle.linkage.specs.Program.{Program}
 use Rattle.linkage.specs.Hierarchy.{superclasses}
 use Rattle.linkage.specs.Members.{fields_before, is_static}
 use Rattle.world_model.specs.declared.members.FieldInfo.{FieldInfo}
 use Rattle.world_model.specs.Infos.{field_info, fields_in, fields_of}
 use Rattle.world_model.specs.InstanceFields as by_program
 use Rattle.world_model.specs.InstanceFields.{own_field, own_fields_from}
-use Rattle.world_model.specs.Fields.{is_field_of, is_static_field, declares, own_fields, instance_fields, place}
+use Rattle.world_model.specs.Fields.{is_field_of, is_static_field, own_fields, instance_fields, place}
 use Rattle.world_model.specs.World.{World}
 
 own_in : ℕ → ℕ → List FieldInfo → List ℕ

@@ -1,5 +1,5 @@
 -- Tables of the places of fields.
-use Rattle.std.proofs.Common.{◌≡◌, ℕ, ◌+◌, ◌<◌, ◌≤◌, Bool, true, false, cond, not, List, [], ◌∷◌, ◌++◌, length, take, get_or, Option, Some, None, unwrap_or, refl, sym, ap, ◌∙◌, ⊎_elim, nat_eq, nat_lt, eq-eqb, arith}
+use Rattle.std.proofs.Common.{◌≡◌, ℕ, ◌+◌, ◌<◌, ◌≤◌, Bool, true, false, cond, not, List, [], ◌∷◌, ◌++◌, length, take, get_or, Option, Some, None, unwrap_or, refl, sym, ap, ◌∙◌, ⊎_elim, nat_eq, nat_lt, arith}
 use Rattle.std.specs.Prelude.{filter, position, slice_get, ◌==◌, ◌&&◌}
 use Rattle.std.specs.Option.{option_or, option_map_or, option_and_then}
 use Rattle.std.proofs.lemmas.Option.{slice_get_past, slice_get-get_or}
@@ -8,7 +8,6 @@ use Rattle.std.proofs.lemmas.List.Filters.{length-filter_more}
 use Rattle.std.proofs.lemmas.Bool.{cases_lt, cases_eq}
 use Rattle.std.proofs.lemmas.Bool.Decides.{nat_tests}
 use Rattle.std.proofs.lemmas.Grind.{common_steps}
-use Rattle.items.specs.Options.{◌>>=◌}
 use Rattle.world_model.specs.declared.members.FieldInfo.{FieldInfo}
 use Rattle.world_model.specs.Fields.{declares, is_static_field}
 use Rattle.class_resolution.specs.Tables.{row_at, parent_at, tabulate}

@@ -3,3 +3,4 @@ pub mod Namings
 pub mod Tables
 pub mod PcTables
 pub mod Places
+pub mod Parts

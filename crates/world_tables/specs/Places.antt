@@ -1,5 +1,5 @@
 -- Tables of the places of fields, by the fields of the objects of each class.
-use Rattle.std.specs.Prelude.{ℕ, Bool, false, List, [], Option, Some, None, cond, filter, length, nat_lt, position, slice_get, take, ◌==◌}
+use Rattle.std.specs.Prelude.{ℕ, Bool, false, List, Option, Some, None, cond, filter, length, nat_lt, position, slice_get, take, ◌==◌}
 use Rattle.std.specs.Option.{option_map_or, option_and_then}
 use Rattle.world_model.specs.declared.members.FieldInfo.{FieldInfo}
 use Rattle.world_model.specs.Fields.{declares, is_static_field}

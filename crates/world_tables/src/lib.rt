@@ -2,9 +2,12 @@
 //! They are those of `world_model`'s definitions.
 #![tactic(auto)]
 
+mod code_tables;
 mod instance_fields;
 mod main_method;
+mod member_tables;
 mod namings;
+mod number_tables;
 mod pc_tables;
 mod places;
 mod sites;

@@ -10,14 +10,17 @@ ghost use Rattle.world_model.specs.MainMethod.{main_of};
 ghost use Rattle.world_model.specs.Fields.{instance_fields, place};
 ghost use Rattle.world_model.specs.Pools as pools;
 ghost use Rattle.world_model.specs.Worlds.{world_of};
+ghost use Rattle.world_model.specs.Infos.{codes_of};
+ghost use Rattle.world_tables.specs.Parts.{AreNumbers, AreMembers, AreOfCodes};
 ghost use Rattle.world_model.specs.Decoded.{IsDecoded, code_at};
 
-use crate::instance_fields::{all_instance_fields, row_at};
+use crate::code_tables::{CodeTables, code_tables};
+use crate::instance_fields::row_at;
 use crate::main_method::main_among;
-use crate::namings::{all_catches, all_namings};
-use crate::pc_tables::{all_by_pc, index_by};
-use crate::places::{all_places, place_at};
-use crate::sites::Linker;
+use crate::member_tables::{MemberTables, member_tables};
+use crate::number_tables::{NumberTables, number_tables};
+use crate::pc_tables::index_by;
+use crate::places::place_at;
 use class_grammar::class_name_at;
 use class_resolution::{Hierarchy, dimensions_of, is_array_name, last_element, name_in};
 use descriptors::Kind;
@@ -27,10 +30,7 @@ use stack_maps::{Base, VType};
 use std::alloc::Global;
 use std::marker::Model;
 use world_model::{ArrayType, FieldInfo, MethodCode, MethodInfo, Naming, Site};
-use world_numbers::{
-    ArrayNumbers, Codes, KnownClasses, MemberNumbers, Numbering, all_arrays, all_codes, all_fields,
-    all_methods, all_strings,
-};
+use world_numbers::{ArrayNumbers, Codes, KnownClasses, MemberNumbers, all_codes};
 
 /// A program and its tables.
 #[derive(Drop)]
@@ -74,48 +74,63 @@ fn element_of(class: u32, array: ArrayType) -> Option<u32>
     }
 }
 
+// The tables of which these are the parts.
+fn joined(
+    members: MemberNumbers,
+    codes: Codes,
+    numbers: NumberTables,
+    of_members: MemberTables,
+    of_codes: CodeTables,
+) -> Tables
+    requires codes { codes ≡ codes_of members }
+    requires numbers { AreNumbers members numbers }
+    requires of_members { AreMembers members of_members }
+    requires of_codes { AreOfCodes members of_codes }
+    ensures { result ≡ world_of members }
+{
+    let NumberTables {
+        numbers,
+        arrays,
+        known,
+    } = numbers;
+    let MemberTables {
+        fields,
+        methods,
+        instance_fields,
+        places,
+    } = of_members;
+    let CodeTables {
+        by_pc,
+        namings,
+        catches,
+    } = of_codes;
+    Tables {
+        members,
+        numbers,
+        arrays,
+        fields,
+        methods,
+        codes,
+        by_pc,
+        instance_fields,
+        places,
+        namings,
+        catches,
+        known,
+    }
+}
+
 impl Tables {
     /// The tables of a program. Numbers from 2^32 on count as memory run out.
     pub fn new(alloc: Global, hierarchy: Hierarchy) -> Result<Self, NoMemory>
         ensures { IfOk result (λ tables. tables ≡ world_of hierarchy) }
     {
         let members = MemberNumbers::new(alloc, hierarchy)?;
-        let world = members.hierarchy();
-        let codes = all_codes(alloc, world)?;
-        let numbering = Numbering::new(alloc, world, codes.as_slice())?;
-        let numbers = ArrayNumbers::new(alloc, numbering)?;
-        let known = KnownClasses::new(alloc, numbers.names())?;
-        let strings = all_strings(alloc, world)?;
-        let arrays = all_arrays(alloc, numbers.depths())?;
-        let fields = all_fields(alloc, world)?;
-        let methods = all_methods(alloc, world)?;
-        if methods.len() > u32::MAX as usize {
-            return Err(NoMemory);
-        }
-        let by_pc = all_by_pc(alloc, codes.as_slice())?;
-        let instance_fields = all_instance_fields(alloc, &members)?;
-        let places = all_places(alloc, &fields, &instance_fields)?;
-        let l = Linker {
-            members: &members,
-            numbers: &numbers,
-            strings: &strings,
-        };
-        let namings = all_namings(alloc, l, codes.as_slice())?;
-        let catches = all_catches(alloc, l)?;
-        Ok(Tables {
-            members,
-            numbers,
-            arrays,
-            fields,
-            methods,
-            codes,
-            by_pc,
-            instance_fields,
-            places,
-            namings,
-            catches,
-            known,
-        })
+        let codes = all_codes(alloc, members.hierarchy())?;
+        let numbers = number_tables(alloc, members.hierarchy(), codes.as_slice())?;
+        let of_codes = code_tables(alloc, &members, &numbers.numbers, codes.as_slice())?;
+        let of_members = member_tables(alloc, &members)?;
+        Ok(joined(members, codes, numbers, of_members, of_codes))
     }
 
     /// The classes of the program.
