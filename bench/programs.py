@@ -120,17 +120,17 @@ class ClassFile:
         self.pool, self.name, self.parent, self.flags = Pool(), name, parent, flags
         self.interfaces, self.fields, self.methods = [], [], []
 
-    def method(self, code, frames=(), rows=(), stack=10, locals=LOCALS, descriptor=b"()V"):
-        """A static method with a number for its name, a code, frames of its stack map, and rows of its exception table."""
+    def method(self, code, frames=(), rows=(), stack=10, locals=LOCALS, descriptor=b"()V", name=None, flags=STATIC):
+        """A static method with a number for its name, if it has no other, a code, frames of its stack map, and rows of its exception table."""
         attributes = b""
         if frames:
             body = u2(len(frames)) + b"".join(frames)
             attributes = u2(self.pool.text(b"StackMapTable")) + u4(len(body)) + body
         table = b"".join(b"".join(u2(number) for number in row) for row in rows)
         body = u2(stack) + u2(locals) + u4(len(code)) + code + u2(len(rows)) + table + u2(1 if frames else 0) + attributes
-        name = self.pool.text(b"m%d" % len(self.methods))
+        name = self.pool.text(name or b"m%d" % len(self.methods))
         self.methods.append(
-            u2(STATIC) + u2(name) + u2(self.pool.text(descriptor)) + u2(1) + u2(self.pool.text(b"Code")) + u4(len(body)) + body)
+            u2(flags) + u2(name) + u2(self.pool.text(descriptor)) + u2(1) + u2(self.pool.text(b"Code")) + u4(len(body)) + body)
 
     def field(self, name, descriptor=b"I"):
         self.fields.append(u2(STATIC) + u2(self.pool.text(name)) + u2(self.pool.text(descriptor)) + u2(0))
@@ -255,6 +255,63 @@ def many_handlers(c):
     c.method((ICONST_0 + ISTORE_0) * 30000 + RETURN + b"\xbf" * 3000, frames, rows, locals=1)
 
 
+def many_nops(c):
+    """65,534 instructions of one byte."""
+    c.method(NOP * 65534 + RETURN, locals=0)
+
+
+def new_stores(c):
+    """15,000 stores of ever new types into a local variable, under 3,000 rows of an exception table to 3,000 handlers."""
+    throwable = u1(7) + u2(c.pool.of_class(b"java/lang/Throwable"))
+    step = b"\xbb" + u2(c.pool.of_class(b"java/lang/Object")) + b"\x4b"
+    first = 60001
+    frames = [u1(247) + u2(first) + throwable] + [u1(64) + throwable] * 2999
+    rows = [(0, first, first + i, 0) for i in range(3000)]
+    c.method(step * 15000 + RETURN + b"\xbf" * 3000, frames, rows, locals=1)
+
+
+def moving_frames(c):
+    """20,000 frames, each with a local variable more or less than the one before, under 3,000 rows of an exception table to 3,000 handlers."""
+    throwable = u1(7) + u2(c.pool.of_class(b"java/lang/Throwable"))
+    chop, append = u1(250) + u2(0), u1(252) + u2(0) + u1(TOP)
+    first = 20001
+    frames = [append, chop] * 10000 + [u1(65) + throwable] + [u1(64) + throwable] * 2999
+    rows = [(0, first, first + i, 0) for i in range(3000)]
+    c.method(NOP * 20000 + RETURN + b"\xbf" * 3000, frames, rows, locals=1)
+
+
+def branches_in_turn(c):
+    """8,000 branches to two frames of 65,535 local variables in turn, each written out."""
+    end = 4 * 8000 + 1
+    code = b"".join(ICONST_0 + b"\x99" + u2(end + i % 2 - at - 1) for i, at in enumerate(range(1, end, 4)))
+    c.method(RETURN + code + NOP + RETURN, [full_frame(1, [INTEGER] * LOCALS), full_frame(end - 2, [INTEGER] * LOCALS), full_frame(0, [INTEGER] * LOCALS)])
+
+
+def stores_and_branches(c):
+    """5,400 times a store into a local variable and a branch to a frame of 65,535 local variables that is written out."""
+    end = 6 * 5400 + 1
+    code = b"".join(ICONST_0 + ISTORE_0 + ICONST_0 + b"\x99" + u2(end - at - 3) for at in range(1, end, 6))
+    c.method(RETURN + code + RETURN, [full_frame(1, [INTEGER] * LOCALS), full_frame(end - 2, [INTEGER] * LOCALS)])
+
+
+def many_overwritten(c):
+    """Stores into 140 local variables, and then 8,000 branches to two frames of 65,535 local variables in turn."""
+    stores = b"".join(ICONST_0 + b"\x36" + u1(n) for n in range(140))
+    first = 1 + len(stores)
+    end = first + 4 * 8000
+    code = b"".join(ICONST_0 + b"\x99" + u2(end + i % 2 - at - 1) for i, at in enumerate(range(first, end, 4)))
+    c.method(RETURN + stores + code + NOP + RETURN, [full_frame(1, [INTEGER] * LOCALS), same(end - 2), SAME])
+
+
+def constructor_frames(c):
+    """A constructor of 21,844 jumps, each to a frame with one local variable less or more than the one before, of 65,535."""
+    chop, append = u1(250) + u2(2), u1(252) + u2(2) + u1(TOP)
+    this = u1(7) + u2(c.pool.of_class(c.name))
+    frame = u1(255) + u2(4) + u2(LOCALS) + this + u1(INTEGER) * (LOCALS - 2) + u1(TOP) + u2(0)
+    call = b"\x2a\xb7" + u2(c.pool.member(10, b"java/lang/Object", b"<init>", b"()V")) + RETURN
+    c.method(call + GOTO_NEXT * 21800 + RETURN, [frame] + [chop, append] * 10900, name=b"<init>", flags=1)
+
+
 def other_frames(c):
     """60 jumps, each to a frame of 65,535 local variables that is written out."""
     c.method(RETURN + GOTO_NEXT * 60 + RETURN, [full_frame(1, [INTEGER] * LOCALS)] + [full_frame(2, [INTEGER] * LOCALS)] * 60)
@@ -349,6 +406,13 @@ KINDS = {
     "object-frames": lambda: methods_of(object_frames, 28),
     "branches-apart": lambda: methods_of(branches_apart, 23),
     "other-frames": lambda: methods_of(other_frames, 1),
+    "many-nops": lambda: methods_of(many_nops, 60),
+    "new-stores": lambda: methods_of(new_stores, 1),
+    "moving-frames": lambda: methods_of(moving_frames, 1),
+    "branches-in-turn": lambda: methods_of(branches_in_turn, 1),
+    "stores-and-branches": lambda: methods_of(stores_and_branches, 1),
+    "many-overwritten": lambda: methods_of(many_overwritten, 1),
+    "constructor-frames": lambda: methods_of(constructor_frames, 1),
     "many-rows": lambda: methods_of(many_rows, 6),
     "rows-and-stores": lambda: methods_of(rows_and_stores, 6),
     "many-handlers": lambda: methods_of(many_handlers, 1),

@@ -7,3 +7,4 @@ pub mod HierarchyLaws
 pub mod SetLaws
 pub mod KeyTextLaws
 pub mod MemberTableLaws
+pub mod TextNumberLaws

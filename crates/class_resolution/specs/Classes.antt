@@ -2,7 +2,7 @@
 use Rattle.std.specs.Prelude.{◌<◌, ◌^◌, length}
 use Rattle.linkage.specs.Program.{Program}
 use Rattle.class_resolution.specs.declared.classes.Classes.TheInside.{Inside}
-use Rattle.class_resolution.specs.Names.{NamesAll}
+use Rattle.class_resolution.specs.ClassNames.{NamesAll}
 
 abbrev pub program_of : Inside → Program
 program_of a = record { classes = a.files.items; built_in = a.built_in }

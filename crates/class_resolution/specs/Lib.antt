@@ -6,3 +6,5 @@ pub mod Keys
 pub mod Sets
 pub mod KeyTexts
 pub mod MemberTables
+pub mod TextNumbers
+pub mod ClassNames

@@ -20,6 +20,3 @@ Adds old name x new = (text : List ℕ) → at_text new text ≡ option_or (at_t
 -- the first of the files that has this name
 abbrev pub first_named : List ClassFile → List ℕ → Option ℕ
 first_named files name = position (λ f. same_text (own_name f) name) files
-
-abbrev pub NamesAll : List ClassFile → BTreeMap (Vec ℕ) ℕ → Type 0
-NamesAll files m = (name : List ℕ) → at_text m name ≡ first_named files name

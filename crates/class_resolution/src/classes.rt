@@ -1,18 +1,18 @@
 //! The classes of a program, and each by its name.
 
-ghost use Rattle.std.specs.Prelude.{◌≡◌, false, ◌+◌, ◌<◌, ◌^◌, ◌++◌, drop, length, IfOk, OnOk, vec_len, slice_get, slice_index_or};
+ghost use Rattle.std.specs.Prelude.{◌≡◌, false, ◌+◌, ◌<◌, ◌^◌, ◌++◌, drop, length, IfOk, vec_len, slice_get, slice_index_or};
 ghost use Rattle.std.specs.Option.{option_copied};
 ghost use Rattle.linkage.specs.Program.{Program, class_named, own_name as name_of};
 ghost use Rattle.linkage.specs.Program as spec;
 ghost use Rattle.class_grammar.specs.Names.{object_class};
 ghost use Rattle.class_grammar.specs.Text.{same_text};
-ghost use Rattle.class_resolution.specs.Names.{Adds, NamesAll};
+ghost use Rattle.class_resolution.specs.ClassNames.{NamesAll};
 
+use crate::text_numbers::TextNumbers;
 use class_grammar::class_name_at;
 use class_model::{ACC_ABSTRACT, ACC_FINAL, ACC_INTERFACE, ACC_PUBLIC, ClassFile};
 use items::NoMemory;
 use std::alloc::Global;
-use std::collections::BTreeMap;
 use std::marker::Model;
 
 /// The name of the class of all objects.
@@ -40,7 +40,7 @@ const OBJECT_CLASS: [u16; 16] = [
 pub struct Classes {
     files: Vec<ClassFile>,
     built_in: u32,
-    by_name: BTreeMap<Vec<u16>, u32>,
+    by_name: TextNumbers,
 }
 
 impl Model for Classes {
@@ -73,33 +73,16 @@ fn joined(front: Vec<ClassFile>, back: Vec<ClassFile>) -> Result<Vec<ClassFile>,
     Ok(all)
 }
 
-/// Adds a name, unless the map has it already.
-pub fn add_name(
-    alloc: Global,
-    map: &mut BTreeMap<Vec<u16>, u32>,
-    name: &[u16],
-    index: u32,
-) -> Result<(), NoMemory>
-    ensures { OnOk result (Adds map.old name.now index map.new) }
-{
-    if map.contains_key(name) {
-        return Ok(());
-    }
-    let key = Vec::from_slice(alloc, name)?;
-    map.insert(key, index)?;
-    Ok(())
-}
-
 // Each class by its name; of several with one name, the first.
-fn by_name(alloc: Global, files: &[ClassFile]) -> Result<BTreeMap<Vec<u16>, u32>, NoMemory>
+fn by_name(alloc: Global, files: &[ClassFile]) -> Result<TextNumbers, NoMemory>
     requires { length files.now < 2 ^ 32 }
     ensures { IfOk result (λ m. NamesAll files.now m) }
 {
-    let mut map = BTreeMap::new(alloc);
+    let mut names = TextNumbers::new(alloc);
     for (index, file) in files.iter().enumerate() {
-        add_name(alloc, &mut map, own_name(file), index as u32)?;
+        names.add(alloc, own_name(file), index as u32)?;
     }
-    Ok(map)
+    Ok(names)
 }
 
 impl Classes {
@@ -221,6 +204,6 @@ impl Classes {
     pub fn class_named(&self, name: &[u16]) -> Option<u32>
         ensures { result ≡ class_named self.now name.now }
     {
-        self.by_name.get(name).copied()
+        self.by_name.number(name)
     }
 }

@@ -109,7 +109,8 @@ pub fn names_internal(classes: &Classes, name: &[u16]) -> bool
     }
 }
 
-fn base_class(classes: &Classes, name: &[u16]) -> Option<u32>
+/// The class that a name means, or that an array has as its last elements. `None`: these are primitive, or the program has no such class.
+pub fn base_class(classes: &Classes, name: &[u16]) -> Option<u32>
     ensures { result ≡ spec.base_class classes.now name.now }
 {
     classes.class_named(base_name(name)?)

@@ -10,12 +10,13 @@ mod member_index;
 mod members;
 mod resolution;
 mod selection;
+mod text_numbers;
 
 pub use class_set::ClassSet;
 pub use classes::{Classes, own_name};
 pub use constants::{
-    argument_slots, dimensions_of, home_of, is_array_name, is_floating, is_floating_array,
-    is_known, key_at, last_element, name_at, name_in, names_internal,
+    argument_slots, base_class, base_name, dimensions_of, home_of, is_array_name, is_floating,
+    is_floating_array, is_known, key_at, last_element, name_at, name_in, names_internal,
 };
 pub use hierarchy::Hierarchy;
 pub use members::{
@@ -23,3 +24,4 @@ pub use members::{
 };
 pub use resolution::{class_method, field_of, interface_method};
 pub use selection::{key_in, select, select_special};
+pub use text_numbers::{Numbered, TextNumbers};

@@ -1,13 +1,12 @@
 //! The members of a class by their keys.
 
 ghost use Rattle.std.specs.Prelude.{◌≡◌, ◌<◌, ◌^◌, length, IfOk, IfSome, OnOk};
-ghost use Rattle.class_resolution.specs.Names.{at_text};
+ghost use Rattle.class_resolution.specs.Names.{Adds, at_text};
 ghost use Rattle.class_resolution.specs.MemberTables.{IsTold, Tells};
 ghost use Rattle.class_resolution.specs.Keys.{key_of};
 ghost use Rattle.class_resolution.specs.KeyTexts as texts;
 ghost use Rattle.class_resolution.specs.KeyTexts.{AddsMember, IndexesAll};
 
-use crate::classes::add_name;
 use crate::members::MemberKey;
 use class_grammar::text_at;
 use class_model::{Const, Member};
@@ -42,6 +41,23 @@ fn key_text(alloc: Global, key: MemberKey) -> Result<Vec<u16>, NoMemory>
     Ok(text)
 }
 
+// Adds a text, unless the map has it already.
+fn add_text(
+    alloc: Global,
+    map: &mut BTreeMap<Vec<u16>, u32>,
+    text: &[u16],
+    index: u32,
+) -> Result<(), NoMemory>
+    ensures { OnOk result (Adds map.old text.now index map.new) }
+{
+    if map.contains_key(text) {
+        return Ok(());
+    }
+    let key = Vec::from_slice(alloc, text)?;
+    map.insert(key, index)?;
+    Ok(())
+}
+
 // Adds a member, unless there is one of its key.
 fn add_member(
     alloc: Global,
@@ -59,7 +75,7 @@ fn add_member(
         return Ok(());
     };
     let text = key_text(alloc, MemberKey { name, descriptor })?;
-    add_name(alloc, map, &text, index)?;
+    add_text(alloc, map, &text, index)?;
     Ok(())
 }
 

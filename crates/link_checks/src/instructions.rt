@@ -4,13 +4,16 @@ ghost use Rattle.std.specs.Prelude.{◌≡◌, IfOk};
 ghost use Rattle.items.specs.First.{first_some};
 ghost use Rattle.linkage.specs.Instructions as spec;
 ghost use Rattle.class_resolution.specs.Keys.{key_of};
+ghost use Rattle.link_checks.specs.ClassNames.{Means};
 
+use crate::class_name::{
+    ClassName, class_name, home, is_instantiable, is_interface, is_known, names_internal,
+};
 use crate::rules::{first_why, unless};
 use class_model::Const;
 use class_resolution::{
     Hierarchy, MemberKey, argument_slots, class_method, dimensions_of, field_of, home_of,
-    interface_method, is_array_name, is_floating, is_floating_array, is_known, key_at, name_at,
-    names_internal,
+    interface_method, is_floating, is_floating_array, key_at, name_at,
 };
 use items::NoMemory;
 use linkage::{Invocation, LinkWhy, Place, Purpose};
@@ -26,10 +29,11 @@ pub struct Namer<'a> {
 }
 
 // Whether a class may not name another, or a member that is `reserved` (own).
-fn is_reserved(world: &Hierarchy, class: u32, name: &[u16], reserved: bool) -> bool
-    ensures { result ≡ spec.is_reserved world.now class name.now reserved }
+fn is_reserved(world: &Hierarchy, class: u32, named: ClassName, reserved: bool) -> bool
+    requires { Means world.now named }
+    ensures { result ≡ spec.is_reserved world.now class named.entry.name.now reserved }
 {
-    world.classes().is_from_file(class) && (names_internal(world.classes(), name) || reserved)
+    world.classes().is_from_file(class) && (names_internal(world, named) || reserved)
 }
 
 fn is_left_out(name: &[u16], key: MemberKey) -> bool
@@ -63,21 +67,30 @@ fn is_reserved_field(world: &Hierarchy, found: Option<Place>) -> bool
     }
 }
 
+// The same in the class that a name means.
+fn field_in(world: &Hierarchy, named: ClassName, key: MemberKey) -> Option<Place>
+    requires { Means world.now named }
+    ensures { result ≡ spec.resolved_field world.now named.entry.name.now (key_of key.entry) }
+{
+    field_of(world, home(world, named)?, key)
+}
+
 fn field_fault(
     world: &Hierarchy,
     class: u32,
     wanted: bool,
-    name: &[u16],
+    named: ClassName,
     key: MemberKey,
 ) -> Option<LinkWhy>
+    requires { Means world.now named }
     ensures { result ≡ first_some
-        (spec.field_faults world.now class wanted name.now (key_of key.entry)) }
+        (spec.field_faults world.now class wanted named.entry.name.now (key_of key.entry)) }
 {
-    let found = resolved_field(world, name, key);
-    let reserved = is_reserved(world, class, name, is_reserved_field(world, found));
-    let left_out = is_left_out(name, key);
+    let found = field_in(world, named, key);
+    let reserved = is_reserved(world, class, named, is_reserved_field(world, found));
+    let left_out = is_left_out(named.name, key);
     let faults = [
-        unless(is_known(world.classes(), name), LinkWhy::MissingClass),
+        unless(is_known(world, named), LinkWhy::MissingClass),
         unless(is_field_kind(world, wanted, found), LinkWhy::WrongKind),
         unless(found.is_some(), LinkWhy::MissingField),
         unless(!(left_out || reserved), LinkWhy::Unsupported),
@@ -95,7 +108,7 @@ fn field_const_fault(namer: Namer, wanted: bool, constant: &Const) -> Option<Lin
             namer.world,
             namer.class,
             wanted,
-            name_at(namer.pool, *class),
+            class_name(namer.world, name_at(namer.pool, *class)),
             key_at(namer.pool, *member),
         ),
         _ => Some(LinkWhy::BadCode),
@@ -134,15 +147,25 @@ pub fn resolved_method(
     }
 }
 
-fn is_interface_name(world: &Hierarchy, name: &[u16]) -> bool
-    ensures { result ≡ spec.is_interface_name world.now name.now }
+// The same in the class that a name means.
+fn method_in(
+    alloc: Global,
+    world: &Hierarchy,
+    by_interface: bool,
+    named: ClassName,
+    key: MemberKey,
+) -> Result<Option<Place>, NoMemory>
+    requires { Means world.now named }
+    ensures { IfOk result (λ o. o ≡
+        spec.resolved_method world.now by_interface named.entry.name.now (key_of key.entry)) }
 {
-    if is_array_name(name) {
-        return false;
-    }
-    match world.classes().class_named(name) {
-        Some(class) => world.classes().is_interface(class),
-        None => false,
+    let Some(home) = home(world, named) else {
+        return Ok(None);
+    };
+    if by_interface {
+        interface_method(alloc, world, home, key)
+    } else {
+        class_method(alloc, world, home, key)
     }
 }
 
@@ -180,19 +203,20 @@ fn method_fault(
     class: u32,
     call: Invocation,
     by_interface: bool,
-    name: &[u16],
+    named: ClassName,
     key: MemberKey,
 ) -> Result<Option<LinkWhy>, NoMemory>
-    ensures { IfOk result (λ fault. fault ≡ first_some
-        (spec.method_faults world.now class call by_interface name.now (key_of key.entry))) }
+    requires { Means world.now named }
+    ensures { IfOk result (λ fault. fault ≡ first_some (spec.method_faults
+        world.now class call by_interface named.entry.name.now (key_of key.entry))) }
 {
-    let found = resolved_method(alloc, world, by_interface, name, key)?;
-    let reserved = is_reserved(world, class, name, is_reserved_method(world, found));
-    let left_out = is_left_out(name, key);
-    let of_kind = is_interface_name(world, name) == by_interface
+    let found = method_in(alloc, world, by_interface, named, key)?;
+    let reserved = is_reserved(world, class, named, is_reserved_method(world, found));
+    let left_out = is_left_out(named.name, key);
+    let of_kind = is_interface(world, named) == by_interface
         && is_method_kind(world, call.is_static, found);
     let faults = [
-        unless(is_known(world.classes(), name), LinkWhy::MissingClass),
+        unless(is_known(world, named), LinkWhy::MissingClass),
         unless(of_kind, LinkWhy::WrongKind),
         unless(is_count(call.count, key.descriptor), LinkWhy::BadCode),
         unless(found.is_some(), LinkWhy::MissingMethod),
@@ -216,17 +240,17 @@ fn method_const_fault(
             if !call.by_class {
                 return Ok(Some(LinkWhy::BadCode));
             }
-            let name = name_at(namer.pool, *class);
+            let named = class_name(namer.world, name_at(namer.pool, *class));
             let key = key_at(namer.pool, *member);
-            method_fault(alloc, namer.world, namer.class, call, false, name, key)
+            method_fault(alloc, namer.world, namer.class, call, false, named, key)
         }
         Const::InterfaceMethodref(class, member) => {
             if !call.by_interface {
                 return Ok(Some(LinkWhy::BadCode));
             }
-            let name = name_at(namer.pool, *class);
+            let named = class_name(namer.world, name_at(namer.pool, *class));
             let key = key_at(namer.pool, *member);
-            method_fault(alloc, namer.world, namer.class, call, true, name, key)
+            method_fault(alloc, namer.world, namer.class, call, true, named, key)
         }
         _ => Ok(Some(LinkWhy::BadCode)),
     }
@@ -248,26 +272,14 @@ fn method_fault_at(
     }
 }
 
-// Whether an instance may be made of the class of this name.
-fn is_instantiable(world: &Hierarchy, name: &[u16]) -> bool
-    ensures { result ≡ spec.is_instantiable world.now name.now }
-{
-    if is_array_name(name) {
-        return false;
-    }
-    match world.classes().class_named(name) {
-        Some(class) => !(world.classes().is_interface(class) || world.classes().is_abstract(class)),
-        None => true,
-    }
-}
-
-fn is_usable(world: &Hierarchy, name: &[u16], purpose: Purpose) -> bool
-    ensures { result ≡ spec.is_usable world.now name.now purpose }
+fn is_usable(world: &Hierarchy, named: ClassName, purpose: Purpose) -> bool
+    requires { Means world.now named }
+    ensures { result ≡ spec.is_usable world.now named.entry.name.now purpose }
 {
     match purpose {
         Purpose::Type | Purpose::Element => true,
-        Purpose::Instance => is_instantiable(world, name),
-        Purpose::Array(count) => usize::from(count) <= dimensions_of(name),
+        Purpose::Instance => is_instantiable(world, named),
+        Purpose::Array(count) => usize::from(count) <= dimensions_of(named.name),
     }
 }
 
@@ -285,11 +297,12 @@ fn is_deepest(name: &[u16], purpose: Purpose) -> bool
 pub fn class_fault(world: &Hierarchy, class: u32, purpose: Purpose, name: &[u16]) -> Option<LinkWhy>
     ensures { result ≡ first_some (spec.class_faults world.now class purpose name.now) }
 {
-    let reserved = is_reserved(world, class, name, false);
+    let named = class_name(world, name);
+    let reserved = is_reserved(world, class, named, false);
     let left_out = is_floating_array(name) || is_deepest(name, purpose);
     let faults = [
-        unless(is_known(world.classes(), name), LinkWhy::MissingClass),
-        unless(is_usable(world, name, purpose), LinkWhy::WrongKind),
+        unless(is_known(world, named), LinkWhy::MissingClass),
+        unless(is_usable(world, named, purpose), LinkWhy::WrongKind),
         unless(!(left_out || reserved), LinkWhy::Unsupported),
     ];
     first_why(&faults)

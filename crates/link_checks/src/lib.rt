@@ -1,6 +1,7 @@
 //! What is wrong with a program first (JVMS 5.3, 5.4): the rules of `linkage`, tried in their order.
 #![tactic(auto)]
 
+mod class_name;
 mod class_rules;
 mod code;
 mod instructions;

@@ -1,6 +1,6 @@
 -- What is kept of numbered texts.
 use Rattle.std.specs.Prelude.{◌≡◌, ℕ, ◌<◌, ◌^◌, List, length}
-use Rattle.class_resolution.specs.Names.{at_text}
+use Rattle.class_resolution.specs.TextNumbers.{number_at}
 use Rattle.world_model.specs.Numbering.{number_of}
 use Rattle.world_numbers.specs.declared.names.Names.TheInside.{Inside}
 
@@ -9,4 +9,4 @@ texts_of a = a.texts.items
 
 pub record IsNumbered (a : Inside) : Type 0 where
   pub few : length a.texts.items < 2 ^ 32
-  pub numbers : (text : List ℕ) → at_text a.numbers text ≡ number_of a.texts.items text
+  pub numbers : (text : List ℕ) → number_at a.numbers text ≡ number_of a.texts.items text

@@ -87,7 +87,9 @@ fn whole_code(alloc: Global, body: &CodeBody) -> Result<Items<Instr>, NoMemory>
     if front.is_bad || body.code.is_empty() || body.code.len() > MOST_CODE {
         return Err(NoMemory);
     }
-    Ok(Items::from(front.instrs))
+    let mut instrs = front.instrs;
+    instrs.shrink_to_fit();
+    Ok(Items::from(instrs))
 }
 
 fn code_of_body(alloc: Global, body: &CodeBody) -> Result<MethodCode, NoMemory>

@@ -4,16 +4,16 @@ ghost use Rattle.std.specs.Prelude.{◌≡◌, [], ◌∷◌, ◌++◌, length, 
 ghost use Rattle.std.specs.Option.{option_copied, option_map};
 ghost use Rattle.world_model.specs.Numbering as spec;
 
+use class_resolution::TextNumbers;
 use items::{Items, NoMemory};
 use std::alloc::Global;
-use std::collections::BTreeMap;
 use std::marker::Model;
 
 /// Texts in the order in which they came. The number of a text is the first place where it is.
 #[derive(Drop)]
 pub struct Names {
     texts: Vec<Items<u16>>,
-    numbers: BTreeMap<Vec<u16>, u32>,
+    numbers: TextNumbers,
 }
 
 impl Model for Names {
@@ -35,7 +35,7 @@ impl Names {
     {
         Names {
             texts: Vec::new(alloc),
-            numbers: BTreeMap::new(alloc),
+            numbers: TextNumbers::new(alloc),
         }
     }
 
@@ -50,7 +50,7 @@ impl Names {
     pub fn number(&self, text: &[u16]) -> Option<u32>
         ensures { result ≡ spec.number_of self.now text.now }
     {
-        self.numbers.get(text).copied()
+        self.numbers.number(text)
     }
 
     /// The text of a number. `None`: no text has it.
@@ -65,24 +65,24 @@ impl Names {
         ensures ok { OnOk result (self.new ≡ spec.with_name self.old text.now) }
         ensures err { OnErr result (self.new ≡ self.old) }
     {
-        if self.numbers.contains_key(text) {
+        if self.numbers.number(text).is_some() {
             return Ok(());
         }
         if self.texts.len() >= u32::MAX as usize {
             return Err(NoMemory);
         }
         let number = self.texts.len() as u32;
-        let key = Vec::from_slice(alloc, text)?;
         let copy = Vec::from_slice(alloc, text)?;
         self.texts.push(Items::from(copy))?;
-        match self.numbers.insert(key, number) {
-            Ok(_) => Ok(()),
-            Err(_) => {
+        match self.numbers.add(alloc, text, number) {
+            Ok(()) => Ok(()),
+            Err(error) => {
                 self.texts.pop();
-                Err(NoMemory)
+                Err(error)
             }
         }
     }
+
     /// Puts a text after all others, also where it is among them. Where memory runs out, as it counts past 2^32 texts, nothing changes.
     pub fn push(&mut self, alloc: Global, text: &[u16]) -> Result<(), NoMemory>
         ensures ok { OnOk result (self.new ≡ self.old ++ text.now ∷ []) }

@@ -107,6 +107,9 @@ impl Numbering {
     fn deepen(&mut self, element: &ElementType, dimensions: u8)
         ensures { self.new ≡ spec.deeper self.old element.now dimensions }
     {
+        if dimensions == 0 {
+            return;
+        }
         let index = element_index(&self.names, element);
         if index < self.depths.len() {
             self.depths[index] = self.depths[index].max(dimensions);

@@ -14,7 +14,7 @@ use Rattle.world_model.specs.declared.members.MethodCode.{MethodCode}
 use Rattle.world_model.specs.LookUps.{index_at, index_in}
 use Rattle.class_resolution.proofs.Positions.{position_push}
 use Rattle.world_numbers.specs.Decodings.{instrs_in}
-use Rattle.world_tables.specs.PcTables.{IsByPc, AreByPc}
+use Rattle.world_tables.specs.PcTables.{IsByPc, AreByPc, entry, told}
 
 or_here : (o : Option ℕ) (b : Bool) (k : ℕ) → is_some o ≡ true → o ≡ option_or o (cond b (Some k) None)
 or_here None b k s = absurd cc
@@ -46,9 +46,29 @@ added table pc k h s q =
     (λ (ne : q ≢ pc). get_or-set_other table pc q (Some k) None ne ∙ or_off (get_or table q None) (nat_eq pc q) k (grind (arith, nat_tests)))
     (cases_eq q pc)
 
+-- ---- two bytes an entry
+
+-- where the table has an instruction at the pc
+pub kept_index : (table : List ℕ) (pc k : ℕ) → is_some (entry table pc) ≡ true → (q : ℕ) → entry table q ≡ option_or (entry table q) (cond (nat_eq pc q) (Some k) None)
+kept_index table pc k s q =
+    ⊎_elim
+    (λ (e : q ≡ pc). or_here (entry table q) (nat_eq pc q) k (ap (λ n. is_some (entry table n)) e ∙ s))
+    (λ (ne : q ≢ pc). or_off (entry table q) (nat_eq pc q) k (grind (arith, nat_tests)))
+    (cases_eq q pc)
+
+-- where it has none
+pub added_index : (table : List ℕ) (pc k : ℕ) → pc < length table → told k ≡ Some k → is_some (entry table pc) ≡ false
+    → (q : ℕ) → entry (slice_set table pc k) q ≡ option_or (entry table q) (cond (nat_eq pc q) (Some k) None)
+added_index table pc k h t s q =
+    ⊎_elim
+    (λ (e : q ≡ pc). ap (λ n. entry (slice_set table pc k) n) e ∙ ap told (get_or-set_same table pc k 65535 h) ∙ t
+    ∙ or_new (entry table q) (nat_eq pc q) k (ap (λ n. is_some (entry table n)) e ∙ s) (grind (arith, nat_tests)))
+    (λ (ne : q ≢ pc). ap told (get_or-set_other table pc q k 65535 ne) ∙ or_off (entry table q) (nat_eq pc q) k (grind (arith, nat_tests)))
+    (cases_eq q pc)
+
 -- one instruction more
-pub one_more : (instrs : List Instr) (i : ℕ) (x : Instr) (old new : List (Option ℕ)) → i < length instrs → x ≡ get_or instrs i x → IsByPc (take i instrs) old
-    → ((q : ℕ) → get_or new q None ≡ option_or (get_or old q None) (cond (nat_eq x.pc q) (Some i) None)) → IsByPc (take (i + 1) instrs) new
+pub one_more : (instrs : List Instr) (i : ℕ) (x : Instr) (old new : List ℕ) → i < length instrs → x ≡ get_or instrs i x → IsByPc (take i instrs) old
+    → ((q : ℕ) → entry new q ≡ option_or (entry old q) (cond (nat_eq x.pc q) (Some i) None)) → IsByPc (take (i + 1) instrs) new
 one_more instrs i x old new h e before step q =
     let t : take (i + 1) instrs ≡ take i instrs ++ x ∷ [] = grind (arith, common_steps) in
     let l : length (take i instrs) ≡ i = grind (arith, common_steps) in
@@ -75,34 +95,34 @@ get_last xs y =
     let wide : length xs < length (xs ++ y ∷ []) = simp length-append (omega arith) in
     slice_get-get_or (xs ++ y ∷ []) (length xs) y wide ∙ ap Some (get_or-append_seam xs y [] y)
 
-pub one_method : (codes : List (Option MethodCode)) (tables : List (List (Option ℕ))) (code : Option MethodCode) (table : List (Option ℕ)) → length tables ≡ length codes
+pub one_method : (codes : List (Option MethodCode)) (tables : List (List ℕ)) (code : Option MethodCode) (table : List ℕ) → length tables ≡ length codes
     → AreByPc codes tables → IsByPc (instrs_in code) table → AreByPc (codes ++ code ∷ []) (tables ++ table ∷ [])
 one_method codes tables code table l before new n pc =
     ⊎_elim
     (λ (lt : n < length codes).
     let inside : n < length tables = omega arith in
-    ap (λ t. get_or t pc None) (get_or-append tables (table ∷ []) [] n inside) ∙ before n pc
+    ap (λ (t : List ℕ). entry t pc) (get_or-append tables (table ∷ []) [] n inside) ∙ before n pc
     ∙ ap (option_and_then (option_and_then (index_at pc))) (sym (get_front codes code n lt)))
     (λ (ge : length codes ≤ n).
     ⊎_elim
     (λ (e : n ≡ length codes).
-    ap (λ k. get_or (get_or (tables ++ table ∷ []) k []) pc None) (e ∙ sym l) ∙ ap (λ t. get_or t pc None) (get_or-append_seam tables table [] [])
+    ap (λ k. entry (get_or (tables ++ table ∷ []) k []) pc) (e ∙ sym l) ∙ ap (λ (t : List ℕ). entry t pc) (get_or-append_seam tables table [] [])
     ∙ new pc ∙ of_code code pc
     ∙ ap (option_and_then (option_and_then (index_at pc))) (sym (get_last codes code))
     ∙ ap (λ k. index_in (codes ++ code ∷ []) k pc) (sym e))
     (λ (ne : n ≢ length codes).
     let past : length (tables ++ table ∷ []) ≤ n = simp length-append (omega arith) in
     let past' : length (codes ++ code ∷ []) ≤ n = simp length-append (omega arith) in
-    ap (λ t. get_or t pc None) (get_or_past (tables ++ table ∷ []) n [] past) ∙ nothing pc
+    ap (λ (t : List ℕ). entry t pc) (get_or_past (tables ++ table ∷ []) n [] past) ∙ nothing pc
     ∙ ap (option_and_then (option_and_then (index_at pc))) (sym (slice_get_past (codes ++ code ∷ []) n past')))
     (cases_eq n (length codes)))
     (cases_lt n (length codes))
   where
-    nothing : (q : ℕ) → get_or [] q None ≡ option_and_then (option_and_then (index_at q)) None
-    nothing q = get_or_past [] q None (omega arith)
+    nothing : (q : ℕ) → entry [] q ≡ option_and_then (option_and_then (index_at q)) None
+    nothing q = ap told (get_or_past [] q 65535 (omega arith))
 
 -- one method more of these
-pub next_method : (codes : List (Option MethodCode)) (i : ℕ) (code : Option MethodCode) (tables new : List (List (Option ℕ))) (table : List (Option ℕ)) → i < length codes → code ≡ get_or codes i code
+pub next_method : (codes : List (Option MethodCode)) (i : ℕ) (code : Option MethodCode) (tables new : List (List ℕ)) (table : List ℕ) → i < length codes → code ≡ get_or codes i code
     → length tables ≡ i → AreByPc (take i codes) tables → IsByPc (instrs_in code) table → new ≡ tables ++ table ∷ [] → AreByPc (take (i + 1) codes) new
 next_method codes i code tables new table h e l before one n =
     let t : take (i + 1) codes ≡ take i codes ++ code ∷ [] = grind (arith, common_steps) in
@@ -112,4 +132,4 @@ next_method codes i code tables new table h e l before one n =
     subst (λ cs. AreByPc cs new) (sym t) first
 
 pub no_method : AreByPc [] []
-no_method n pc = get_or_past [] pc None (omega arith)
+no_method n pc = ap told (get_or_past [] pc 65535 (omega arith))

@@ -24,7 +24,7 @@ fn instr_namings(
     ensures { IfOk result (λ v. v ≡
         map (spec.instr_naming (linking_in l.entry) class pool.now) instrs.now) }
 {
-    let mut namings = Vec::new(alloc);
+    let mut namings = Vec::with_capacity(alloc, instrs.len())?;
     for instr in instrs {
         namings.push(naming_of(alloc, l, class, pool, &instr.op)?)?;
     }
@@ -74,7 +74,7 @@ pub fn all_namings(
     requires { codes.now ≡ codes_of (linking_in l).program }
     ensures { IfOk result (λ v. v.items ≡ spec.namings_of (linking_in l.entry)) }
 {
-    let mut namings = Vec::new(alloc);
+    let mut namings = Vec::with_capacity(alloc, codes.len())?;
     let files = l.members.hierarchy().classes().files();
     let mut rest = codes;
     for (class, file) in files.iter().enumerate() {
@@ -103,7 +103,7 @@ fn row_catches(
     ensures { IfOk result (λ v. v ≡
         map (spec.catch_of (linking_in l.entry) pool.now) rows.now) }
 {
-    let mut catches = Vec::new(alloc);
+    let mut catches = Vec::with_capacity(alloc, rows.len())?;
     for row in rows {
         catches.push(catch_of(alloc, l, pool, row)?)?;
     }

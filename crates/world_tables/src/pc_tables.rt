@@ -2,6 +2,7 @@
 
 ghost use Rattle.std.specs.Prelude.{◌≡◌, ◌<◌, ◌^◌, ℕ, None, Some, [], cond, get_or, length, nat_eq, vec_len, IfOk, OnOk};
 ghost use Rattle.std.specs.Option.{option_or};
+ghost use Rattle.world_tables.specs.PcTables as spec;
 ghost use Rattle.world_tables.specs.PcTables.{AreByPc, IsByPc};
 
 use items::{Items, NoMemory};
@@ -34,28 +35,72 @@ pub fn add_first(table: &mut Vec<Option<u32>>, pc: u32, index: u32) -> Result<()
     Ok(())
 }
 
-// The indices of instructions by their pcs. Past 2^32 instructions memory counts as run out.
-fn by_pc(alloc: Global, instrs: &[Instr]) -> Result<Items<Option<u32>>, NoMemory>
+/// In place of an index, where no instruction begins.
+const NONE: u16 = 0xffff;
+
+// The index that an entry of a table tells, if it tells one.
+fn told(entry: u16) -> Option<u32>
+    ensures { result ≡ spec.told entry }
+{
+    if entry == NONE {
+        None
+    } else {
+        Some(u32::from(entry))
+    }
+}
+
+// Adds entries that tell of no instruction, up to that of a pc.
+fn reach_pc(table: &mut Vec<u16>, pc: u32) -> Result<(), NoMemory>
+    ensures room { OnOk result (pc < vec_len table.new) }
+    ensures same { (q : ℕ) → get_or table.new.items q 65535 ≡ get_or table.old.items q 65535 }
+{
+    if table.len() <= pc as usize {
+        table.resize(pc as usize + 1, NONE)?;
+    }
+    Ok(())
+}
+
+// Adds the index of an instruction to a table, unless it has one at the pc.
+fn add_index(table: &mut Vec<u16>, pc: u32, index: u16) -> Result<(), NoMemory>
+    requires { index < 65535 }
+    ensures { OnOk result ((q : ℕ) → spec.entry table.new.items q
+        ≡ option_or (spec.entry table.old.items q) (cond (nat_eq pc q) (Some index) None)) }
+{
+    reach_pc(table, pc)?;
+    if table[pc as usize] != NONE {
+        return Ok(());
+    }
+    table[pc as usize] = index;
+    Ok(())
+}
+
+// How many pcs a table of these instructions has.
+fn pc_count(instrs: &[Instr]) -> usize {
+    match instrs.last() {
+        Some(last) => (last.pc as usize).saturating_add(1),
+        None => 0,
+    }
+}
+
+// The indices of instructions by their pcs. From 65,535 instructions on memory counts as run out: a code of fewer bytes has fewer.
+fn by_pc(alloc: Global, instrs: &[Instr]) -> Result<Items<u16>, NoMemory>
     ensures { IfOk result (λ table. IsByPc instrs.now table) }
 {
-    if instrs.len() > u32::MAX as usize {
+    if instrs.len() >= usize::from(NONE) {
         return Err(NoMemory);
     }
-    let mut table = Vec::new(alloc);
+    let mut table = Vec::with_capacity(alloc, pc_count(instrs))?;
     for (index, instr) in instrs.iter().enumerate() {
-        add_first(&mut table, instr.pc, index as u32)?;
+        add_index(&mut table, instr.pc, index as u16)?;
     }
     Ok(Items::from(table))
 }
 
 /// The indices of instructions by method and pc, for methods with these codes.
-pub fn all_by_pc(
-    alloc: Global,
-    codes: &[Option<MethodCode>],
-) -> Result<Vec<Items<Option<u32>>>, NoMemory>
+pub fn all_by_pc(alloc: Global, codes: &[Option<MethodCode>]) -> Result<Vec<Items<u16>>, NoMemory>
     ensures { IfOk result (λ v. AreByPc codes.now v.items) }
 {
-    let mut tables = Vec::new(alloc);
+    let mut tables = Vec::with_capacity(alloc, codes.len())?;
     for code in codes {
         tables.push(by_pc(alloc, instrs_in(code))?)?;
     }
@@ -63,8 +108,8 @@ pub fn all_by_pc(
 }
 
 /// The index of the instruction that begins at a pc of a method, by the tables.
-pub fn index_by(tables: &[Items<Option<u32>>], method: u32, pc: u32) -> Option<u32>
-    ensures { result ≡ get_or (get_or tables.now method []) pc None }
+pub fn index_by(tables: &[Items<u16>], method: u32, pc: u32) -> Option<u32>
+    ensures { result ≡ spec.entry (get_or tables.now method []) pc }
 {
     match tables.get(method as usize) {
         Some(table) => entry(table, pc),
@@ -72,11 +117,11 @@ pub fn index_by(tables: &[Items<Option<u32>>], method: u32, pc: u32) -> Option<u
     }
 }
 
-fn entry(table: &[Option<u32>], pc: u32) -> Option<u32>
-    ensures { result ≡ get_or table.now pc None }
+fn entry(table: &[u16], pc: u32) -> Option<u32>
+    ensures { result ≡ spec.entry table.now pc }
 {
     match table.get(pc as usize) {
-        Some(index) => *index,
+        Some(entry) => told(*entry),
         None => None,
     }
 }

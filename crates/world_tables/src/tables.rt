@@ -41,7 +41,7 @@ pub struct Tables {
     fields: Vec<FieldInfo>,
     methods: Vec<MethodInfo>,
     codes: Codes,
-    by_pc: Vec<Items<Option<u32>>>,
+    by_pc: Vec<Items<u16>>,
     instance_fields: Vec<Items<u32>>,
     places: Vec<Option<u32>>,
     namings: Vec<Items<Naming>>,

@@ -1,6 +1,5 @@
 use Rattle.std.proofs.Common.{◌≡◌, ◌+◌, ℕ, List, [], ◌∷◌, ◌++◌, length, sym, ap, subst, ◌∙◌, arith, rules, length-append}
-use Rattle.class_resolution.specs.Names.{Adds}
-use Rattle.class_resolution.proofs.TextMap.{adds_new}
+use Rattle.class_resolution.specs.TextNumbers.{AddsText}
 use Rattle.world_model.specs.Numbering.{number_of}
 use Rattle.world_numbers.proofs.NameLaws.{one_more}
 use Rattle.world_numbers.proofs.names.Names.add.Goals as goal
@@ -11,8 +10,7 @@ invariant_of-self-in-Ok c =
     let name = c.args.text.now in
     let new : c.push.new.self.items ≡ texts ++ name ∷ [] = c.in_ok-push.ensures.items ∙ ap (λ (x : List ℕ). texts ++ x ∷ []) (c.from.ensures ∙ c.in_ok-copy.ensures.items) in
     let number : c.len-number.result ≡ length texts = search rules in
-    let adds = adds_new c.self.inside.numbers c.insert.new.self c.in_ok-key.key name c.len-number.result c.in_ok-key.ensures.items (sym c.contains_key.ensures ∙ c.if-contains_key.false) c.in-Ok.ensures.updates in
     record {
       few = (let size : length c.push.new.self.items ≡ length texts + 1 = ap length new ∙ length-append texts (name ∷ []) in omega (arith, number));
-      numbers = λ text. one_more c.self.inside.numbers c.insert.new.self texts name c.self.invariant.numbers (subst (λ (n : ℕ). Adds c.self.inside.numbers name n c.insert.new.self) number adds) text ∙ ap (λ (ns : List (List ℕ)). number_of ns text) (sym new);
+      numbers = λ text. one_more c.self.inside.numbers c.add.new.self texts name c.self.invariant.numbers (subst (λ (n : ℕ). AddsText c.self.inside.numbers name n c.add.new.self) number c.in-Ok.ensures.ok) text ∙ ap (λ (ns : List (List ℕ)). number_of ns text) (sym new);
     }

@@ -1,6 +1,6 @@
 use Rattle.std.proofs.Common.{◌≡◌, ◌+◌, ℕ, List, [], ◌∷◌, ◌++◌, length, true, is_some, sym, ap, ◌∙◌, arith, length-append}
 use Rattle.std.specs.Prelude.{not}
-use Rattle.class_resolution.proofs.TextMap.{adds_none}
+use Rattle.class_resolution.proofs.TextNumberLaws.{adds_known}
 use Rattle.world_model.specs.Numbering.{number_of}
 use Rattle.world_numbers.proofs.NameLaws.{one_more}
 use Rattle.world_numbers.proofs.names.Names.push.Goals as goal
@@ -14,5 +14,5 @@ invariant_of-self-2 c =
     let known : is_some (number_of texts name) ≡ true = ap (λ (ns : List (List ℕ)). is_some (number_of ns name)) c.self.view_is ∙ ap is_some (sym c.number.ensures) ∙ c.is_none.ensures ∙ ap not c.if-is_none.false in
     record {
       few = (let size : length c.push.new.self.items ≡ length texts + 1 = ap length new ∙ length-append texts (name ∷ []) in omega arith);
-      numbers = λ text. one_more map map texts name c.self.invariant.numbers (adds_none map name (length texts) (ap is_some (c.self.invariant.numbers name) ∙ known)) text ∙ ap (λ (ns : List (List ℕ)). number_of ns text) (sym new);
+      numbers = λ text. one_more map map texts name c.self.invariant.numbers (adds_known map name (length texts) (ap is_some (c.self.invariant.numbers name) ∙ known)) text ∙ ap (λ (ns : List (List ℕ)). number_of ns text) (sym new);
     }
