@@ -16,7 +16,7 @@ use world_numbers::{ArrayNumbers, MemberNumbers, all_strings};
 /// The tables of the instructions and exception tables of each method.
 #[derive(Drop)]
 pub(crate) struct CodeTables {
-    pub(crate) by_pc: Vec<Items<Option<u32>>>,
+    pub(crate) by_pc: Vec<Items<u16>>,
     pub(crate) namings: Vec<Items<Naming>>,
     pub(crate) catches: Vec<Items<Option<u32>>>,
 }
