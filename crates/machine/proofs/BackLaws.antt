@@ -34,7 +34,7 @@ names_none w f i kind at is = λ j index m found called named.
 
 -- the return to the caller was made
 pub back_made : (w : World) (frames after : List Frame) (f : Fetched) (kind : Option Kind) → AreTyped w → Typed w frames → IsTopAt w frames f
-    → returned_kind (row_of f.instr.now.op) ≡ Some kind → top_returned w kind frames ≡ Some after → GoesBack w frames after None
+    → returned_kind (row_of f.instr.now.op) ≡ Some kind → top_returned w kind frames ≡ Some after → GoesBack w frames after true
 back_made w [] after f kind typed fits top is made = absurd fits
 back_made w (g ∷ below) after f kind typed fits top is made =
     let i = instruction_of f in
@@ -46,27 +46,24 @@ back_made w (g ∷ below) after f kind typed fits top is made =
 
 -- the return is from a root frame
 pub root_back : (w : World) (frames after : List Frame) (f : Fetched) (kind : Option Kind) → Typed w frames → IsTopAt w frames f
-    → returned_kind (row_of f.instr.now.op) ≡ Some kind → top_is_root w frames ≡ true → after ≡ frames → GoesBack w frames after (Some f)
+    → returned_kind (row_of f.instr.now.op) ≡ Some kind → top_is_root w frames ≡ true → after ≡ frames → GoesBack w frames after false
 root_back w [] after f kind fits top is root same = absurd fits
-root_back w (g ∷ below) after f kind fits top is root same = record {
-  same = same;
-  ends = root_ends w g below (instruction_of f) kind top.at (kind_row (row_of f.instr.now.op) kind is) root;
-  next = top;
-}
+root_back w (g ∷ below) after f kind fits top is root same =
+    (same, root_ends w g below (instruction_of f) kind top.at (kind_row (row_of f.instr.now.op) kind is) root)
 
 -- the instruction is no return
 pub none_back : (w : World) (frames : List Frame) (f : Fetched) → Typed w frames → IsTopAt w frames f → stays_on w frames ≡ false
-    → returned_kind (row_of f.instr.now.op) ≡ None → GoesBack w frames frames (Some f)
+    → returned_kind (row_of f.instr.now.op) ≡ None → GoesBack w frames frames false
 none_back w [] f fits top leaves none = absurd fits
 none_back w (g ∷ below) f fits top leaves none =
-    record { same = refl; ends = not_back w g below (instruction_of f) top.at leaves none; next = top }
+    (refl, not_back w g below (instruction_of f) top.at leaves none)
 
 -- ---- a run goes on after a return
 
 turned : (a b : ℕ) → a + (1 + b) ≡ b + (1 + a)
 turned a b = omega arith
 
-pub goes_again : (w : World) (a b : ℕ) (first mid back last : List Frame) → rows w a first ≡ Some mid → GoesBack w mid back None
+pub goes_again : (w : World) (a b : ℕ) (first mid back last : List Frame) → rows w a first ≡ Some mid → GoesBack w mid back true
     → rows w b back ≡ Some last → rows w (a + (1 + b)) first ≡ Some last
 goes_again w a b first mid back last made returned more =
     rows_join w (1 + a) b (a + (1 + b)) first back last (turned a b) (row_behind w a (1 + a) first mid back refl made returned.0) more

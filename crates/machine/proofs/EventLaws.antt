@@ -33,10 +33,17 @@ use Rattle.object_events.specs.Operands.{operands}
 use Rattle.object_events.specs.Dispatch as events
 use Rattle.machine.specs.declared.parts.Parts.{Parts}
 use Rattle.machine.specs.States.{state_of, IsRunStep}
-use Rattle.machine.specs.Concluding.{Concludes, Leads, Steps}
+use Rattle.machine.specs.Concluding.{Concludes, EndsOtherwise, Leads, Steps}
 use Rattle.machine.proofs.StepLaws.{effect_step, event_is_run, no_row}
 
 -- ---- what is concluded from an effect
+
+-- an outcome that isn't done changes no frame
+pub ended_otherwise : (w : World) (next : ℕ) (outcome : Outcome) (a b : Parts) (frames : List Frame) → EndsOtherwise w outcome a b → Concludes w next outcome a frames b frames
+ended_otherwise w next Done a b frames is = absurd is
+ended_otherwise w next (Throws e) a b frames is = (is frames, refl)
+ended_otherwise w next (ThrowsObject o) a b frames is = (is frames, refl)
+ended_otherwise w next Undefined a b frames is = absurd is
 
 -- the frame goes on, where its operand stack has room
 goes_on : (f : Frame) (next : ℕ) (stack : List Slot) → length stack ≤ f.room → behind f next stack ≡ Some (record f { pc = next; stack = stack })

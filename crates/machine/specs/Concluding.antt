@@ -22,6 +22,13 @@ Concludes w next (Throws e) a frames b after = (raised w (state_of a frames) 0 e
 Concludes w next (ThrowsObject o) a frames b after = (throwing (state_of a frames) 0 o ≡ state_of b frames) × (after ≡ frames)
 Concludes w next Undefined a frames b after = ⊥
 
+-- the same of an outcome that isn't done, which changes no frame
+abbrev pub EndsOtherwise : World → Outcome → Parts → Parts → Type 0
+EndsOtherwise w Done a b = ⊥
+EndsOtherwise w (Throws e) a b = (frames : List Frame) → raised w (state_of a frames) 0 e ≡ Some (state_of b frames)
+EndsOtherwise w (ThrowsObject o) a b = (frames : List Frame) → throwing (state_of a frames) 0 o ≡ state_of b frames
+EndsOtherwise w Undefined a b = ⊥
+
 -- an effect, and what it leads to
 pub record Leads (w : World) (a b : Parts) (f : Frame) (below after : List Frame) (next : ℕ) (effect : Option Effect) : Type 0 where
   pub effect_is : Effect

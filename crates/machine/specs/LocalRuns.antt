@@ -1,5 +1,5 @@
 -- Runs of local instructions of a thread, in its top frame and in those to which it returns.
-use Rattle.std.specs.Prelude.{◌≡◌, ℕ, ◌≤◌, Bool, true, not, List, Option, Some, None, is_some, ◌||◌}
+use Rattle.std.specs.Prelude.{◌≡◌, ℕ, ◌≤◌, Bool, true, false, not, List, Option, Some, None, is_some, ◌||◌}
 use Rattle.opcodes.specs.declared.op.Kind.{Kind}
 use Rattle.instruction_rows.specs.Rows.{Row, returns}
 use Rattle.world_model.specs.World.{World}
@@ -7,8 +7,6 @@ use Rattle.state_model.specs.Frames.{Frame}
 use Rattle.ref_model.specs.LocalRows.{row, rows}
 use Rattle.ref_model.specs.Entries.{may_be_last, most_local_steps, stands_at_static_call}
 use Rattle.typed_frames.specs.Typed.{Typed}
-use Rattle.interp_local.specs.declared.fetched.Fetched.{Fetched}
-use Rattle.interp_local.specs.Fetched.{IsTopAt}
 
 -- the kind of what a return gives back, where the row is that of a return
 abbrev pub returned_kind : Row → Option (Option Kind)
@@ -19,16 +17,15 @@ returned_kind r = None
 abbrev pub ends_run : World → List Frame → Bool
 ends_run w frames = not (is_some (row w frames)) || stands_at_static_call w frames
 
--- the frames stay, and a run ends with them, before this instruction
-pub record EndsAt (w : World) (old new : List Frame) (f : Fetched) : Type 0 where
-  pub same : new ≡ old
-  pub ends : ends_run w old ≡ true
-  pub next : IsTopAt w old f
+-- whether a return to the caller was made; if not, the frames stay, and a run ends with them
+abbrev pub GoesBack : World → List Frame → List Frame → Bool → Type 0
+GoesBack w old new true = (row w old ≡ Some new) × Typed w new
+GoesBack w old new false = (new ≡ old) × (ends_run w old ≡ true)
 
--- a return to the caller was made, or a run ends
-abbrev pub GoesBack : World → List Frame → List Frame → Option Fetched → Type 0
-GoesBack w old new None = (row w old ≡ Some new) × Typed w new
-GoesBack w old new (Some f) = EndsAt w old new f
+-- whether one more local instruction was made; if not, the frames stay
+abbrev pub MakesMore : World → List Frame → List Frame → Bool → Type 0
+MakesMore w old new true = (row w old ≡ Some new) × Typed w new
+MakesMore w old new false = new ≡ old
 
 -- So many local instructions were made, after which an entry may end with the next step.
 pub record IsLocalRun (w : World) (n : ℕ) (old new : List Frame) : Type 0 where
@@ -36,3 +33,7 @@ pub record IsLocalRun (w : World) (n : ℕ) (old new : List Frame) : Type 0 wher
   pub typed : Typed w new
   pub few : n ≤ most_local_steps
   pub last : may_be_last w n new ≡ true
+
+-- Frames that so many local instructions led to are led on: with the ones that follow there are n, after which an entry may end.
+abbrev pub GoesOn : World → ℕ → ℕ → List Frame → List Frame → Type 0
+GoesOn w steps n old new = (first : List Frame) → rows w steps first ≡ Some old → IsLocalRun w n first new

@@ -19,6 +19,7 @@ use std::alloc::Global;
 use world_model::Naming;
 
 // A native method runs in one step, and the frame goes on at the next instruction.
+#[inline(never)]
 fn native_step<W: MachineWorld>(
     alloc: Global,
     world: &W,
@@ -59,6 +60,7 @@ fn code_step<W: MachineWorld>(
 }
 
 /// The step of a thread whose top frame is at an invocation.
+#[inline(always)]
 pub(crate) fn invocation_step<W: MachineWorld>(
     alloc: Global,
     world: &W,
@@ -66,12 +68,12 @@ pub(crate) fn invocation_step<W: MachineWorld>(
     parts: &mut Parts,
     mounted: &mut Mounted,
     instr: &Instr,
-    naming: Naming,
+    naming: &Naming,
 ) -> Result<(), NoMemory>
     requires frame { 0 < length mounted.old.stack.frames }
     requires selected { AreSelected (W.world world.now) selections.old }
     ensures steps { OnOk result (Steps (W.world world.now)
-        (record { instr = instr.now; naming = naming })
+        (record { instr = instr.now; naming = naming.now })
         parts.old mounted.old.stack.frames parts.new mounted.new.stack.frames) }
     ensures selections { AreSelected (W.world world.now) selections.new }
 {

@@ -3,7 +3,7 @@
 ghost use Rattle.std.specs.Prelude.{◌≡◌, List, Some, OnOk};
 ghost use Rattle.state_model.specs.Frames.{Frame};
 ghost use Rattle.ref_model.specs.Throwing.{raised};
-ghost use Rattle.machine.specs.Concluding.{Concludes};
+ghost use Rattle.machine.specs.Concluding.{Concludes, EndsOtherwise};
 ghost use Rattle.machine.specs.States.{state_of};
 
 use crate::parts::Parts;
@@ -19,6 +19,7 @@ const OUT_OF_MEMORY: u32 = 0;
 
 /// Throws a new exception of the machine: an object without a message, or the OutOfMemoryError of the start where there is no room for it
 /// (own).
+#[inline(never)]
 pub(crate) fn raise<W: MachineWorld>(
     world: &W,
     parts: &mut Parts,
@@ -36,7 +37,27 @@ pub(crate) fn raise<W: MachineWorld>(
     Ok(())
 }
 
+// What an outcome makes of the thread that had it, where it isn't done.
+#[inline(never)]
+fn conclude_otherwise<W: MachineWorld>(
+    world: &W,
+    parts: &mut Parts,
+    outcome: Outcome,
+) -> Result<(), NoMemory>
+    ensures { OnOk result (EndsOtherwise (W.world world.now) outcome parts.old parts.new) }
+{
+    match outcome {
+        Outcome::Throws(exception) => raise(world, parts, exception),
+        Outcome::ThrowsObject(o) => {
+            parts.status = Status::Live(Phase::Throwing(o));
+            Ok(())
+        }
+        Outcome::Done | Outcome::Undefined => Err(NoMemory),
+    }
+}
+
 /// What an outcome makes of the thread that had it, whose next instruction is at a pc.
+#[inline(always)]
 pub(crate) fn conclude<W: MachineWorld>(
     world: &W,
     parts: &mut Parts,
@@ -52,11 +73,6 @@ pub(crate) fn conclude<W: MachineWorld>(
             mounted.set_pc(next);
             Ok(())
         }
-        Outcome::Throws(exception) => raise(world, parts, exception),
-        Outcome::ThrowsObject(o) => {
-            parts.status = Status::Live(Phase::Throwing(o));
-            Ok(())
-        }
-        Outcome::Undefined => Err(NoMemory),
+        other => conclude_otherwise(world, parts, other),
     }
 }

@@ -1,21 +1,19 @@
 //! Entries of the history: local instructions, and one more step after them.
 
-ghost use Rattle.std.specs.Prelude.{◌≡◌, ◌≤◌, None, IfOk, IfSome, OnOk};
+ghost use Rattle.std.specs.Prelude.{◌≡◌, ◌≤◌, None, IfOk};
 ghost use Rattle.ref_model.specs.Ending.{ending};
 ghost use Rattle.typed_frames.specs.TypedStates.{IsTypedState};
 ghost use Rattle.vthread_state.specs.declared.phase.Phase.TheVariants.{Run, Throwing};
 ghost use Rattle.vthread_state.specs.declared.thread.Status.TheVariants.{Live};
 ghost use Rattle.method_calls.specs.Selections.{AreSelected};
-ghost use Rattle.interp_local.specs.Fetched.{IsTopAt};
 ghost use Rattle.machine.specs.Ready.{IsReady};
 ghost use Rattle.machine.specs.States.{state_of};
-ghost use Rattle.machine.specs.Steps.{Advances, IsKept};
+ghost use Rattle.machine.specs.Steps.{Advances};
 
-use crate::local::run_rows;
+use crate::local::{MOST_LOCAL, go_on, makes_more, run_top};
 use crate::parts::Parts;
-use crate::steps::{fetched_step, running_step, unwinding_step};
+use crate::steps::{fetched_step, unwinding_step};
 use continuation::Mounted;
-use interp_local::Fetched;
 use items::NoMemory;
 use jvm_edges::Gate;
 use method_calls::Selections;
@@ -23,32 +21,8 @@ use ready_program::ReadyProgram;
 use std::alloc::Global;
 use vthread_state::{Phase, Status};
 
-// The step of a thread that runs after its local instructions: where these are fewer than they may be, it isn't one of them.
-fn last_step(
-    alloc: Global,
-    program: &ReadyProgram,
-    selections: &mut Selections,
-    parts: &mut Parts,
-    mounted: &mut Mounted,
-    next: Option<Fetched<'_>>,
-) -> Result<(), NoMemory>
-    requires ready { IsReady program.now }
-    requires typed { IsTypedState program.now (state_of parts.old mounted.old.stack.frames) }
-    requires running { parts.old.status ≡ Live Run }
-    requires going { ending (state_of parts.old mounted.old.stack.frames) ≡ None }
-    requires next { IfSome next (IsTopAt program.now mounted.old.stack.frames) }
-    requires selected { AreSelected program.now selections.old }
-    ensures kept { OnOk result (IsKept program.now (state_of parts.old mounted.old.stack.frames)
-        (state_of parts.new mounted.new.stack.frames)) }
-    ensures selections { AreSelected program.now selections.new }
-{
-    match next {
-        Some(fetched) => fetched_step(alloc, program, selections, parts, mounted, fetched),
-        None => running_step(alloc, program, selections, parts, mounted),
-    }
-}
-
 // The local instructions of a thread that runs, and one more step. The answer is how many local ones there were.
+#[inline(always)]
 fn running_entry(
     alloc: Global,
     program: &ReadyProgram,
@@ -67,12 +41,17 @@ fn running_entry(
     ensures few { IfOk result (λ n. n ≤ 10000) }
     ensures selections { AreSelected program.now selections.new }
 {
-    let local = run_rows(program, mounted)?;
-    last_step(alloc, program, selections, parts, mounted, local.next)?;
-    Ok(local.steps)
+    let mut run = run_top(program, mounted, MOST_LOCAL);
+    let steps = go_on(program, mounted, &mut run)?;
+    if makes_more(program, mounted, steps) {
+        return Ok(steps);
+    }
+    fetched_step(alloc, program, selections, parts, mounted, &run.next)?;
+    Ok(steps)
 }
 
 // One step of a thread that throws an object. There are no local ones before it.
+#[inline(never)]
 fn throwing_entry(
     alloc: Global,
     program: &ReadyProgram,
@@ -94,6 +73,7 @@ fn throwing_entry(
 }
 
 /// The next entry of the main thread: the answer is how many local instructions come before its last step. The gate is passed before them.
+#[inline(always)]
 pub(crate) fn advance<G: Gate>(
     alloc: Global,
     program: &ReadyProgram,

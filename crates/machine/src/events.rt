@@ -8,23 +8,79 @@ use crate::parts::Parts;
 use crate::world::MachineWorld;
 use continuation::Mounted;
 use items::NoMemory;
-use object_events::run_event;
-use opcodes::Instr;
+use object_events::{run_event, run_field, run_plain};
+use opcodes::{Instr, Op};
 use std::alloc::Global;
 use world_model::Naming;
 
-/// The step of a thread whose top frame is at such an instruction.
-pub(crate) fn event_step<W: MachineWorld>(
+// The step of a thread whose top frame is at an instruction on a field.
+#[inline(never)]
+fn field_step<W: MachineWorld>(
+    world: &W,
+    parts: &mut Parts,
+    mounted: &mut Mounted,
+    instr: &Instr,
+    naming: &Naming,
+) -> Result<(), NoMemory>
+    requires { 0 < length mounted.old.stack.frames }
+    ensures { OnOk result (Steps (W.world world.now)
+        (record { instr = instr.now; naming = naming.now }) parts.old mounted.old.stack.frames
+        parts.new mounted.new.stack.frames) }
+{
+    mounted.operands_fit();
+    let outcome = run_field(
+        world,
+        &instr.op,
+        naming,
+        &mut parts.natives.heap,
+        parts.statics.as_mut_slice(),
+        mounted,
+    );
+    mounted.operands_fit();
+    conclude(world, parts, mounted, instr.next, outcome)
+}
+
+// The step of a thread whose top frame is at one without operands in the code: on an element of an array, an exception, a division by 0.
+#[inline(never)]
+fn plain_step<W: MachineWorld>(
+    world: &W,
+    parts: &mut Parts,
+    mounted: &mut Mounted,
+    instr: &Instr,
+    naming: &Naming,
+) -> Result<(), NoMemory>
+    requires { 0 < length mounted.old.stack.frames }
+    ensures { OnOk result (Steps (W.world world.now)
+        (record { instr = instr.now; naming = naming.now }) parts.old mounted.old.stack.frames
+        parts.new mounted.new.stack.frames) }
+{
+    mounted.operands_fit();
+    let outcome = run_plain(
+        world,
+        &instr.op,
+        naming,
+        &mut parts.natives.heap,
+        parts.statics.as_mut_slice(),
+        mounted,
+    );
+    mounted.operands_fit();
+    conclude(world, parts, mounted, instr.next, outcome)
+}
+
+// The step of a thread whose top frame is at another one.
+#[inline(never)]
+fn other_step<W: MachineWorld>(
     alloc: Global,
     world: &W,
     parts: &mut Parts,
     mounted: &mut Mounted,
     instr: &Instr,
-    naming: Naming,
+    naming: &Naming,
 ) -> Result<(), NoMemory>
     requires { 0 < length mounted.old.stack.frames }
-    ensures { OnOk result (Steps (W.world world.now) (record { instr = instr.now; naming = naming })
-        parts.old mounted.old.stack.frames parts.new mounted.new.stack.frames) }
+    ensures { OnOk result (Steps (W.world world.now)
+        (record { instr = instr.now; naming = naming.now }) parts.old mounted.old.stack.frames
+        parts.new mounted.new.stack.frames) }
 {
     mounted.operands_fit();
     let outcome = run_event(
@@ -38,4 +94,29 @@ pub(crate) fn event_step<W: MachineWorld>(
     )?;
     mounted.operands_fit();
     conclude(world, parts, mounted, instr.next, outcome)
+}
+
+/// The step of a thread whose top frame is at such an instruction. Those on fields, and those without operands in the code, have functions of
+/// their own, since they are short and come often.
+#[inline(always)]
+pub(crate) fn event_step<W: MachineWorld>(
+    alloc: Global,
+    world: &W,
+    parts: &mut Parts,
+    mounted: &mut Mounted,
+    instr: &Instr,
+    naming: &Naming,
+) -> Result<(), NoMemory>
+    requires { 0 < length mounted.old.stack.frames }
+    ensures { OnOk result (Steps (W.world world.now)
+        (record { instr = instr.now; naming = naming.now }) parts.old mounted.old.stack.frames
+        parts.new mounted.new.stack.frames) }
+{
+    match instr.op {
+        Op::GetStatic(_) | Op::PutStatic(_) | Op::GetField(_) | Op::PutField(_) => {
+            field_step(world, parts, mounted, instr, naming)
+        }
+        Op::Simple(_) => plain_step(world, parts, mounted, instr, naming),
+        _ => other_step(alloc, world, parts, mounted, instr, naming),
+    }
 }

@@ -7,7 +7,7 @@ ghost use Rattle.interp_local.specs.Runs.{stays_on};
 ghost use Rattle.interp_local.specs.Fetched.{IsTopAt};
 ghost use Rattle.ref_model.specs.LocalRows.{row, rows};
 ghost use Rattle.typed_frames.specs.Typed.{Typed};
-ghost use Rattle.machine.specs.LocalRuns.{GoesBack, IsLocalRun, returned_kind};
+ghost use Rattle.machine.specs.LocalRuns.{GoesBack, GoesOn, MakesMore, returned_kind};
 ghost use Rattle.machine.specs.Ready.{IsReady};
 
 use continuation::Mounted;
@@ -26,6 +26,7 @@ pub(crate) struct Return {
     pub(crate) kind: Option<Kind>,
 }
 
+#[inline(always)]
 fn simple_return(simple: &Simple) -> Option<Return>
     ensures { option_map (λ r. r.kind) result ≡ returned_kind (simple_row simple.now) }
 {
@@ -37,6 +38,7 @@ fn simple_return(simple: &Simple) -> Option<Return>
 }
 
 /// The return that an instruction is. `None`: it is none.
+#[inline(always)]
 pub(crate) fn return_at(op: &Op) -> Option<Return>
     ensures { option_map (λ r. r.kind) result ≡ returned_kind (row_of op.now) }
 {
@@ -48,7 +50,7 @@ pub(crate) fn return_at(op: &Op) -> Option<Return>
 
 // Executes the instructions that stay in the top frame, at most so many.
 #[inline(always)]
-fn run_top<'a>(program: &'a ReadyProgram, mounted: &mut Mounted, most: u32) -> TopRun<'a>
+pub(crate) fn run_top<'a>(program: &'a ReadyProgram, mounted: &mut Mounted, most: u32) -> TopRun<'a>
     requires { Typed program.now mounted.old.stack.frames }
     ensures rows { rows program.now result.steps mounted.old.stack.frames
         ≡ Some mounted.new.stack.frames }
@@ -63,6 +65,7 @@ fn run_top<'a>(program: &'a ReadyProgram, mounted: &mut Mounted, most: u32) -> T
 
 /// The next local instruction of a thread, if it is at one that stays in its frame. The answer is the instruction at which it is where it
 /// isn't; then nothing has changed.
+#[inline(never)]
 pub(crate) fn local_step<'a>(
     program: &'a ReadyProgram,
     mounted: &mut Mounted,
@@ -82,69 +85,72 @@ pub(crate) fn local_step<'a>(
     }
 }
 
-// Goes back to the caller, where the instruction of the top frame, which doesn't stay in it, is a return that isn't from a root frame.
-// Otherwise the answer is that instruction. A return that the definitions don't have counts as memory run out.
+/// Makes the next instruction, where it is local too, after as many local ones as an entry may have before its last step: whether it does. If
+/// not, nothing changes.
 #[inline(always)]
-fn go_back<'a>(
+pub(crate) fn makes_more(program: &ReadyProgram, mounted: &mut Mounted, steps: u32) -> bool
+    requires { Typed program.now mounted.old.stack.frames }
+    ensures { MakesMore program.now mounted.old.stack.frames mounted.new.stack.frames result }
+{
+    if steps < MOST_LOCAL {
+        return false;
+    }
+    match local_step(program, mounted) {
+        None => true,
+        Some(_) => false,
+    }
+}
+
+// Goes back to the caller, where the instruction of the top frame, which doesn't stay in it, is a return that isn't from a root frame: whether
+// it does. A return that the definitions don't have counts as memory run out.
+#[inline(always)]
+fn go_back(
     program: &ReadyProgram,
     mounted: &mut Mounted,
-    fetched: Fetched<'a>,
-) -> Result<Option<Fetched<'a>>, NoMemory>
+    fetched: &Fetched<'_>,
+) -> Result<bool, NoMemory>
     requires ready { IsReady program.now }
     requires typed { Typed program.now mounted.old.stack.frames }
     requires leaves { stays_on program.now mounted.old.stack.frames ≡ false }
-    requires next { IsTopAt program.now mounted.old.stack.frames fetched }
+    requires next { IsTopAt program.now mounted.old.stack.frames fetched.now }
     ensures { IfOk result (GoesBack program.now mounted.old.stack.frames
         mounted.new.stack.frames) }
 {
     let Some(returns) = return_at(&fetched.instr.op) else {
-        return Ok(Some(fetched));
+        return Ok(false);
     };
     match leave(program, returns.kind, mounted) {
-        Left::Returned => Ok(None),
-        Left::Root => Ok(Some(fetched)),
+        Left::Returned => Ok(true),
+        Left::Root => Ok(false),
         Left::Undefined => Err(NoMemory),
     }
 }
 
-/// Local instructions that a thread made: how many, and the instruction after them, which ends their run. `None`: as many were made as
-/// an entry may have.
-#[derive(Clone, Copy)]
-pub(crate) struct LocalRun<'a> {
-    pub(crate) steps: u32,
-    pub(crate) next: Option<Fetched<'a>>,
-}
-
-/// Runs the local instructions of a thread, in its top frame and in those to which it returns, until one isn't local or enters a method, or
-/// 10,000 were made.
-pub(crate) fn run_rows<'a>(
+/// Goes on after a run of the top frame with the local instructions of the thread, in the frames to which it returns, until one isn't local or
+/// enters a method, or 10,000 were made: how many were made. The run is then that of the last frame.
+#[inline(always)]
+pub(crate) fn go_on<'a>(
     program: &'a ReadyProgram,
     mounted: &mut Mounted,
-) -> Result<LocalRun<'a>, NoMemory>
+    run: &mut TopRun<'a>,
+) -> Result<u32, NoMemory>
     requires ready { IsReady program.now }
     requires typed { Typed program.now mounted.old.stack.frames }
-    ensures run { IfOk result (λ r. IsLocalRun program.now r.steps
+    requires few { run.old.steps ≤ 10000 }
+    requires stays { run.old.stays ≡ stays_on program.now mounted.old.stack.frames }
+    requires slice { IsTrue run.old.stays → run.old.steps ≡ 10000 }
+    requires next { IsTopAt program.now mounted.old.stack.frames run.old.next }
+    ensures run { IfOk result (λ n. GoesOn program.now run.old.steps n
         mounted.old.stack.frames mounted.new.stack.frames) }
-    ensures next { IfOk result (λ r. IfSome r.next
-        (IsTopAt program.now mounted.new.stack.frames)) }
+    ensures next { IfOk result (λ n. IsTopAt program.now mounted.new.stack.frames run.new.next) }
 {
-    let first = run_top(program, mounted, MOST_LOCAL);
-    let mut steps = first.steps;
-    let mut next = first.next;
+    let mut steps = run.steps;
     while steps < MOST_LOCAL {
-        match go_back(program, mounted, next)? {
-            Some(fetched) => {
-                return Ok(LocalRun {
-                    steps,
-                    next: Some(fetched),
-                });
-            }
-            None => {
-                let more = run_top(program, mounted, MOST_LOCAL - 1 - steps);
-                steps += 1 + more.steps;
-                next = more.next;
-            }
+        if !go_back(program, mounted, &run.next)? {
+            return Ok(steps);
         }
+        *run = run_top(program, mounted, MOST_LOCAL - 1 - steps);
+        steps += 1 + run.steps;
     }
-    Ok(LocalRun { steps, next: None })
+    Ok(steps)
 }

@@ -22,6 +22,7 @@ pub struct Parts {
 }
 
 // How the program ends by its thread alone.
+#[inline(always)]
 fn thread_ending(parts: &Parts) -> Option<Ending>
     ensures { (frames : List Frame) → result ≡ threads_ending (state_of parts.now frames) }
 {
@@ -38,6 +39,7 @@ fn thread_ending(parts: &Parts) -> Option<Ending>
 }
 
 /// How the program has ended, if it has (JLS 12.8).
+#[inline(always)]
 pub(crate) fn ending_of(parts: &Parts) -> Option<Ending>
     ensures { (frames : List Frame) → result ≡ ending (state_of parts.now frames) }
 {

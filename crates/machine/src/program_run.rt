@@ -71,6 +71,7 @@ fn first_parts(alloc: Global, heap: Heap, statics: Vec<Value>) -> Parts
 }
 
 // An entry of carrier 0: so many local instructions of thread 0, and one more step.
+#[inline(always)]
 fn entry(local: u32) -> Entry
     requires { local ≤ 10000 }
     ensures { result ≡ main_entry local }

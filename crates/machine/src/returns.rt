@@ -28,6 +28,7 @@ fn leave_root(parts: &mut Parts, mounted: &mut Mounted)
 }
 
 /// The step of a thread whose top frame is at a return.
+#[inline(never)]
 pub(crate) fn return_step<W: MachineWorld>(
     world: &W,
     parts: &mut Parts,

@@ -14,7 +14,7 @@ ghost use Rattle.machine.specs.Steps.{IsKept};
 
 use crate::calls::invocation_step;
 use crate::events::event_step;
-use crate::local::{local_step, return_at};
+use crate::local::return_at;
 use crate::parts::Parts;
 use crate::returns::return_step;
 use crate::throwing::throwing_step;
@@ -29,6 +29,7 @@ use std::alloc::Global;
 use world_model::Naming;
 
 // The step of a thread whose top frame is at this instruction.
+#[inline(always)]
 fn instruction_step<W: MachineWorld>(
     alloc: Global,
     world: &W,
@@ -36,12 +37,12 @@ fn instruction_step<W: MachineWorld>(
     parts: &mut Parts,
     mounted: &mut Mounted,
     instr: &Instr,
-    naming: Naming,
+    naming: &Naming,
 ) -> Result<(), NoMemory>
     requires frame { 0 < length mounted.old.stack.frames }
     requires selected { AreSelected (W.world world.now) selections.old }
     ensures steps { OnOk result (Steps (W.world world.now)
-        (record { instr = instr.now; naming = naming })
+        (record { instr = instr.now; naming = naming.now })
         parts.old mounted.old.stack.frames parts.new mounted.new.stack.frames) }
     ensures selections { AreSelected (W.world world.now) selections.new }
 {
@@ -60,19 +61,20 @@ fn instruction_step<W: MachineWorld>(
 }
 
 /// The step of a thread that runs, whose top frame is at this instruction, which isn't one that stays in its frame.
+#[inline(always)]
 pub(crate) fn fetched_step(
     alloc: Global,
     program: &ReadyProgram,
     selections: &mut Selections,
     parts: &mut Parts,
     mounted: &mut Mounted,
-    fetched: Fetched<'_>,
+    fetched: &Fetched<'_>,
 ) -> Result<(), NoMemory>
     requires ready { IsReady program.now }
     requires typed { IsTypedState program.now (state_of parts.old mounted.old.stack.frames) }
     requires running { parts.old.status ≡ Live Run }
     requires going { ending (state_of parts.old mounted.old.stack.frames) ≡ None }
-    requires next { IsTopAt program.now mounted.old.stack.frames fetched }
+    requires next { IsTopAt program.now mounted.old.stack.frames fetched.now }
     requires selected { AreSelected program.now selections.old }
     ensures kept { OnOk result (IsKept program.now (state_of parts.old mounted.old.stack.frames)
         (state_of parts.new mounted.new.stack.frames)) }
@@ -85,31 +87,8 @@ pub(crate) fn fetched_step(
         parts,
         mounted,
         fetched.instr,
-        fetched.naming,
+        &fetched.naming,
     )
-}
-
-/// The next step of a thread that runs.
-pub(crate) fn running_step(
-    alloc: Global,
-    program: &ReadyProgram,
-    selections: &mut Selections,
-    parts: &mut Parts,
-    mounted: &mut Mounted,
-) -> Result<(), NoMemory>
-    requires ready { IsReady program.now }
-    requires typed { IsTypedState program.now (state_of parts.old mounted.old.stack.frames) }
-    requires running { parts.old.status ≡ Live Run }
-    requires going { ending (state_of parts.old mounted.old.stack.frames) ≡ None }
-    requires selected { AreSelected program.now selections.old }
-    ensures kept { OnOk result (IsKept program.now (state_of parts.old mounted.old.stack.frames)
-        (state_of parts.new mounted.new.stack.frames)) }
-    ensures selections { AreSelected program.now selections.new }
-{
-    match local_step(program, mounted) {
-        Some(fetched) => fetched_step(alloc, program, selections, parts, mounted, fetched),
-        None => Ok(()),
-    }
 }
 
 /// The next step of a thread that throws an object.

@@ -28,8 +28,9 @@ use std::alloc::Global;
 use world_model::{MethodCode, MethodInfo, Naming, Site};
 
 // The number of the method that an instruction names.
-fn method_of(naming: Naming) -> Option<u32>
-    ensures { result ≡ fetch.method_of naming.site }
+#[inline(always)]
+fn method_of(naming: &Naming) -> Option<u32>
+    ensures { result ≡ fetch.method_of naming.now.site }
 {
     match naming.site {
         Site::Method(n) => Some(n),
@@ -99,6 +100,17 @@ fn named_anew<W: CallWorld>(world: &W, n: u32) -> Option<NamedMethod>
     })
 }
 
+// Keeps a method that instructions name by this number, where it isn't kept yet.
+#[inline(never)]
+fn keep_named<W: CallWorld>(world: &W, selections: &mut Selections, n: u32)
+    requires { AreSelected (W.world world.now) selections.old }
+    ensures { AreSelected (W.world world.now) selections.new }
+{
+    if let Some(method) = named_anew(world, n) {
+        selections.keep_method(method);
+    }
+}
+
 // The same in constant time, where an earlier invocation named it.
 #[inline(always)]
 fn named<W: CallWorld>(world: &W, selections: &mut Selections, n: u32) -> Option<NamedMethod>
@@ -107,12 +119,10 @@ fn named<W: CallWorld>(world: &W, selections: &mut Selections, n: u32) -> Option
     ensures named { IfSome result (IsNamed (W.world world.now)) }
     ensures selections { AreSelected (W.world world.now) selections.new }
 {
-    if let Some(method) = selections.find_method(n) {
-        return Some(method);
+    if selections.find_method(n).is_none() {
+        keep_named(world, selections, n);
     }
-    let method = named_anew(world, n)?;
-    selections.keep_method(method);
-    Some(method)
+    selections.find_method(n)
 }
 
 // What is selected for a receiver of a class runs (JVMS 5.4.6). This goes up the superclasses.
@@ -139,6 +149,7 @@ fn selected_anew<W: CallWorld>(
 }
 
 // What an invocation on an object comes to: the late check of its class, and selection (own).
+#[inline(never)]
 fn received_anew<W: CallWorld>(
     alloc: Global,
     world: &W,
@@ -190,7 +201,7 @@ fn invoke_virtual<W: CallWorld>(
     alloc: Global,
     world: &W,
     selections: &mut Selections,
-    naming: Naming,
+    naming: &Naming,
     method: NamedMethod,
     heap: &Heap,
     mounted: &Mounted,
@@ -198,8 +209,8 @@ fn invoke_virtual<W: CallWorld>(
     requires top { HasTop mounted.now }
     requires few { method.slots ≤ 255 }
     requires selected { AreSelected (W.world world.now) selections.old }
-    ensures target { IfOk result (IsVirtual (W.world world.now) naming method.number method.slots
-        heap.now mounted.now) }
+    ensures target { IfOk result (IsVirtual (W.world world.now) naming.now method.number
+        method.slots heap.now mounted.now) }
     ensures selections { AreSelected (W.world world.now) selections.new }
 {
     let Some(receiver) = receiver_of(world, naming, method.slots, heap, mounted) else {
@@ -218,14 +229,14 @@ fn invoke_virtual<W: CallWorld>(
 #[inline(always)]
 fn invoke_special<W: CallWorld>(
     world: &W,
-    naming: Naming,
+    naming: &Naming,
     method: NamedMethod,
     heap: &Heap,
     mounted: &Mounted,
 ) -> Target
     requires top { HasTop mounted.now }
     requires named { IsNamed (W.world world.now) method }
-    ensures { IsSpecial (W.world world.now) naming method.number method.slots
+    ensures { IsSpecial (W.world world.now) naming.now method.number method.slots
         heap.now mounted.now result }
 {
     let Some(receiver) = receiver_of(world, naming, method.slots, heap, mounted) else {
@@ -244,19 +255,20 @@ fn invoke_special<W: CallWorld>(
 }
 
 /// What the invocation at the pc of a thread's top frame comes to. What it selects is kept.
+#[inline(always)]
 pub fn invoke<W: CallWorld>(
     alloc: Global,
     world: &W,
     selections: &mut Selections,
     op: &Op,
-    naming: Naming,
+    naming: &Naming,
     heap: &Heap,
     mounted: &Mounted,
 ) -> Result<Target, NoMemory>
     requires top { HasTop mounted.now }
     requires selected { AreSelected (W.world world.now) selections.old }
     ensures target { IfOk result (λ target.
-        IsInvoked (W.world world.now) naming (row op.now) heap.now mounted.now target) }
+        IsInvoked (W.world world.now) naming.now (row op.now) heap.now mounted.now target) }
     ensures selections { AreSelected (W.world world.now) selections.new }
 {
     let Some(n) = method_of(naming) else {

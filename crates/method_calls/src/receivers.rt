@@ -21,13 +21,13 @@ pub(crate) struct Receiver {
 #[inline(always)]
 pub(crate) fn receiver_of<W: CallWorld>(
     world: &W,
-    naming: Naming,
+    naming: &Naming,
     slots: u16,
     heap: &Heap,
     mounted: &Mounted,
 ) -> Option<Result<Receiver, Exception>>
     requires { HasTop mounted.now }
-    ensures { IsReceiver (W.world world.now) naming slots heap.now mounted.now result }
+    ensures { IsReceiver (W.world world.now) naming.now slots heap.now mounted.now result }
 {
     let reference = reference_operand(mounted, slots)?;
     let Some(o) = reference else {

@@ -23,6 +23,7 @@ pub enum Left {
 }
 
 /// Whether the top frame is a root frame (own).
+#[inline(always)]
 pub fn is_root<W: CallWorld>(world: &W, mounted: &Mounted) -> bool
     requires { 0 < length mounted.now.stack.frames }
     ensures { result ≡ top_is_root (W.world world.now) mounted.now.stack.frames }
@@ -31,6 +32,7 @@ pub fn is_root<W: CallWorld>(world: &W, mounted: &Mounted) -> bool
 }
 
 // What a method gives back, as its result keeps it. `None`: no value of the kind lies on top, or the method gives nothing back.
+#[inline(always)]
 fn returned_value(
     kind: Option<Kind>,
     method: &MethodInfo,
@@ -48,6 +50,7 @@ fn returned_value(
 }
 
 // Pushes what comes back on the operands of the top frame, where it has room: whether it has.
+#[inline(always)]
 fn push_back(mounted: &mut Mounted, back: Option<Value>) -> bool
     requires { 0 < length mounted.old.stack.frames }
     ensures pushed { HasPushed back mounted.old mounted.new result }
@@ -66,6 +69,7 @@ fn push_back(mounted: &mut Mounted, back: Option<Value>) -> bool
 }
 
 // The top frame goes on after its call, with what comes back: whether it can.
+#[inline(always)]
 fn go_on<W: CallWorld>(world: &W, back: Option<Value>, mounted: &mut Mounted) -> bool
     requires { 0 < length mounted.old.stack.frames }
     ensures behind { IsBehind (W.world world.now) back mounted.old mounted.new result }
@@ -83,8 +87,9 @@ fn go_on<W: CallWorld>(world: &W, back: Option<Value>, mounted: &mut Mounted) ->
     true
 }
 
-/// Leaves the top frame, with a value of a kind or without one: the frame below goes on after its call.
-pub fn leave<W: CallWorld>(world: &W, kind: Option<Kind>, mounted: &mut Mounted) -> Left
+// Leaves the top frame, as `leave` does.
+#[inline(always)]
+fn leave_with<W: CallWorld>(world: &W, kind: Option<Kind>, mounted: &mut Mounted) -> Left
     requires { 0 < length mounted.old.stack.frames }
     ensures left { IsLeft (W.world world.now) kind mounted.old mounted.new result }
     ensures thread { mounted.new.thread ≡ mounted.old.thread }
@@ -104,4 +109,20 @@ pub fn leave<W: CallWorld>(world: &W, kind: Option<Kind>, mounted: &mut Mounted)
         return Left::Undefined;
     }
     Left::Returned
+}
+
+/// Leaves the top frame, with a value of a kind or without one: the frame below goes on after its call. Each kind has code of its own, which
+/// looks at no kind again.
+#[inline(always)]
+pub fn leave<W: CallWorld>(world: &W, kind: Option<Kind>, mounted: &mut Mounted) -> Left
+    requires { 0 < length mounted.old.stack.frames }
+    ensures left { IsLeft (W.world world.now) kind mounted.old mounted.new result }
+    ensures thread { mounted.new.thread ≡ mounted.old.thread }
+{
+    match kind {
+        None => leave_with(world, None, mounted),
+        Some(Kind::Int) => leave_with(world, Some(Kind::Int), mounted),
+        Some(Kind::Long) => leave_with(world, Some(Kind::Long), mounted),
+        Some(Kind::Reference) => leave_with(world, Some(Kind::Reference), mounted),
+    }
 }

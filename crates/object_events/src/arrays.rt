@@ -29,6 +29,7 @@ use std::alloc::Global;
 use world_model::{ArrayType, Naming};
 
 /// arraylength.
+#[inline(always)]
 pub fn array_length<W: EventWorld>(world: &W, heap: &Heap, mounted: &mut Mounted) -> Outcome
     requires { HasTop mounted.old }
     ensures effect { Acts (spec.length_gotten (W.world world.now))
@@ -72,6 +73,7 @@ struct ElementTarget {
 }
 
 // What a load or a store works on, or what it throws.
+#[inline(always)]
 fn element_target<W: EventWorld>(
     world: &W,
     element: Element,
@@ -102,6 +104,7 @@ fn element_target<W: EventWorld>(
 }
 
 /// iaload, laload, aaload, baload, caload, saload.
+#[inline(always)]
 pub fn array_load<W: EventWorld>(
     world: &W,
     element: Element,
@@ -136,6 +139,7 @@ pub fn array_load<W: EventWorld>(
 }
 
 // Whether a value may be an element of an array: of an object its class decides. `None`: there is no such object.
+#[inline(always)]
 fn may_hold<W: EventWorld>(world: &W, heap: &Heap, kind: ArrayType, value: Value) -> Option<bool>
     ensures { IsHolding (W.world world.now) heap.now kind value result }
 {
@@ -149,6 +153,7 @@ fn may_hold<W: EventWorld>(world: &W, heap: &Heap, kind: ArrayType, value: Value
 }
 
 /// iastore, lastore, aastore, bastore, castore, sastore.
+#[inline(always)]
 pub fn array_store<W: EventWorld>(
     world: &W,
     element: Element,
@@ -192,14 +197,15 @@ pub fn array_store<W: EventWorld>(
 }
 
 /// newarray, anewarray: the class is that of the array.
+#[inline(never)]
 pub fn new_array<W: EventWorld>(
     world: &W,
-    naming: Naming,
+    naming: &Naming,
     heap: &mut Heap,
     mounted: &mut Mounted,
 ) -> Result<Outcome, NoMemory>
     requires { HasTop mounted.old }
-    ensures effect { IfOk result (λ o. Acts (spec.array_made (W.world world.now) naming)
+    ensures effect { IfOk result (λ o. Acts (spec.array_made (W.world world.now) naming.now)
         (with_heap heap.old) mounted.old (with_heap heap.new) mounted.new o) }
     ensures kept { IfOk result (λ o. KeptUnlessDone o mounted.old mounted.new) }
     ensures kept_heap { IfOk result (λ o. KeptUnlessDone o heap.old heap.new) }
@@ -233,16 +239,18 @@ pub fn new_array<W: EventWorld>(
 }
 
 /// multianewarray: the class is that of the outer array.
+#[inline(never)]
 pub fn new_arrays<W: EventWorld>(
     alloc: Global,
     world: &W,
     dimensions: u8,
-    naming: Naming,
+    naming: &Naming,
     heap: &mut Heap,
     mounted: &mut Mounted,
 ) -> Result<Outcome, NoMemory>
     requires { HasTop mounted.old }
-    ensures effect { IfOk result (λ o. Acts (spec.arrays_made (W.world world.now) dimensions naming)
+    ensures effect { IfOk result (λ o. Acts
+        (spec.arrays_made (W.world world.now) dimensions naming.now)
         (with_heap heap.old) mounted.old (with_heap heap.new) mounted.new o) }
     ensures kept { IfOk result (λ o. KeptUnlessDone o mounted.old mounted.new) }
     ensures kept_heap { IfOk result (λ o. KeptUnlessDone o heap.old heap.new) }

@@ -22,16 +22,17 @@ use std::alloc::Global;
 use world_model::Naming;
 
 // An instruction without operands in the code.
+#[inline(always)]
 fn run_simple<W: EventWorld>(
     world: &W,
     simple: Simple,
-    naming: Naming,
+    naming: &Naming,
     heap: &mut Heap,
     statics: &mut [Value],
     mounted: &mut Mounted,
 ) -> Outcome
     requires { HasTop mounted.old }
-    ensures { IsRun (W.world world.now) naming (simple_row simple)
+    ensures { IsRun (W.world world.now) naming.now (simple_row simple)
         heap.old heap.new statics.old statics.new mounted.old mounted.new result }
 {
     match simple {
@@ -47,6 +48,49 @@ fn run_simple<W: EventWorld>(
     }
 }
 
+/// An instruction without operands in the code. Every other one is undefined.
+#[inline(always)]
+pub fn run_plain<W: EventWorld>(
+    world: &W,
+    op: &Op,
+    naming: &Naming,
+    heap: &mut Heap,
+    statics: &mut [Value],
+    mounted: &mut Mounted,
+) -> Outcome
+    requires { HasTop mounted.old }
+    ensures { IsRun (W.world world.now) naming.now (row op.now)
+        heap.old heap.new statics.old statics.new mounted.old mounted.new result }
+{
+    match op {
+        Op::Simple(simple) => run_simple(world, *simple, naming, heap, statics, mounted),
+        _ => Outcome::Undefined,
+    }
+}
+
+/// An instruction on a field: getstatic, putstatic, getfield or putfield. Every other one is undefined.
+#[inline(always)]
+pub fn run_field<W: EventWorld>(
+    world: &W,
+    op: &Op,
+    naming: &Naming,
+    heap: &mut Heap,
+    statics: &mut [Value],
+    mounted: &mut Mounted,
+) -> Outcome
+    requires { HasTop mounted.old }
+    ensures { IsRun (W.world world.now) naming.now (row op.now)
+        heap.old heap.new statics.old statics.new mounted.old mounted.new result }
+{
+    match op {
+        Op::GetStatic(_) => get_static(world, naming, statics, mounted),
+        Op::PutStatic(_) => put_static(world, naming, statics, mounted),
+        Op::GetField(_) => get_field(world, naming, heap, mounted),
+        Op::PutField(_) => put_field(world, naming, heap, mounted),
+        _ => Outcome::Undefined,
+    }
+}
+
 // Whether an array's elements are floats or doubles.
 fn is_floating(primitive: Primitive) -> bool
     ensures { result ≡ spec.is_floating primitive }
@@ -58,13 +102,13 @@ fn is_floating(primitive: Primitive) -> bool
 fn new_primitive_array<W: EventWorld>(
     world: &W,
     primitive: Primitive,
-    naming: Naming,
+    naming: &Naming,
     heap: &mut Heap,
     mounted: &mut Mounted,
 ) -> Result<Outcome, NoMemory>
     requires { HasTop mounted.old }
-    ensures { IfOk result (λ outcome. IsHeapRun (W.world world.now) naming (new_array_row primitive)
-        heap.old heap.new mounted.old mounted.new outcome) }
+    ensures { IfOk result (λ outcome. IsHeapRun (W.world world.now) naming.now
+        (new_array_row primitive) heap.old heap.new mounted.old mounted.new outcome) }
 {
     if is_floating(primitive) {
         return Ok(Outcome::Undefined);
@@ -74,25 +118,25 @@ fn new_primitive_array<W: EventWorld>(
 
 /// An instruction on fields, arrays or objects, or a division by 0, in the thread whose top frame is at it. Every other one is
 /// undefined.
+#[inline(always)]
 pub fn run_event<W: EventWorld>(
     alloc: Global,
     world: &W,
     op: &Op,
-    naming: Naming,
+    naming: &Naming,
     heap: &mut Heap,
     statics: &mut [Value],
     mounted: &mut Mounted,
 ) -> Result<Outcome, NoMemory>
     requires { HasTop mounted.old }
-    ensures { IfOk result (λ outcome. IsRun (W.world world.now) naming (row op.now)
+    ensures { IfOk result (λ outcome. IsRun (W.world world.now) naming.now (row op.now)
         heap.old heap.new statics.old statics.new mounted.old mounted.new outcome) }
 {
     match op {
-        Op::Simple(simple) => Ok(run_simple(world, *simple, naming, heap, statics, mounted)),
-        Op::GetStatic(_) => Ok(get_static(world, naming, statics, mounted)),
-        Op::PutStatic(_) => Ok(put_static(world, naming, statics, mounted)),
-        Op::GetField(_) => Ok(get_field(world, naming, heap, mounted)),
-        Op::PutField(_) => Ok(put_field(world, naming, heap, mounted)),
+        Op::Simple(_) => Ok(run_plain(world, op, naming, heap, statics, mounted)),
+        Op::GetStatic(_) | Op::PutStatic(_) | Op::GetField(_) | Op::PutField(_) => {
+            Ok(run_field(world, op, naming, heap, statics, mounted))
+        }
         Op::New(_) => new_object(world, naming, heap, mounted),
         Op::NewArray(primitive) => new_primitive_array(world, *primitive, naming, heap, mounted),
         Op::ANewArray(_) => new_array(world, naming, heap, mounted),

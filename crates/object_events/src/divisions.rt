@@ -9,6 +9,7 @@ use continuation::Mounted;
 use ref_model::Exception;
 
 /// idiv and irem, where the divisor is 0.
+#[inline(always)]
 pub fn divide_ints(mounted: &Mounted) -> Outcome
     requires { HasTop mounted.now }
     ensures { DividesInts mounted.now result }
@@ -26,6 +27,7 @@ pub fn divide_ints(mounted: &Mounted) -> Outcome
 }
 
 /// ldiv and lrem, where the divisor is 0.
+#[inline(always)]
 pub fn divide_longs(mounted: &Mounted) -> Outcome
     requires { HasTop mounted.now }
     ensures { DividesLongs mounted.now result }

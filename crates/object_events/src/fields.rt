@@ -20,8 +20,9 @@ use ref_model::Exception;
 use world_model::{FieldInfo, Naming, Site};
 
 // The number of the field that an instruction names.
-fn field_of(naming: Naming) -> Option<u32>
-    ensures { result ≡ fetch.field_of naming.site }
+#[inline(always)]
+fn field_of(naming: &Naming) -> Option<u32>
+    ensures { result ≡ fetch.field_of naming.now.site }
 {
     match naming.site {
         Site::Field(n) => Some(n),
@@ -30,14 +31,15 @@ fn field_of(naming: Naming) -> Option<u32>
 }
 
 /// getstatic.
+#[inline(always)]
 pub fn get_static<W: EventWorld>(
     world: &W,
-    naming: Naming,
+    naming: &Naming,
     statics: &[Value],
     mounted: &mut Mounted,
 ) -> Outcome
     requires { HasTop mounted.old }
-    ensures effect { Acts (spec.static_gotten (W.world world.now) naming)
+    ensures effect { Acts (spec.static_gotten (W.world world.now) naming.now)
         (with_statics statics.now) mounted.old (with_statics statics.now) mounted.new result }
     ensures kept { KeptUnlessDone result mounted.old mounted.new }
     ensures only { ChangesOperands mounted.old mounted.new }
@@ -52,6 +54,7 @@ pub fn get_static<W: EventWorld>(
 }
 
 // The value that a store into a field takes, as the field keeps it. `None`: no value of the field's kind lies on top.
+#[inline(always)]
 fn stored(field: &FieldInfo, mounted: &Mounted) -> Option<Value>
     requires { HasTop mounted.now }
     ensures { IsStored field.now result (operands mounted.now) }
@@ -61,6 +64,7 @@ fn stored(field: &FieldInfo, mounted: &Mounted) -> Option<Value>
 }
 
 // Sets the value at a place, where there is one: whether there is.
+#[inline(always)]
 fn set_static(statics: &mut [Value], place: u32, value: Value) -> bool
     ensures { IsPut place value statics.old statics.new result }
 {
@@ -72,14 +76,15 @@ fn set_static(statics: &mut [Value], place: u32, value: Value) -> bool
 }
 
 /// putstatic.
+#[inline(always)]
 pub fn put_static<W: EventWorld>(
     world: &W,
-    naming: Naming,
+    naming: &Naming,
     statics: &mut [Value],
     mounted: &mut Mounted,
 ) -> Outcome
     requires { HasTop mounted.old }
-    ensures effect { Acts (spec.static_put (W.world world.now) naming)
+    ensures effect { Acts (spec.static_put (W.world world.now) naming.now)
         (with_statics statics.old) mounted.old (with_statics statics.new) mounted.new result }
     ensures kept { KeptUnlessDone result mounted.old mounted.new }
     ensures kept_statics { KeptUnlessDone result statics.old statics.new }
@@ -102,6 +107,7 @@ pub fn put_static<W: EventWorld>(
 }
 
 /// What is thrown where an object isn't an instance of the class that an instruction names (own).
+#[inline(never)]
 pub fn late_failure<W: EventWorld>(world: &W, class: u32) -> Exception
     ensures { result ≡ effects.late_failure (W.world world.now) class }
 {
@@ -120,14 +126,15 @@ struct FieldTarget {
 }
 
 // What a field instruction works on, or what it throws. `None`: that is undefined.
+#[inline(always)]
 fn field_target<W: EventWorld>(
     world: &W,
-    naming: Naming,
+    naming: &Naming,
     heap: &Heap,
     n: u32,
     reference: Option<u32>,
 ) -> Option<Result<FieldTarget, Exception>>
-    ensures { IsTarget (W.world world.now) naming heap.now n reference result }
+    ensures { IsTarget (W.world world.now) naming.now heap.now n reference result }
 {
     let Some(object) = reference else {
         return Some(Err(Exception::NullPointerException));
@@ -142,14 +149,15 @@ fn field_target<W: EventWorld>(
 }
 
 /// getfield.
+#[inline(always)]
 pub fn get_field<W: EventWorld>(
     world: &W,
-    naming: Naming,
+    naming: &Naming,
     heap: &Heap,
     mounted: &mut Mounted,
 ) -> Outcome
     requires { HasTop mounted.old }
-    ensures effect { Acts (spec.field_gotten (W.world world.now) naming)
+    ensures effect { Acts (spec.field_gotten (W.world world.now) naming.now)
         (with_heap heap.now) mounted.old (with_heap heap.now) mounted.new result }
     ensures kept { KeptUnlessDone result mounted.old mounted.new }
     ensures only { ChangesOperands mounted.old mounted.new }
@@ -182,14 +190,15 @@ pub fn get_field<W: EventWorld>(
 }
 
 /// putfield.
+#[inline(always)]
 pub fn put_field<W: EventWorld>(
     world: &W,
-    naming: Naming,
+    naming: &Naming,
     heap: &mut Heap,
     mounted: &mut Mounted,
 ) -> Outcome
     requires { HasTop mounted.old }
-    ensures effect { Acts (spec.field_put (W.world world.now) naming)
+    ensures effect { Acts (spec.field_put (W.world world.now) naming.now)
         (with_heap heap.old) mounted.old (with_heap heap.new) mounted.new result }
     ensures kept { KeptUnlessDone result mounted.old mounted.new }
     ensures kept_heap { KeptUnlessDone result heap.old heap.new }

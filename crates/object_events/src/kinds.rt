@@ -13,6 +13,7 @@ use opcodes::{Element, Kind};
 use stack_maps::Base;
 use world_model::ArrayType;
 
+#[inline(always)]
 fn kind_of_element_type(element: &ElementType) -> Kind
     ensures { result ≡ spec.kind_of_element_type element.now }
 {
@@ -28,6 +29,7 @@ fn kind_of_element_type(element: &ElementType) -> Kind
 }
 
 /// The kind of the values of a type.
+#[inline(always)]
 pub(crate) fn value_kind(field: &FieldType) -> Kind
     ensures { result ≡ spec.value_kind field.now }
 {
@@ -38,6 +40,7 @@ pub(crate) fn value_kind(field: &FieldType) -> Kind
     }
 }
 
+#[inline(always)]
 fn kept_of_element(element: &ElementType, n: i32) -> i32
     ensures { result ≡ spec.kept_of_element element.now n }
 {
@@ -50,6 +53,7 @@ fn kept_of_element(element: &ElementType, n: i32) -> i32
     }
 }
 
+#[inline(always)]
 fn kept_of(field: &FieldType, n: i32) -> i32
     ensures { result ≡ spec.kept_of field.now n }
 {
@@ -61,6 +65,7 @@ fn kept_of(field: &FieldType, n: i32) -> i32
 }
 
 /// What a field of this type keeps of a value (JVMS 6.5: putfield, putstatic).
+#[inline(always)]
 pub fn kept(field: &FieldType, value: Value) -> Value
     ensures { result ≡ spec.kept field.now value }
 {
@@ -72,6 +77,7 @@ pub fn kept(field: &FieldType, value: Value) -> Value
     }
 }
 
+#[inline(always)]
 fn kept_of_base(base: Base, n: i32) -> i32
     ensures { result ≡ spec.kept_of_base base n }
 {
@@ -85,6 +91,7 @@ fn kept_of_base(base: Base, n: i32) -> i32
 }
 
 /// What an element of an array keeps of a value (JVMS 6.5: bastore, castore, sastore).
+#[inline(always)]
 pub(crate) fn kept_in(array: ArrayType, value: Value) -> Value
     ensures { result ≡ spec.kept_in array value }
 {
@@ -97,6 +104,7 @@ pub(crate) fn kept_in(array: ArrayType, value: Value) -> Value
 }
 
 /// The kind of the elements that an array instruction loads or stores.
+#[inline(always)]
 pub(crate) fn element_kind(element: Element) -> Kind
     ensures { result ≡ kind_of_element element }
 {
@@ -107,6 +115,7 @@ pub(crate) fn element_kind(element: Element) -> Kind
     }
 }
 
+#[inline(always)]
 fn is_element(element: Element, base: Base) -> bool
     ensures { result ≡ operands.is_element element base }
 {
@@ -122,6 +131,7 @@ fn is_element(element: Element, base: Base) -> bool
 }
 
 /// Whether an array instruction serves for arrays of this type (JVMS 6.5; baload and bastore serve for booleans too).
+#[inline(always)]
 pub(crate) fn serves(element: Element, array: ArrayType) -> bool
     ensures { result ≡ operands.serves element (types.Named array.dimensions array.base) }
 {

@@ -15,7 +15,7 @@ mod reads;
 mod world;
 
 pub use arrays::{array_length, array_load, array_store, new_array, new_arrays};
-pub use dispatch::run_event;
+pub use dispatch::{run_event, run_field, run_plain};
 pub use divisions::{divide_ints, divide_longs};
 pub use fields::{get_field, get_static, late_failure, put_field, put_static};
 pub use kinds::kept;

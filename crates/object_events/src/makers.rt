@@ -10,6 +10,7 @@ use instruction_rows::Value;
 use items::NoMemory;
 
 /// An object with these values: its number. `None`: it has no room in the heap.
+#[inline(always)]
 pub fn make_object(heap: &mut Heap, class: u32, values: &[Value]) -> Result<Option<u32>, NoMemory>
     ensures made { IfOk result (λ found.
         IsMade (λ r. spec.with_instance r class values.now) heap.old heap.new found) }

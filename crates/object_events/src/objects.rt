@@ -19,8 +19,9 @@ use ref_model::Exception;
 use world_model::{Naming, Site};
 
 // The class that an instruction names.
-pub(crate) fn class_of(naming: Naming) -> Option<u32>
-    ensures { result ≡ fetch.class_of naming.site }
+#[inline(always)]
+pub(crate) fn class_of(naming: &Naming) -> Option<u32>
+    ensures { result ≡ fetch.class_of naming.now.site }
 {
     match naming.site {
         Site::Class(n) => Some(n),
@@ -29,14 +30,15 @@ pub(crate) fn class_of(naming: Naming) -> Option<u32>
 }
 
 /// checkcast. The operand stays where it is.
+#[inline(never)]
 pub fn check_cast<W: EventWorld>(
     world: &W,
-    naming: Naming,
+    naming: &Naming,
     heap: &Heap,
     mounted: &Mounted,
 ) -> Outcome
     requires { HasTop mounted.now }
-    ensures { Acts (spec.object_cast (W.world world.now) naming)
+    ensures { Acts (spec.object_cast (W.world world.now) naming.now)
         (with_heap heap.now) mounted.now (with_heap heap.now) mounted.now result }
 {
     let Some(class) = class_of(naming) else {
@@ -56,14 +58,15 @@ pub fn check_cast<W: EventWorld>(
 }
 
 /// instanceof.
+#[inline(never)]
 pub fn instance_of<W: EventWorld>(
     world: &W,
-    naming: Naming,
+    naming: &Naming,
     heap: &Heap,
     mounted: &mut Mounted,
 ) -> Outcome
     requires { HasTop mounted.old }
-    ensures effect { Acts (spec.object_judged (W.world world.now) naming)
+    ensures effect { Acts (spec.object_judged (W.world world.now) naming.now)
         (with_heap heap.now) mounted.old (with_heap heap.now) mounted.new result }
     ensures kept { KeptUnlessDone result mounted.old mounted.new }
     ensures only { ChangesOperands mounted.old mounted.new }
@@ -84,6 +87,7 @@ pub fn instance_of<W: EventWorld>(
 }
 
 /// athrow.
+#[inline(always)]
 pub fn throw_object(mounted: &Mounted) -> Outcome
     requires { HasTop mounted.now }
     ensures { ActsAlone spec.object_thrown mounted.now result }
@@ -96,14 +100,15 @@ pub fn throw_object(mounted: &Mounted) -> Outcome
 }
 
 /// new: an object whose fields have their first values.
+#[inline(always)]
 pub fn new_object<W: EventWorld>(
     world: &W,
-    naming: Naming,
+    naming: &Naming,
     heap: &mut Heap,
     mounted: &mut Mounted,
 ) -> Result<Outcome, NoMemory>
     requires { HasTop mounted.old }
-    ensures effect { IfOk result (λ o. Acts (spec.object_made (W.world world.now) naming)
+    ensures effect { IfOk result (λ o. Acts (spec.object_made (W.world world.now) naming.now)
         (with_heap heap.old) mounted.old (with_heap heap.new) mounted.new o) }
     ensures kept { IfOk result (λ o. KeptUnlessDone o mounted.old mounted.new) }
     ensures kept_heap { IfOk result (λ o. KeptUnlessDone o heap.old heap.new) }

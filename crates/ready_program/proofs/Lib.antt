@@ -2,3 +2,4 @@ mod FieldLaws
 mod HandlerLaws
 mod InstructionLaws
 mod TableLaws
+mod SubtypeLaws

@@ -1,5 +1,5 @@
 -- Look-ups in the tables of a program that is ready to run.
-use Rattle.std.proofs.Common.{◌≡◌, ℕ, zero, suc, ◌+◌, ◌<◌, ◌≤◌, List, [], ◌∷◌, ◌++◌, length, map, take, get_or, Option, None, unwrap_or, refl, sym, ap, ◌∙◌, ⊎_elim, arith}
+use Rattle.std.proofs.Common.{◌≡◌, ℕ, zero, suc, ◌+◌, ◌<◌, ◌≤◌, List, [], ◌∷◌, ◌++◌, length, map, take, get_or, Bool, false, Option, None, unwrap_or, refl, sym, ap, ◌∙◌, ⊎_elim, arith}
 use Rattle.std.specs.Prelude.{filter, flat_map, reverse, slice_get}
 use Rattle.std.specs.Option.{option_and_then}
 use Rattle.std.proofs.lemmas.Bool.{cases_lt}
@@ -11,7 +11,8 @@ use Rattle.class_resolution.specs.Tables.{row_at, tabulate}
 use Rattle.class_resolution.proofs.TableLaws.{get_tabulate, past_tabulate, row-tabulate}
 use Rattle.class_resolution.proofs.HierarchyLaws.{no_superclasses}
 use Rattle.world_model.specs.World.{World}
-use Rattle.ref_model.specs.Members.{own_fields, is_static_field, field_zero, method_place, native_at, new_values, static_place}
+use Rattle.ref_model.specs.Members.{own_fields, is_static_field, field_place, field_zero, method_place, native_at, new_values, static_place}
+use Rattle.ready_program.specs.Places.{initializer_of}
 
 -- the entry of a table, where the function gives none past the end
 entry-tabulate : {A : Type 0} (f : ℕ → Option A) (n : ℕ) → ((c : ℕ) → n ≤ c → f c ≡ None) → (c : ℕ)
@@ -19,6 +20,13 @@ entry-tabulate : {A : Type 0} (f : ℕ → Option A) (n : ℕ) → ((c : ℕ) �
 entry-tabulate f n none c =
     ⊎_elim (λ (h : c < n). ap (option_and_then (λ o. o)) (get_tabulate f n c h))
     (λ (h : n ≤ c). ap (option_and_then (λ o. o)) (past_tabulate f n c h) ∙ sym (none c h)) (cases_lt c n)
+
+-- the same of a function that gives some value past the end
+entry_or-tabulate : {A : Type 0} (f : ℕ → A) (n : ℕ) (past : A) → ((c : ℕ) → n ≤ c → f c ≡ past) → (c : ℕ)
+    → unwrap_or (slice_get (tabulate f n) c) past ≡ f c
+entry_or-tabulate f n past none c =
+    ⊎_elim (λ (h : c < n). ap (λ o. unwrap_or o past) (get_tabulate f n c h))
+    (λ (h : n ≤ c). ap (λ o. unwrap_or o past) (past_tabulate f n c h) ∙ sym (none c h)) (cases_lt c n)
 
 -- ---- methods
 
@@ -34,6 +42,12 @@ places_are w n = entry-tabulate (method_place w) (length w.methods) (no_place w)
 pub natives_are : (w : World) (n : ℕ) → option_and_then (λ o. o) (slice_get (tabulate (native_at w) (length w.methods)) n) ≡ native_at w n
 natives_are w n = entry-tabulate (native_at w) (length w.methods) (no_native w) n
 
+no_initializer : (w : World) (n : ℕ) → length w.methods ≤ n → initializer_of w n ≡ false
+no_initializer w n h = rw (slice_get_past w.methods n h) refl
+
+pub initializers_are : (w : World) (n : ℕ) → unwrap_or (slice_get (tabulate (initializer_of w) (length w.methods)) n) false ≡ initializer_of w n
+initializers_are w n = entry_or-tabulate (initializer_of w) (length w.methods) false (no_initializer w) n
+
 -- ---- classes
 
 no_values : (w : World) (c : ℕ) → length w.program.classes ≤ c → new_values w c ≡ []
@@ -41,6 +55,15 @@ no_values w c h = ap (λ cs. map (field_zero w) (flat_map (own_fields w) (revers
 
 pub values_are : (w : World) (c : ℕ) → row_at (tabulate (new_values w) (length w.program.classes)) c ≡ new_values w c
 values_are w c = row-tabulate (new_values w) (length w.program.classes) (no_values w) c
+
+-- ---- instance fields
+
+no_field : (w : World) (n : ℕ) → length w.fields ≤ n → field_place w n ≡ None
+no_field w n h = rw (slice_get_past w.fields n h) refl
+
+pub instance_places_are : (w : World) (n : ℕ)
+    → option_and_then (λ o. o) (slice_get (tabulate (field_place w) (length w.fields)) n) ≡ field_place w n
+instance_places_are w n = entry-tabulate (field_place w) (length w.fields) (no_field w) n
 
 -- ---- static fields
 

@@ -15,6 +15,7 @@ mod lookups;
 mod methods;
 mod program;
 mod static_places;
+mod subtypes;
 mod tables;
 mod typing;
 

@@ -5,7 +5,7 @@ ghost use Rattle.class_resolution.specs.Tables.{tabulate};
 ghost use Rattle.class_grammar.specs.Text.{same_text};
 ghost use Rattle.linkage.specs.Program.{class_at, own_name as name_of};
 ghost use Rattle.ref_model.specs.Members as spec;
-ghost use Rattle.ready_program.specs.Places.{native_of_place};
+ghost use Rattle.ready_program.specs.Places.{initializer_of, native_of_place};
 
 use class_grammar::is_same;
 use class_model::{ACC_SYNCHRONIZED, ClassFile, Member};
@@ -94,11 +94,33 @@ pub(crate) fn is_synchronized(method: &MethodInfo) -> bool
     has_flag(method.flags, ACC_SYNCHRONIZED)
 }
 
-/// Whether a method is a class initializer (JVMS 2.9.2).
-pub(crate) fn is_initializer(method: &MethodInfo) -> bool
+// Whether a method is a class initializer (JVMS 2.9.2).
+fn is_initializer(method: &MethodInfo) -> bool
     ensures { result ≡ spec.is_initializer method.now }
 {
     is_same(&method.name, b"<clinit>")
+}
+
+// Whether the method of a number is a class initializer. `false`: also where there is none.
+fn initializer_at(tables: &Tables, n: u32) -> bool
+    ensures { result ≡ initializer_of tables.now n }
+{
+    match tables.method(n) {
+        Some(method) => is_initializer(method),
+        None => false,
+    }
+}
+
+/// Whether each method is a class initializer, by their numbers.
+pub(crate) fn all_initializers(alloc: Global, tables: &Tables) -> Result<Vec<bool>, NoMemory>
+    ensures { IfOk result (λ v. v.items
+        ≡ tabulate (initializer_of tables.now) (length tables.now.methods)) }
+{
+    let mut flags = Vec::new(alloc);
+    for n in 0..tables.method_count() {
+        flags.push(initializer_at(tables, n))?;
+    }
+    Ok(flags)
 }
 
 // Whether a class is jvt.Native.

@@ -21,11 +21,11 @@ use crate::class_names::class_name;
 use crate::exception_classes::exception_in;
 use crate::field_values::values_at;
 use crate::handlers::handler_in;
-use crate::instance_places::instance_place;
 use crate::instructions::instruction;
-use crate::methods::{is_hold, is_initializer, is_synchronized};
+use crate::methods::{is_hold, is_synchronized};
 use crate::static_places::static_place_in;
-use crate::tables::{ReadyTables, class_entry, native_entry, place_entry, tables_of};
+use crate::subtypes::is_sub;
+use crate::tables::{ReadyTables, flag_entry, native_entry, number_entry, place_entry, tables_of};
 use class_world::World;
 use instruction_rows::Value;
 use interp_local::{Fetched, Prepared};
@@ -175,14 +175,12 @@ impl ReadyProgram {
     }
 
     /// Whether a method is a class initializer (JVMS 2.9.2). `false`: also where there is no method of this number.
+    #[inline(always)]
     pub fn is_initializer(&self, n: u32) -> bool
         ensures { result ≡
             option_map_or members.is_initializer (slice_get self.now.methods n) false }
     {
-        match self.method(n) {
-            Some(method) => is_initializer(method),
-            None => false,
-        }
+        flag_entry(&self.extra.initializers, n)
     }
 
     /// The pc after the instruction at a pc of a method. `None`: none begins there.
@@ -273,7 +271,7 @@ impl ReadyProgram {
     pub fn field_place(&self, field: u32) -> Option<u32>
         ensures { result ≡ members.field_place self.now field }
     {
-        instance_place(self.tables(), field)
+        number_entry(&self.extra.instance_places, field)
     }
 
     /// The numbers of the fields of an object of a class, those of the superclass first.
@@ -297,7 +295,7 @@ impl ReadyProgram {
     pub fn is_sub(&self, class: u32, other: u32) -> bool
         ensures { result ≡ classes.is_sub self.now class other }
     {
-        self.world().is_sub(class, other)
+        is_sub(self.world(), class, other)
     }
 
     /// Whether an object of a class may be an element of an array (JVMS 6.5: aastore).
@@ -333,7 +331,7 @@ impl ReadyProgram {
         if class < count {
             return None;
         }
-        class_entry(&self.extra.inner_classes, class - count)
+        number_entry(&self.extra.inner_classes, class - count)
     }
 
     /// The number of java/lang/String.

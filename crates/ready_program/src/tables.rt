@@ -1,13 +1,14 @@
 //! The tables that are made once, so that later answers take constant time.
 
-ghost use Rattle.std.specs.Prelude.{◌≡◌, slice_get, IfOk};
+ghost use Rattle.std.specs.Prelude.{◌≡◌, false, slice_get, unwrap_or, IfOk};
 ghost use Rattle.std.specs.Option.{option_and_then};
 ghost use Rattle.ready_program.specs.Tables.{HasTables};
 
 use crate::array_classes::all_inner_classes;
 use crate::exception_classes::{ExceptionClasses, exception_classes};
 use crate::field_values::all_new_values;
-use crate::methods::{all_natives, all_places};
+use crate::instance_places::all_instance_places;
+use crate::methods::{all_initializers, all_natives, all_places};
 use crate::static_places::{StaticPlaces, all_static_places};
 use instruction_rows::Value;
 use items::{Items, NoMemory};
@@ -16,14 +17,16 @@ use linkage::Place;
 use std::alloc::Global;
 use world_tables::Tables;
 
-/// By method: where it is declared, and what the machine does in place of its code. By class: the values of a new object. By field: how
-/// many static fields come before it. By array class: the class of its elements.
+/// By method: where it is declared, what the machine does in place of its code, and whether it is a class initializer. By class: the values
+/// of a new object. By field: how many static fields come before it, and its place in an object. By array class: the class of its elements.
 #[derive(Drop)]
 pub(crate) struct ReadyTables {
     pub(crate) places: Vec<Option<Place>>,
     pub(crate) natives: Vec<Option<Native>>,
+    pub(crate) initializers: Vec<bool>,
     pub(crate) new_values: Vec<Items<Value>>,
     pub(crate) static_places: StaticPlaces,
+    pub(crate) instance_places: Vec<Option<u32>>,
     pub(crate) inner_classes: Vec<Option<u32>>,
     pub(crate) exceptions: ExceptionClasses,
 }
@@ -34,15 +37,19 @@ pub(crate) fn tables_of(alloc: Global, tables: &Tables) -> Result<ReadyTables, N
 {
     let places = all_places(alloc, tables)?;
     let natives = all_natives(alloc, tables)?;
+    let initializers = all_initializers(alloc, tables)?;
     let new_values = all_new_values(alloc, tables)?;
     let static_places = all_static_places(alloc, tables)?;
+    let instance_places = all_instance_places(alloc, tables)?;
     let inner_classes = all_inner_classes(alloc, tables)?;
     let exceptions = exception_classes(alloc, tables)?;
     Ok(ReadyTables {
         places,
         natives,
+        initializers,
         new_values,
         static_places,
+        instance_places,
         inner_classes,
         exceptions,
     })
@@ -70,13 +77,24 @@ pub(crate) fn native_entry(table: &[Option<Native>], n: u32) -> Option<Native>
     }
 }
 
-/// The same of classes.
+/// The same of numbers.
 #[inline(always)]
-pub(crate) fn class_entry(table: &[Option<u32>], n: u32) -> Option<u32>
+pub(crate) fn number_entry(table: &[Option<u32>], n: u32) -> Option<u32>
     ensures { result ≡ option_and_then (λ o. o) (slice_get table.now n) }
 {
     match table.get(n as usize) {
         Some(entry) => *entry,
         None => None,
+    }
+}
+
+/// The flag at a place of a table; past its end false.
+#[inline(always)]
+pub(crate) fn flag_entry(table: &[bool], n: u32) -> bool
+    ensures { result ≡ unwrap_or (slice_get table.now n) false }
+{
+    match table.get(n as usize) {
+        Some(flag) => *flag,
+        None => false,
     }
 }

@@ -7,7 +7,7 @@ use Rattle.machine.proofs.calls.invocation_step.Goals as goal
 pub returns-in-Native-clause-steps : goal.returns-in-Native-clause-steps
 returns-in-Native-clause-steps g c =
     let w = g.W.EventWorld.world c.args.world.now in
-    let i : Instruction = record { instr = c.args.instr.now; naming = c.args.naming } in
+    let i : Instruction = record { instr = c.args.instr.now; naming = c.args.naming.now } in
     on_ok c.native_step.result c.native_step.ensures
     (native_stepped w i c.args.parts.now c.native_step.new.parts c.args.mounted.now c.native_step.new.mounted.stack.frames c.in-Native.native
     (subst (ComesTo w i c.args.parts.now c.args.mounted.now) c.in-Native.is c.in_ok-target.ensures.target))
@@ -15,7 +15,7 @@ returns-in-Native-clause-steps g c =
 pub returns-in-Code-clause-steps : goal.returns-in-Code-clause-steps
 returns-in-Code-clause-steps g c =
     let w = g.W.EventWorld.world c.args.world.now in
-    let i : Instruction = record { instr = c.args.instr.now; naming = c.args.naming } in
+    let i : Instruction = record { instr = c.args.instr.now; naming = c.args.naming.now } in
     on_ok c.code_step.result c.code_step.ensures
     (code_stepped w i c.args.parts.now c.code_step.new.parts c.args.mounted.now c.code_step.new.mounted.stack.frames c.in-Code.callee
     (subst (ComesTo w i c.args.parts.now c.args.mounted.now) c.in-Code.is c.in_ok-target.ensures.target))
@@ -23,7 +23,7 @@ returns-in-Code-clause-steps g c =
 pub returns-in-Throws-clause-steps : goal.returns-in-Throws-clause-steps
 returns-in-Throws-clause-steps g c =
     let w = g.W.EventWorld.world c.args.world.now in
-    let i : Instruction = record { instr = c.args.instr.now; naming = c.args.naming } in
+    let i : Instruction = record { instr = c.args.instr.now; naming = c.args.naming.now } in
     on_ok c.raise.result c.raise.ensures
     (throws_stepped w i c.args.parts.now c.raise.new.parts c.args.mounted.now c.in-Throws.exception
     (subst (ComesTo w i c.args.parts.now c.args.mounted.now) c.in-Throws.is c.in_ok-target.ensures.target))

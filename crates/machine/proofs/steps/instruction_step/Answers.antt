@@ -7,5 +7,5 @@ use Rattle.machine.proofs.steps.instruction_step.Goals as goal
 pub returns-in-Some-clause-steps : goal.returns-in-Some-clause-steps
 returns-in-Some-clause-steps g c =
     on_ok c.return_step.result c.return_step.ensures
-    (λ steps f below top at. steps f below (record { instr = c.args.instr.now; naming = c.args.naming }) top at
+    (λ steps f below top at. steps f below (record { instr = c.args.instr.now; naming = c.args.naming.now }) top at
     (kind_row (row_of c.args.instr.now.op) c.in-Some.returns.kind (sym c.in-Some.ensures)))

@@ -11,7 +11,7 @@ use Rattle.method_calls.proofs.invocations.invoke.Goals as goal
 pub returns-in-InvokeStatic-clause-target : goal.returns-in-InvokeStatic-clause-target
 returns-in-InvokeStatic-clause-target g c = λ r depth.
     let w = g.W.EventWorld.world c.args.world.now in
-    let naming = c.args.naming in
+    let naming = c.args.naming.now in
     let m = c.in-Some-named.method in
     let is = c.in-Some-named.ensures.named in
     let q = with_heap c.args.heap.now r in
@@ -24,7 +24,7 @@ returns-in-InvokeStatic-clause-target g c = λ r depth.
 pub returns-in-InvokeSpecial-clause-target : goal.returns-in-InvokeSpecial-clause-target
 returns-in-InvokeSpecial-clause-target g c = λ r depth.
     let w = g.W.EventWorld.world c.args.world.now in
-    let naming = c.args.naming in
+    let naming = c.args.naming.now in
     let m = c.in-Some-named.method in
     let is = c.in-Some-named.ensures.named in
     let q = with_heap c.args.heap.now r in
@@ -37,7 +37,7 @@ returns-in-InvokeSpecial-clause-target g c = λ r depth.
 pub returns-in-InvokeVirtual-clause-target : goal.returns-in-InvokeVirtual-clause-target
 returns-in-InvokeVirtual-clause-target g c =
     let w = g.W.EventWorld.world c.args.world.now in
-    let naming = c.args.naming in
+    let naming = c.args.naming.now in
     let m = c.in-Some-named.method in
     let is = c.in-Some-named.ensures.named in
     let site : Some m.number ≡ method_of naming.site = ap Some c.in-Some-named.ensures.number ∙ c.in-Some.ensures in
@@ -52,7 +52,7 @@ returns-in-InvokeVirtual-clause-target g c =
 pub returns-in-InvokeInterface-clause-target : goal.returns-in-InvokeInterface-clause-target
 returns-in-InvokeInterface-clause-target g c =
     let w = g.W.EventWorld.world c.args.world.now in
-    let naming = c.args.naming in
+    let naming = c.args.naming.now in
     let m = c.in-Some-named.method in
     let is = c.in-Some-named.ensures.named in
     let site : Some m.number ≡ method_of naming.site = ap Some c.in-Some-named.ensures.number ∙ c.in-Some.ensures in

@@ -17,7 +17,7 @@ returns-then-is_sub g c = λ r depth.
     let q = with_heap c.args.heap.now r in
     let stack = operands c.args.mounted.now in
     let act : ℕ → Option Effect = λ class. numbered_effect w q depth m.number (suc m.slots) stack in
-    let effect = special_effect w c.args.naming m.number m.slots q depth stack in
+    let effect = special_effect w c.args.naming.now m.number m.slots q depth stack in
     let T : Result Receiver Exception → Type 0 = ReceiverGives w act effect in
     gives_along w q depth stack effect (numbered_effect w q depth m.number (suc m.slots) stack) m.bound
     (subst T c.in-Ok.is (c.in-Some.ensures r act) ∙ tested_instance w c.in-Ok.receiver act (sym c.is_sub.ensures ∙ c.if-is_sub.true))
@@ -30,7 +30,7 @@ returns-else-is_sub g c = λ r depth.
     let q = with_heap c.args.heap.now r in
     let stack = operands c.args.mounted.now in
     let act : ℕ → Option Effect = λ class. numbered_effect w q depth m.number (suc m.slots) stack in
-    let T : Result Receiver Exception → Type 0 = ReceiverGives w act (special_effect w c.args.naming m.number m.slots q depth stack) in
+    let T : Result Receiver Exception → Type 0 = ReceiverGives w act (special_effect w c.args.naming.now m.number m.slots q depth stack) in
     subst T c.in-Ok.is (c.in-Some.ensures r act) ∙ tested_other w c.in-Ok.receiver act (sym c.is_sub.ensures ∙ c.if-is_sub.false)
     ∙ ap (λ e. Some (throws e)) (sym c.late_failure.ensures)
 
@@ -41,5 +41,5 @@ returns-in-Err g c = λ r depth.
     let q = with_heap c.args.heap.now r in
     let stack = operands c.args.mounted.now in
     let act : ℕ → Option Effect = λ class. numbered_effect w q depth m.number (suc m.slots) stack in
-    let T : Result Receiver Exception → Type 0 = ReceiverGives w act (special_effect w c.args.naming m.number m.slots q depth stack) in
+    let T : Result Receiver Exception → Type 0 = ReceiverGives w act (special_effect w c.args.naming.now m.number m.slots q depth stack) in
     subst T c.in-Err.is (c.in-Some.ensures r act)

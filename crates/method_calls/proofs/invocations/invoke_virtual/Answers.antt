@@ -15,11 +15,11 @@ returns-in-Ok-clause-target g c =
     let w = g.W.EventWorld.world c.args.world.now in
     let receiver = c.in-Ok.receiver in
     let next : suc c.args.method.slots ≡ c.args.method.slots + 1 = omega arith in
-    if_ok_mapped c.received.result (IsReceived w receiver c.args.method.number (c.args.method.slots + 1)) (IsVirtual w c.args.naming c.args.method.number c.args.method.slots c.args.heap.now c.args.mounted.now)
+    if_ok_mapped c.received.result (IsReceived w receiver c.args.method.number (c.args.method.slots + 1)) (IsVirtual w c.args.naming.now c.args.method.number c.args.method.slots c.args.heap.now c.args.mounted.now)
     (λ target h r depth.
     let q = with_heap c.args.heap.now r in
     let stack = operands c.args.mounted.now in
-    let effect = virtual_effect w c.args.naming c.args.method.number c.args.method.slots q depth stack in
+    let effect = virtual_effect w c.args.naming.now c.args.method.number c.args.method.slots q depth stack in
     let act : ℕ → Option Effect = λ class. selected_effect w q depth class c.args.method.number (suc c.args.method.slots) stack in
     let T : Result Receiver Exception → Type 0 = ReceiverGives w act effect in
     let slots : ℕ → Option Effect = λ s. received_effect w q depth receiver c.args.method.number s stack in
@@ -32,5 +32,5 @@ returns-in-Err-clause-target g c = λ r depth.
     let q = with_heap c.args.heap.now r in
     let stack = operands c.args.mounted.now in
     let act : ℕ → Option Effect = λ class. selected_effect w q depth class c.args.method.number (suc c.args.method.slots) stack in
-    let T : Result Receiver Exception → Type 0 = ReceiverGives w act (virtual_effect w c.args.naming c.args.method.number c.args.method.slots q depth stack) in
+    let T : Result Receiver Exception → Type 0 = ReceiverGives w act (virtual_effect w c.args.naming.now c.args.method.number c.args.method.slots q depth stack) in
     subst T c.in-Err.is (c.in-Some.ensures r act)

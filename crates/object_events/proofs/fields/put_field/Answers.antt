@@ -25,8 +25,8 @@ returns-in-Err-clause-effect g c = λ r.
     let field = c.in-Some-field.field.now in
     let reference = c.in-Some-reference_operand.reference in
     let act : ℕ → ℕ → Option Effect = λ o place. with_value q o place v >>= λ s. Some (done s (drop (depth + 1) stack)) in
-    let T : Result FieldTarget Exception → Type 0 = TargetGives act (on_instance w c.args.naming q reference (λ o class. field_place w n >>= λ place. act o place)) in
-    field_put_is w c.args.naming q stack n field v reference (width (value_kind field.kind)) depth (Some (throws c.in-Err.e))
+    let T : Result FieldTarget Exception → Type 0 = TargetGives act (on_instance w c.args.naming.now q reference (λ o class. field_place w n >>= λ place. act o place)) in
+    field_put_is w c.args.naming.now q stack n field v reference (width (value_kind field.kind)) depth (Some (throws c.in-Err.e))
     c.in-Some.ensures c.in-Some-field.ensures (c.width-width.ensures.width ∙ ap width c.value_kind.ensures) c.in-Some-stored.ensures c.in-Some-reference_operand.ensures
     (subst T c.in-Err.is (c.in-Some-field_target.ensures r act))
 
@@ -41,9 +41,9 @@ returns-else-not-set_value-clause-effect g c = λ r.
     let field = c.in-Some-field.field.now in
     let reference = c.in-Some-reference_operand.reference in
     let act : ℕ → ℕ → Option Effect = λ o place. with_value q o place v >>= λ s. Some (done s (drop (depth + 1) stack)) in
-    let T : Result FieldTarget Exception → Type 0 = TargetGives act (on_instance w c.args.naming q reference (λ o class. field_place w n >>= λ place. act o place)) in
+    let T : Result FieldTarget Exception → Type 0 = TargetGives act (on_instance w c.args.naming.now q reference (λ o class. field_place w n >>= λ place. act o place)) in
     let after = with_heap c.set_value.new.heap r in
-    field_put_is w c.args.naming q stack n field v reference (width (value_kind field.kind)) depth (Some (done after (operands c.drop_operands.new.mounted)))
+    field_put_is w c.args.naming.now q stack n field v reference (width (value_kind field.kind)) depth (Some (done after (operands c.drop_operands.new.mounted)))
     c.in-Some.ensures c.in-Some-field.ensures (c.width-width.ensures.width ∙ ap width c.value_kind.ensures) c.in-Some-stored.ensures c.in-Some-reference_operand.ensures
     (subst T c.in-Ok.is (c.in-Some-field_target.ensures r act)
     ∙ ap (λ (x : Option State). x >>= λ s. Some (done s (drop (depth + 1) stack))) (c.if-not-set_value.ensures r)
