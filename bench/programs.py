@@ -307,7 +307,7 @@ def constructor_frames(c):
     """A constructor of 21,844 jumps, each to a frame with one local variable less or more than the one before, of 65,535."""
     chop, append = u1(250) + u2(2), u1(252) + u2(2) + u1(TOP)
     this = u1(7) + u2(c.pool.of_class(c.name))
-    frame = u1(255) + u2(4) + u2(LOCALS) + this + u1(INTEGER) * (LOCALS - 2) + u1(TOP) + u2(0)
+    frame = u1(255) + u2(5) + u2(LOCALS) + this + u1(INTEGER) * (LOCALS - 2) + u1(TOP) + u2(0)
     call = b"\x2a\xb7" + u2(c.pool.member(10, b"java/lang/Object", b"<init>", b"()V")) + RETURN
     c.method(call + GOTO_NEXT * 21800 + RETURN, [frame] + [chop, append] * 10900, name=b"<init>", flags=1)
 

@@ -82,11 +82,11 @@ fn pc_count(instrs: &[Instr]) -> usize {
     }
 }
 
-// The indices of instructions by their pcs. From 65,535 instructions on memory counts as run out: a code of fewer bytes has fewer.
+// The indices of instructions by their pcs. Past 65,535 instructions, which is more than a code has, memory counts as run out.
 fn by_pc(alloc: Global, instrs: &[Instr]) -> Result<Items<u16>, NoMemory>
     ensures { IfOk result (λ table. IsByPc instrs.now table) }
 {
-    if instrs.len() >= usize::from(NONE) {
+    if instrs.len() > usize::from(NONE) {
         return Err(NoMemory);
     }
     let mut table = Vec::with_capacity(alloc, pc_count(instrs))?;
