@@ -1,39 +1,19 @@
 -- What the units of a text say of it as a name and as a descriptor.
-use Rattle.std.proofs.Common.{◌≡◌, ℕ, suc, ◌+◌, ◌<◌, ◌≤◌, ◌≢◌, Bool, true, false, cond, eqb, ltb, List, [], ◌∷◌, length, get_or, drop, drop-cons, Option, Some, None, ◌⊎◌, inl, inr, ◌*◌, refl, sym, ap, subst, ◌∙◌, arith}
-use Rattle.std.specs.Prelude.{not, codes, ◌&&◌, ◌||◌}
+use Rattle.std.proofs.Common.{◌≡◌, ℕ, ◌+◌, ◌≤◌, Bool, true, false, cond, eqb, List, [], ◌∷◌, Some, None, ◌⊎◌, inl, inr, ◌*◌, refl, sym, subst, ◌∙◌, arith}
+use Rattle.std.specs.Prelude.{not, ◌&&◌, ◌||◌}
 use Rattle.std.specs.Option.{is_none}
 use Rattle.std.specs.List.{list_all}
 use Rattle.std.proofs.lemmas.Bool.{eqb-true}
-use Rattle.std.proofs.lemmas.Bool.Decides.{nat_tests}
 use Rattle.descriptors.specs.Descriptors.{are_parts, is_base}
 use Rattle.descriptors.specs.declared.fronts.Turn.{Turn}
 use Rattle.descriptors.specs.Descriptors as chars
 use Rattle.descriptors.specs.declared.fronts.Front.TheVariants.{Brackets, Name}
 use Rattle.descriptors.specs.declared.fronts.Turn.TheVariants.{Ends, GoesOn, Stops}
-use Rattle.descriptors.specs.States.{State, Field, Args, first_bad, in_field, name_goes_on, is_field, is_method}
+use Rattle.descriptors.specs.States.{Field, Args, first_bad, in_field, name_goes_on, is_field, is_method}
 use Rattle.class_grammar.specs.Names.{is_name_unit, is_method_unit, begins_with}
 use Rattle.class_checks.specs.TextRoles.{is_class_descriptor, begins_as_field}
 use Rattle.class_checks.specs.declared.names.Names.{Names}
-use Rattle.class_checks.specs.Names.{names_of, names_by, is_in_every_name}
-
--- ---- a unit that every name may have
-
-in_each : (u : ℕ) → is_in_every_name u ≡ true → (is_name_unit u ≡ true) × (is_method_unit u ≡ true) × (chars.is_name_unit u ≡ true) × (eqb u 47 ≡ false)
-in_each u h = (grind (arith, nat_tests), grind (arith, nat_tests), grind (arith, nat_tests), grind (arith, nat_tests))
-
-same_names : (slashed angled begun : Bool) (u : ℕ) (us : List ℕ) (a b c d : Bool) → a ≡ true → b ≡ true → c ≡ true → d ≡ false
-    → (record { of_field = not slashed && (a && list_all is_name_unit us); of_method = not slashed && not angled && (b && list_all is_method_unit us); of_class = cond d (begun && are_parts false us) (c && are_parts true us) }) ≡ names_by slashed angled true us
-same_names slashed angled begun u us a b c d p q r s = rw (p, q, r, s) refl
-
-one_on : (slashed angled begun : Bool) (u : ℕ) (us : List ℕ) → is_in_every_name u ≡ true → names_by slashed angled begun (u ∷ us) ≡ names_by slashed angled true us
-one_on slashed angled begun u us h = let e = in_each u h in same_names slashed angled begun u us _ _ _ _ e.0 e.1 e.2 e.3
-
-pub letter_on : (slashed angled begun : Bool) (units : List ℕ) (i : ℕ) (total : Names) → i < length units → is_in_every_name (get_or units i 0) ≡ true
-    → names_by slashed angled begun (drop i units) ≡ total → names_by slashed angled true (drop (i + 1) units) ≡ total
-letter_on slashed angled begun units i total lt h so_far =
-    let e : i + 1 ≡ suc i = omega arith in
-    ap (λ (n : ℕ). names_by slashed angled true (drop n units)) e
-    ∙ sym (one_on slashed angled begun (get_or units i 0) (drop (suc i) units) h) ∙ ap (names_by slashed angled begun) (sym (drop-cons units i 0 lt)) ∙ so_far
+use Rattle.class_checks.specs.Names.{names_of}
 
 -- ---- the first unit of a descriptor
 
