@@ -111,7 +111,7 @@ fn row_stays(op: &Op, row: &[Cell], locals: usize, used: usize) -> bool
     }
 }
 
-/// Whether the instruction stays in its frame. Those that most often end a run are told without a call.
+/// Whether the instruction stays in its frame. Those that end most runs are told apart here, without a call.
 #[inline(always)]
 pub(crate) fn does_stay(op: &Op, row: &[Cell], locals: usize, used: usize) -> bool
     requires fits { locals + used ≤ length row.now }
