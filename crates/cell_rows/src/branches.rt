@@ -56,7 +56,7 @@ pub fn if_zero(order: Comparison, row: &[Cell], locals: usize, used: usize) -> b
     compares(order, a, 0)
 }
 
-/// if_icmpeq to if_icmple with this int on top, which isn't pushed: whether the branch is taken.
+/// if_icmpeq to if_icmple with this upper int, which isn't pushed: whether the branch is taken.
 #[inline(always)]
 pub fn if_int(order: Comparison, n: i32, row: &[Cell], locals: usize, used: usize) -> bool
     requires fits { locals + used ≤ length row.now }

@@ -44,7 +44,7 @@ pub fn int_binary(op: IntOp, row: &mut [Cell], locals: usize, used: usize) -> us
     used - 1
 }
 
-/// The same with this int on top, which isn't pushed.
+/// iadd to irem, ishl to iushr, iand, ior and ixor with this upper int, which isn't pushed.
 #[inline(always)]
 pub fn int_with(op: IntOp, n: i32, row: &mut [Cell], locals: usize, used: usize) -> usize
     requires fits { locals + used ≤ length row.old }

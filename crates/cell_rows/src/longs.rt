@@ -57,7 +57,7 @@ pub fn long_shift(op: ShiftOp, row: &mut [Cell], locals: usize, used: usize) -> 
     used - 1
 }
 
-/// The same with this int on top, which isn't pushed.
+/// lshl, lshr and lushr by this int, which isn't pushed.
 #[inline(always)]
 pub fn long_shift_by(op: ShiftOp, n: i32, row: &mut [Cell], locals: usize, used: usize) -> usize
     requires fits { locals + used ≤ length row.old }

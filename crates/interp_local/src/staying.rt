@@ -84,9 +84,9 @@ fn simple_stays(simple: Simple, row: &[Cell], locals: usize, used: usize) -> boo
     }
 }
 
-// Whether the instruction stays in its frame.
+// Whether an instruction that may stay in its frame does.
 #[inline(never)]
-pub(crate) fn does_stay(op: &Op, row: &[Cell], locals: usize, used: usize) -> bool
+fn row_stays(op: &Op, row: &[Cell], locals: usize, used: usize) -> bool
     requires fits { locals + used ≤ length row.now }
     requires operands { HasOperands op.now row.now locals used }
     ensures { result ≡ spec.stays op.now (descending row.now locals used) }
@@ -108,5 +108,25 @@ pub(crate) fn does_stay(op: &Op, row: &[Cell], locals: usize, used: usize) -> bo
         | Op::TableSwitch(_)
         | Op::LookupSwitch(_) => true,
         _ => false,
+    }
+}
+
+/// Whether the instruction stays in its frame. Those that end most runs are told apart here, without a call.
+#[inline(always)]
+pub(crate) fn does_stay(op: &Op, row: &[Cell], locals: usize, used: usize) -> bool
+    requires fits { locals + used ≤ length row.now }
+    requires operands { HasOperands op.now row.now locals used }
+    ensures { result ≡ spec.stays op.now (descending row.now locals used) }
+{
+    match op {
+        Op::GetStatic(_)
+        | Op::PutStatic(_)
+        | Op::GetField(_)
+        | Op::PutField(_)
+        | Op::InvokeVirtual(_)
+        | Op::InvokeSpecial(_)
+        | Op::InvokeStatic(_)
+        | Op::InvokeInterface(_, _) => false,
+        _ => row_stays(op, row, locals, used),
     }
 }
