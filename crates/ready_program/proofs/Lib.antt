@@ -2,4 +2,3 @@ mod FieldLaws
 mod HandlerLaws
 mod InstructionLaws
 mod TableLaws
-mod SubtypeLaws
