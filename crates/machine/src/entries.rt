@@ -10,9 +10,9 @@ ghost use Rattle.machine.specs.Ready.{IsReady};
 ghost use Rattle.machine.specs.States.{state_of};
 ghost use Rattle.machine.specs.Steps.{Advances};
 
+use crate::last_steps::{fetched_step, unwinding_step};
 use crate::local::{MOST_LOCAL, go_on, makes_more, run_top};
 use crate::parts::Parts;
-use crate::steps::{fetched_step, unwinding_step};
 use continuation::Mounted;
 use items::NoMemory;
 use jvm_edges::Gate;

@@ -6,11 +6,11 @@ mod concluding;
 mod entries;
 mod events;
 mod execution;
+mod last_steps;
 mod local;
 mod parts;
 mod program_run;
 mod returns;
-mod steps;
 mod throwing;
 mod world;
 

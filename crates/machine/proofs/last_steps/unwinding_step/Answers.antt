@@ -1,6 +1,6 @@
 use Rattle.machine.proofs.ThrowLaws.{on_ok}
 use Rattle.machine.proofs.KeepLaws.{throw_kept}
-use Rattle.machine.proofs.steps.unwinding_step.Goals as goal
+use Rattle.machine.proofs.last_steps.unwinding_step.Goals as goal
 
 pub returns : goal.returns
 returns c =

@@ -2,7 +2,7 @@ use Rattle.std.proofs.Common.{sym}
 use Rattle.instruction_rows.specs.Table.{row as row_of}
 use Rattle.machine.proofs.LocalLaws.{kind_row}
 use Rattle.machine.proofs.ThrowLaws.{on_ok}
-use Rattle.machine.proofs.steps.instruction_step.Goals as goal
+use Rattle.machine.proofs.last_steps.instruction_step.Goals as goal
 
 pub returns-in-Some-clause-steps : goal.returns-in-Some-clause-steps
 returns-in-Some-clause-steps g c =

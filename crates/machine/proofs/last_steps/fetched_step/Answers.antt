@@ -1,7 +1,7 @@
 use Rattle.interp_local.specs.Fetched.{instruction_of}
 use Rattle.machine.proofs.ThrowLaws.{on_ok}
 use Rattle.machine.proofs.KeepLaws.{frames_kept}
-use Rattle.machine.proofs.steps.fetched_step.Goals as goal
+use Rattle.machine.proofs.last_steps.fetched_step.Goals as goal
 
 pub returns-clause-kept : goal.returns-clause-kept
 returns-clause-kept c =

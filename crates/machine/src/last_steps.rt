@@ -1,4 +1,4 @@
-//! Steps of a thread that runs.
+//! The last step of an entry, after its local instructions.
 
 ghost use Rattle.std.specs.Prelude.{◌≡◌, ◌<◌, Some, None, false, true, length, OnOk};
 ghost use Rattle.ref_model.specs.Ending.{ending};
