@@ -100,7 +100,7 @@ fn check_attribute(
 {
     let left = left.saturating_sub(6);
     match &attribute.body {
-        Body::Code(body) => check_code(pool, left, body),
+        Body::Code(body) => check_code(pool, left, body.get()),
         Body::Constant(value) => check_numbers(left, &[pool.value_fault(member, *value)]),
         Body::Other(bytes) => Ok(left.saturating_sub(bytes.len())),
     }

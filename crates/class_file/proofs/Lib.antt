@@ -4,5 +4,6 @@ pub mod PoolLaws
 pub mod AttributeLaws
 pub mod FileLaws
 pub mod SoundLaws
+pub mod TextPlaces
 pub mod OutcomeLaws
 pub mod CostLaws

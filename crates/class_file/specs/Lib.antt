@@ -1,4 +1,5 @@
 pub mod Numbers
+pub mod Texts
 pub mod Constants
 pub mod Attributes
 pub mod AttributeNames

@@ -5,12 +5,14 @@ ghost use Rattle.byte_reader.specs.Reader.{Reads, ReadsBytes};
 ghost use Rattle.class_file.specs.Numbers.{sized_value_at};
 ghost use Rattle.class_file.specs.Attributes.{extra_at, next_extra, extras_at, row_at, rows_at, code_bytes_at, code_at};
 
+use crate::bodies::body_of;
 use crate::names::{is_stack_map_name, name_of};
 use crate::numbers::{bytes_of, pair_of, sized_bytes_of, u2_of, u4_of};
 use byte_reader::Stop;
 use class_grammar::ClassWhy;
 use class_model::{CodeAttribute, CodeBody, CodeExtra, Const, Row};
 use items::Items;
+use shared_slices::SharedVec;
 use std::alloc::Global;
 use std::sync::ledger::Ledger;
 use steps::Steps;
@@ -23,14 +25,15 @@ const MOST_CODE: u32 = 0xffff;
 fn extra_of<'a, L: Ledger>(
     alloc: Global,
     pool: &[Const],
+    tail: &SharedVec<u8>,
     seen: bool,
     bytes: &'a [u8],
     steps: &mut Steps<L>,
 ) -> Result<(CodeAttribute, &'a [u8]), Stop<ClassWhy>>
     ensures read { Reads result (extra_at pool.now seen bytes.now) }
-    ensures cost { steps.new ≤ steps.old + 4 * length bytes.now + 13 }
+    ensures cost { steps.new ≤ steps.old + 3 * length bytes.now + 7 }
     ensures rest { IfOk result (λ x.
-        steps.new + 4 * length x.1.now ≤ steps.old + 4 * length bytes.now) }
+        steps.new + 3 * length x.1.now ≤ steps.old + 3 * length bytes.now) }
 {
     let (name, rest) = name_of(pool, bytes)?;
     let is_map = is_stack_map_name(name.text, steps);
@@ -38,8 +41,7 @@ fn extra_of<'a, L: Ledger>(
         return Err(Stop::at(bytes, ClassWhy::Duplicate));
     }
     let (body, rest) = sized_bytes_of(rest)?;
-    steps.spend(body.len());
-    let body = Items::from(Vec::from_slice(alloc, body)?);
+    let body = body_of(alloc, tail, body, rest, steps)?;
     let body = if is_map {
         CodeExtra::StackMap(body)
     } else {
@@ -60,21 +62,22 @@ fn is_map_seen(seen: bool, extra: &CodeAttribute) -> bool
 fn extras_of<'a, L: Ledger>(
     alloc: Global,
     pool: &[Const],
+    tail: &SharedVec<u8>,
     count: u16,
     bytes: &'a [u8],
     steps: &mut Steps<L>,
 ) -> Result<(Items<CodeAttribute>, &'a [u8]), Stop<ClassWhy>>
     ensures read { Reads result (extras_at pool.now false count bytes.now) }
-    ensures cost { steps.new ≤ steps.old + 4 * length bytes.now + 13 }
+    ensures cost { steps.new ≤ steps.old + 3 * length bytes.now + 7 }
     ensures rest { IfOk result (λ x.
-        steps.new + 4 * length x.1.now ≤ steps.old + 4 * length bytes.now) }
+        steps.new + 3 * length x.1.now ≤ steps.old + 3 * length bytes.now) }
 {
     let most = usize::from(count).min(bytes.len() / 6);
     let mut extras = Vec::with_capacity(alloc, most)?;
     let mut rest = bytes;
     let mut seen = false;
     for _ in 0..count {
-        let (extra, after) = extra_of(alloc, pool, seen, rest, steps)?;
+        let (extra, after) = extra_of(alloc, pool, tail, seen, rest, steps)?;
         seen = is_map_seen(seen, &extra);
         extras.push(extra)?;
         rest = after;
@@ -133,45 +136,47 @@ fn code_bytes_of(bytes: &[u8]) -> Result<(&[u8], &[u8]), Stop<ClassWhy>>
 fn code_of<'a, L: Ledger>(
     alloc: Global,
     pool: &[Const],
+    tail: &SharedVec<u8>,
     bytes: &'a [u8],
     steps: &mut Steps<L>,
 ) -> Result<(CodeBody, &'a [u8]), Stop<ClassWhy>>
     ensures read { Reads result (code_at pool.now bytes.now) }
-    ensures cost { steps.new ≤ steps.old + 4 * length bytes.now + 13 }
+    ensures cost { steps.new ≤ steps.old + 3 * length bytes.now + 7 }
     ensures rest { IfOk result (λ x.
-        steps.new + 4 * length x.1.now ≤ steps.old + 4 * length bytes.now) }
+        steps.new + 3 * length x.1.now ≤ steps.old + 3 * length bytes.now) }
 {
     let ((max_stack, max_locals), rest) = pair_of(bytes)?;
     let (code, rest) = code_bytes_of(rest)?;
+    let code = body_of(alloc, tail, code, rest, steps)?;
     let (row_count, rest) = u2_of(rest)?;
     let (rows, rest) = rows_of(alloc, row_count, rest)?;
     let (extra_count, rest) = u2_of(rest)?;
-    let (attributes, rest) = extras_of(alloc, pool, extra_count, rest, steps)?;
-    steps.spend(code.len());
+    let (attributes, rest) = extras_of(alloc, pool, tail, extra_count, rest, steps)?;
     let body = CodeBody {
         max_stack,
         max_locals,
-        code: Items::from(Vec::from_slice(alloc, code)?),
+        code,
         rows,
         attributes,
     };
     Ok((body, rest))
 }
 
-/// A length in four bytes, and a Code of that length (JVMS 4.7.3). The length leaves sixteen steps for the attribute's name.
+/// A length in four bytes, and a Code of that length (JVMS 4.7.3). The length leaves twelve steps for the attribute's name.
 pub fn sized_code_of<'a, L: Ledger>(
     alloc: Global,
     pool: &[Const],
+    tail: &SharedVec<u8>,
     bytes: &'a [u8],
     steps: &mut Steps<L>,
 ) -> Result<(CodeBody, &'a [u8]), Stop<ClassWhy>>
     ensures read { Reads result (sized_value_at (code_at pool.now) bytes.now) }
-    ensures cost { steps.new ≤ steps.old + 4 * length bytes.now }
+    ensures cost { steps.new ≤ steps.old + 3 * length bytes.now }
     ensures rest { IfOk result (λ x.
-        steps.new + 16 + 4 * length x.1.now ≤ steps.old + 4 * length bytes.now) }
+        steps.new + 12 + 3 * length x.1.now ≤ steps.old + 3 * length bytes.now) }
 {
     let (size, front) = u4_of(bytes)?;
-    let (code, rest) = code_of(alloc, pool, front, steps)?;
+    let (code, rest) = code_of(alloc, pool, tail, front, steps)?;
     if front.len().saturating_sub(rest.len()) != size as usize {
         return Err(Stop::at(bytes, ClassWhy::Length));
     }

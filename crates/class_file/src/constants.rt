@@ -1,13 +1,14 @@
 //! The constant pool (JVMS 4.4).
 
-ghost use Rattle.std.specs.Prelude.{◌≡◌, ◌<◌, ◌≤◌, ◌+◌, ◌*◌, ◌^◌, length, IfOk};
-ghost use Rattle.class_grammar.specs.Ranges as ranges;
+ghost use Rattle.std.specs.Prelude.{◌≡◌, ◌<◌, ◌≤◌, ◌+◌, ◌*◌, ◌^◌, length, IfOk, OnOk};
 ghost use Rattle.jvm_utf8.specs.Units as utf8;
-ghost use Rattle.byte_reader.specs.Reader.{Gives, Reads};
+ghost use Rattle.byte_reader.specs.Reader.{GivesBy, Reads};
 ghost use Rattle.class_file.specs.Constants as spec;
 ghost use Rattle.class_file.specs.Costs.{later, later_of_pool};
+ghost use Rattle.class_file.specs.Texts.{Appends, ComesWith, ReadsEntry, appended, constant_of};
 
 use crate::numbers::{bytes_of, pair_of, u1_of, u2_of, u4_of, u8_of};
+use crate::texts::{Entry, place_texts, push_entry};
 use byte_reader::{Fault, Stop};
 use class_grammar::{ClassFault, ClassWhy};
 use class_model::{
@@ -16,25 +17,28 @@ use class_model::{
     TAG_METHODREF, TAG_MODULE, TAG_NAME_AND_TYPE, TAG_PACKAGE, TAG_STRING, TAG_UTF8,
 };
 use items::Items;
-use jvm_utf8::{Utf8Error, decode_counted};
+use jvm_utf8::{Utf8Error, decode_onto};
 use std::alloc::Global;
 use std::sync::ledger::Ledger;
 use steps::Steps;
 
-// The units of a text, where so many bytes are left before it.
+// Appends the units of a text, where so many bytes are left before it.
 fn units_of<L: Ledger>(
     alloc: Global,
+    units: &mut Vec<u16>,
     text: &[u8],
     left: usize,
     steps: &mut Steps<L>,
-) -> Result<Items<u16>, Stop<ClassWhy>>
+) -> Result<(), Stop<ClassWhy>>
     requires { length text.now < 2 ^ 32 }
-    ensures read { Gives result (spec.units_of left (utf8.units_of text.now)) }
-    ensures few { IfOk result (λ units. length units ≤ length text.now) }
+    ensures read { GivesBy (λ _. appended units.old.items units.new.items) result
+        (spec.units_of left (utf8.units_of text.now)) }
+    ensures kept { OnOk result (Appends units.old.items units.new.items) }
+    ensures few { OnOk result (length (appended units.old.items units.new.items) ≤ length text.now) }
     ensures cost { steps.new ≡ steps.old + length text.now }
 {
-    match decode_counted(alloc, text, steps) {
-        Ok(units) => Ok(Items::from(units)),
+    match decode_onto(alloc, units, text, steps) {
+        Ok(()) => Ok(()),
         Err(Utf8Error::Bad { at }) => Err(Stop::Fault(Fault {
             left: left.saturating_sub(at as usize),
             why: ClassWhy::Utf8,
@@ -43,23 +47,28 @@ fn units_of<L: Ledger>(
     }
 }
 
-// A text after its length (JVMS 4.4.7).
+// Appends the units of a text after its length (JVMS 4.4.7), and gives the bytes after it.
 #[tactic(auto, unfolding(crate::specs::Constants::text_at))]
 fn text_of<'a, L: Ledger>(
     alloc: Global,
+    units: &mut Vec<u16>,
     bytes: &'a [u8],
     steps: &mut Steps<L>,
-) -> Result<(Items<u16>, &'a [u8]), Stop<ClassWhy>>
-    ensures read { Reads result (spec.text_at bytes.now) }
+) -> Result<&'a [u8], Stop<ClassWhy>>
+    ensures read { GivesBy (λ rest. (appended units.old.items units.new.items, rest.now)) result
+        (spec.text_at bytes.now) }
+    ensures kept { IfOk result (λ _. Appends units.old.items units.new.items) }
+    ensures few { IfOk result (λ _. length (appended units.old.items units.new.items) < 2 ^ 16) }
     ensures cost { steps.new ≤ steps.old + 4 * length bytes.now }
     // A step for each byte was spent, and two goes over the units and their size are still to come.
-    ensures rest { IfOk result (λ x.
-        steps.new + 3 * length x.0 + 8 + 4 * length x.1.now ≤ steps.old + 4 * length bytes.now) }
+    ensures rest { IfOk result (λ rest.
+        steps.new + 3 * length (appended units.old.items units.new.items) + 8 + 4 * length rest.now
+        ≤ steps.old + 4 * length bytes.now) }
 {
     let (count, front) = u2_of(bytes)?;
     let (text, rest) = bytes_of(usize::from(count), front)?;
-    let units = units_of(alloc, text, front.len(), steps)?;
-    Ok((units, rest))
+    units_of(alloc, units, text, front.len(), steps)?;
+    Ok(rest)
 }
 
 // The constant after a tag from TAG_METHOD_HANDLE on (JVMS 4.4.8 to 4.4.12).
@@ -141,57 +150,68 @@ fn reference_of(
 }
 
 // The constant after a tag (JVMS 4.4). `unknown` is the fault where no constant has the tag.
-#[tactic(auto, unfolding(crate::specs::Constants::tagged_at))]
+#[tactic(auto, unfolding(crate::specs::Constants::tagged_at), using(crate::proofs::TextPlaces::appends_none, crate::proofs::TextPlaces::none_appended))]
 fn tagged_of<'a, L: Ledger>(
     alloc: Global,
     unknown: ClassFault,
     tag: u8,
+    units: &mut Vec<u16>,
     bytes: &'a [u8],
     steps: &mut Steps<L>,
-) -> Result<(Const, &'a [u8]), Stop<ClassWhy>>
-    ensures read { Reads result (spec.tagged_at unknown tag bytes.now) }
+) -> Result<(Entry, &'a [u8]), Stop<ClassWhy>>
+    ensures read { ReadsEntry units.old.items units.new.items result
+        (spec.tagged_at unknown tag bytes.now) }
+    ensures units { IfOk result (λ x. ComesWith x.0 units.old.items units.new.items) }
     ensures cost { steps.new ≤ steps.old + 4 * length bytes.now }
     ensures rest { IfOk result (λ x.
-        steps.new + later x.0 + 4 * length x.1.now ≤ steps.old + 4 * length bytes.now) }
+        steps.new + later (constant_of (appended units.old.items units.new.items) x.0)
+        + 4 * length x.1.now ≤ steps.old + 4 * length bytes.now) }
 {
     match tag {
         TAG_UTF8 => {
-            let (units, rest) = text_of(alloc, bytes, steps)?;
-            Ok((Const::Utf8(units), rest))
+            let rest = text_of(alloc, units, bytes, steps)?;
+            Ok((Entry::Text, rest))
         }
         TAG_INTEGER => {
             let (bits, rest) = u4_of(bytes)?;
-            Ok((Const::Integer(bits.cast_signed()), rest))
+            Ok((Entry::Other(Const::Integer(bits.cast_signed())), rest))
         }
         TAG_FLOAT => {
             let (bits, rest) = u4_of(bytes)?;
-            Ok((Const::Float(bits), rest))
+            Ok((Entry::Other(Const::Float(bits)), rest))
         }
         TAG_LONG => {
             let (bits, rest) = u8_of(bytes)?;
-            Ok((Const::Long(bits.cast_signed()), rest))
+            Ok((Entry::Other(Const::Long(bits.cast_signed())), rest))
         }
         TAG_DOUBLE => {
             let (bits, rest) = u8_of(bytes)?;
-            Ok((Const::Double(bits), rest))
+            Ok((Entry::Other(Const::Double(bits)), rest))
         }
-        TAG_CLASS.. => reference_of(unknown, tag, bytes),
+        TAG_CLASS.. => {
+            let (constant, rest) = reference_of(unknown, tag, bytes)?;
+            Ok((Entry::Other(constant), rest))
+        }
         _ => Err(Stop::Fault(unknown)),
     }
 }
 
 // A constant, where so many entries follow. A Long or a Double needs one of them (JVMS 4.4.5).
 #[tactic(auto, unfolding(crate::specs::Constants::constant_at))]
-fn constant_of<'a, L: Ledger>(
+fn constant_entry_of<'a, L: Ledger>(
     alloc: Global,
     more: u16,
+    units: &mut Vec<u16>,
     bytes: &'a [u8],
     steps: &mut Steps<L>,
-) -> Result<(Const, &'a [u8]), Stop<ClassWhy>>
-    ensures read { Reads result (spec.constant_at more bytes.now) }
+) -> Result<(Entry, &'a [u8]), Stop<ClassWhy>>
+    ensures read { ReadsEntry units.old.items units.new.items result
+        (spec.constant_at more bytes.now) }
+    ensures units { IfOk result (λ x. ComesWith x.0 units.old.items units.new.items) }
     ensures cost { steps.new ≤ steps.old + 4 * length bytes.now }
     ensures rest { IfOk result (λ x.
-        steps.new + later x.0 + 4 * length x.1.now ≤ steps.old + 4 * length bytes.now) }
+        steps.new + later (constant_of (appended units.old.items units.new.items) x.0)
+        + 4 * length x.1.now ≤ steps.old + 4 * length bytes.now) }
 {
     let (tag, rest) = u1_of(bytes)?;
     if (tag == TAG_LONG || tag == TAG_DOUBLE) && more == 0 {
@@ -201,33 +221,31 @@ fn constant_of<'a, L: Ledger>(
         left: bytes.len(),
         why: ClassWhy::Tag,
     };
-    tagged_of(alloc, unknown, tag, rest, steps)
+    tagged_of(alloc, unknown, tag, units, rest, steps)
 }
 
 // An entry of the pool, which takes no bytes after a Long or a Double.
+#[tactic(auto, using(crate::proofs::TextPlaces::appends_none, crate::proofs::TextPlaces::none_appended))]
 fn entry_of<'a, L: Ledger>(
     alloc: Global,
     behind: bool,
     more: u16,
+    units: &mut Vec<u16>,
     bytes: &'a [u8],
     steps: &mut Steps<L>,
-) -> Result<(Const, &'a [u8]), Stop<ClassWhy>>
-    ensures read { Reads result (spec.entry_at behind more bytes.now) }
+) -> Result<(Entry, &'a [u8]), Stop<ClassWhy>>
+    ensures read { ReadsEntry units.old.items units.new.items result
+        (spec.entry_at behind more bytes.now) }
+    ensures units { IfOk result (λ x. ComesWith x.0 units.old.items units.new.items) }
     ensures cost { steps.new ≤ steps.old + 4 * length bytes.now }
     ensures rest { IfOk result (λ x.
-        steps.new + later x.0 + 4 * length x.1.now ≤ steps.old + 4 * length bytes.now) }
+        steps.new + later (constant_of (appended units.old.items units.new.items) x.0)
+        + 4 * length x.1.now ≤ steps.old + 4 * length bytes.now) }
 {
     if behind {
-        return Ok((Const::Unused, bytes));
+        return Ok((Entry::Other(Const::Unused), bytes));
     }
-    constant_of(alloc, more, bytes, steps)
-}
-
-// Whether the constant takes two entries (JVMS 4.4.5).
-fn is_wide(constant: &Const) -> bool
-    ensures { result ≡ ranges.is_wide constant.now }
-{
-    matches!(constant, Const::Long(_) | Const::Double(_))
+    constant_entry_of(alloc, more, units, bytes, steps)
 }
 
 // Entry 0, which is not used, and that many entries after it.
@@ -244,17 +262,23 @@ fn entries_of<'a, L: Ledger>(
 {
     // A constant has three bytes or more, and a Long or a Double nine for its two entries.
     let most = usize::from(count).min(bytes.len() / 3);
-    let mut entries = Vec::with_capacity(alloc, 1 + most)?;
-    entries.push(Const::Unused)?;
+    let mut constants = Vec::with_capacity(alloc, 1 + most)?;
+    constants.push(Const::Unused)?;
+    let mut units = Vec::with_capacity(alloc, bytes.len())?;
+    let mut marks = Vec::with_capacity(alloc, most)?;
     let mut rest = bytes;
     let mut behind = false;
     for index in 0..count {
-        let (constant, after) = entry_of(alloc, behind, count - (index + 1), rest, steps)?;
-        behind = is_wide(&constant);
-        entries.push(constant)?;
+        let before = units.len();
+        let more = count - (index + 1);
+        let (entry, after) = entry_of(alloc, behind, more, &mut units, rest, steps)?;
+        behind = entry.is_wide();
+        push_entry(&mut constants, &mut marks, entry, &units, before)?;
         rest = after;
     }
-    Ok((Items::from(entries), rest))
+    units.shrink_to_fit();
+    place_texts(alloc, &mut constants, &marks, units)?;
+    Ok((Items::from(constants), rest))
 }
 
 /// The pool after the number of its entries (JVMS 4.1).

@@ -13,7 +13,8 @@ use byte_reader::Stop;
 use class_grammar::{ClassWhy, Holder};
 use class_model::{ClassFile, Const};
 use items::Items;
-use std::alloc::Global;
+use shared_slices::SharedVec;
+use std::alloc::{AllocError, Global};
 use std::sync::ledger::Ledger;
 use steps::Steps;
 
@@ -80,6 +81,18 @@ fn class_of(alloc: Global, bytes: &[u8]) -> Result<(Class, &[u8]), Stop<ClassWhy
     Ok((class, rest))
 }
 
+// The bytes that follow the pool, of which the bodies of attributes are slices.
+fn tail_bytes<L: Ledger>(
+    alloc: Global,
+    bytes: &[u8],
+    steps: &mut Steps<L>,
+) -> Result<SharedVec<u8>, AllocError>
+    ensures cost { steps.new ≡ steps.old + length bytes.now }
+{
+    steps.spend(bytes.len());
+    SharedVec::new(alloc, Vec::from_slice(alloc, bytes)?)
+}
+
 // What follows the pool.
 #[tactic(auto, unfolding(crate::specs::File::tail_at))]
 fn tail_of<'a, L: Ledger>(
@@ -91,15 +104,15 @@ fn tail_of<'a, L: Ledger>(
 ) -> Result<(ClassFile, &'a [u8]), Stop<ClassWhy>>
     ensures read { Reads result (spec.tail_at version pool bytes.now) }
     ensures pool { IfOk result (λ x. x.0.pool ≡ pool) }
-    ensures cost { steps.new ≤ steps.old + 4 * length bytes.now + 13 }
-    ensures rest { IfOk result (λ x.
-        steps.new + 4 * length x.1.now ≤ steps.old + 4 * length bytes.now) }
+    ensures cost { steps.new ≤ steps.old + 4 * length bytes.now + 7 }
+    ensures rest { IfOk result (λ _. steps.new ≤ steps.old + 4 * length bytes.now) }
 {
+    let tail = tail_bytes(alloc, bytes, steps)?;
     let (class, rest) = class_of(alloc, bytes)?;
-    let (fields, rest) = members_of(alloc, &pool, Holder::Field, rest, steps)?;
-    let (methods, rest) = members_of(alloc, &pool, Holder::Method, rest, steps)?;
+    let (fields, rest) = members_of(alloc, &pool, &tail, Holder::Field, rest, steps)?;
+    let (methods, rest) = members_of(alloc, &pool, &tail, Holder::Method, rest, steps)?;
     let (count, rest) = u2_of(rest)?;
-    let (attributes, rest) = attributes_of(alloc, &pool, Holder::Class, count, rest, steps)?;
+    let (attributes, rest) = attributes_of(alloc, &pool, &tail, Holder::Class, count, rest, steps)?;
     let file = ClassFile {
         minor: version.minor,
         major: version.major,

@@ -2,6 +2,7 @@
 #![tactic(auto)]
 
 mod attributes;
+mod bodies;
 mod code;
 mod constants;
 mod error;
@@ -11,6 +12,7 @@ mod members;
 mod names;
 mod numbers;
 mod reader;
+mod texts;
 
 pub use class_grammar::ClassWhy;
 pub use error::ReadError;

@@ -11,6 +11,7 @@ use byte_reader::Stop;
 use class_grammar::{ClassWhy, Holder};
 use class_model::{Const, Member};
 use items::Items;
+use shared_slices::SharedVec;
 use std::alloc::Global;
 use std::sync::ledger::Ledger;
 use steps::Steps;
@@ -20,19 +21,20 @@ use steps::Steps;
 fn member_of<'a, L: Ledger>(
     alloc: Global,
     pool: &[Const],
+    tail: &SharedVec<u8>,
     holder: Holder,
     bytes: &'a [u8],
     steps: &mut Steps<L>,
 ) -> Result<(Member, &'a [u8]), Stop<ClassWhy>>
     ensures read { Reads result (member_at pool.now holder bytes.now) }
-    ensures cost { steps.new ≤ steps.old + 4 * length bytes.now + 13 }
+    ensures cost { steps.new ≤ steps.old + 3 * length bytes.now + 7 }
     ensures rest { IfOk result (λ x.
-        steps.new + 4 * length x.1.now ≤ steps.old + 4 * length bytes.now) }
+        steps.new + 3 * length x.1.now ≤ steps.old + 3 * length bytes.now) }
 {
     let (flags, rest) = u2_of(bytes)?;
     let ((name, descriptor), rest) = pair_of(rest)?;
     let (count, rest) = u2_of(rest)?;
-    let (attributes, rest) = attributes_of(alloc, pool, holder, count, rest, steps)?;
+    let (attributes, rest) = attributes_of(alloc, pool, tail, holder, count, rest, steps)?;
     let member = Member {
         flags,
         name,
@@ -46,21 +48,22 @@ fn member_of<'a, L: Ledger>(
 fn all_of<'a, L: Ledger>(
     alloc: Global,
     pool: &[Const],
+    tail: &SharedVec<u8>,
     holder: Holder,
     count: u16,
     bytes: &'a [u8],
     steps: &mut Steps<L>,
 ) -> Result<(Items<Member>, &'a [u8]), Stop<ClassWhy>>
     ensures read { Reads result (many (member_at pool.now holder) count bytes.now) }
-    ensures cost { steps.new ≤ steps.old + 4 * length bytes.now + 13 }
+    ensures cost { steps.new ≤ steps.old + 3 * length bytes.now + 7 }
     ensures rest { IfOk result (λ x.
-        steps.new + 4 * length x.1.now ≤ steps.old + 4 * length bytes.now) }
+        steps.new + 3 * length x.1.now ≤ steps.old + 3 * length bytes.now) }
 {
     let most = usize::from(count).min(bytes.len() / 8);
     let mut members = Vec::with_capacity(alloc, most)?;
     let mut rest = bytes;
     for _ in 0..count {
-        let (member, after) = member_of(alloc, pool, holder, rest, steps)?;
+        let (member, after) = member_of(alloc, pool, tail, holder, rest, steps)?;
         members.push(member)?;
         rest = after;
     }
@@ -72,17 +75,18 @@ fn all_of<'a, L: Ledger>(
 pub fn members_of<'a, L: Ledger>(
     alloc: Global,
     pool: &[Const],
+    tail: &SharedVec<u8>,
     holder: Holder,
     bytes: &'a [u8],
     steps: &mut Steps<L>,
 ) -> Result<(Items<Member>, &'a [u8]), Stop<ClassWhy>>
     ensures read { Reads result (members_at pool.now holder bytes.now) }
-    ensures cost { steps.new ≤ steps.old + 4 * length bytes.now + 13 }
+    ensures cost { steps.new ≤ steps.old + 3 * length bytes.now + 7 }
     ensures rest { IfOk result (λ x.
-        steps.new + 4 * length x.1.now ≤ steps.old + 4 * length bytes.now) }
+        steps.new + 3 * length x.1.now ≤ steps.old + 3 * length bytes.now) }
 {
     let (count, rest) = u2_of(bytes)?;
-    all_of(alloc, pool, holder, count, rest, steps)
+    all_of(alloc, pool, tail, holder, count, rest, steps)
 }
 
 /// That many interfaces, each by its index in the constant pool (JVMS 4.1).

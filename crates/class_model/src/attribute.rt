@@ -1,4 +1,5 @@
-use items::Items;
+use items::{Boxed, Items};
+use shared_slices::SharedSlice;
 
 /// An attribute of a class, a field or a method (JVMS 4.7). The name is an index of the constant pool.
 #[derive(Clone, Debug, Drop, PartialEq, Eq)]
@@ -10,12 +11,12 @@ pub struct Attribute {
 /// The contents of an attribute.
 #[derive(Clone, Debug, Drop, PartialEq, Eq)]
 pub enum Body {
-    /// A method's Code (JVMS 4.7.3).
-    Code(CodeBody),
+    /// A method's Code (JVMS 4.7.3). It lies by itself, since other attributes are many and small.
+    Code(Boxed<CodeBody>),
     /// A field's ConstantValue, by its index in the constant pool (JVMS 4.7.2).
     Constant(u16),
     /// The bytes of an attribute that is not recognized (JVMS 4.7.1).
-    Other(Items<u8>),
+    Other(SharedSlice<u8>),
 }
 
 /// A method's code (JVMS 4.7.3).
@@ -25,7 +26,7 @@ pub struct CodeBody {
     pub max_stack: u16,
     /// The number of local variables, in slots.
     pub max_locals: u16,
-    pub code: Items<u8>,
+    pub code: SharedSlice<u8>,
     /// The exception table.
     pub rows: Items<Row>,
     pub attributes: Items<CodeAttribute>,
@@ -52,7 +53,7 @@ pub struct CodeAttribute {
 #[derive(Clone, Debug, Drop, PartialEq, Eq)]
 pub enum CodeExtra {
     /// The bytes of a StackMapTable (JVMS 4.7.4).
-    StackMap(Items<u8>),
+    StackMap(SharedSlice<u8>),
     /// The bytes of an attribute that is not recognized (JVMS 4.7.1).
-    Other(Items<u8>),
+    Other(SharedSlice<u8>),
 }

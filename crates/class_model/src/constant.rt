@@ -1,4 +1,4 @@
-use items::Items;
+use shared_slices::SharedSlice;
 
 /// An entry of the constant pool (JVMS 4.4). A number is the index of another entry, unless the variant's line says
 /// otherwise.
@@ -7,7 +7,7 @@ pub enum Const {
     /// The entry at index 0, and the one after a Long or a Double (JVMS 4.1, 4.4.5).
     Unused,
     /// A text in the units of UTF-16 (JVMS 4.4.7).
-    Utf8(Items<u16>),
+    Utf8(SharedSlice<u16>),
     /// An int (JVMS 4.4.4).
     Integer(i32),
     /// The bits of a float (JVMS 4.4.4).

@@ -79,7 +79,7 @@ fn body(out: &mut Vec<u8>, body: &Body) -> Result<(), NoMemory>
     ensures { OnOk result (out.new.items ≡ out.old.items ++ spec.body body.now) }
 {
     match body {
-        Body::Code(inner) => code(out, inner),
+        Body::Code(inner) => code(out, inner.get()),
         Body::Constant(value) => u2(out, *value),
         Body::Other(bytes) => {
             out.extend_from_slice(bytes)?;

@@ -6,6 +6,7 @@ use class_file::{ClassWhy, ReadError, read};
 use class_model::{Body, ClassFile, Const};
 use class_write::write;
 use items::Items;
+use shared_slices::SharedSlice;
 use std::alloc::{AllocError, Global};
 use std::test::Fail;
 
@@ -31,7 +32,7 @@ const PRINTS_42: [u8; 241] = [
 
 fn code_of(file: &ClassFile) -> Option<&[u8]> {
     match &file.methods.first()?.attributes.first()?.body {
-        Body::Code(code) => Some(code.code.as_slice()),
+        Body::Code(code) => Some(code.get().code.as_slice()),
         _ => None,
     }
 }
@@ -212,7 +213,7 @@ fn each_kind_of_part_is_written_as_it_was_read(rt: HostRuntime) -> Result<(), Fa
 
 // The class A with this index as its super_class.
 fn class_of(alloc: Global, parent: u16) -> Result<ClassFile, AllocError> {
-    let name = Items::from(vec![in alloc; 65u16]?);
+    let name = SharedSlice::new(alloc, vec![in alloc; 65u16]?)?;
     Ok(ClassFile {
         minor: 0,
         major: 52,

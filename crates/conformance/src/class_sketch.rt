@@ -9,7 +9,8 @@ use crate::ascii::units_of;
 use crate::code_sketch::{CodeSketch, push_number};
 use crate::mnemonics::opcode_of;
 use class_model::{Attribute, Body, ClassFile, Const, Member, Row};
-use items::{Items, NoMemory};
+use items::{Boxed, Items, NoMemory};
+use shared_slices::SharedSlice;
 use std::alloc::Global;
 use std::str::SplitWhitespace;
 
@@ -54,7 +55,8 @@ impl Sketch {
 
     fn text(&mut self, text: &str) -> Result<u16, NoMemory> {
         let units = units_of(self.alloc, text.as_bytes())?;
-        self.add(Const::Utf8(Items::from(units)))
+        let units = SharedSlice::new(self.alloc, units)?;
+        self.add(Const::Utf8(units))
     }
 
     fn class(&mut self, name: &str) -> Result<u16, NoMemory> {
@@ -167,7 +169,7 @@ impl Sketch {
         let mut attributes = Vec::new(self.alloc);
         attributes.push(Attribute {
             name,
-            body: Body::Code(self.code.body(map_name)?),
+            body: Body::Code(Boxed::new(self.alloc, self.code.body(map_name)?)?),
         })?;
         self.code = CodeSketch::new(self.alloc);
         if let Some(method) = self.methods.pop() {

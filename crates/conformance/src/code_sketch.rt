@@ -2,6 +2,7 @@
 
 use class_model::{CodeAttribute, CodeBody, CodeExtra, Row};
 use items::{Items, NoMemory};
+use shared_slices::SharedSlice;
 use std::alloc::Global;
 
 /// The code of a method that is being written. Where nothing else is said, it may have four slots of each kind.
@@ -99,13 +100,13 @@ impl CodeSketch {
         if !self.map.is_empty() {
             attributes.push(CodeAttribute {
                 name: map_name,
-                body: CodeExtra::StackMap(Items::from(self.map_bytes()?)),
+                body: CodeExtra::StackMap(SharedSlice::new(self.alloc, self.map_bytes()?)?),
             })?;
         }
         Ok(CodeBody {
             max_stack: self.max_stack,
             max_locals: self.max_locals,
-            code: Items::from(Vec::from_slice(self.alloc, &self.code)?),
+            code: SharedSlice::new(self.alloc, Vec::from_slice(self.alloc, &self.code)?)?,
             rows: Items::from(Vec::from_slice(self.alloc, &self.rows)?),
             attributes: Items::from(attributes),
         })

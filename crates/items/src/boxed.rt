@@ -34,3 +34,27 @@ impl<T> Boxed<T> {
         &*self.inner
     }
 }
+
+impl<T: Clone> Clone for Boxed<T> {
+    ghost is_clone = { T.is_clone };
+
+    fn clone(&self) -> Result<Self, AllocError> {
+        Ok(Boxed {
+            inner: self.inner.clone()?,
+        })
+    }
+}
+
+impl<T: PartialEq> PartialEq for Boxed<T> {
+    ghost eq = { T.eq };
+
+    ghost laws = { T.laws };
+
+    fn eq(&self, other: &Self) -> bool {
+        self.inner == other.inner
+    }
+}
+
+impl<T: Eq> Eq for Boxed<T> {
+    ghost laws = { T.Eq.laws };
+}

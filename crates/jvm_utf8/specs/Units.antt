@@ -1,5 +1,5 @@
 -- The units of a text, read from left to right, or the first offset at which no unit begins.
-use Rattle.std.specs.Prelude.{ℕ, zero, suc, ◌+◌, ◌-◌, ◌*◌, List, [], ◌∷◌, length, Bool, Option, Some, None, Result, Ok, Err, nat_lt, ◌==◌, ◌||◌, ◌&&◌, if◌then◌else◌}
+use Rattle.std.specs.Prelude.{ℕ, zero, suc, ◌+◌, ◌-◌, ◌*◌, List, [], ◌∷◌, ◌++◌, length, Bool, Option, Some, None, Result, Ok, Err, nat_lt, ◌==◌, ◌||◌, ◌&&◌, if◌then◌else◌}
 use Rattle.std.specs.Int.{is_in_range}
 
 -- a byte after the first one of a unit
@@ -51,3 +51,8 @@ units_from (suc most) at (b ∷ bytes) =
 -- the units that the bytes spell, or the first offset at which no unit begins
 unfoldable pub units_of : List ℕ → Result (List ℕ) ℕ
 units_of bytes = units_from (length bytes) 0 bytes
+
+-- these units and then the ones that bytes spell, or the first offset at which no unit begins
+abbrev pub after : List ℕ → Result (List ℕ) ℕ → Result (List ℕ) ℕ
+after front (Ok units) = Ok (front ++ units)
+after front (Err at) = Err at

@@ -1,4 +1,4 @@
-ghost use Rattle.std.specs.Prelude.{◌≡◌, ◌<◌, ◌^◌, ◌+◌, List, ℕ, length, IfOk, Ok, Err, IsTrue, true};
+ghost use Rattle.std.specs.Prelude.{◌≡◌, ◌<◌, ◌^◌, ◌+◌, ◌++◌, List, ℕ, length, IfOk, OnOk, Ok, Err, IsTrue, true};
 ghost use Rattle.std.specs.Int.{is_in_range};
 ghost use Rattle.std.specs.List.{list_all};
 ghost use Rattle.std.specs.Option.{option_map};
@@ -79,10 +79,31 @@ fn units_of<L: Ledger>(
     ensures offset { (at : ℕ) → result ≡ Err (errors.Bad at) → spec.units_of bytes.now ≡ Err at }
     ensures cost { steps.new ≡ steps.old + length bytes.now }
 {
+    let mut units = Vec::new(alloc);
+    decode_onto(alloc, &mut units, bytes, steps)?;
+    Ok(units)
+}
+
+/// Appends the units that the bytes spell, as `decode_counted` finds them.
+pub fn decode_onto<L: Ledger>(
+    alloc: Global,
+    units: &mut Vec<u16>,
+    bytes: &[u8],
+    steps: &mut Steps<L>,
+) -> Result<(), Utf8Error>
+    requires { length bytes.now < 2 ^ 32 }
+    ensures value { OnOk result
+        (spec.after units.old.items (spec.units_of bytes.now) ≡ Ok units.new.items) }
+    ensures offset { (at : ℕ) → result ≡ Err (errors.Bad at) → spec.units_of bytes.now ≡ Err at }
+    // Each byte takes one step, whatever the answer is.
+    ensures cost { steps.new ≡ steps.old + length bytes.now }
+{
     if are_plain(bytes) {
-        return plain_units(alloc, bytes, steps);
+        return append_plain(units, bytes, steps);
     }
-    units_by_form(alloc, bytes, steps)
+    let mut others = units_by_form(alloc, bytes, steps)?;
+    units.append(&mut others)?;
+    Ok(())
 }
 
 // Whether each byte is a unit by itself. That a byte is looked at here is part of the step in
@@ -105,27 +126,43 @@ fn is_plain(byte: u8) -> bool
     byte.wrapping_sub(1) < 0x7f
 }
 
-// The units of bytes that are units by themselves, as most texts are.
-fn plain_units<L: Ledger>(
-    alloc: Global,
+// Appends bytes that are units by themselves, as those of most texts are.
+fn append_plain<L: Ledger>(
+    units: &mut Vec<u16>,
     bytes: &[u8],
     steps: &mut Steps<L>,
-) -> Result<Vec<u16>, Utf8Error>
-    requires { list_all spec.is_plain bytes.now ≡ true }
-    ensures value { IfOk result (λ v. spec.units_of bytes.now ≡ Ok v.items) }
+) -> Result<(), Utf8Error>
+    requires size { length bytes.now < 2 ^ 32 }
+    requires plain { list_all spec.is_plain bytes.now ≡ true }
+    ensures value { OnOk result
+        (spec.after units.old.items (spec.units_of bytes.now) ≡ Ok units.new.items) }
     ensures offset { (at : ℕ) → result ≡ Err (errors.Bad at) → spec.units_of bytes.now ≡ Err at }
     ensures cost { steps.new ≡ steps.old + length bytes.now }
 {
     steps.spend(bytes.len());
-    let units = widened(alloc, bytes)?;
-    Ok(units)
+    append_widened(units, bytes)?;
+    Ok(())
 }
 
-// Each byte as a unit.
-fn widened(alloc: Global, bytes: &[u8]) -> Result<Vec<u16>, AllocError>
-    ensures { IfOk result (λ v. v.items ≡ bytes.now) }
+// Appends each byte as a unit.
+fn append_widened(units: &mut Vec<u16>, bytes: &[u8]) -> Result<(), AllocError>
+    requires { length bytes.now < 2 ^ 32 }
+    ensures { OnOk result (units.new.items ≡ units.old.items ++ bytes.now) }
 {
-    bytes.iter().map(|byte| u16::from(*byte)).collect(alloc)
+    let before = units.len();
+    units.resize(before + bytes.len(), 0)?;
+    widen(bytes, &mut units[before..]);
+    Ok(())
+}
+
+// Writes each byte as a unit.
+fn widen(bytes: &[u8], units: &mut [u16])
+    requires { length units.now ≡ length bytes.now }
+    ensures { units.new ≡ bytes.now }
+{
+    for index in 0..bytes.len() {
+        units[index] = u16::from(bytes[index]);
+    }
 }
 
 // The units of any bytes.

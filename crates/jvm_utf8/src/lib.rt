@@ -6,7 +6,7 @@ mod encoder;
 mod error;
 mod laws;
 
-pub use decoder::{decode, decode_counted};
+pub use decoder::{decode, decode_counted, decode_onto};
 pub use encoder::{append, encode};
 pub use error::Utf8Error;
 pub use laws::{one_first_bad, one_text};

@@ -139,7 +139,7 @@ state =
 
 abbrev pub lock_support : Class
 lock_support =
-    class public "java/util/concurrent/locks/LockSupport" (Some "java/lang/Object") []
+    class (public + final) "java/util/concurrent/locks/LockSupport" (Some "java/lang/Object") []
     []
     (native_method (public + static + native) "park" "()V" natives.LockSupportPark
     ∷ native_method (public + static + native) "park" "(Ljava/lang/Object;)V" natives.LockSupportParkBlocker

@@ -11,7 +11,7 @@ use crate::declarations::{
 };
 use crate::pool::ConstantPool;
 use class_model::{Attribute, Body, ClassFile, Member};
-use items::{Items, NoMemory};
+use items::{Boxed, Items, NoMemory};
 use std::alloc::Global;
 
 fn code_attribute(
@@ -23,7 +23,8 @@ fn code_attribute(
         spec.code_attribute (code_of code.now) pool.old) }
 {
     let name = pool.text("Code")?;
-    let body = Body::Code(code_body(alloc, pool, code)?);
+    let code = Boxed::new(alloc, code_body(alloc, pool, code)?)?;
+    let body = Body::Code(code);
     single(alloc, Attribute { name, body })
 }
 

@@ -11,6 +11,7 @@ use crate::instruction::{Instruction, Operand, opcode_of, operand_in};
 use crate::pool::{ConstantPool, narrow};
 use class_model::{CodeAttribute, CodeBody, CodeExtra};
 use items::{Items, NoMemory};
+use shared_slices::SharedSlice;
 use std::alloc::Global;
 
 /// A list of one item.
@@ -93,7 +94,7 @@ fn bytes_of(
     alloc: Global,
     pool: &mut ConstantPool,
     instructions: &[Instruction],
-) -> Result<Items<u8>, NoMemory>
+) -> Result<SharedSlice<u8>, NoMemory>
     ensures { IfOk result (λ bytes. (bytes, pool.new) ≡
         fold spec.with_instruction ([], pool.old) (map meaning instructions.now)) }
 {
@@ -101,17 +102,17 @@ fn bytes_of(
     for instruction in instructions {
         push_instruction(&mut code, pool, instruction)?;
     }
-    Ok(code.into())
+    Ok(SharedSlice::new(alloc, code)?)
 }
 
 // The number of frames, and one with the first locals and an empty operand stack, whose type is its pc (JVMS 4.7.4).
-fn same_frame(alloc: Global, pc: u8) -> Result<Items<u8>, NoMemory>
+fn same_frame(alloc: Global, pc: u8) -> Result<SharedSlice<u8>, NoMemory>
     ensures { IfOk result (λ bytes. bytes ≡ spec.same_frame pc) }
 {
     let mut map = Vec::new(alloc);
     push_u2(&mut map, 1)?;
     map.push(pc)?;
-    Ok(map.into())
+    Ok(SharedSlice::new(alloc, map)?)
 }
 
 fn stack_map(

@@ -8,6 +8,7 @@ ghost use Rattle.lib_table.specs.Pool as spec;
 use class_grammar::is_same;
 use class_model::Const;
 use items::{Items, NoMemory};
+use shared_slices::SharedSlice;
 use std::alloc::Global;
 use std::marker::Model;
 
@@ -121,7 +122,7 @@ pub fn narrow(index: usize) -> Result<u16, NoMemory>
 }
 
 // The units of a text in ASCII.
-fn units_of(alloc: Global, text: &str) -> Result<Items<u16>, NoMemory>
+fn units_of(alloc: Global, text: &str) -> Result<SharedSlice<u16>, NoMemory>
     ensures { IfOk result (λ units. units ≡ text.now) }
 {
     let bytes = text.as_bytes();
@@ -129,7 +130,7 @@ fn units_of(alloc: Global, text: &str) -> Result<Items<u16>, NoMemory>
     for byte in bytes {
         units.push(u16::from(*byte))?;
     }
-    Ok(units.into())
+    Ok(SharedSlice::new(alloc, units)?)
 }
 
 /// A constant pool that grows. Its value is the list of its entries.

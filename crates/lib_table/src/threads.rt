@@ -157,7 +157,7 @@ static CLASSES: [ClassDeclaration; 5] = [
         methods: &[],
     },
     ClassDeclaration {
-        flags: flags!(public),
+        flags: flags!(public final),
         name: "java/util/concurrent/locks/LockSupport",
         parent: Some("java/lang/Object"),
         interfaces: &[],

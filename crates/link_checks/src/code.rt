@@ -119,7 +119,7 @@ fn attribute_fault(
         namer.entry.world.now namer.entry.class namer.entry.pool.now attribute.now)) }
 {
     match &attribute.body {
-        Body::Code(body) => code_fault(alloc, namer, body),
+        Body::Code(body) => code_fault(alloc, namer, body.get()),
         _ => Ok(None),
     }
 }

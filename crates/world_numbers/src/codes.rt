@@ -27,7 +27,7 @@ fn code_in(attribute: &Attribute) -> Option<&CodeBody>
     ensures { option_copied result ≡ spec.code_in attribute.now }
 {
     match &attribute.body {
-        Body::Code(body) => Some(body),
+        Body::Code(body) => Some(body.get()),
         _ => None,
     }
 }

@@ -7,5 +7,5 @@ use Rattle.class_file.proofs.members.all_of.Given as goal
 abbrev pub invariant-loop : goal.invariant-loop
 invariant-loop g l = record {
   reads : ReadsOn (λ (state : Unit {0}) (more : ℕ). member_at l.pool l.holder) keep l.members.items tt (l.count - l.counter) l.rest (many (member_at l.pool l.holder) l.count l.bytes);
-  spent : l.steps + 4 * length l.rest ≤ l.fn.steps + 4 * length l.bytes;
+  spent : l.steps + 3 * length l.rest ≤ l.fn.steps + 3 * length l.bytes;
 }

@@ -15,6 +15,6 @@ attributes_of name body = record { name = name; body = Code body } ∷ []
 pub returns : goal.returns
 unfolding spec.code_attribute attributes_of
 returns c =
-    beside c.single.result (attributes_of c.in_ok-name.name c.in_ok-code_body.field-0) c.code_body.new.pool _ c.single.ensures
-    (after_step (spec.code (code_of c.args.code.now) c.text.new.self) (λ body pool. (attributes_of c.in_ok-name.name body, pool)) _ _ c.in_ok-code_body.ensures
-    ∙ after_step (pools.text (codes "Code") c.args.pool.now) (λ name pool. spec.code (code_of c.args.code.now) pool then λ body pool. (attributes_of name body, pool)) _ _ c.in_ok-name.ensures)
+    beside c.single.result (attributes_of c.in_ok-name.name c.in_ok-code.code) c.code_body.new.pool _ c.single.ensures
+    (rw c.in_ok-code.ensures (after_step (spec.code (code_of c.args.code.now) c.text.new.self) (λ body pool. (attributes_of c.in_ok-name.name body, pool)) _ _ c.in_ok-code_body.ensures
+    ∙ after_step (pools.text (codes "Code") c.args.pool.now) (λ name pool. spec.code (code_of c.args.code.now) pool then λ body pool. (attributes_of name body, pool)) _ _ c.in_ok-name.ensures))
