@@ -123,10 +123,13 @@ def method(code, rows=NONE, attributes=NONE):
 
 OWN = u2(8) + u4(10) + bytes(10)
 SMALL = u2(8) + u4(1) + bytes(1)
+EMPTY = u2(8) + u4(0)
 
 KINDS = {
     # short texts, each another name
     "texts": lambda n: class_file((n, b"".join(text(b"java/util/Name%05d" % i) for i in range(n)))),
+    # texts of one byte
+    "letters": lambda n: class_file((n, text(b"a") * n)),
     # one long text, the name of a class
     "units": lambda n: class_file((2, text(b"a" * n) + b"\x07" + u2(9))),
     # a text of two bytes a unit
@@ -140,9 +143,10 @@ KINDS = {
     "interfaces": lambda n: class_file(NONE, interfaces=(n, u2(4) * n)),
     "fields": lambda n: class_file(NONE, fields=(n, (u2(1) + u2(1) + u2(6) + u2(0)) * n)),
     "methods": lambda n: class_file(NONE, methods=(n, method(b"\xb1") * n)),
-    # of the class, of ten bytes and of one, and of one Code
+    # of the class, of ten bytes, of one and of none, and of one Code
     "attributes": lambda n: class_file(NONE, attributes=(n, OWN * n)),
     "small": lambda n: class_file(NONE, attributes=(n, SMALL * n)),
+    "empty": lambda n: class_file(NONE, attributes=(n, EMPTY * n)),
     "inner": lambda n: class_file(NONE, methods=(1, method(b"\xb1", attributes=(n, OWN * n)))),
     # the exception table and the code of one method
     "rows": lambda n: class_file(NONE, methods=(1, method(b"\0" * 9 + b"\xb1", rows=(n, (u2(0) + u2(5) + u2(9) + u2(4)) * n)))),
