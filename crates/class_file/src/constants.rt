@@ -196,36 +196,8 @@ fn tagged_of<'a, L: Ledger>(
     }
 }
 
-// A constant, where so many entries follow. A Long or a Double needs one of them (JVMS 4.4.5).
-#[tactic(auto, unfolding(crate::specs::Constants::constant_at))]
-fn constant_entry_of<'a, L: Ledger>(
-    alloc: Global,
-    more: u16,
-    units: &mut Vec<u16>,
-    bytes: &'a [u8],
-    steps: &mut Steps<L>,
-) -> Result<(Entry, &'a [u8]), Stop<ClassWhy>>
-    ensures read { ReadsEntry units.old.items units.new.items result
-        (spec.constant_at more bytes.now) }
-    ensures units { IfOk result (λ x. ComesWith x.0 units.old.items units.new.items) }
-    ensures cost { steps.new ≤ steps.old + 4 * length bytes.now }
-    ensures rest { IfOk result (λ x.
-        steps.new + later (constant_of (appended units.old.items units.new.items) x.0)
-        + 4 * length x.1.now ≤ steps.old + 4 * length bytes.now) }
-{
-    let (tag, rest) = u1_of(bytes)?;
-    if (tag == TAG_LONG || tag == TAG_DOUBLE) && more == 0 {
-        return Err(Stop::at(bytes, ClassWhy::Count));
-    }
-    let unknown = Fault {
-        left: bytes.len(),
-        why: ClassWhy::Tag,
-    };
-    tagged_of(alloc, unknown, tag, units, rest, steps)
-}
-
-// An entry of the pool, which takes no bytes after a Long or a Double.
-#[tactic(auto, using(crate::proofs::TextPlaces::appends_none, crate::proofs::TextPlaces::none_appended))]
+// An entry of the pool, where so many follow. Behind a Long or a Double it takes no bytes, and one of these needs it (JVMS 4.4.5).
+#[tactic(auto, unfolding(crate::specs::Constants::constant_at), using(crate::proofs::TextPlaces::appends_none, crate::proofs::TextPlaces::none_appended))]
 fn entry_of<'a, L: Ledger>(
     alloc: Global,
     behind: bool,
@@ -245,7 +217,15 @@ fn entry_of<'a, L: Ledger>(
     if behind {
         return Ok((Entry::Other(Const::Unused), bytes));
     }
-    constant_entry_of(alloc, more, units, bytes, steps)
+    let (tag, rest) = u1_of(bytes)?;
+    if (tag == TAG_LONG || tag == TAG_DOUBLE) && more == 0 {
+        return Err(Stop::at(bytes, ClassWhy::Count));
+    }
+    let unknown = Fault {
+        left: bytes.len(),
+        why: ClassWhy::Tag,
+    };
+    tagged_of(alloc, unknown, tag, units, rest, steps)
 }
 
 // Entry 0, which is not used, and that many entries after it.
