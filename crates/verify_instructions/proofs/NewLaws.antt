@@ -1,10 +1,12 @@
 -- The `new` at a pc, by the index of its instruction.
-use Rattle.std.proofs.Common.{◌≡◌, ℕ, zero, suc, ◌+◌, ◌≤◌, Bool, true, false, cond, eqb, ltb, get_or, List, [], ◌∷◌, length, Option, Some, None, refl, ap, sym, ◌∙◌, arith}
+use Rattle.std.proofs.Common.{◌≡◌, ℕ, zero, suc, ◌+◌, ◌<◌, ◌≤◌, Bool, true, false, cond, eqb, ltb, get_or, List, [], ◌∷◌, length, Some, None, refl, ap, sym, ◌∙◌, arith}
 use Rattle.std.specs.Prelude.{drop, find, not, position, slice_get}
 use Rattle.std.specs.List.{position_or_len}
+use Rattle.std.specs.List.Sorted.{IsNonDecreasingBy, IsPartitionPoint}
 use Rattle.std.specs.Option.{option_and_then, option_map}
-use Rattle.std.proofs.lemmas.Bool.{ltb-false}
+use Rattle.std.proofs.lemmas.Bool.{eq-eqb, le-ltb, lt-ltb, ltb-false, ltb-true, ne_eqb}
 use Rattle.std.proofs.lemmas.List.Folds.{find_at}
+use Rattle.std.proofs.lemmas.List.Sums.{position_or_len_is}
 use Rattle.std.proofs.lemmas.Option.{slice_get_past}
 use Rattle.opcodes.specs.declared.op.Instr.{Instr}
 use Rattle.world_model.specs.declared.sites.Naming.{Naming}
@@ -59,3 +61,43 @@ new_none pc code ns none =
     let past = ltb-false k (length code) (no_place (ltb k (length code)) k none) in
     ap (λ o. option_and_then (λ (x : Instruction). made_by x.instr.op x.naming.site) o)
     (placed pc code ns ∙ ap (λ o. option_map (λ (x : Instr). record { instr = x; naming = get_or ns k plain }) o) (slice_get_past code k past))
+
+-- ---- the first instruction at a pc, where those before a place lie before the pc, and those from there on don't
+
+abbrev pub Before : ℕ → Instr → Bool
+Before pc i = ltb i.pc pc
+
+abbrev pub IsFirst : ℕ → List Instr → ℕ → Type 0
+IsFirst pc code n = IsPartitionPoint (λ i. Before pc i ≡ true) (λ i. Before pc i ≡ false) code n
+
+below_other : (pc n : ℕ) (code : List Instr) → IsFirst pc code n → (k : ℕ) (d : Instr) → k < n → At pc (get_or code k d) ≡ false
+below_other pc n code h k d low =
+    let before = ltb-true (get_or code k d).pc pc (h.0 k d (omega arith) low) in
+    ne_eqb (get_or code k d).pc pc (λ same. omega arith)
+
+pub first_found : (pc n : ℕ) (code : List Instr) (d : Instr) → IsFirst pc code n → n < length code → (get_or code n d).pc ≡ pc → Some n ≡ position (At pc) code
+first_found pc n code d h low is =
+    let at : position_or_len (At pc) code ≡ n = position_or_len_is (At pc) code n d (omega arith) (λ k below. below_other pc n code h k d below) (λ l. eq-eqb (get_or code n d).pc pc is) in
+    sym (ap (λ k. cond (ltb k (length code)) (Some k) None) at ∙ ap (λ b. cond b (Some n) None) (lt-ltb n (length code) low))
+
+past_other : (pc n : ℕ) (code : List Instr) (d : Instr) → IsNonDecreasingBy (λ (i : Instr). i.pc) code → IsFirst pc code n → ((get_or code n d).pc ≡ pc → ⊥) → (k : ℕ) → n ≤ k → k < length code → At pc (get_or code k d) ≡ false
+past_other pc n code d rises h not k up low =
+    let from = ltb-false (get_or code n d).pc pc (h.1 n d (omega arith) (omega arith)) in
+    let above = rises n k d up low in
+    ne_eqb (get_or code k d).pc pc (λ same. not (omega arith))
+
+pub first_none : (pc n : ℕ) (code : List Instr) (d : Instr) → IsNonDecreasingBy (λ (i : Instr). i.pc) code → IsFirst pc code n → (n < length code → (get_or code n d).pc ≡ pc → ⊥) → None ≡ position (At pc) code
+first_none pc n code d rises h other =
+    let at : position_or_len (At pc) code ≡ length code = position_or_len_is (At pc) code (length code) d (omega arith) (λ k low. by_place k low (ltb k n) refl) (λ l. absurd (omega arith)) in
+    sym (ap (λ k. cond (ltb k (length code)) (Some k) None) at ∙ ap (λ b. cond b (Some (length code)) None) (ltb_itself (length code)))
+  where
+    ltb_itself : (n : ℕ) → ltb n n ≡ false
+    ltb_itself n = le-ltb n n (omega arith)
+
+    by_place : (k : ℕ) → k < length code → (b : Bool) → ltb k n ≡ b → At pc (get_or code k d) ≡ false
+    by_place k low true e = below_other pc n code h k d (ltb-true k n e)
+    by_place k low false e = let up = ltb-false k n e in past_other pc n code d rises h (other (omega arith)) k up low
+
+pub first_past : (pc n : ℕ) (code : List Instr) → IsNonDecreasingBy (λ (i : Instr). i.pc) code → IsFirst pc code n → length code ≤ n → None ≡ position (At pc) code
+first_past pc n [] rises h past = refl
+first_past pc n (i ∷ code) rises h past = first_none pc n (i ∷ code) i rises h (λ low. absurd (omega arith))

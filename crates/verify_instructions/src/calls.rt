@@ -98,7 +98,7 @@ fn is_new_of(m: &Method<'_>, pc: u16, class: u32) -> bool
     ensures { result ≡ is_number
         (new_at pc (environment.with_namings m.now.code.now.code m.now.namings.now)) class }
 {
-    match new_class(&m.code.code, m.namings, pc) {
+    match new_class(m, pc) {
         Some(made) => made == class,
         None => false,
     }

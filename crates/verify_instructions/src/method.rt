@@ -3,6 +3,7 @@
 ghost use Rattle.std.specs.Prelude.{◌≡◌, ◌==◌, None, drop, get_or, position};
 ghost use Rattle.opcodes.specs.declared.op.Instr.{Instr as Instruction};
 ghost use Rattle.std.specs.List.{list_any};
+ghost use Rattle.std.specs.List.Sorted.{IsNonDecreasingBy};
 ghost use Rattle.world_model.specs.declared.sites.Site.TheVariants.{Plain};
 ghost use Rattle.verify_types.specs.Environment as environment;
 ghost use Rattle.verify_types.specs.Calls as spec;
@@ -19,6 +20,8 @@ pub struct Method<'a> {
     pub code: &'a MethodCode,
     pub namings: &'a [Naming],
     pub catches: &'a [Option<u32>],
+    /// The instructions lie by rising pc.
+    pub ghost in_order: { IsNonDecreasingBy (λ (i : Instruction). i.pc) code.now.code },
 }
 
 /// What the constant of the first instruction means; nothing where there is none.
@@ -59,9 +62,14 @@ fn made_by(op: &Op, site: Site) -> Option<u32>
 
 // The index of the first instruction at a pc. `None`: there is none.
 fn index_at(code: &[Instr], pc: u32) -> Option<usize>
+    requires { IsNonDecreasingBy (λ (i : Instruction). i.pc) code.now }
     ensures { result ≡ position (λ (i : Instruction). i.pc == pc) code.now }
 {
-    code.iter().position(|i| i.pc == pc)
+    let n = code.partition_point(|i| i.pc < pc);
+    let Some(i) = code.get(n) else {
+        return None;
+    };
+    if i.pc == pc { Some(n) } else { None }
 }
 
 // What the constant of the instruction of a number means; nothing where there is none.
@@ -78,16 +86,18 @@ fn naming_at(namings: &[Naming], n: usize) -> Naming
 }
 
 /// The class of the `new` at a pc. `None`: there is none.
-pub fn new_class(code: &[Instr], namings: &[Naming], pc: u16) -> Option<u32>
-    ensures { result ≡ new_at pc (environment.with_namings code.now namings.now) }
+pub fn new_class(m: &Method<'_>, pc: u16) -> Option<u32>
+    ensures { result ≡
+        new_at pc (environment.with_namings m.now.code.now.code m.now.namings.now) }
 {
+    let code: &[Instr] = &m.code.code;
     let Some(n) = index_at(code, u32::from(pc)) else {
         return None;
     };
     let Some(i) = code.get(n) else {
         return None;
     };
-    made_by(&i.op, naming_at(namings, n).site)
+    made_by(&i.op, naming_at(m.namings, n).site)
 }
 
 // Whether the pc lies in the range of the row.
