@@ -1,6 +1,7 @@
 -- States with the local variables of a frame of the map.
 use Rattle.std.proofs.Common.{◌≡◌, ℕ, Bool, true, false, cond, List, [], Option, Some, None, Ok, refl, ap, sym, subst, ◌∙◌}
 use Rattle.std.specs.Prelude.{◌&&◌, ◌||◌, not, reverse, is_some, IfSome}
+use Rattle.std.specs.List.{All}
 use Rattle.std.specs.Option.{option_map, option_map_or}
 use Rattle.items.specs.Options.{◌>>=◌}
 use Rattle.stack_maps.specs.declared.types.FrameTypes.{FrameTypes}
@@ -17,6 +18,7 @@ use Rattle.verify_instructions.proofs.Lists.{pointwise_reverse}
 use Rattle.verify_frames.specs.declared.frame.Frame.{Frame}
 use Rattle.verify_frames.specs.declared.frame_paths.Entry.{Entry}
 use Rattle.verify_frames.specs.declared.known_state.StatesAfter.{StatesAfter}
+use Rattle.verify_frames.specs.declared.known_state.Fitted.{Fitted}
 use Rattle.verify_frames.specs.declared.known_state.KnownState.{KnownState}
 use Rattle.verify_frames.specs.FramePaths.{entry_in, frame_types, state_where}
 use Rattle.verify_frames.specs.Frames.{frame_at, frame_in}
@@ -28,7 +30,7 @@ use Rattle.verify_frames.specs.declared.watch.Watch.{Watch}
 use Rattle.verify_frames.specs.Watches.{Watches}
 use Rattle.verify_frames.specs.Overwrites.{AreBut, IsRestored, NotedBehind, are_assignable, overwritten_since}
 use Rattle.verify_frames.specs.Overwrites.NotedBehind.{leaves, stores, objects}
-use Rattle.verify_frames.specs.KnownStates.{AllHold, BothHold, Compares, FitsLocals, MayBeLike, MayFit, KnownAfter, states_after, stored_by, IsStored, either_of, going, IsJudged, IsLike, IsOver, IsShared, Holds, type_state}
+use Rattle.verify_frames.specs.KnownStates.{AllHold, BothHold, Compares, FitAll, FitsLocals, MayBeLike, MayFit, KnownAfter, states_after, stored_by, IsStored, either_of, going, IsJudged, IsLike, IsOver, IsShared, Holds, type_state}
 use Rattle.verify_frames.specs.KnownStates.KnownAfter.{nothing, changed, kept}
 use Rattle.verify_frames.proofs.OverwriteLaws.{fits_but, none_left, none_noted, objects_noted}
 use Rattle.verify_frames.proofs.StoreLaws.{after_stored}
@@ -257,9 +259,8 @@ like_after env i like l s after holds flag h (objects before op is now) =
       flag = b.flag ∙ flag;
     }
 
-fits_same : (env : Environment) (s t : TypeState) (o : Option ℕ) → s.types.locals ≡ t.types.locals → s.this_uninit ≡ t.this_uninit → MayFit env s o → MayFit env t o
-fits_same env s t None locals flag h = tt
-fits_same env s t (Some pc) locals flag h = record {
+locals_same : (env : Environment) (s t : TypeState) (pc : ℕ) → s.types.locals ≡ t.types.locals → s.this_uninit ≡ t.this_uninit → FitsLocals env s pc → FitsLocals env t pc
+locals_same env s t pc locals flag h = record {
   frame = h.frame;
   state = h.state;
   at = h.at;
@@ -267,6 +268,13 @@ fits_same env s t (Some pc) locals flag h = record {
   locals = ap (λ ls. all_assignable env.world ls h.state.types.locals) (sym locals) ∙ h.locals;
   flag = ap (λ b. not b || h.state.this_uninit) (sym flag) ∙ h.flag;
 }
+
+all_same : (env : Environment) (s t : TypeState) (pcs : List ℕ) → s.types.locals ≡ t.types.locals → s.this_uninit ≡ t.this_uninit → All (FitsLocals env s) pcs → All (FitsLocals env t) pcs
+all_same env s t pcs locals flag h = λ k d low. locals_same env s t _ locals flag (h k d low)
+
+pub fits_same : (env : Environment) (s t : TypeState) (o : Option Fitted) → s.types.locals ≡ t.types.locals → s.this_uninit ≡ t.this_uninit → FitAll env s o → FitAll env t o
+fits_same env s t None locals flag h = tt
+fits_same env s t (Some f) locals flag h = all_same env s t f.pcs.items locals flag h
 
 -- a store of this instruction
 stored_after : (env : Environment) (i : Instruction) (s after : TypeState) (watch : Watch) (o : Option Judged) → Watches i.instr.op s.types.locals watch → state_after env i s ≡ Ok after → IfSome o (IsJudged env s)
@@ -319,13 +327,13 @@ like_new env pc l other s h at none e =
     let noted : IsLike env l.pc l.overwritten.items s = subst (λ (os : List Overwritten). IsLike env l.pc os s) (sym none) here in
     subst (λ (x : Like). IsLike env x.pc x.overwritten.items s) same noted
 
-pub new_holds : (env : Environment) (pc : ℕ) (f : MapFrame) (l : Like) (s : KnownState) → map_at env pc ≡ Some f → f.state ≡ Some (type_state s) → s.like ≡ Some l → l.pc ≡ pc → l.overwritten.items ≡ [] → IfSome s.judged (IsJudged env (type_state s)) → s.stored ≡ None → s.fitted ≡ None
+pub new_holds : (env : Environment) (pc : ℕ) (f : MapFrame) (l : Like) (s : KnownState) → map_at env pc ≡ Some f → f.state ≡ Some (type_state s) → s.like ≡ Some l → l.pc ≡ pc → l.overwritten.items ≡ [] → IfSome s.judged (IsJudged env (type_state s)) → s.stored ≡ None → FitAll env (type_state s) s.fitted
     → AllHold env (Some s)
 new_holds env pc f l s at is like new none judged stored fits = one_holds env s (record {
   like = λ other e. like_new env pc l other (type_state s) (like_at env pc f (type_state s) at is) new none (sym like ∙ e);
   judged = judged;
   stored = subst (λ (o : Option Stored). IfSome o (IsStored env (type_state s))) (sym stored) tt;
-  fitted = subst (λ (o : Option ℕ). MayFit env (type_state s) o) (sym fits) tt;
+  fitted = fits;
 })
 
 -- the state of a frame over another state satisfies the handlers where that does
@@ -342,6 +350,23 @@ judged_over env os s pc f there t judged none h at is known =
     over_stack (Some ss) e =
         let same : with_stack h.before (reverse (slot_types ss)) ≡ t = cc in
         judged_same env s t judged (whole ∙ ap (λ (x : TypeState). x.types.locals) same) (sym h.flag ∙ ap (λ (x : TypeState). x.this_uninit) same) known
+
+-- the same frames in another list
+pub again_fits : (env : Environment) (t : TypeState) (f again : Fitted) (o : Option Fitted) → o ≡ Some f → again.pcs.items ≡ f.pcs.items → FitAll env t o → FitAll env t (Some again)
+again_fits env t f again o is same h = subst (λ (pcs : List ℕ). All (FitsLocals env t) pcs) (sym same) (subst (λ (x : Option Fitted). FitAll env t x) is h)
+
+-- and so does it fit the frames
+pub fitted_over : (env : Environment) (os : List Overwritten) (s : TypeState) (pc : ℕ) (f : Frame) (there : MapFrame) (t : TypeState) (fitted : Option Fitted) → os ≡ [] → IsOver env os s pc f → map_at env pc ≡ Some there → there.state ≡ Some t
+    → FitAll env s fitted → FitAll env t fitted
+fitted_over env os s pc f there t fitted none h at is known =
+    let whole = none_left h.before.types.locals s.types.locals (subst (λ (xs : List Overwritten). AreBut xs h.before.types.locals s.types.locals) none h.but) in
+    over_stack whole (types_on (path f.paths.now f.entry.stack)) (sym h.over ∙ state_found (frame_in f) there (map_at env pc) t h.at at is)
+  where
+    over_stack : s.types.locals ≡ h.before.types.locals → (o : Option (List VType)) → option_map (λ ss. with_stack h.before (reverse (slot_types ss))) o ≡ Some t → FitAll env t fitted
+    over_stack whole None e = absurd cc
+    over_stack whole (Some ss) e =
+        let same : with_stack h.before (reverse (slot_types ss)) ≡ t = cc in
+        fits_same env s t fitted (whole ∙ ap (λ (x : TypeState). x.types.locals) same) (sym h.flag ∙ ap (λ (x : TypeState). x.this_uninit) same) known
 
 pub either_holds : (env : Environment) (b : StatesAfter) → BothHold env b → AllHold env (either_of b)
 either_holds env b h = of_these b.going b.spare h.going h.spare

@@ -11,5 +11,6 @@ pub mod ItselfLaws
 pub mod OverwriteLaws
 pub mod StoreLaws
 pub mod KnownStateLaws
+pub mod StackLaws
 pub mod NearLaws
 pub mod StackMapLaws

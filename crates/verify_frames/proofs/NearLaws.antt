@@ -24,6 +24,14 @@ use Rattle.verify_frames.specs.Frames.{frame_at}
 use Rattle.verify_frames.specs.Near.{Covers, IsMoved, IsNear, Moves, Unsets, adding, merged, slot_at, slots_at}
 use Rattle.verify_frames.specs.Overwrites.{AllWere, AreBut, is_noted, type_at}
 use Rattle.verify_frames.specs.KnownStates.{IsLike, MayBeLike}
+use Rattle.verify_frames.specs.Flags.{HaveSameFlag}
+use Rattle.verify_frames.specs.PathFits.{is_this_item}
+use Rattle.verify_frames.proofs.FrameFitLaws.{this_on}
+
+-- ---- a clause at what was found
+
+pub some_of : {X : Type 0} (o : Option X) (x : X) (P : X → Type 0) → o ≡ Some x → IfSome o P → P x
+some_of o x P is h = subst (λ p. IfSome p P) is h
 
 -- ---- what is noted
 
@@ -338,22 +346,22 @@ moves_to max had has p q m a b cs ds os onp onq hadp hasq lowp lowq covers unset
 
 -- ---- frames
 
-record Parts (max : ℕ) (a : Option (List VType)) (t : TypeState) : Type 0 where
+record Parts (constructor : Bool) (max : ℕ) (a : Option (List VType)) (t : TypeState) : Type 0 where
   types : List VType
   are : a ≡ Some types
   locals : t.types.locals ≡ padded max (slot_types types)
-  flag : t.this_uninit ≡ false
+  flag : t.this_uninit ≡ (constructor && list_any is_this types)
 
-parts_of : (constructor : Bool) (max : ℕ) (a b : Option (List VType)) (t : TypeState) → constructor ≡ false → option_map (state_where constructor max) (a >>= λ ls. b >>= λ ss. Some (record { locals = ls; stack = ss })) ≡ Some t → Parts max a t
-parts_of constructor max None b t none e = absurd cc
-parts_of constructor max (Some ls) None t none e = absurd cc
-parts_of constructor max (Some ls) (Some ss) t none e =
+parts_of : (constructor : Bool) (max : ℕ) (a b : Option (List VType)) (t : TypeState) → option_map (state_where constructor max) (a >>= λ ls. b >>= λ ss. Some (record { locals = ls; stack = ss })) ≡ Some t → Parts constructor max a t
+parts_of constructor max None b t e = absurd cc
+parts_of constructor max (Some ls) None t e = absurd cc
+parts_of constructor max (Some ls) (Some ss) t e =
     let same : state_where constructor max (record { locals = ls; stack = ss }) ≡ t = cc in
     record {
       types = ls;
       are = refl;
       locals = ap (λ (x : TypeState). x.types.locals) (sym same);
-      flag = ap (λ (x : TypeState). x.this_uninit) (sym same) ∙ ap (λ b. b && list_any is_this ls) none;
+      flag = ap (λ (x : TypeState). x.this_uninit) (sym same);
     }
 
 record Known (constructor : Bool) (max : ℕ) (o : Option FrameTypes) : Type 0 where
@@ -367,15 +375,19 @@ known_one constructor max (Some ts) e = record { state = state_where constructor
 state_same : (f g : MapFrame) (o : Option MapFrame) (t : TypeState) → o ≡ Some f → o ≡ Some g → f.state ≡ Some t → g.state ≡ Some t
 state_same f g o t at there is = let same : f ≡ g = cc in ap (λ (x : MapFrame). x.state) (sym same) ∙ is
 
-pub near_frame : (ps : List Path) (constructor : Bool) (max pc : ℕ) (fs : List MapFrame) (like l : Like) (other e : Entry) → constructor ≡ false → frame_at like.pc fs ≡ Some (entry_in ps constructor max other) → frame_at pc fs ≡ Some (entry_in ps constructor max e)
+-- the flag of a frame by its path
+flag_on : (constructor : Bool) (p : Path) (ts : List VType) → types_on p ≡ Some ts → (constructor && list_any is_this_item p) ≡ (constructor && list_any is_this ts)
+flag_on constructor p ts e = ap (λ b. constructor && b) (some_of (types_on p) ts _ e (this_on p))
+
+pub near_frame : (ps : List Path) (constructor : Bool) (max pc : ℕ) (fs : List MapFrame) (like l : Like) (other e : Entry) → HaveSameFlag constructor (path ps other.locals) (path ps e.locals) → frame_at like.pc fs ≡ Some (entry_in ps constructor max other) → frame_at pc fs ≡ Some (entry_in ps constructor max e)
     → is_some (frame_types (path ps e.locals) (path ps e.stack)) ≡ true → l.pc ≡ pc → Moves max (path ps other.locals) (path ps e.locals) like.overwritten.items l.overwritten.items → IsNear fs like pc l
-near_frame ps constructor max pc fs like l other e none there here known at moves = record { at = at; moves = λ f t locals found is but. moved f t locals found is but }
+near_frame ps constructor max pc fs like l other e alike there here known at moves = record { at = at; moves = λ f t locals found is but. moved f t locals found is but }
   where
     moved : (f : MapFrame) (t : TypeState) (locals : List VType) → frame_at like.pc fs ≡ Some f → f.state ≡ Some t → AreBut like.overwritten.items t.types.locals locals → IsMoved fs pc l.overwritten.items locals t.this_uninit
     moved f t locals found is but =
-        let old = parts_of constructor max (types_on (path ps other.locals)) (types_on (path ps other.stack)) t none (state_same f (entry_in ps constructor max other) (frame_at like.pc fs) t found there is) in
+        let old = parts_of constructor max (types_on (path ps other.locals)) (types_on (path ps other.stack)) t (state_same f (entry_in ps constructor max other) (frame_at like.pc fs) t found there is) in
         let new = known_one constructor max (frame_types (path ps e.locals) (path ps e.stack)) known in
-        let now = parts_of constructor max (types_on (path ps e.locals)) (types_on (path ps e.stack)) new.state none new.is in
+        let now = parts_of constructor max (types_on (path ps e.locals)) (types_on (path ps e.stack)) new.state new.is in
         record {
           frame = entry_in ps constructor max e;
           state = new.state;
@@ -384,7 +396,7 @@ near_frame ps constructor max pc fs like l other e none there here known at move
           but =
               subst (λ (ls : List VType). AreBut l.overwritten.items ls locals) (sym now.locals)
               (moves.but old.types now.types locals old.are now.are (subst (λ (ls : List VType). AreBut like.overwritten.items ls locals) old.locals but));
-          flag = now.flag ∙ sym old.flag;
+          flag = now.flag ∙ sym (flag_on constructor (path ps e.locals) now.types now.are) ∙ sym alike ∙ flag_on constructor (path ps other.locals) old.types old.are ∙ sym old.flag;
         }
 
 -- ---- what a state is like
@@ -405,6 +417,3 @@ pub may_near : (env : Environment) (fs : List MapFrame) (like : Option Like) (ol
 may_near env fs like old l pc s same is near h = λ other e.
     let it : l ≡ other = cc in
     subst (λ (x : Like). IsLike env x.pc x.overwritten.items s) it (like_near env fs old l pc s same near (h old is))
-
-pub some_of : {X : Type 0} (o : Option X) (x : X) (P : X → Type 0) → o ≡ Some x → IfSome o P → P x
-some_of o x P is h = subst (λ p. IfSome p P) is h

@@ -1,5 +1,6 @@
 -- States with the local variables of a frame of the map.
 use Rattle.std.specs.Prelude.{◌≡◌, ℕ, ◌+◌, ◌-◌, ◌<◌, ◌≤◌, length, Bool, true, false, IfSome, List, Option, Some, None, reverse, nat_le, nat_lt, ◌&&◌, ◌||◌, not, if◌then◌else◌}
+use Rattle.std.specs.List.{All}
 use Rattle.std.specs.Option.{option_map, option_map_or}
 use Rattle.instruction_rows.specs.Contents.{slot_types}
 use Rattle.type_paths.specs.Paths.{path, types_on}
@@ -12,6 +13,7 @@ use Rattle.verify_frames.specs.declared.frame.Frame.{Frame}
 use Rattle.verify_frames.specs.declared.known_state.StatesAfter.{StatesAfter}
 use Rattle.verify_frames.specs.declared.known_state.Judged.{Judged}
 use Rattle.verify_frames.specs.declared.known_state.Stored.{Stored}
+use Rattle.verify_frames.specs.declared.known_state.Fitted.{Fitted}
 use Rattle.verify_frames.specs.declared.known_state.KnownState.{KnownState}
 use Rattle.verify_frames.specs.declared.overwritten.Like.{Like}
 use Rattle.verify_frames.specs.declared.overwritten.Overwritten.{Overwritten}
@@ -64,6 +66,10 @@ pub record FitsLocals (env : Environment) (s : TypeState) (pc : ℕ) : Type 0 wh
   pub locals : all_assignable env.world s.types.locals state.types.locals ≡ true
   pub flag : (not s.this_uninit || state.this_uninit) ≡ true
 
+-- so they do at these pcs, if there are some
+abbrev pub FitAll : Environment → TypeState → Option Fitted → Type 0
+FitAll env s fitted = IfSome fitted (λ (f : Fitted). All (FitsLocals env s) f.pcs.items)
+
 -- so they do at this pc, if there is one
 abbrev pub MayFit : Environment → TypeState → Option ℕ → Type 0
 MayFit env s fitted = IfSome fitted (FitsLocals env s)
@@ -73,14 +79,14 @@ pub record Holds (env : Environment) (s : KnownState) : Type 0 where
   pub like : MayBeLike env s.like (type_state s)
   pub judged : IfSome s.judged (IsJudged env (type_state s))
   pub stored : IfSome s.stored (IsStored env (type_state s))
-  pub fitted : MayFit env (type_state s) s.fitted
+  pub fitted : FitAll env (type_state s) s.fitted
 
 -- whether the handlers are known to be satisfied at a pc
 abbrev pub holds_at : ℕ → Option Judged → Bool
 holds_at pc judged = option_map_or (λ (j : Judged). nat_le j.at pc && nat_lt pc j.until) judged false
 
 -- what is known of a state after an instruction, where the one before it had this flag and these were known
-pub data KnownAfter (this_uninit : Bool) (watch : Watch) (like : Option Like) (judged : Option Judged) (fitted : Option ℕ) (s : State) (after : KnownState) : Type 0 where
+pub data KnownAfter (this_uninit : Bool) (watch : Watch) (like : Option Like) (judged : Option Judged) (fitted : Option Fitted) (s : State) (after : KnownState) : Type 0 where
   nothing : after ≡ record { state = s; like = None; judged = None; stored = None; fitted = None } → KnownAfter this_uninit watch like judged fitted s after
   changed : s.this_uninit ≡ this_uninit → after ≡ record { state = s; like = like; judged = None; stored = stored_by watch judged; fitted = None } → KnownAfter this_uninit watch like judged fitted s after
   kept : s.this_uninit ≡ this_uninit → ShowsKept watch s.types.locals → after ≡ record { state = s; like = like; judged = judged; stored = None; fitted = fitted }

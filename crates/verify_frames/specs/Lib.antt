@@ -1,4 +1,5 @@
 pub mod PathFits
+pub mod Flags
 pub mod FramePaths
 pub mod Entries
 pub mod Frames

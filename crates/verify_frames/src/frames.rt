@@ -11,6 +11,7 @@ ghost use Rattle.verify_frames.specs.Near.{IsNear};
 ghost use Rattle.verify_frames.specs.KnownStates.{IsShared};
 
 use crate::entries::{entry_at, stray_entry};
+use crate::flags::{flags_of, have_same_flag};
 use crate::frame::Frame;
 use crate::frame_paths::{Entry, entry_of, is_known, put};
 use crate::near::moved;
@@ -30,18 +31,20 @@ pub struct Frames {
     is_constructor: bool,
     max_locals: u16,
     entries: Vec<Entry>,
+    // In a constructor, for each node whether the object that it makes is on its path.
+    flags: Vec<bool>,
 }
 
 impl Model for Frames {
     ghost use Rattle.std.specs.Prelude.{List};
     ghost use Rattle.verify_types.specs.Environment.{MapFrame};
-    ghost use Rattle.verify_frames.specs.Frames.{frames_in, AreRising};
+    ghost use Rattle.verify_frames.specs.Frames.{frames_in, AreKept};
 
     ghost Value = { List MapFrame };
 
     ghost view = { frames_in };
 
-    ghost invariant = { AreRising };
+    ghost invariant = { AreKept };
 }
 
 impl Frames {
@@ -68,11 +71,14 @@ impl Frames {
             locals = entry.locals;
             rest = behind;
         }
+        let is_constructor = is_constructor(m);
+        let flags = flags_of(alloc, &paths, is_constructor)?;
         Ok(Frames {
             paths,
-            is_constructor: is_constructor(m),
+            is_constructor,
             max_locals,
             entries,
+            flags,
         })
     }
 
@@ -88,6 +94,14 @@ impl Frames {
                 entry,
             }),
             None => None,
+        }
+    }
+
+    /// A number that frames with the same local variables have in common (own). It says nothing else.
+    pub fn group(&self, pc: u32) -> usize {
+        match entry_at(&self.entries, pc) {
+            Some(entry) => entry.locals,
+            None => 0,
         }
     }
 
@@ -116,9 +130,6 @@ impl Frames {
     pub fn near(&self, alloc: Global, like: &Like, pc: u32) -> Result<Option<Like>, NoMemory>
         ensures { IfOk result (λ o. IfSome o (IsNear self.now like.now pc)) }
     {
-        if self.is_constructor {
-            return Ok(None);
-        }
         let Some(other) = entry_at(&self.entries, like.pc) else {
             return Ok(None);
         };
@@ -126,6 +137,9 @@ impl Frames {
             return Ok(None);
         };
         if entry.locals == other.locals {
+            return Ok(None);
+        }
+        if !have_same_flag(self.is_constructor, &self.flags, other.locals, entry.locals) {
             return Ok(None);
         }
         if !is_known(&self.paths, entry) {

@@ -1,14 +1,21 @@
 //! States with the local variables of a frame of the stack map.
 
 ghost use Rattle.std.specs.Prelude.{◌≡◌, IfOk, MatchBool, None};
+ghost use Rattle.std.specs.List.{All};
+ghost use Rattle.verify_types.specs.Environment.{Environment};
+ghost use Rattle.verify_types.specs.TypeStates.{TypeState};
 ghost use Rattle.verify_instructions.specs.Views.{state_in};
 ghost use Rattle.verify_frames.specs.Overwrites.{IsRestored, overwritten_since};
 ghost use Rattle.verify_frames.specs.KnownStates as spec;
 
 use crate::overwritten::{Like, Overwritten, overwritten_since, restored};
 use crate::watch::Watch;
-use std::alloc::AllocError;
+use items::NoMemory;
+use std::alloc::{AllocError, Global};
 use verify_instructions::State;
+
+// At most so many frames that a state fits are kept.
+const MOST: usize = 16;
 
 /// Where the exception handlers of a state are satisfied.
 #[derive(Clone, Copy, Debug, PartialEq, Eq)]
@@ -28,6 +35,12 @@ pub struct Stored {
     pub judged: Judged,
 }
 
+/// Frames of the stack map that the local variables and the flag of a state fit, by their pcs.
+#[derive(Drop)]
+pub struct Fitted {
+    pub pcs: Vec<u32>,
+}
+
 /// A state, and what is known of its local variables and its flag.
 #[derive(Drop)]
 pub struct KnownState {
@@ -38,8 +51,46 @@ pub struct KnownState {
     pub judged: Option<Judged>,
     /// The store after which it isn't known whether they do.
     pub stored: Option<Stored>,
-    /// The pc of a frame that they fit.
-    pub fitted: Option<u32>,
+    /// Frames that they fit.
+    pub fitted: Option<Fitted>,
+}
+
+// The frames that are kept, unless they are too many.
+fn kept(alloc: Global, fitted: Option<Fitted>) -> Vec<u32>
+    ensures { (env : Environment) (s : TypeState) → spec.FitAll env s fitted
+        → All (spec.FitsLocals env s) result.items }
+{
+    let Some(fitted) = fitted else {
+        return Vec::new(alloc);
+    };
+    let Fitted { pcs } = fitted;
+    if pcs.len() < MOST {
+        pcs
+    } else {
+        Vec::new(alloc)
+    }
+}
+
+impl Fitted {
+    /// Frames that a state is known to fit, and another.
+    pub fn with(alloc: Global, fitted: Option<Fitted>, pc: u32) -> Result<Self, NoMemory>
+        ensures { IfOk result (λ now. (env : Environment) (s : TypeState)
+            → spec.FitAll env s fitted → spec.FitsLocals env s pc
+            → All (spec.FitsLocals env s) now.pcs.items) }
+    {
+        let mut pcs = kept(alloc, fitted);
+        pcs.push(pc)?;
+        Ok(Fitted { pcs })
+    }
+
+    /// The same frames.
+    pub fn again(&self) -> Result<Self, NoMemory>
+        ensures { IfOk result (λ other. other.pcs.items ≡ self.now.pcs.items) }
+    {
+        Ok(Fitted {
+            pcs: self.pcs.clone()?,
+        })
+    }
 }
 
 impl KnownState {
@@ -153,7 +204,7 @@ fn stored_by(watch: Watch, judged: Option<Judged>) -> Option<Stored>
     }
 }
 
-/// A state after an instruction, and what is known of it where the one before it had this flag, was so judged and fitted this frame. It is
+/// A state after an instruction, and what is known of it where the one before it had this flag, was so judged and fitted these frames. It is
 /// like this frame if it has the same flag.
 pub fn known_after(
     state: State,
@@ -161,7 +212,7 @@ pub fn known_after(
     watch: Watch,
     like: Option<Like>,
     judged: Option<Judged>,
-    fitted: Option<u32>,
+    fitted: Option<Fitted>,
 ) -> KnownState
     ensures { spec.KnownAfter this_uninit watch like judged fitted state result }
 {

@@ -2,6 +2,7 @@
 #![tactic(auto)]
 
 mod entries;
+mod flags;
 mod frame;
 mod frame_paths;
 mod frame_state;
@@ -16,7 +17,7 @@ mod watch;
 pub use frame::Frame;
 pub use frame_state::{first_frame, state_of};
 pub use frames::Frames;
-pub use known_state::{Judged, KnownState, StatesAfter, Stored, holds_at, known_after};
+pub use known_state::{Fitted, Judged, KnownState, StatesAfter, Stored, holds_at, known_after};
 pub use overwritten::{Like, are_assignable, like_behind};
 pub use stack_map::frames_of;
 pub use watch::{Around, are_same, types_around, watched};

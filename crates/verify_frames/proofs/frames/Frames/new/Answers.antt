@@ -20,12 +20,15 @@ loop-change-preserved g c =
     subst (λ (es : List Entry). Built w c.args.m.now.class c.args.first.now c.args.changes.now c.entry_of.new.paths es c.in_ok-entry.entry.locals c.in-Some.behind.now) (sym c.in_ok-push.ensures.items) built
 
 pub invariant_of-result : goal.invariant_of-result
-invariant_of-result g c =
-    built_rise (g.L.Lookups.world c.args.w.now) c.args.m.now.class c.args.first.now c.args.changes.now c.loop-change.paths c.loop-change.entries.items c.loop-change.locals c.loop-change.rest.now
-    c.loop-change.invariant c.in_default.ensures.cases c.requires
+invariant_of-result g c = record {
+  rising =
+      built_rise (g.L.Lookups.world c.args.w.now) c.args.m.now.class c.args.first.now c.args.changes.now c.loop-change.paths c.loop-change.entries.items c.loop-change.locals c.loop-change.rest.now
+      c.loop-change.invariant c.in_default.ensures.cases c.requires;
+  flagged = c.in_ok-flags.ensures;
+}
 
 pub returns : goal.returns
 returns g c =
-    ap (λ (b : Bool). map (entry_in c.loop-change.paths b c.args.max_locals) c.loop-change.entries.items) c.is_constructor.ensures
+    ap (λ (b : Bool). map (entry_in c.loop-change.paths b c.args.max_locals) c.loop-change.entries.items) c.is_constructor-is_constructor.ensures
     ∙ built_all (g.L.Lookups.world c.args.w.now) c.args.m.now c.args.max_locals c.args.first.now c.args.changes.now c.loop-change.paths c.loop-change.entries.items c.loop-change.locals c.loop-change.rest.now
     c.loop-change.invariant c.in_default.ensures.cases
