@@ -17,6 +17,7 @@ use Rattle.verify_code.specs.declared.guards.Guard.{Guard}
 use Rattle.verify_code.specs.Environments.{HasFrames}
 use Rattle.verify_code.specs.Guards.{AskAlike, guard_in}
 use Rattle.verify_code.proofs.InstructionLaws.{decoded_in_order}
+use Rattle.verify_code.proofs.MergedLaws.{same_asked}
 
 abbrev Expanded : Type 0
 Expanded = Result (List (ℕ × FrameTypes)) (ℕ × MapWhy)
@@ -33,4 +34,4 @@ has_frames w m code ns cs first bytes frames guards begins is e decoded guarded 
     let at : Some frames ≡ mapped w m code.max_locals (first_frame w m) code.map =
     e ∙ ap (λ (f : FrameTypes). mapped w m code.max_locals f bytes) begins ∙ ap (λ bs. mapped w m code.max_locals (first_frame w m) bs) is in
     let found = is_map w m code.max_locals (expansion (first_frame w m) code.map) frames at in
-    record { mapped = found.0; are = found.1; in_order = decoded_in_order code ns decoded; guarded = guarded }
+    record { mapped = found.0; are = found.1; in_order = decoded_in_order code ns decoded; guarded = same_asked (environment_of w m code ns cs) (map guard_in guards) (with_catches code.rows cs) guarded }

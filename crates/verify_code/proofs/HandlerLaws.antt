@@ -9,15 +9,12 @@ use Rattle.verify_types.specs.Calls.{covers}
 use Rattle.verify_types.specs.Handlers.{are_satisfied, is_satisfied}
 use Rattle.verify_frames.specs.declared.known_state.Judged.{Judged}
 use Rattle.verify_code.specs.declared.satisfied.JudgedTwice.{JudgedTwice}
-use Rattle.verify_code.specs.Guards.{AskAlike}
+use Rattle.verify_code.specs.Merged.{AskSame, is_kept}
 use Rattle.verify_code.specs.Satisfied.{AreJudged}
-use Rattle.verify_code.specs.Handlers.{catches_at, keeps_more, nearer, next_start}
+use Rattle.verify_code.specs.Handlers.{keeps_more, nearer, next_start}
 use Rattle.verify_frames.specs.KnownStates.{IsJudged, holds_at}
 
 -- ---- rows that cover another pc too
-
-abbrev Asks : Environment → ℕ → TypeState → Handler → Bool
-Asks env pc s h = not (covers pc h) || is_satisfied env s h
 
 at_two : (a x y c d e : Bool) → (not x || d) ≡ true → (not y || e) ≡ true → (d ≡ true → e ≡ true → c ≡ true) → (not a || ((x && y) || c)) ≡ (not a || c)
 at_two a true true c d e p q f = ap (λ z. not a || z) (sym (f p q))
@@ -25,20 +22,20 @@ at_two a true false c d e p q f = refl
 at_two a false y c d e p q f = refl
 
 more_all : (env : Environment) (t : JudgedTwice) (pc : ℕ) (s one other : TypeState) (hs : List Handler) → ((h : Handler) → is_satisfied env one h ≡ true → is_satisfied env other h ≡ true → is_satisfied env s h ≡ true)
-    → list_all (Asks env t.one.at one) hs ≡ true → list_all (Asks env t.other.at other) hs ≡ true → list_all (keeps_more env (Some t) pc s) hs ≡ list_all (Asks env pc s) hs
+    → list_all (is_kept env t.one.at one) hs ≡ true → list_all (is_kept env t.other.at other) hs ≡ true → list_all (keeps_more env (Some t) pc s) hs ≡ list_all (is_kept env pc s) hs
 more_all env t pc s one other [] both e f = refl
 more_all env t pc s one other (h ∷ hs) both e f =
-    let first = and_parts (Asks env t.one.at one h) (list_all (Asks env t.one.at one) hs) e in
-    let second = and_parts (Asks env t.other.at other h) (list_all (Asks env t.other.at other) hs) f in
+    let first = and_parts (is_kept env t.one.at one h) (list_all (is_kept env t.one.at one) hs) e in
+    let second = and_parts (is_kept env t.other.at other h) (list_all (is_kept env t.other.at other) hs) f in
     ap (λ x. x && list_all (keeps_more env (Some t) pc s) hs)
     (at_two (covers pc h) (covers t.one.at h) (covers t.other.at h) (is_satisfied env s h) (is_satisfied env one h) (is_satisfied env other h) first.0 second.0 (both h))
-    ∙ ap (λ x. Asks env pc s h && x) (more_all env t pc s one other hs both first.1 second.1)
+    ∙ ap (λ x. is_kept env pc s h && x) (more_all env t pc s one other hs both first.1 second.1)
 
 -- handlers that ask what those of the method do are satisfied where those are
-asked : (env : Environment) (pc : ℕ) (s : TypeState) (hs : List Handler) → AskAlike hs env.handlers → list_all (Asks env pc s) hs ≡ are_satisfied env pc s
-asked env pc s hs alike = alike.same pc (catches_at env s)
+asked : (env : Environment) (pc : ℕ) (s : TypeState) (hs : List Handler) → AskSame env hs env.handlers → list_all (is_kept env pc s) hs ≡ are_satisfied env pc s
+asked env pc s hs alike = alike.same pc s
 
-more_is : (env : Environment) (pc : ℕ) (s : TypeState) (hs : List Handler) (o : Option JudgedTwice) → AskAlike hs env.handlers → IfSome o (AreJudged env s)
+more_is : (env : Environment) (pc : ℕ) (s : TypeState) (hs : List Handler) (o : Option JudgedTwice) → AskSame env hs env.handlers → IfSome o (AreJudged env s)
     → list_all (keeps_more env o pc s) hs ≡ are_satisfied env pc s
 more_is env pc s hs None alike h = asked env pc s hs alike
 more_is env pc s hs (Some t) alike h =
@@ -93,15 +90,15 @@ asked_before : (x y c : Bool) → (x ≡ true → y ≡ true) → (not y || c) �
 asked_before false y c f h = refl
 asked_before true y c f h = subst (λ b. (not b || c) ≡ true) (f refl) h
 
-all_on : (env : Environment) (at pc n : ℕ) (s : TypeState) (hs : List Handler) → at ≤ pc → pc < next_start at n hs → list_all (Asks env at s) hs ≡ true → list_all (Asks env pc s) hs ≡ true
+all_on : (env : Environment) (at pc n : ℕ) (s : TypeState) (hs : List Handler) → at ≤ pc → pc < next_start at n hs → list_all (is_kept env at s) hs ≡ true → list_all (is_kept env pc s) hs ≡ true
 all_on env at pc n s [] low high e = refl
 all_on env at pc n s (h ∷ hs) low high e =
-    let parts = and_parts (Asks env at s h) (list_all (Asks env at s) hs) e in
-    and_from (Asks env pc s h) (list_all (Asks env pc s) hs)
+    let parts = and_parts (is_kept env at s h) (list_all (is_kept env at s) hs) e in
+    and_from (is_kept env pc s h) (list_all (is_kept env pc s) hs)
     (asked_before (covers pc h) (covers at h) (is_satisfied env s h) (λ is. covers_both at pc n h low (omega (arith, high, next_low at (nearer at n h.row.start) hs)) is) parts.0)
     (all_on env at pc (nearer at n h.row.start) s hs low high parts.1)
 
-pub judged_here : (env : Environment) (s : TypeState) (pc until : ℕ) (hs : List Handler) → AskAlike hs env.handlers → until ≡ next_start pc 65536 hs → are_satisfied env pc s ≡ true → IsJudged env s (record { at = pc; until = until })
+pub judged_here : (env : Environment) (s : TypeState) (pc until : ℕ) (hs : List Handler) → AskSame env hs env.handlers → until ≡ next_start pc 65536 hs → are_satisfied env pc s ≡ true → IsJudged env s (record { at = pc; until = until })
 judged_here env s pc until hs alike is satisfied = record {
   at = satisfied;
   on = λ p low high. sym (asked env p s hs alike) ∙ all_on env pc p 65536 s hs low (subst (λ (n : ℕ). p < n) is high) (asked env pc s hs alike ∙ satisfied);
@@ -117,6 +114,6 @@ held env pc s (Some j) h e =
     let parts = and_parts (nat_le j.at pc) (nat_lt pc j.until) e in
     h.on pc (leb-true j.at pc parts.0) (ltb-true pc j.until parts.1)
 
-pub satisfied_is : (env : Environment) (pc : ℕ) (s : TypeState) (hs : List Handler) (o : Option JudgedTwice) (b : Bool) → AskAlike hs env.handlers → b ≡ list_all (keeps_more env o pc s) hs
+pub satisfied_is : (env : Environment) (pc : ℕ) (s : TypeState) (hs : List Handler) (o : Option JudgedTwice) (b : Bool) → AskSame env hs env.handlers → b ≡ list_all (keeps_more env o pc s) hs
     → IfSome o (AreJudged env s) → b ≡ are_satisfied env pc s
 satisfied_is env pc s hs o b alike is h = is ∙ more_is env pc s hs o alike h

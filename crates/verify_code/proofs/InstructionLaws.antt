@@ -3,6 +3,7 @@ use Rattle.std.proofs.Common.{◌≡◌, ℕ, ◌+◌, ◌<◌, ◌≤◌, ◌^�
 use Rattle.std.proofs.lemmas.List.{length-append}
 use Rattle.std.specs.Prelude.{ℤ, drop, find, is_some, map, ◌==◌}
 use Rattle.std.specs.List.{list_all}
+use Rattle.std.specs.List.Sorted.{IsNonDecreasingBy}
 use Rattle.std.proofs.lemmas.List.Folds.{list_all-map}
 use Rattle.opcodes.specs.declared.op.Instr.{Instr}
 use Rattle.opcodes.specs.declared.switch.Match.{Match}
@@ -15,6 +16,7 @@ use Rattle.world_model.specs.declared.sites.Naming.{Naming}
 use Rattle.verify_types.specs.Environment.{Instruction, with_namings}
 use Rattle.verify_code.specs.Environments.{AreInOrder}
 use Rattle.verify_frames.specs.Entries.{Rises}
+use Rattle.verify_frames.proofs.Rising.{rises_far}
 
 pub rises_below : {A : Type 0} (pc : A → ℕ) (low high : ℕ) (xs : List A) → low ≤ high → Rises pc high xs → Rises pc low xs
 rises_below pc low high [] up h = tt
@@ -49,3 +51,6 @@ in_order pc code (i ∷ is) ns b few =
 
 pub decoded_in_order : (code : MethodCode) (ns : List Naming) → IsDecoded code → AreInOrder 0 (with_namings code.code ns)
 decoded_in_order code ns h = in_order 0 h.bytes code.code ns h.is_code (omega (arith, h.few))
+
+pub decoded_rises : (code : MethodCode) → IsDecoded code → IsNonDecreasingBy (λ (i : Instr). i.pc) code.code
+decoded_rises code h = rises_far (λ (i : Instr). i.pc) 0 code.code (in_order_rises 0 code.code [] (decoded_in_order code [] h))

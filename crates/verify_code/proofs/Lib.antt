@@ -1,4 +1,5 @@
 pub mod GuardLaws
+pub mod MergedLaws
 pub mod BetweenLaws
 pub mod HandlerLaws
 pub mod InstructionLaws

@@ -2,16 +2,17 @@
 use Rattle.std.specs.Prelude.{◌≡◌, ℕ, ◌<◌, ◌^◌, true, List, [], ◌∷◌, map}
 use Rattle.verify_types.specs.Environment.{MapFrame, Instruction, Environment}
 use Rattle.verify_code.specs.declared.guards.Guard.{Guard}
-use Rattle.verify_code.specs.Guards.{AskAlike, guard_in}
+use Rattle.verify_code.specs.Guards.{guard_in}
+use Rattle.verify_code.specs.Merged.{AskSame}
 
 -- the instructions follow one another, the first at this pc, in fewer than 65,536 bytes (JVMS 4.7.3)
 abbrev pub AreInOrder : ℕ → List Instruction → Type 0
 AreInOrder pc [] = Unit {0}
 AreInOrder pc (i ∷ is) = (i.instr.pc ≡ pc) × (pc < i.instr.next) × (i.instr.next < 2 ^ 16) × AreInOrder i.instr.next is
 
--- the stack map has these frames, the instructions are in order, and these rows ask of handlers what the exception table does
+-- the stack map has these frames, the instructions are in order, and these rows are satisfied where those of the exception table are
 pub record HasFrames (env : Environment) (frames : List MapFrame) (guards : List Guard) : Type 0 where
   pub mapped : env.is_mapped ≡ true
   pub are : frames ≡ env.map
   pub in_order : AreInOrder 0 env.instructions
-  pub guarded : AskAlike (map guard_in guards) env.handlers
+  pub guarded : AskSame env (map guard_in guards) env.handlers

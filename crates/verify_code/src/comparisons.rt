@@ -125,7 +125,7 @@ impl<'a, L: Lookups> Environment<'a, L> {
         }
         let near = self.near_target(alloc, s, &i.op)?;
         let fits_targets = self.fits_targets(&near, &i.op);
-        let fitted = self.fitted_after(near, &i.op, fits_targets);
+        let fitted = self.fitted_after(alloc, near, &i.op, fits_targets)?;
         let known = self.near(alloc, fitted, i.next)?;
         let fits = self.fits_on(fits_targets, &known, i, is_last);
         Ok(Compared { known, fits })

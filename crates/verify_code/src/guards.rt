@@ -71,8 +71,8 @@ fn do_meet(a: &Row, b: &Row) -> bool
     a.start <= b.end && b.start <= a.end
 }
 
-// Two rows as one, if they are of one handler and their ranges meet.
-fn joined(a: Guard, b: Guard) -> Option<Guard>
+/// Two rows as one, if they are of one handler and their ranges meet.
+pub fn joined(a: Guard, b: Guard) -> Option<Guard>
     ensures { IfSome result (λ g. AskAlike (guard_in g ∷ []) (guard_in a ∷ guard_in b ∷ [])) }
 {
     if !is_last(Some(a.caught()), b.caught()) {

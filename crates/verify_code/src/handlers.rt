@@ -68,8 +68,8 @@ fn next_start(guards: &[Guard], pc: u32) -> u32
 }
 
 impl<'a, L: Lookups> Environment<'a, L> {
-    // The type of what a handler catches.
-    fn caught_type(&self, catch: Option<u32>) -> VType
+    /// The type of what a handler catches.
+    pub fn caught_type(&self, catch: Option<u32>) -> VType
         ensures { result ≡ spec.caught_type self.now.world catch }
     {
         match catch {

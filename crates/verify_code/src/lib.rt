@@ -8,6 +8,7 @@ mod findings;
 mod guards;
 mod handlers;
 mod instructions;
+mod merged;
 mod method_fault;
 mod satisfied;
 mod switches;

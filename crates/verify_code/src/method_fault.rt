@@ -29,6 +29,7 @@ pub fn method_fault<L: Lookups>(
             why: VerifyWhy::Map,
         }));
     };
+    let environment = environment.with_merged(alloc)?;
     let first = environment.first_state(alloc)?;
     environment.first_fault(alloc, first)
 }

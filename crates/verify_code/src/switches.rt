@@ -1,7 +1,7 @@
 //! Targets (JVMS 4.10.1.9): many frames may have the same local variables, which are then compared once.
 
-ghost use Rattle.std.specs.Prelude.{◌≡◌, [], ◌∷◌, IfSome, true};
-ghost use Rattle.std.specs.List.{list_all};
+ghost use Rattle.std.specs.Prelude.{◌≡◌, [], ◌∷◌, ℤ, Bool, IfOk, IfSome, true};
+ghost use Rattle.std.specs.List.{All, list_all};
 ghost use Rattle.std.specs.Option.{option_map_or};
 ghost use Rattle.instruction_rows.specs.Rows.{targets_of_row};
 ghost use Rattle.instruction_rows.specs.Switches.{lookup_targets, match_target, table_targets};
@@ -10,13 +10,32 @@ ghost use Rattle.verify_types.specs.Environment.{map_at};
 ghost use Rattle.verify_types.specs.Faults as spec;
 ghost use Rattle.verify_types.specs.Handlers as handlers;
 ghost use Rattle.verify_types.specs.TypeStates.{TypeState};
-ghost use Rattle.verify_frames.specs.KnownStates.{Compares, Holds, MayFit, type_state};
+ghost use Rattle.verify_frames.specs.KnownStates.{Compares, FitsLocals, Holds, MayFit, type_state};
 
 use crate::environment::Environment;
 use crate::targets::pc_of;
+use items::NoMemory;
 use opcodes::{LookupSwitch, Match, Op, TableSwitch};
-use verify_frames::{Frame, KnownState};
+use std::alloc::Global;
+use verify_frames::{Fitted, Frame, KnownState};
 use world_model::Lookups;
+
+// A target of an instruction. `None`: it has none.
+fn a_target(op: &Op) -> Option<i64>
+    ensures { IfSome result (λ target. (test : ℤ → Bool)
+        → list_all test (targets_of_row (row op.now)) ≡ true → test target ≡ true) }
+{
+    match op {
+        Op::IfZero(_, target) => Some(*target),
+        Op::IfInts(_, target) => Some(*target),
+        Op::IfReferences(_, target) => Some(*target),
+        Op::IfNull(_, target) => Some(*target),
+        Op::Goto(target) => Some(*target),
+        Op::TableSwitch(switch) => Some(switch.get().default),
+        Op::LookupSwitch(switch) => Some(switch.get().default),
+        _ => None,
+    }
+}
 
 /// The target of a branch. `None`: the instruction is none.
 pub fn branch_target(op: &Op) -> Option<i64>
@@ -58,15 +77,54 @@ impl<'a, L: Lookups> Environment<'a, L> {
         }
     }
 
+    // A frame with the local variables of the one at a pc, among these. `None`: there is none.
+    fn among(&self, pcs: &[u32], pc: u32) -> Option<u32>
+        ensures { (s : TypeState) → All (FitsLocals self.now s) pcs.now → MayFit self.now s result }
+    {
+        let mut rest = pcs;
+        while let Some((other, behind)) = rest.split_first() {
+            if self.frames.shared(*other, pc).is_some() {
+                return Some(*other);
+            }
+            rest = behind;
+        }
+        None
+    }
+
+    // The same among those that a state is known to fit.
+    fn known_fitted(&self, s: &KnownState, pc: u32) -> Option<u32>
+        requires { Holds self.now s.now }
+        ensures { MayFit self.now (type_state s.now) result }
+    {
+        match &s.fitted {
+            Some(fitted) => self.among(&fitted.pcs, pc),
+            None => None,
+        }
+    }
+
+    /// Whether a state fits the frame of the stack map at a pc, if there is one, where it may be known to fit another.
+    pub fn fits_there(&self, s: &KnownState, pc: u32) -> bool
+        requires { Holds self.now s.now }
+        ensures { result ≡
+            option_map_or (handlers.fits_frame self.now (type_state s.now))
+            (map_at self.now pc) true }
+    {
+        self.fits_as(s, self.known_fitted(s, pc), pc)
+    }
+
     // Whether a state fits the frame at a target, if there is one, where it fits another, if that is known.
     fn fits_target_as(&self, s: &KnownState, fitted: Option<u32>, target: i64) -> bool
         requires holds { Holds self.now s.now }
         requires fitted { MayFit self.now (type_state s.now) fitted }
         ensures { result ≡ spec.fits_target self.now (type_state s.now) target }
     {
-        match pc_of(target) {
-            Some(pc) => self.fits_as(s, fitted, pc),
-            None => true,
+        let Some(pc) = pc_of(target) else {
+            return true;
+        };
+        if self.fitted(fitted, pc).is_some() {
+            self.fits_as(s, fitted, pc)
+        } else {
+            self.fits_there(s, pc)
         }
     }
 
@@ -96,38 +154,56 @@ impl<'a, L: Lookups> Environment<'a, L> {
         }
     }
 
-    /// Whether a state fits the frame of the stack map at a pc, if there is one, where it may be known to fit another.
-    pub fn fits_there(&self, s: &KnownState, pc: u32) -> bool
-        requires { Holds self.now s.now }
-        ensures { result ≡
-            option_map_or (handlers.fits_frame self.now (type_state s.now))
-            (map_at self.now pc) true }
-    {
-        self.fits_as(s, s.fitted, pc)
-    }
-
     /// Whether a state fits the frame at the target of a branch, if there is one.
     pub fn fits_branch(&self, s: &KnownState, target: i64) -> bool
         requires { Holds self.now s.now }
         ensures { result ≡ spec.fits_target self.now (type_state s.now) target }
     {
-        self.fits_target_as(s, s.fitted, target)
+        match pc_of(target) {
+            Some(pc) => self.fits_there(s, pc),
+            None => true,
+        }
     }
 
-    /// The same state after an instruction, and a frame that it is known to fit, where it fits those at all targets.
-    pub fn fitted_after(&self, s: KnownState, op: &Op, fits: bool) -> KnownState
+    // A frame that a state is not yet known to fit, where it fits the one at a target.
+    fn newly_fitted(&self, s: &KnownState, target: i64) -> Option<u32>
+        ensures { spec.fits_target self.now (type_state s.now) target ≡ true
+            → MayFit self.now (type_state s.now) result }
+    {
+        let Some(pc) = pc_of(target) else {
+            return None;
+        };
+        if let Some(fitted) = &s.fitted {
+            if self.among(&fitted.pcs, pc).is_some() {
+                return None;
+            }
+        }
+        self.fitted_at(None, pc)
+    }
+
+    /// The same state after an instruction, and the frames that it is known to fit, where it fits those at all targets.
+    pub fn fitted_after(
+        &self,
+        alloc: Global,
+        s: KnownState,
+        op: &Op,
+        fits: bool,
+    ) -> Result<KnownState, NoMemory>
         requires holds { Holds self.now s }
         requires fits { fits ≡ true
             → list_all (spec.fits_target self.now (type_state s))
             (targets_of_row (row op.now)) ≡ true }
-        ensures same { type_state result ≡ type_state s }
-        ensures holds { Holds self.now result }
+        ensures same { IfOk result (λ t. type_state t ≡ type_state s) }
+        ensures holds { IfOk result (Holds self.now) }
     {
         if !fits {
-            return s;
+            return Ok(s);
         }
-        let Some(target) = branch_target(op) else {
-            return s;
+        let Some(target) = a_target(op) else {
+            return Ok(s);
+        };
+        let Some(pc) = self.newly_fitted(&s, target) else {
+            return Ok(s);
         };
         let KnownState {
             state,
@@ -136,14 +212,14 @@ impl<'a, L: Lookups> Environment<'a, L> {
             stored,
             fitted,
         } = s;
-        let fitted = self.fitted_at_target(fitted, target);
-        KnownState {
+        let fitted = Fitted::with(alloc, fitted, pc)?;
+        Ok(KnownState {
             state,
             like,
             judged,
             stored,
-            fitted,
-        }
+            fitted: Some(fitted),
+        })
     }
 
     // Whether a state fits the frames at all of these targets.
@@ -151,7 +227,7 @@ impl<'a, L: Lookups> Environment<'a, L> {
         requires { Holds self.now s.now }
         ensures { result ≡ list_all (spec.fits_target self.now (type_state s.now)) targets.now }
     {
-        let mut fitted = s.fitted;
+        let mut fitted = None;
         let mut rest = targets;
         while let Some((target, behind)) = rest.split_first() {
             if !self.fits_target_as(s, fitted, *target) {
@@ -170,7 +246,7 @@ impl<'a, L: Lookups> Environment<'a, L> {
             list_all (λ m. spec.fits_target self.now (type_state s.now) (match_target m))
             matches.now }
     {
-        let mut fitted = s.fitted;
+        let mut fitted = None;
         let mut rest = matches;
         while let Some((m, behind)) = rest.split_first() {
             if !self.fits_target_as(s, fitted, m.target) {
@@ -188,7 +264,7 @@ impl<'a, L: Lookups> Environment<'a, L> {
         ensures { result ≡
             list_all (spec.fits_target self.now (type_state s.now)) (table_targets switch.now) }
     {
-        self.fits_target(s, switch.default) && self.fits_all(s, &switch.targets)
+        self.fits_branch(s, switch.default) && self.fits_all(s, &switch.targets)
     }
 
     /// Whether a state fits the frames at all targets of a lookupswitch.
@@ -198,6 +274,6 @@ impl<'a, L: Lookups> Environment<'a, L> {
         ensures { result ≡
             list_all (spec.fits_target self.now (type_state s.now)) (lookup_targets switch.now) }
     {
-        self.fits_target(s, switch.default) && self.fits_matches(s, &switch.matches)
+        self.fits_branch(s, switch.default) && self.fits_matches(s, &switch.matches)
     }
 }

@@ -12,7 +12,7 @@ ghost use Rattle.verify_types.specs.Handlers.{are_satisfied};
 ghost use Rattle.verify_instructions.specs.Views.{state_in};
 ghost use Rattle.verify_code.specs.Findings.{instruction_of, findings_at};
 ghost use Rattle.verify_frames.specs.Frames.{frame_in};
-ghost use Rattle.verify_frames.specs.KnownStates.{AllHold, BothHold, IsJudged, Holds, going, holds_at, type_state};
+ghost use Rattle.verify_frames.specs.KnownStates.{AllHold, BothHold, FitAll, IsJudged, Holds, going, holds_at, type_state};
 ghost use Rattle.verify_code.specs.Satisfied.{AllTaken};
 ghost use Rattle.verify_code.specs.Walks.{IsAfter, IsPassage, IsStep, IsVerdict, arrives, entry_of, place, walk_fault};
 
@@ -25,7 +25,8 @@ use items::NoMemory;
 use opcodes::Instr;
 use std::alloc::Global;
 use verify_frames::{
-    Frame, Judged, KnownState, Like, StatesAfter, holds_at, known_after, like_behind, watched,
+    Fitted, Frame, Judged, KnownState, Like, StatesAfter, holds_at, known_after, like_behind,
+    watched,
 };
 use verify_instructions::{State, Stop, behind_first, first_naming, goes_on};
 use verify_types::{PcFault, VerifyWhy};
@@ -132,6 +133,39 @@ impl<'a, L: Lookups> Environment<'a, L> {
         }
     }
 
+    // Frames that the state of the frame of the map at a pc fits, if its local variables are those of this state.
+    fn fitted_over(&self, s: &KnownState, pc: u32) -> Result<Option<Fitted>, NoMemory>
+        requires { Holds self.now s.now }
+        ensures { IfOk result (λ fitted. (f : MapFrame) (t : TypeState) →
+            map_at self.now pc ≡ Some f → f.state ≡ Some t → FitAll self.now t fitted) }
+    {
+        if !s.overwritten().is_empty() {
+            return Ok(None);
+        }
+        let Some(fitted) = &s.fitted else {
+            return Ok(None);
+        };
+        match self.shared(s, pc) {
+            Some(_) => Ok(Some(fitted.again()?)),
+            None => Ok(None),
+        }
+    }
+
+    // The same, after an instruction.
+    fn fitted_there(&self, before: &StatesAfter, pc: u32) -> Result<Option<Fitted>, NoMemory>
+        requires { BothHold self.now before.now }
+        ensures { IfOk result (λ fitted. (f : MapFrame) (t : TypeState) →
+            map_at self.now pc ≡ Some f → f.state ≡ Some t → FitAll self.now t fitted) }
+    {
+        if let Some(s) = &before.going {
+            return self.fitted_over(s, pc);
+        }
+        match &before.spare {
+            Some(s) => self.fitted_over(s, pc),
+            None => Ok(None),
+        }
+    }
+
     // The state before the instruction at a pc: that of the frame of the map there, or else this one.
     fn arrive(
         &self,
@@ -159,6 +193,7 @@ impl<'a, L: Lookups> Environment<'a, L> {
             None => true,
         };
         let judged = self.judged_there(&before, pc);
+        let fitted = self.fitted_there(&before, pc)?;
         let like = Like::new(alloc, pc);
         match self.state_there(alloc, before.either(), &frame, pc)? {
             Some(state) => Ok(Arrival {
@@ -167,7 +202,7 @@ impl<'a, L: Lookups> Environment<'a, L> {
                     like: Some(like),
                     judged,
                     stored: None,
-                    fitted: None,
+                    fitted,
                 }),
                 fits,
             }),

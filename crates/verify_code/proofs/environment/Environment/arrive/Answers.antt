@@ -13,9 +13,10 @@ returns-in-Some-2-clause-holds g c =
     let at : map_at c.args.self.now c.args.pc ≡ Some (frame_in c.in-Some.frame) =
     ap (λ fs. frame_at c.args.pc fs) (sym (c.self.invariant.are ∙ ap (λ (env : Environment). env.map) c.self.view_is)) ∙ sym c.at.ensures ∙ ap (λ o. option_map frame_in o) c.in-Some.is in
     let is = sym c.in_ok-state.ensures ∙ ap (λ o. option_map state_in o) c.in-Some-2.is in
-    let s : KnownState = record { state = c.in-Some-2.state; like = Some c.new-like.result; judged = c.judged_there-judged.result; stored = None; fitted = None } in
+    let s : KnownState = record { state = c.in-Some-2.state; like = Some c.new-like.result; judged = c.judged_there-judged.result; stored = None; fitted = c.in_ok-fitted.fitted } in
     new_holds c.args.self.now c.args.pc (frame_in c.in-Some.frame) c.new-like.result s at is refl c.new-like.ensures.pc c.new-like.ensures.none
-    (c.judged_there-judged.ensures (frame_in c.in-Some.frame) (state_in c.in-Some-2.state) at is) refl refl
+    (c.judged_there-judged.ensures (frame_in c.in-Some.frame) (state_in c.in-Some-2.state) at is) refl
+    (c.in_ok-fitted.ensures (frame_in c.in-Some.frame) (state_in c.in-Some-2.state) at is)
 
 pub state_there-requires-clause-holds : goal.state_there-requires-clause-holds
 state_there-requires-clause-holds g c = subst (AllHold c.args.self.now) (sym c.either.ensures) (either_holds c.args.self.now c.args.before c.requires)
