@@ -95,7 +95,7 @@ impl<'a, L: Lookups> Environment<'a, L> {
         };
         match self.shared(&s, pc) {
             Some(shared) => match shared.stack_slots(alloc)? {
-                Some(stack) => Ok(Some(s.restored()?.with_stack(stack))),
+                Some(stack) => Ok(Some(s.restored()?.with_stack(alloc, stack)?)),
                 None => Ok(None),
             },
             None => frame.state(alloc),
@@ -245,13 +245,7 @@ impl<'a, L: Lookups> Environment<'a, L> {
     }
 
     // Types one instruction.
-    fn after(
-        &self,
-        alloc: Global,
-        s: KnownState,
-        i: &Instr,
-        naming: Naming,
-    ) -> Result<After, NoMemory>
+    fn after(&self, s: KnownState, i: &Instr, naming: Naming) -> Result<After, NoMemory>
         requires low { i.now.pc < 2 ^ 16 }
         requires holds { Holds self.now s }
         ensures { IfOk result
@@ -268,7 +262,7 @@ impl<'a, L: Lookups> Environment<'a, L> {
         let watch = watched(&i.op, &state.types);
         let like = like_behind(&i.op, like, &state.types)?;
         let mut state = state;
-        match state.apply(alloc, self.world, &self.method, i.pc as u16, naming, &i.op) {
+        match state.apply(self.world, &self.method, i.pc as u16, naming, &i.op) {
             Ok(()) => {
                 let after = known_after(state, this_uninit, watch, like, judged, fitted);
                 Ok(After::Kept(after))
@@ -297,7 +291,7 @@ impl<'a, L: Lookups> Environment<'a, L> {
             (type_state s) v) }
     {
         let findings = self.findings(&s, fits, i, naming, is_last);
-        match self.after(alloc, s, i, naming)? {
+        match self.after(s, i, naming)? {
             After::Broken(why) => Ok(Verdict::Broken(findings.why_broken(why))),
             After::Kept(after) => {
                 let compared = self.compared(alloc, after, i, is_last)?;

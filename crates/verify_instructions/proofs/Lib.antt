@@ -3,3 +3,4 @@ pub mod TableLaws
 pub mod ResultLaws
 pub mod LocalLaws
 pub mod NewLaws
+pub mod StackLaws

@@ -68,11 +68,11 @@ unset_listed slots ls n low h = set_listed slots ls n types.Top low h
 
 -- ---- an object that gets another type
 
-no_object : (object : Uninitialized) → is_object object types.Top ≡ false
+pub no_object : (object : Uninitialized) → is_object object types.Top ≡ false
 no_object objects.This = refl
 no_object (objects.New pc) = refl
 
-object_unfinished : (object : Uninitialized) (t : VType) → is_object object t ≡ true → is_unfinished t ≡ true
+pub object_unfinished : (object : Uninitialized) (t : VType) → is_object object t ≡ true → is_unfinished t ≡ true
 object_unfinished object types.UninitThis e = refl
 object_unfinished object (types.Uninit pc) e = refl
 object_unfinished objects.This types.Top e = absurd cc

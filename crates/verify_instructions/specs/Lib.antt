@@ -4,3 +4,5 @@ pub mod Rows
 pub mod Tables
 pub mod Unfinished
 pub mod LocalTypes
+pub mod Marks
+pub mod StackTypes

@@ -1,5 +1,5 @@
 -- The types that a frame has as it is verified, and the state that they are part of.
-use Rattle.std.specs.Prelude.{Bool, reverse}
+use Rattle.std.specs.Prelude.{Bool}
 use Rattle.stack_maps.specs.declared.types.VType.{VType}
 use Rattle.instruction_rows.specs.Contents.{Contents}
 use Rattle.world_model.specs.World.{World}
@@ -11,9 +11,8 @@ use Rattle.verify_instructions.specs.declared.state.State.{State}
 use Rattle.verify_instructions.specs.declared.state.Uninitialized.{Uninitialized}
 use Rattle.verify_instructions.specs.declared.state.Uninitialized.TheVariants as objects
 
--- the last item of the vector is the top of the stack
 abbrev pub types_in : Inside → Contents VType
-types_in a = record { locals = a.locals; stack = reverse a.stack.items }
+types_in a = record { locals = a.locals; stack = a.stack }
 
 abbrev pub state_in : State → TypeState
 state_in s = record { types = s.types; this_uninit = s.this_uninit }

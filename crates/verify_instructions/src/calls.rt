@@ -22,7 +22,6 @@ use descriptors::Kind as Descriptor;
 use instruction_rows::RowWhy;
 use opcodes::Kind;
 use stack_maps::VType;
-use std::alloc::Global;
 use verify_types::{assignable, type_of_kind};
 use world_model::{Lookups, MethodInfo, Naming, Site};
 
@@ -117,7 +116,6 @@ impl State {
     // Initializes the object that lay below the arguments.
     fn initialize_receiver<L: Lookups>(
         &mut self,
-        alloc: Global,
         w: &L,
         m: &Method<'_>,
         pc: u16,
@@ -133,13 +131,13 @@ impl State {
                 if !is_new_of(m, new, class) {
                     return Err(Stop::Broken(RowWhy::Init));
                 }
-                self.initialize(alloc, Uninitialized::New(new), w.class_type(class))
+                self.initialize(Uninitialized::New(new), w.class_type(class))
             }
             VType::UninitThis => {
                 if !may_initialize_this(w, m, pc, class) {
                     return Err(Stop::Broken(RowWhy::Init));
                 }
-                self.initialize(alloc, Uninitialized::This, w.class_type(m.info.class))?;
+                self.initialize(Uninitialized::This, w.class_type(m.info.class))?;
                 self.this_uninit = false;
                 Ok(())
             }
@@ -206,7 +204,6 @@ impl State {
     // A constructor, which initializes its receiver.
     fn call_constructor<L: Lookups>(
         &mut self,
-        alloc: Global,
         w: &L,
         m: &Method<'_>,
         pc: u16,
@@ -222,7 +219,7 @@ impl State {
         if called.class != class {
             return Err(Stop::Broken(RowWhy::Init));
         }
-        self.initialize_receiver(alloc, w, m, pc, class, receiver)?;
+        self.initialize_receiver(w, m, pc, class, receiver)?;
         self.types.push_result(w, called)
     }
 
@@ -263,7 +260,6 @@ impl State {
     /// invokespecial.
     pub fn invoke_special<L: Lookups>(
         &mut self,
-        alloc: Global,
         w: &L,
         m: &Method<'_>,
         pc: u16,
@@ -276,7 +272,7 @@ impl State {
         let called = method_of(w, naming.site)?;
         let class = named_class(naming)?;
         if is_constructor(called) {
-            self.call_constructor(alloc, w, m, pc, called, class)
+            self.call_constructor(w, m, pc, called, class)
         } else {
             self.call_special(w, m, called, class)
         }

@@ -19,7 +19,6 @@ use crate::stop::Stop;
 use instruction_rows::RowWhy;
 use opcodes::{Element, Kind, Op, Primitive, Simple};
 use stack_maps::{Base, VType};
-use std::alloc::Global;
 use verify_types::type_of_value;
 use world_model::{Lookups, Naming, Site};
 
@@ -187,7 +186,6 @@ impl State {
     /// Makes of the state before an instruction that after it. Where the instruction breaks a rule, what is left means nothing.
     pub fn apply<L: Lookups>(
         &mut self,
-        alloc: Global,
         w: &L,
         m: &Method<'_>,
         pc: u16,
@@ -205,7 +203,7 @@ impl State {
             Op::InvokeVirtual(_) => self.invoke_virtual(w, m, pc, naming),
             Op::InvokeInterface(_, _) => self.invoke_virtual(w, m, pc, naming),
             Op::InvokeStatic(_) => self.invoke_static(w, m, pc, naming),
-            Op::InvokeSpecial(_) => self.invoke_special(alloc, w, m, pc, naming),
+            Op::InvokeSpecial(_) => self.invoke_special(w, m, pc, naming),
             Op::New(_) => self.make_new(pc),
             Op::NewArray(primitive) => self.make_array(*primitive),
             Op::GetStatic(_) => self.event(w, m.info.class, pc, naming, op),

@@ -7,6 +7,7 @@ mod local_rows;
 mod locals;
 mod method;
 mod objects;
+mod operand_stack;
 mod operands;
 mod rules;
 mod stack_items;

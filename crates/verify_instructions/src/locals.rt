@@ -1,6 +1,8 @@
 //! The types of local variables (JVMS 4.10.1.4), and which of them may be those of unfinished objects.
 
-ghost use Rattle.std.specs.Prelude.{◌≡◌, IfOk, OnErr, OnOk, slice_set};
+ghost use Rattle.std.specs.Prelude.{◌≡◌, ◌++◌, ◌∷◌, [], IfOk, List, MatchOption, OnErr, OnOk, length, slice_set};
+ghost use Rattle.std.specs.List.{list_any};
+ghost use Rattle.stack_maps.specs.declared.types.VType.{VType as OneType};
 ghost use Rattle.verify_types.specs.TypeStates.{replaced};
 ghost use Rattle.verify_instructions.specs.Unfinished as spec;
 ghost use Rattle.verify_instructions.specs.Views.{is_object};
@@ -83,6 +85,39 @@ fn replace_all(types: &mut [VType], slots: &[usize], object: Uninitialized, t: V
     }
 }
 
+// Whether one of these slots is the object's.
+fn any_among(types: &[VType], slots: &[usize], object: Uninitialized) -> bool
+    ensures { result ≡
+        list_any (λ n. is_object object (spec.type_at types.now n)) slots.now }
+{
+    slots
+        .iter()
+        .any(|slot| is_object(object, type_at(types, *slot)))
+}
+
+// The type of a slot; that of an unset one where there is none of the number.
+fn type_at(types: &[VType], slot: usize) -> VType
+    ensures { result ≡ spec.type_at types.now slot }
+{
+    match types.get(slot) {
+        Some(t) => *t,
+        None => VType::Top,
+    }
+}
+
+// Takes a slot off the list that was the last of all, if it stands last there.
+fn unlist(slots: &mut Vec<usize>, slot: usize)
+    ensures { (types : List OneType) → length types ≡ slot → spec.AreListed slots.old.items types
+        → spec.AreListed slots.new.items types }
+{
+    let Some(last) = slots.last() else {
+        return;
+    };
+    if *last == slot {
+        slots.pop();
+    }
+}
+
 impl Locals {
     /// Local variables of these types.
     pub fn new(alloc: Global, types: Vec<VType>) -> Result<Self, AllocError>
@@ -104,6 +139,36 @@ impl Locals {
         ensures { spec.AreListed result.now self.now }
     {
         &self.unfinished
+    }
+
+    /// Adds a slot after the others.
+    pub fn push(&mut self, t: VType) -> Result<(), AllocError>
+        ensures pushed { OnOk result (self.new ≡ self.old ++ t ∷ []) }
+        ensures same { OnErr result (self.new ≡ self.old) }
+    {
+        list(&mut self.unfinished, self.types.len(), VType::Top, t)?;
+        self.types.push(t)?;
+        Ok(())
+    }
+
+    /// Takes the last slot. `None`: there is none.
+    pub fn pop(&mut self) -> Option<VType>
+        ensures { MatchOption result ((self.old ≡ []) × (self.new ≡ []))
+            (λ t. self.old ≡ self.new ++ t ∷ []) }
+    {
+        let Some(t) = self.types.pop() else {
+            return None;
+        };
+        let slot = self.types.len();
+        unlist(&mut self.unfinished, slot);
+        Some(t)
+    }
+
+    /// Whether one of them is the object.
+    pub fn has(&self, object: Uninitialized) -> bool
+        ensures { result ≡ list_any (is_object object) self.now }
+    {
+        any_among(&self.types, &self.unfinished, object)
     }
 
     /// Writes the type of a slot, if there is one of the number.

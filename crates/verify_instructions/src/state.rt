@@ -45,14 +45,12 @@ pub fn is_object(object: Uninitialized, t: VType) -> bool
 
 impl State {
     /// The same with another operand stack, the top of which is its last item.
-    pub fn with_stack(self, stack: Vec<VType>) -> Self
-        ensures { state_in result ≡ with_stack (state_in self) (reverse stack.items) }
+    pub fn with_stack(self, alloc: Global, stack: Vec<VType>) -> Result<Self, AllocError>
+        ensures { IfOk result (λ s. state_in s ≡ with_stack (state_in self) (reverse stack.items)) }
     {
         let State { types, this_uninit } = self;
-        State {
-            types: types.with_stack(stack),
-            this_uninit,
-        }
+        let types = types.with_stack(alloc, stack)?;
+        Ok(State { types, this_uninit })
     }
 
     /// `new` at this pc.
@@ -68,12 +66,12 @@ impl State {
     }
 
     /// Gives the object this type wherever it lies.
-    pub fn initialize(&mut self, alloc: Global, object: Uninitialized, t: VType) -> Result<(), Stop>
+    pub fn initialize(&mut self, object: Uninitialized, t: VType) -> Result<(), Stop>
         ensures after { OnOk result (state_in self.new ≡
             initialized (is_object object) t self.old.this_uninit (state_in self.old)) }
         ensures full { OnErr result (result ≡ Err Stop.NoMemory) }
     {
         self.types.replace_locals(object, t);
-        self.types.replace_operands(alloc, object, t)
+        self.types.replace_operands(object, t)
     }
 }

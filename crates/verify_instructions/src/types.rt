@@ -13,7 +13,8 @@ ghost use Rattle.verify_instructions.specs.Unfinished.{AreListed};
 ghost use Rattle.verify_instructions.specs.Views.{is_object};
 
 use crate::locals::Locals;
-use crate::state::{Uninitialized, is_object};
+use crate::operand_stack::OperandStack;
+use crate::state::Uninitialized;
 use crate::stop::Stop;
 use instruction_rows::{RowWhy, is_narrow, is_wide, kind_of_type};
 use opcodes::Kind;
@@ -25,7 +26,7 @@ use std::marker::Model;
 #[derive(Drop)]
 pub struct Types {
     locals: Locals,
-    stack: Vec<VType>,
+    stack: OperandStack,
 }
 
 impl Model for Types {
@@ -46,16 +47,18 @@ impl Types {
             types ≡ record { locals = locals.items; stack = reverse stack.items }) }
     {
         let locals = Locals::new(alloc, locals)?;
+        let stack = OperandStack::new(alloc, stack)?;
         Ok(Types { locals, stack })
     }
 
     /// The same with another operand stack, the top of which is its last item.
-    pub fn with_stack(self, stack: Vec<VType>) -> Self
-        ensures locals { result.locals ≡ self.locals }
-        ensures stack { result.stack ≡ reverse stack.items }
+    pub fn with_stack(self, alloc: Global, stack: Vec<VType>) -> Result<Self, AllocError>
+        ensures locals { IfOk result (λ types. types.locals ≡ self.locals) }
+        ensures stack { IfOk result (λ types. types.stack ≡ reverse stack.items) }
     {
         let Types { locals, stack: _ } = self;
-        Types { locals, stack }
+        let stack = OperandStack::new(alloc, stack)?;
+        Ok(Types { locals, stack })
     }
 
     /// The types of the local variables.
@@ -76,7 +79,7 @@ impl Types {
     pub fn stack(&self) -> &[VType]
         ensures { reverse result.now ≡ self.now.stack }
     {
-        &self.stack
+        self.stack.as_slice()
     }
 
     // Takes a long.
@@ -288,7 +291,7 @@ impl Types {
         ensures { result ≡ option_map (λ x. x.0)
             (result_ok (spec.type_popped kind self.now.stack)) }
     {
-        let (top, below) = self.stack.split_last()?;
+        let (top, below) = self.stack().split_last()?;
         match kind {
             Kind::Int => match top {
                 VType::Int => Some(VType::Int),
@@ -312,11 +315,10 @@ impl Types {
     }
 
     /// Whether the object is on the operand stack.
-    #[tactic(auto, using(crate::proofs::Lists::any_reverse))]
     pub fn has_operand(&self, object: Uninitialized) -> bool
         ensures { result ≡ list_any (is_object object) self.now.stack }
     {
-        any_is(&self.stack, object)
+        self.stack.has(object)
     }
 
     /// Gives local variables that hold the object another type.
@@ -328,43 +330,15 @@ impl Types {
     }
 
     /// Gives operands that are the object another type.
-    #[tactic(auto, using(crate::proofs::Lists::replaced_reverse))]
-    pub fn replace_operands(
-        &mut self,
-        alloc: Global,
-        object: Uninitialized,
-        t: VType,
-    ) -> Result<(), Stop>
+    pub fn replace_operands(&mut self, object: Uninitialized, t: VType) -> Result<(), Stop>
         ensures stack { OnOk result
             (self.new.stack ≡ replaced (is_object object) t self.old.stack) }
         ensures locals { self.new.locals ≡ self.old.locals }
         ensures full { OnErr result (result ≡ Err Stop.NoMemory) }
     {
-        self.stack = replaced(alloc, &self.stack, object, t)?;
+        self.stack.replace(object, t)?;
         Ok(())
     }
-}
-
-// Whether one of the types is the object's.
-fn any_is(types: &[VType], object: Uninitialized) -> bool
-    ensures { result ≡ list_any (is_object object) types.now }
-{
-    types.iter().any(|t| is_object(object, *t))
-}
-
-// The types, with this one in place of each that is the object's.
-fn replaced(
-    alloc: Global,
-    types: &[VType],
-    object: Uninitialized,
-    t: VType,
-) -> Result<Vec<VType>, AllocError>
-    ensures { IfOk result (λ v. v.items ≡ replaced (is_object object) t types.now) }
-{
-    types
-        .iter()
-        .map(|x| if is_object(object, *x) { t } else { *x })
-        .collect(alloc)
 }
 
 // Whether a type is of this kind.
