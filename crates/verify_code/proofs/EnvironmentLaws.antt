@@ -1,6 +1,7 @@
 -- What is kept beside the tables of a method, from what was read.
-use Rattle.std.proofs.Common.{◌≡◌, ℕ, true, List, Option, Some, Result, Ok, Err, refl, ap, ◌∙◌}
+use Rattle.std.proofs.Common.{◌≡◌, ℕ, suc, ◌<◌, true, List, ◌∷◌, length, Option, Some, Result, Ok, Err, refl, ap, subst, ◌∙◌, arith}
 use Rattle.std.specs.Prelude.{is_ok, map}
+use Rattle.std.specs.List.{All}
 use Rattle.std.specs.Option.{option_map}
 use Rattle.std.specs.Result.{result_ok}
 use Rattle.stack_maps.specs.declared.types.FrameTypes.{FrameTypes}
@@ -35,3 +36,7 @@ has_frames w m code ns cs first bytes frames guards begins is e decoded guarded 
     e ∙ ap (λ (f : FrameTypes). mapped w m code.max_locals f bytes) begins ∙ ap (λ bs. mapped w m code.max_locals (first_frame w m) bs) is in
     let found = is_map w m code.max_locals (expansion (first_frame w m) code.map) frames at in
     record { mapped = found.0; are = found.1; in_order = decoded_in_order code ns decoded; guarded = same_asked (environment_of w m code ns cs) (map guard_in guards) (with_catches code.rows cs) guarded }
+
+-- what holds of all holds of those after the first
+pub behind_all : (P : ℕ → Type 0) (xs ys : List ℕ) (x : ℕ) → xs ≡ x ∷ ys → All P xs → All P ys
+behind_all P xs ys x e h = λ k d low. let all : All P (x ∷ ys) = subst (λ zs. All P zs) e h in all (suc k) d (omega arith)

@@ -1,10 +1,11 @@
 //! Where the state after an instruction goes (JVMS 4.10.1.9), compared with the frames of the stack map there.
 
-ghost use Rattle.std.specs.Prelude.{◌≡◌, ◌&&◌, ◌||◌, IfOk};
+ghost use Rattle.std.specs.Prelude.{◌≡◌, ◌&&◌, ◌||◌, IfOk, MatchBool};
+ghost use Rattle.std.specs.List.{All};
 ghost use Rattle.instruction_rows.specs.Table.{row};
 ghost use Rattle.verify_types.specs.Faults.{fits_next};
 ghost use Rattle.verify_types.specs.TypeStates.{TypeState};
-ghost use Rattle.verify_frames.specs.KnownStates.{Holds, MayBeLike, type_state};
+ghost use Rattle.verify_frames.specs.KnownStates.{FitsLocals, Holds, MayBeLike, MayFit, type_state};
 ghost use Rattle.verify_code.specs.Walks.{goes_to};
 
 use crate::environment::Environment;
@@ -13,7 +14,7 @@ use crate::targets::pc_of;
 use items::NoMemory;
 use opcodes::{Instr, Op};
 use std::alloc::Global;
-use verify_frames::{KnownState, Like};
+use verify_frames::{Fitted, KnownState, Like, are_assignable};
 use world_model::Lookups;
 
 // With fewer local variables a comparison costs less than what is kept to save it.
@@ -70,6 +71,94 @@ impl<'a, L: Lookups> Environment<'a, L> {
         })
     }
 
+    // Whether a state fits the frame of the stack map at a pc, as one that it fits shows, where the two have few other local variables.
+    fn fits_near(
+        &self,
+        alloc: Global,
+        s: &KnownState,
+        other: u32,
+        pc: u32,
+    ) -> Result<bool, NoMemory>
+        ensures { IfOk result (λ b. FitsLocals self.now (type_state s.now) other
+            → MatchBool b (FitsLocals self.now (type_state s.now) pc) (Unit {0})) }
+    {
+        let there = Like::new(alloc, other);
+        let near = self.frames.near(alloc, &there, pc)?;
+        match near {
+            Some(near) => {
+                let others = &near.overwritten;
+                Ok(are_assignable(self.world, others, s.state.types.locals()))
+            }
+            None => Ok(false),
+        }
+    }
+
+    // Whether a state fits the frame of the stack map at a pc, as one of these shows.
+    fn fits_near_one(
+        &self,
+        alloc: Global,
+        s: &KnownState,
+        pcs: &[u32],
+        pc: u32,
+    ) -> Result<bool, NoMemory>
+        ensures { IfOk result (λ b. All (FitsLocals self.now (type_state s.now)) pcs.now
+            → MatchBool b (FitsLocals self.now (type_state s.now) pc) (Unit {0})) }
+    {
+        let mut rest = pcs;
+        while let Some((other, behind)) = rest.split_first() {
+            if self.fits_near(alloc, s, *other, pc)? {
+                return Ok(true);
+            }
+            rest = behind;
+        }
+        Ok(false)
+    }
+
+    // The frame of the stack map at a pc, where a state is found to fit it by those that it is known to fit.
+    fn found_near(&self, alloc: Global, s: &KnownState, pc: u32) -> Result<Option<u32>, NoMemory>
+        requires { Holds self.now s.now }
+        ensures { IfOk result (MayFit self.now (type_state s.now)) }
+    {
+        let Some(fitted) = &s.fitted else {
+            return Ok(None);
+        };
+        if self.among(&fitted.pcs, pc).is_some() {
+            return Ok(None);
+        }
+        if self.fits_near_one(alloc, s, &fitted.pcs, pc)? {
+            Ok(Some(pc))
+        } else {
+            Ok(None)
+        }
+    }
+
+    // The same state, with the frame of the stack map at a pc among those that it is known to fit, where that is found by the others.
+    fn fitted_near(&self, alloc: Global, s: KnownState, pc: u32) -> Result<KnownState, NoMemory>
+        requires { Holds self.now s }
+        ensures same { IfOk result (λ t. type_state t ≡ type_state s) }
+        ensures holds { IfOk result (Holds self.now) }
+    {
+        let found = self.found_near(alloc, &s, pc)?;
+        let Some(pc) = found else {
+            return Ok(s);
+        };
+        let KnownState {
+            state,
+            like,
+            judged,
+            stored,
+            fitted,
+        } = s;
+        let fitted = Fitted::with(alloc, fitted, pc)?;
+        Ok(KnownState {
+            state,
+            like,
+            judged,
+            stored,
+            fitted: Some(fitted),
+        })
+    }
+
     // The same, where the instruction is a branch.
     fn near_target(&self, alloc: Global, s: KnownState, op: &Op) -> Result<KnownState, NoMemory>
         requires { Holds self.now s }
@@ -82,7 +171,8 @@ impl<'a, L: Lookups> Environment<'a, L> {
         let Some(pc) = pc_of(target) else {
             return Ok(s);
         };
-        self.near(alloc, s, pc)
+        let near = self.near(alloc, s, pc)?;
+        self.fitted_near(alloc, near, pc)
     }
 
     // Whether the state fits the frames at all targets, and the next instruction if there is one.

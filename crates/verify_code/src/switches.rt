@@ -77,8 +77,8 @@ impl<'a, L: Lookups> Environment<'a, L> {
         }
     }
 
-    // A frame with the local variables of the one at a pc, among these. `None`: there is none.
-    fn among(&self, pcs: &[u32], pc: u32) -> Option<u32>
+    /// A frame with the local variables of the one at a pc, among these. `None`: there is none.
+    pub fn among(&self, pcs: &[u32], pc: u32) -> Option<u32>
         ensures { (s : TypeState) → All (FitsLocals self.now s) pcs.now → MayFit self.now s result }
     {
         let mut rest = pcs;

@@ -1,6 +1,6 @@
 -- Local variables of one frame, and those of another.
 use Rattle.std.proofs.Common.{◌≡◌, ℕ, zero, suc, ◌+◌, ◌-◌, ◌<◌, ◌≤◌, Bool, true, false, cond, eqb, ltb, List, [], ◌∷◌, ◌++◌, length, Option, Some, None, refl, ap, sym, subst, ◌∙◌, append_assoc, arith}
-use Rattle.std.specs.Prelude.{◌&&◌, ◌||◌, IfSome, is_some, replicate}
+use Rattle.std.specs.Prelude.{◌&&◌, ◌||◌, IfSome, is_some, not, replicate}
 use Rattle.std.specs.List.{list_any}
 use Rattle.std.specs.Option.{option_map}
 use Rattle.std.proofs.lemmas.Bool.{eq-eqb, eqb-true, eqb-false, ltb-true, ltb-false}
@@ -15,15 +15,18 @@ use Rattle.stack_maps.specs.declared.types.FrameTypes.{FrameTypes}
 use Rattle.instruction_rows.specs.Contents.{is_wide, slot_types, types_of}
 use Rattle.type_paths.specs.Paths.{Path, count_on, path, types_on}
 use Rattle.verify_types.specs.Environment.{Environment, MapFrame, map_at}
-use Rattle.verify_types.specs.TypeStates.{TypeState, is_this, padded}
+use Rattle.world_model.specs.World.{World}
+use Rattle.verify_types.specs.Assignability.{assignable}
+use Rattle.verify_types.specs.TypeStates.{TypeState, all_assignable, is_this, padded}
 use Rattle.verify_frames.specs.declared.frame_paths.Entry.{Entry}
 use Rattle.verify_frames.specs.declared.overwritten.Like.{Like}
 use Rattle.verify_frames.specs.declared.overwritten.Overwritten.{Overwritten}
 use Rattle.verify_frames.specs.FramePaths.{entry_in, frame_types, state_where}
 use Rattle.verify_frames.specs.Frames.{frame_at}
 use Rattle.verify_frames.specs.Near.{Covers, IsMoved, IsNear, Moves, Unsets, adding, merged, slot_at, slots_at}
-use Rattle.verify_frames.specs.Overwrites.{AllWere, AreBut, is_noted, type_at}
-use Rattle.verify_frames.specs.KnownStates.{IsLike, MayBeLike}
+use Rattle.verify_frames.specs.Overwrites.{AllWere, AreBut, are_assignable, is_noted, type_at}
+use Rattle.verify_frames.specs.KnownStates.{FitsLocals, IsLike, MayBeLike}
+use Rattle.verify_frames.proofs.OverwriteLaws.{all_by_number, at_noted, none_noted, one_by_one, second_of}
 use Rattle.verify_frames.specs.Flags.{HaveSameFlag}
 use Rattle.verify_frames.specs.PathFits.{is_this_item}
 use Rattle.verify_frames.proofs.FrameFitLaws.{this_on}
@@ -417,3 +420,33 @@ pub may_near : (env : Environment) (fs : List MapFrame) (like : Option Like) (ol
 may_near env fs like old l pc s same is near h = λ other e.
     let it : l ≡ other = cc in
     subst (λ (x : Like). IsLike env x.pc x.overwritten.items s) it (like_near env fs old l pc s same near (h old is))
+
+-- ---- a frame that is near one that a state fits
+
+noted_or_kept : (w : World) (os : List Overwritten) (before now locals : List VType) (i : ℕ) (b : Bool) → is_noted os i ≡ b → AreBut os now before → all_assignable w locals before ≡ true → are_assignable w os locals ≡ true
+    → assignable w (type_at locals i) (type_at now i) ≡ true
+noted_or_kept w os before now locals i true e but fits others = at_noted w os now locals i but.were e others
+noted_or_kept w os before now locals i false e but fits others = subst (λ t. assignable w (type_at locals i) t ≡ true) (sym (but.kept i e)) (one_by_one w locals before fits i)
+
+as_many_fit : (w : World) (xs ys : List VType) → all_assignable w xs ys ≡ true → length xs ≡ length ys
+as_many_fit w [] [] e = refl
+as_many_fit w [] (y ∷ ys) e = absurd cc
+as_many_fit w (x ∷ xs) [] e = absurd cc
+as_many_fit w (x ∷ xs) (y ∷ ys) e = omega (arith, as_many_fit w xs ys (second_of (assignable w x y) (all_assignable w xs ys) e))
+
+pub fits_moved : (env : Environment) (w : World) (fs : List MapFrame) (there near : Like) (other pc : ℕ) (s : TypeState) → w ≡ env.world → fs ≡ env.map → there.pc ≡ other → there.overwritten.items ≡ [] → IsNear fs there pc near → FitsLocals env s other → are_assignable w near.overwritten.items s.types.locals ≡ true
+    → FitsLocals env s pc
+fits_moved env w fs there near other pc s of same at none is h others =
+    let before = h.state.types.locals in
+    let m = is.moves h.frame h.state before (ap (λ n. frame_at n fs) at ∙ ap (λ ms. frame_at other ms) same ∙ h.at) h.is (subst (λ (os : List Overwritten). AreBut os before before) (sym none) (none_noted before)) in
+    let fit : are_assignable env.world near.overwritten.items s.types.locals ≡ true = ap (λ x. are_assignable x near.overwritten.items s.types.locals) (sym of) ∙ others in
+    record {
+      frame = m.frame;
+      state = m.state;
+      at = ap (λ ms. frame_at pc ms) (sym same) ∙ m.at;
+      is = m.is;
+      locals =
+          all_by_number env.world s.types.locals m.state.types.locals (as_many_fit env.world s.types.locals before h.locals ∙ sym m.but.as_many)
+          (λ i. noted_or_kept env.world near.overwritten.items before m.state.types.locals s.types.locals i (is_noted near.overwritten.items i) refl m.but h.locals fit);
+      flag = ap (λ b. not s.this_uninit || b) m.flag ∙ h.flag;
+    }

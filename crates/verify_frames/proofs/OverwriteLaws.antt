@@ -67,7 +67,7 @@ noted_step w o os before locals i true is e was fits more =
     subst (λ n. assignable w (type_at locals n) (type_at before n) ≡ true) (eqb-true o.slot i is) (ap (λ t. assignable w (type_at locals o.slot) t) was ∙ fits)
 noted_step w o os before locals i false is e was fits more = more e
 
-at_noted : (w : World) (os : List Overwritten) (before locals : List VType) (i : ℕ) → AllWere before os → is_noted os i ≡ true → are_assignable w os locals ≡ true
+pub at_noted : (w : World) (os : List Overwritten) (before locals : List VType) (i : ℕ) → AllWere before os → is_noted os i ≡ true → are_assignable w os locals ≡ true
     → assignable w (type_at locals i) (type_at before i) ≡ true
 at_noted w [] before locals i were e h = absurd cc
 at_noted w (o ∷ os) before locals i were e h =
