@@ -1,5 +1,5 @@
 -- What is kept beside the tables of a method, from what was read.
-use Rattle.std.proofs.Common.{◌≡◌, ℕ, suc, ◌<◌, true, List, ◌∷◌, length, Option, Some, Result, Ok, Err, refl, ap, subst, ◌∙◌, arith}
+use Rattle.std.proofs.Common.{◌≡◌, ℕ, suc, true, List, ◌∷◌, Option, Some, Result, Ok, Err, refl, ap, subst, ◌∙◌, arith}
 use Rattle.std.specs.Prelude.{is_ok, map}
 use Rattle.std.specs.List.{All}
 use Rattle.std.specs.Option.{option_map}
