@@ -312,6 +312,62 @@ def constructor_frames(c):
     c.method(call + GOTO_NEXT * 21800 + RETURN, [frame] + [chop, append] * 10900, name=b"<init>", flags=1)
 
 
+def handlers_apart(c):
+    """13,000 stores of ever new types, under 2,000 rows of an exception table to 2,000 handlers, each with a frame of its own."""
+    throwable = u1(7) + u2(c.pool.of_class(b"java/lang/Throwable"))
+    step = b"\xbb" + u2(c.pool.of_class(b"java/lang/Object")) + b"\x4b"
+    first = 4 * 13000 + 1
+    append = [u1(252) + u2(0 if i else first) + u1(TOP) for i in range(2000)]
+    frames = [frame for i in range(2000) for frame in (append[i], u1(64) + throwable, u1(250) + u2(0))]
+    rows = [(0, first, first + 3 * i + 1, 0) for i in range(2000)]
+    c.method(step * 13000 + RETURN + (RETURN + b"\xbf" + RETURN) * 2000, frames, rows, locals=3)
+
+
+def gotos_apart(c):
+    """10,000 jumps from frames of 65,535 ints to one of as many unset local variables."""
+    end = 3 * 10000 + 1
+    code = b"".join(b"\xa7" + u2(end - at) for at in range(1, end, 3))
+    c.method(RETURN + code + RETURN, [full_frame(1, [INTEGER] * LOCALS)] + [same(2)] * 9999 + [full_frame(2, [TOP] * LOCALS)])
+
+
+def switches_apart(c):
+    """2,000 switches from frames of 65,535 ints, each with such a frame for its default alone."""
+    end = 20 * 2000 + 4
+    code = b"".join(NOP * 2 + ICONST_0 + b"\xaa" + u4(end - at - 3) + u4(0) + u4(0) + u4(end - at - 3) for at in range(4, end, 20))
+    frames = [full_frame(1, [INTEGER] * LOCALS), same(22)] + [same(19)] * 1998 + [full_frame(19, [TOP] * LOCALS)]
+    c.method(RETURN + NOP * 3 + code + RETURN, frames)
+
+
+def far_and_near(c):
+    """8,000 branches to 8,000 frames of 65,535 local variables that are near one another, and far from that of the branches."""
+    end = 4 * 8000 + 1
+    code = b"".join(ICONST_0 + b"\x99" + u2(end + 2 * i - 4 * i - 1) for i in range(8000))
+    near = [u1(252) + u2(0) + u1(TOP), u1(250) + u2(0)] * 8000
+    c.method(RETURN + code + NOP * 16000 + RETURN, [full_frame(1, [INTEGER] * LOCALS), full_frame(end - 2, [INTEGER] * (LOCALS - 1))] + near)
+
+
+def stores_apart(c):
+    """2,700 times a store of an int and one of null, each with a branch to a frame of 65,535 local variables that is written out."""
+    end = 12 * 2700 + 1
+    step = lambda at: ICONST_0 + ISTORE_0 + ICONST_0 + b"\x99" + u2(end - at - 3) + ACONST_NULL + b"\x4b" + ICONST_0 + b"\x99" + u2(end - at - 9)
+    frames = [full_frame(1, [INTEGER] * LOCALS), full_frame(end - 2, [TOP] + [INTEGER] * (LOCALS - 1))]
+    c.method(RETURN + b"".join(step(at) for at in range(1, end, 12)) + RETURN, frames)
+
+
+def deep_objects(c):
+    """8,000 times an object that is made, initialized and dropped, above 60,000 ints on the operand stack."""
+    make = b"\xbb" + u2(c.pool.of_class(b"java/lang/Object"))
+    init = b"\xb7" + u2(c.pool.member(10, b"java/lang/Object", b"<init>", b"()V"))
+    ints = u1(255) + u2(1) + u2(0) + u2(60000) + u1(INTEGER) * 60000
+    c.method(RETURN + (make + b"\x59" + init + b"\x57") * 8000 + RETURN, [ints], stack=60002, locals=0)
+
+
+def later_object(c):
+    """21,000 objects that are made and left on the operand stack, above one of a later `new`."""
+    later = u1(255) + u2(1) + u2(0) + u2(1) + u1(8) + u2(65000)
+    c.method(RETURN + (b"\xbb" + u2(c.pool.of_class(b"java/lang/Object"))) * 21000 + RETURN, [later], stack=21001, locals=0)
+
+
 def other_frames(c):
     """60 jumps, each to a frame of 65,535 local variables that is written out."""
     c.method(RETURN + GOTO_NEXT * 60 + RETURN, [full_frame(1, [INTEGER] * LOCALS)] + [full_frame(2, [INTEGER] * LOCALS)] * 60)
@@ -413,6 +469,13 @@ KINDS = {
     "stores-and-branches": lambda: methods_of(stores_and_branches, 1),
     "many-overwritten": lambda: methods_of(many_overwritten, 1),
     "constructor-frames": lambda: methods_of(constructor_frames, 1),
+    "handlers-apart": lambda: methods_of(handlers_apart, 1),
+    "gotos-apart": lambda: methods_of(gotos_apart, 1),
+    "switches-apart": lambda: methods_of(switches_apart, 1),
+    "far-and-near": lambda: methods_of(far_and_near, 1),
+    "stores-apart": lambda: methods_of(stores_apart, 1),
+    "deep-objects": lambda: methods_of(deep_objects, 1),
+    "later-object": lambda: methods_of(later_object, 60),
     "many-rows": lambda: methods_of(many_rows, 6),
     "rows-and-stores": lambda: methods_of(rows_and_stores, 6),
     "many-handlers": lambda: methods_of(many_handlers, 1),
