@@ -31,6 +31,37 @@ class ThrowableKinds {
         }
     }
 
+    static Throwable plain(int n) {
+        switch (n) {
+            case 0: return new Throwable();
+            case 1: return new Exception();
+            case 2: return new Error();
+            case 3: return new RuntimeException();
+            case 4: return new InterruptedException();
+            case 5: return new ArithmeticException();
+            case 6: return new ArrayStoreException();
+            case 7: return new ClassCastException();
+            case 8: return new IllegalArgumentException();
+            case 9: return new IllegalMonitorStateException();
+            case 10: return new IllegalStateException();
+            case 11: return new IndexOutOfBoundsException();
+            case 12: return new NegativeArraySizeException();
+            case 13: return new NullPointerException();
+            case 14: return new UnsupportedOperationException();
+            case 15: return new IllegalThreadStateException();
+            case 16: return new ArrayIndexOutOfBoundsException();
+            case 17: return new StringIndexOutOfBoundsException();
+            case 18: return new LinkageError();
+            case 19: return new IncompatibleClassChangeError();
+            case 20: return new VerifyError();
+            case 21: return new NoClassDefFoundError();
+            case 22: return new ExceptionInInitializerError();
+            case 23: return new AbstractMethodError();
+            case 24: return new OutOfMemoryError();
+            default: return new StackOverflowError();
+        }
+    }
+
     static String kind(int n) {
         try { throw make(n, "m" + n); }
         catch (IllegalThreadStateException e) { return "thread state " + e.getMessage(); }
@@ -53,6 +84,6 @@ class ThrowableKinds {
 
     public static void main(String[] args) {
         for (int n = 0; n < 26; n++) System.out.println(kind(n) + " " + mask(make(n, null)) + " " + make(n, null).getMessage());
-        System.out.println(new Exception().getMessage() + new ArithmeticException().getMessage() + new StackOverflowError().getMessage());
+        for (int n = 0; n < 26; n++) System.out.println(mask(plain(n)) + " " + plain(n).getMessage());
     }
 }
