@@ -14,6 +14,10 @@ use shared_slices::SharedSlice;
 use std::alloc::Global;
 use std::str::SplitWhitespace;
 
+/// A class whose main prints 42.
+pub(crate) const PRINTS_42: &str =
+    "33 A java/lang/Object method 9 main ([Ljava/lang/String;)V getstatic Fieldref java/lang/System out Ljava/io/PrintStream; bipush 42 invokevirtual Methodref java/io/PrintStream println (I)V return end";
+
 // A class file that is being written.
 #[derive(Drop)]
 struct Sketch {

@@ -17,6 +17,8 @@ mod code_sketch;
 #[cfg(test)]
 mod edges;
 #[cfg(test)]
+mod first_states;
+#[cfg(test)]
 mod instructions;
 #[cfg(test)]
 mod linking;

@@ -2,7 +2,7 @@
 //! program that isn't is a text of the class, the method and the pc where it breaks the rule, and after a bar its classes.
 
 use crate::ascii::{is_text, units_of};
-use crate::class_sketch::class_files;
+use crate::class_sketch::{PRINTS_42, class_files};
 use class_world::{World, link};
 use items::NoMemory;
 use std::alloc::Global;
@@ -381,7 +381,7 @@ fn well_typed_programs_are_accepted(rt: HostRuntime) -> Result<(), Fail> {
 
 #[test]
 fn the_built_in_classes_are_accepted(rt: HostRuntime) -> Result<(), Fail> {
-    let files = class_files(rt.alloc(), "33 A java/lang/Object")?;
+    let files = class_files(rt.alloc(), PRINTS_42)?;
     let world = link(rt.alloc(), lib_table::classes(rt.alloc())?, files)?;
     assert!(rt; accept(rt.alloc(), world).is_ok());
     Ok(())
