@@ -1,6 +1,6 @@
 //! The last step of an entry, after its local instructions.
 
-ghost use Rattle.std.specs.Prelude.{◌≡◌, ◌<◌, Some, None, false, true, length, OnOk};
+ghost use Rattle.std.specs.Prelude.{◌≡◌, ◌<◌, Some, None, length, OnOk};
 ghost use Rattle.ref_model.specs.Ending.{ending};
 ghost use Rattle.typed_frames.specs.TypedStates.{IsTypedState};
 ghost use Rattle.vthread_state.specs.declared.phase.Phase.TheVariants.{Run, Throwing};

@@ -1,4 +1,4 @@
-use Rattle.std.proofs.Common.{Bool, List, sym, subst}
+use Rattle.std.proofs.Common.{List, sym, subst}
 use Rattle.state_model.specs.Frames.{Frame}
 use Rattle.interp_local.specs.Fetched.{IsTopAt}
 use Rattle.typed_frames.specs.TypedStates.{IsTypedState}
