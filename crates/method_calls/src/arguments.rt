@@ -1,6 +1,6 @@
 //! The slots that a method's arguments take (JVMS 2.6.1, 4.3.3).
 
-ghost use Rattle.std.specs.Prelude.{◌≡◌, ◌≤◌, IfSome, sum_by};
+ghost use Rattle.std.specs.Prelude.{◌≡◌, ◌<◌, ◌≤◌, IfNone, IfSome, sum_by};
 ghost use Rattle.descriptors.specs.Descriptors as descriptors;
 ghost use Rattle.ref_model.specs.Kinds as spec;
 
@@ -31,6 +31,7 @@ fn kind_slots(kind: &Kind) -> u16
 fn slots_of(kinds: &[Kind]) -> Option<u16>
     ensures slots { IfSome result (λ n. n ≡ sum_by descriptors.slots kinds.now) }
     ensures few { IfSome result (λ n. n ≤ 255) }
+    ensures many { IfNone result (255 < sum_by descriptors.slots kinds.now) }
 {
     let mut slots = 0;
     for kind in kinds {
@@ -46,6 +47,7 @@ fn slots_of(kinds: &[Kind]) -> Option<u16>
 pub fn argument_slots(signature: &Signature) -> Option<u16>
     ensures slots { IfSome result (λ n. n ≡ spec.argument_slots signature.now) }
     ensures few { IfSome result (λ n. n ≤ 255) }
+    ensures many { IfNone result (255 < spec.argument_slots signature.now) }
 {
     slots_of(signature.args.as_slice())
 }
