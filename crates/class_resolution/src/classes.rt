@@ -1,6 +1,6 @@
 //! The classes of a program, and each by its name.
 
-ghost use Rattle.std.specs.Prelude.{◌≡◌, false, ◌+◌, ◌<◌, ◌^◌, ◌++◌, drop, length, IfOk, vec_len, slice_get, slice_index_or};
+ghost use Rattle.std.specs.Prelude.{◌≡◌, false, ◌+◌, ◌<◌, ◌^◌, ◌++◌, drop, length, IfOk, slice_get};
 ghost use Rattle.std.specs.Option.{option_copied};
 ghost use Rattle.linkage.specs.Program.{Program, class_named, own_name as name_of};
 ghost use Rattle.linkage.specs.Program as spec;

@@ -1,7 +1,7 @@
 //! What the names and descriptors in a constant pool mean in a program (JVMS 4.3, 4.4, 5.4.3.1).
 
 ghost use Rattle.std.specs.Prelude.{◌≡◌, ◌≤◌, false, length};
-ghost use Rattle.std.specs.Option.{option_copied, option_map};
+ghost use Rattle.std.specs.Option.{option_map};
 ghost use Rattle.linkage.specs.Program as program;
 ghost use Rattle.linkage.specs.Constants as spec;
 ghost use Rattle.class_resolution.specs.Keys.{key_of};

@@ -1,7 +1,6 @@
 //! The superclasses and superinterfaces of each class (JVMS 5.3.5), found once for all.
 
 ghost use Rattle.std.specs.Prelude.{◌≡◌, ◌+◌, ◌++◌, [], ◌∷◌, reverse, length, if◌then◌else◌, IfOk, OnOk, Some, slice_get};
-ghost use Rattle.std.specs.Option.{option_to_list};
 ghost use Rattle.linkage.specs.Hierarchy as spec;
 ghost use Rattle.linkage.specs.Members as members;
 ghost use Rattle.class_resolution.specs.Keys.{key_of};

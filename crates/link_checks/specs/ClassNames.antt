@@ -1,5 +1,5 @@
 -- The classes that names in code mean.
-use Rattle.std.specs.Prelude.{◌≡◌, ℕ, List, [], ◌∷◌}
+use Rattle.std.specs.Prelude.{◌≡◌}
 use Rattle.linkage.specs.Program.{Program}
 use Rattle.linkage.specs.Constants.{base_class}
 use Rattle.link_checks.specs.declared.class_name.ClassName.{ClassName}

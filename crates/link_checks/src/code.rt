@@ -1,10 +1,8 @@
 //! What is wrong with the code of a method: its instructions from the first on, and then its exception table (JVMS 4.7.3).
 
 ghost use Rattle.std.specs.Prelude.{◌≡◌, ◌<◌, ◌^◌, false, length, true, IfOk};
-ghost use Rattle.std.specs.List.{flat_map};
 ghost use Rattle.opcodes.specs.Code.{IsCode, IsFirstBad};
 ghost use Rattle.opcodes.specs.declared.error.CodeWhy.{CodeWhy};
-ghost use Rattle.linkage.specs.Instructions.{instr_faults};
 ghost use Rattle.items.specs.First.{first_in, first_some};
 ghost use Rattle.linkage.specs.Faults as spec;
 ghost use Rattle.link_checks.specs.Firsts.{attribute_why, code_why, instr_why, row_why};

@@ -1,8 +1,7 @@
 //! The code of methods (JVMS 4.7.3, 4.7.4).
 
-ghost use Rattle.std.specs.Prelude.{◌≡◌, ◌<◌, ◌^◌, List, ℕ, [], ◌∷◌, ◌++◌, IfOk, IfSome, OnOk, length, slice_get};
+ghost use Rattle.std.specs.Prelude.{◌≡◌, ◌<◌, ◌^◌, List, [], ◌∷◌, ◌++◌, IfOk, IfSome, OnOk, length, slice_get};
 ghost use Rattle.std.specs.Option.{option_and_then, option_copied, option_map};
-ghost use Rattle.items.specs.First.{first_in};
 ghost use Rattle.opcodes.specs.Code.{IsCode};
 ghost use Rattle.linkage.specs.Faults.{decoded};
 ghost use Rattle.world_model.specs.Decoded.{IsDecoded};

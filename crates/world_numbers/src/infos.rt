@@ -1,6 +1,6 @@
 //! The fields and methods of a program by number (JVMS 4.5, 4.6).
 
-ghost use Rattle.std.specs.Prelude.{◌≡◌, ◌++◌, length, map, OnOk, IfOk};
+ghost use Rattle.std.specs.Prelude.{◌≡◌, ◌++◌, OnOk, IfOk};
 ghost use Rattle.world_model.specs.Infos as spec;
 
 use crate::codes::Codes;

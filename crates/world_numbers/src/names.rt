@@ -1,7 +1,7 @@
 //! Texts, and the number of each.
 
 ghost use Rattle.std.specs.Prelude.{◌≡◌, [], ◌∷◌, ◌++◌, length, slice_get, OnOk, OnErr};
-ghost use Rattle.std.specs.Option.{option_copied, option_map};
+ghost use Rattle.std.specs.Option.{option_copied};
 ghost use Rattle.world_model.specs.Numbering as spec;
 
 use class_resolution::TextNumbers;

@@ -1,8 +1,7 @@
 //! The numbers of the Strings that constants are (JVMS 5.1).
 
-ghost use Rattle.std.specs.Prelude.{◌≡◌, ◌+◌, ◌∷◌, ◌++◌, [], length, map, take, OnOk, IfOk};
-ghost use Rattle.std.specs.List.{flat_map, fold};
-ghost use Rattle.std.specs.Option.{option_map};
+ghost use Rattle.std.specs.Prelude.{◌≡◌, ◌+◌, ◌∷◌, ◌++◌, [], OnOk, IfOk};
+ghost use Rattle.std.specs.List.{fold};
 ghost use Rattle.world_model.specs.Numbering.{with_name};
 ghost use Rattle.world_model.specs.Strings as spec;
 

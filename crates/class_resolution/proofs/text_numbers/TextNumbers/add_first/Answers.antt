@@ -1,4 +1,4 @@
-use Rattle.std.proofs.Common.{◌≡◌, List, ◌++◌, ◌∷◌, [], length, refl, ap, ◌∙◌}
+use Rattle.std.proofs.Common.{List, length, refl, ap, ◌∙◌}
 use Rattle.class_resolution.specs.declared.text_numbers.Numbered.{Numbered}
 use Rattle.class_resolution.proofs.TextNumberLaws.{adds_kept, alike, on_err}
 use Rattle.class_resolution.proofs.text_numbers.TextNumbers.add_first.Goals as goal
