@@ -184,7 +184,8 @@ impl<'a, L: Lookups> Environment<'a, L> {
 
     // The rows, where those whose handlers ask the same are taken together.
     fn merged(&self, alloc: Global) -> Result<Merged, NoMemory>
-        ensures { IfOk result (λ m. AskSame self.now (map guard_in m.guards.items) self.now.handlers) }
+        ensures { IfOk result (λ m.
+            AskSame self.now (map guard_in m.guards.items) self.now.handlers) }
     {
         let mut merged = Merged::new(alloc);
         let mut rest: &[Guard] = &self.guards;
