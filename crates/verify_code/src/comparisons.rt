@@ -132,16 +132,13 @@ impl<'a, L: Lookups> Environment<'a, L> {
         }
     }
 
-    // The same state, with the frame of the stack map at a pc among those that it is known to fit, where that is found by the others.
-    fn fitted_near(&self, alloc: Global, s: KnownState, pc: u32) -> Result<KnownState, NoMemory>
-        requires { Holds self.now s }
+    /// The same state, with a frame that its local variables and its flag fit among those that are kept.
+    pub fn with_fitted(&self, alloc: Global, s: KnownState, pc: u32) -> Result<KnownState, NoMemory>
+        requires holds { Holds self.now s }
+        requires fits { FitsLocals self.now (type_state s) pc }
         ensures same { IfOk result (λ t. type_state t ≡ type_state s) }
         ensures holds { IfOk result (Holds self.now) }
     {
-        let found = self.found_near(alloc, &s, pc)?;
-        let Some(pc) = found else {
-            return Ok(s);
-        };
         let KnownState {
             state,
             like,
@@ -157,6 +154,19 @@ impl<'a, L: Lookups> Environment<'a, L> {
             stored,
             fitted: Some(fitted),
         })
+    }
+
+    // The same state, with the frame of the stack map at a pc among those that it is known to fit, where that is found by the others.
+    fn fitted_near(&self, alloc: Global, s: KnownState, pc: u32) -> Result<KnownState, NoMemory>
+        requires { Holds self.now s }
+        ensures same { IfOk result (λ t. type_state t ≡ type_state s) }
+        ensures holds { IfOk result (Holds self.now) }
+    {
+        let found = self.found_near(alloc, &s, pc)?;
+        let Some(pc) = found else {
+            return Ok(s);
+        };
+        self.with_fitted(alloc, s, pc)
     }
 
     // The same, where the instruction is a branch.

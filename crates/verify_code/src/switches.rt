@@ -17,7 +17,7 @@ use crate::targets::pc_of;
 use items::NoMemory;
 use opcodes::{LookupSwitch, Match, Op, TableSwitch};
 use std::alloc::Global;
-use verify_frames::{Fitted, Frame, KnownState};
+use verify_frames::{Frame, KnownState};
 use world_model::Lookups;
 
 // A target of an instruction. `None`: it has none.
@@ -205,21 +205,7 @@ impl<'a, L: Lookups> Environment<'a, L> {
         let Some(pc) = self.newly_fitted(&s, target) else {
             return Ok(s);
         };
-        let KnownState {
-            state,
-            like,
-            judged,
-            stored,
-            fitted,
-        } = s;
-        let fitted = Fitted::with(alloc, fitted, pc)?;
-        Ok(KnownState {
-            state,
-            like,
-            judged,
-            stored,
-            fitted: Some(fitted),
-        })
+        self.with_fitted(alloc, s, pc)
     }
 
     // Whether a state fits the frames at all of these targets.
