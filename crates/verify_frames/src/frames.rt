@@ -1,6 +1,6 @@
 //! The frames of a method's stack map (JVMS 4.7.4), each at its pc.
 
-ghost use Rattle.std.specs.Prelude.{◌≡◌, IfOk, IfSome, map};
+ghost use Rattle.std.specs.Prelude.{◌≡◌, IfOk, IfSome, None, map};
 ghost use Rattle.std.specs.Option.{option_map};
 ghost use Rattle.stack_maps.specs.Changes.{made_whole};
 ghost use Rattle.verify_types.specs.Environment.{MapFrame, map_frame};
@@ -97,10 +97,12 @@ impl Frames {
         }
     }
 
-    /// A number that frames with the same local variables have in common (own). It says nothing else.
-    pub fn group(&self, pc: u32) -> usize {
-        match entry_at(&self.entries, pc) {
-            Some(entry) => entry.locals,
+    /// A number that frames with the same local variables have in common, and 0 where there is no frame (own). It says nothing else.
+    pub fn group(&self, pc: u32) -> usize
+        ensures none { frame_at pc self.now ≡ None → result ≡ 0 }
+    {
+        match self.at(pc) {
+            Some(frame) => frame.entry.locals,
             None => 0,
         }
     }
