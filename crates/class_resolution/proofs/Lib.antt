@@ -8,3 +8,5 @@ pub mod SetLaws
 pub mod KeyTextLaws
 pub mod MemberTableLaws
 pub mod TextNumberLaws
+pub mod HashLaws
+pub mod EntryLaws

@@ -1,5 +1,5 @@
 -- Numbers by texts.
-use Rattle.std.specs.Prelude.{◌≡◌, ℕ, ◌+◌, ◌*◌, ◌%◌, ◌^◌, List, Option, Some, None, slice_get, if◌then◌else◌}
+use Rattle.std.specs.Prelude.{◌≡◌, ℕ, ◌+◌, ◌*◌, ◌%◌, ◌^◌, List, ◌∷◌, Option, Some, None, slice_get, if◌then◌else◌}
 use Rattle.std.specs.List.{fold}
 use Rattle.std.specs.Option.{option_and_then, option_or}
 use Rattle.std.specs.Ordering.{nat_cmp}
@@ -9,12 +9,21 @@ use Rattle.class_resolution.specs.Names.{at_text}
 use Rattle.class_resolution.specs.declared.text_numbers.Numbered.{Numbered}
 use Rattle.class_resolution.specs.declared.text_numbers.TextNumbers.{TextNumbers}
 
--- a hash with one unit more
+-- a hash with one word more
 unfoldable pub mixed : ℕ → ℕ → ℕ
-mixed hash unit = ((hash * 31) % 2 ^ 64 + unit) % 2 ^ 64
+mixed hash word = ((hash * 11400714819323198485) % 2 ^ 64 + word) % 2 ^ 64
+
+-- four units as one word
+abbrev pub word_of : ℕ → ℕ → ℕ → ℕ → ℕ
+word_of a b c d = a + b * 65536 + c * 4294967296 + d * 281474976710656
+
+-- a hash with the units of a text, four at a time, and the last one by one
+abbrev pub hash_from : ℕ → List ℕ → ℕ
+hash_from hash (a ∷ b ∷ c ∷ d ∷ rest) = hash_from (mixed hash (word_of a b c d)) rest
+hash_from hash last = fold mixed hash last
 
 abbrev pub hash_of : List ℕ → ℕ
-hash_of text = fold mixed 0 text
+hash_of text = hash_from 0 text
 
 abbrev pub number_if : List ℕ → Numbered → Option ℕ
 number_if text n = if same_text n.text text then Some n.number else None

@@ -1,2 +1,3 @@
 pub mod DecodedLaws
 pub mod FaultLaws
+pub mod ConstantUseLaws

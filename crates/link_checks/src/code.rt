@@ -5,8 +5,10 @@ ghost use Rattle.opcodes.specs.Code.{IsCode, IsFirstBad};
 ghost use Rattle.opcodes.specs.declared.error.CodeWhy.{CodeWhy};
 ghost use Rattle.items.specs.First.{first_in, first_some};
 ghost use Rattle.linkage.specs.Faults as spec;
+ghost use Rattle.link_checks.specs.ConstantUses.{AreFine};
 ghost use Rattle.link_checks.specs.Firsts.{attribute_why, code_why, instr_why, row_why};
 
+use crate::constant_uses::Use;
 use crate::instructions::{Namer, class_fault, instr_fault};
 use crate::rules::unless;
 use class_model::{Attribute, Body, CodeBody, Member, Row};
@@ -60,12 +62,19 @@ fn front_before(alloc: Global, code: &[u8], pc: u32) -> Result<Front, NoMemory>
     }
 }
 
-fn instrs_fault(alloc: Global, namer: Namer, instrs: &[Instr]) -> Result<Option<LinkWhy>, NoMemory>
-    ensures { IfOk result (λ fault. fault ≡ first_in (instr_why
+fn instrs_fault(
+    alloc: Global,
+    namer: Namer,
+    fine: &mut [Option<Use>],
+    instrs: &[Instr],
+) -> Result<Option<LinkWhy>, NoMemory>
+    requires { AreFine namer.world.now namer.class namer.pool.now fine.old }
+    ensures fault { IfOk result (λ fault. fault ≡ first_in (instr_why
         namer.entry.world.now namer.entry.class namer.entry.pool.now) instrs.now) }
+    ensures fine { AreFine namer.entry.world.now namer.entry.class namer.entry.pool.now fine.new }
 {
     for instr in instrs {
-        if let Some(why) = instr_fault(alloc, namer, &instr.op)? {
+        if let Some(why) = instr_fault(alloc, namer, fine, &instr.op)? {
             return Ok(Some(why));
         }
     }
@@ -97,12 +106,19 @@ fn rows_fault(namer: Namer, rows: &[Row]) -> Option<LinkWhy>
 }
 
 // What is wrong with a code.
-fn code_fault(alloc: Global, namer: Namer, body: &CodeBody) -> Result<Option<LinkWhy>, NoMemory>
-    ensures { IfOk result (λ fault. fault ≡ first_some (spec.code_faults
+fn code_fault(
+    alloc: Global,
+    namer: Namer,
+    fine: &mut [Option<Use>],
+    body: &CodeBody,
+) -> Result<Option<LinkWhy>, NoMemory>
+    requires { AreFine namer.world.now namer.class namer.pool.now fine.old }
+    ensures fault { IfOk result (λ fault. fault ≡ first_some (spec.code_faults
         namer.entry.world.now namer.entry.class namer.entry.pool.now body.now)) }
+    ensures fine { AreFine namer.entry.world.now namer.entry.class namer.entry.pool.now fine.new }
 {
     let front = front_of(alloc, &body.code)?;
-    let instrs = instrs_fault(alloc, namer, &front.instrs)?;
+    let instrs = instrs_fault(alloc, namer, fine, &front.instrs)?;
     let end = unless(!front.is_bad, LinkWhy::BadCode);
     let rows = rows_fault(namer, &body.rows);
     Ok(instrs.or(end).or(rows))
@@ -111,13 +127,16 @@ fn code_fault(alloc: Global, namer: Namer, body: &CodeBody) -> Result<Option<Lin
 fn attribute_fault(
     alloc: Global,
     namer: Namer,
+    fine: &mut [Option<Use>],
     attribute: &Attribute,
 ) -> Result<Option<LinkWhy>, NoMemory>
-    ensures { IfOk result (λ fault. fault ≡ first_some (spec.attribute_faults
+    requires { AreFine namer.world.now namer.class namer.pool.now fine.old }
+    ensures fault { IfOk result (λ fault. fault ≡ first_some (spec.attribute_faults
         namer.entry.world.now namer.entry.class namer.entry.pool.now attribute.now)) }
+    ensures fine { AreFine namer.entry.world.now namer.entry.class namer.entry.pool.now fine.new }
 {
     match &attribute.body {
-        Body::Code(body) => code_fault(alloc, namer, body.get()),
+        Body::Code(body) => code_fault(alloc, namer, fine, body.get()),
         _ => Ok(None),
     }
 }
@@ -125,13 +144,16 @@ fn attribute_fault(
 fn attributes_fault(
     alloc: Global,
     namer: Namer,
+    fine: &mut [Option<Use>],
     attributes: &[Attribute],
 ) -> Result<Option<LinkWhy>, NoMemory>
-    ensures { IfOk result (λ fault. fault ≡ first_in (attribute_why
+    requires { AreFine namer.world.now namer.class namer.pool.now fine.old }
+    ensures fault { IfOk result (λ fault. fault ≡ first_in (attribute_why
         namer.entry.world.now namer.entry.class namer.entry.pool.now) attributes.now) }
+    ensures fine { AreFine namer.entry.world.now namer.entry.class namer.entry.pool.now fine.new }
 {
     for attribute in attributes {
-        if let Some(why) = attribute_fault(alloc, namer, attribute)? {
+        if let Some(why) = attribute_fault(alloc, namer, fine, attribute)? {
             return Ok(Some(why));
         }
     }
@@ -142,11 +164,14 @@ fn attributes_fault(
 pub fn method_code_fault(
     alloc: Global,
     namer: Namer,
+    fine: &mut [Option<Use>],
     method: &Member,
 ) -> Result<Option<LinkWhy>, NoMemory>
-    ensures { IfOk result (λ fault. fault ≡ code_why
+    requires { AreFine namer.world.now namer.class namer.pool.now fine.old }
+    ensures fault { IfOk result (λ fault. fault ≡ code_why
         namer.entry.world.now namer.entry.class namer.entry.pool.now method.now) }
+    ensures fine { AreFine namer.entry.world.now namer.entry.class namer.entry.pool.now fine.new }
 {
-    let fault = attributes_fault(alloc, namer, &method.attributes)?;
+    let fault = attributes_fault(alloc, namer, fine, &method.attributes)?;
     Ok(fault)
 }

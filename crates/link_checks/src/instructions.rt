@@ -5,10 +5,12 @@ ghost use Rattle.items.specs.First.{first_some};
 ghost use Rattle.linkage.specs.Instructions as spec;
 ghost use Rattle.class_resolution.specs.Keys.{key_of};
 ghost use Rattle.link_checks.specs.ClassNames.{Means};
+ghost use Rattle.link_checks.specs.ConstantUses.{AreFine};
 
 use crate::class_name::{
     ClassName, class_name, home, is_instantiable, is_interface, is_known, names_internal,
 };
+use crate::constant_uses::{Use, known_fault};
 use crate::rules::{first_why, unless};
 use class_model::Const;
 use class_resolution::{
@@ -115,7 +117,8 @@ fn field_const_fault(namer: Namer, wanted: bool, constant: &Const) -> Option<Lin
     }
 }
 
-fn field_fault_at(namer: Namer, wanted: bool, index: u16) -> Option<LinkWhy>
+/// What is wrong with the constant at an index that is to name a field, static or of an object.
+pub fn field_fault_at(namer: Namer, wanted: bool, index: u16) -> Option<LinkWhy>
     ensures { result ≡ first_some (spec.const_faults namer.entry.pool.now index
         (spec.field_const_faults namer.entry.world.now namer.entry.class namer.entry.pool.now
         wanted)) }
@@ -256,7 +259,8 @@ fn method_const_fault(
     }
 }
 
-fn method_fault_at(
+/// What is wrong with the constant at an index that is to name a method for such an invocation.
+pub fn method_fault_at(
     alloc: Global,
     namer: Namer,
     call: Invocation,
@@ -330,7 +334,8 @@ fn class_const_fault(
     }
 }
 
-fn class_fault_at(namer: Namer, purpose: Purpose, index: u16) -> Option<LinkWhy>
+/// What is wrong with the constant at an index that is to name a class.
+pub fn class_fault_at(namer: Namer, purpose: Purpose, index: u16) -> Option<LinkWhy>
     ensures { result ≡ first_some (spec.const_faults namer.entry.pool.now index
         (spec.class_const_faults namer.entry.world.now namer.entry.class namer.entry.pool.now
         purpose index)) }
@@ -407,32 +412,43 @@ fn interface_call(count: u8) -> Invocation
     }
 }
 
-/// What is wrong with an instruction in the code of a class, as far as its constant says (JVMS 6.5).
-pub fn instr_fault(alloc: Global, namer: Namer, op: &Op) -> Result<Option<LinkWhy>, NoMemory>
-    ensures { IfOk result (λ fault. fault ≡ first_some (spec.instr_faults
+/// What is wrong with an instruction in the code of a class, as far as its constant says (JVMS 6.5). What is known to be fine is noted.
+pub fn instr_fault(
+    alloc: Global,
+    namer: Namer,
+    fine: &mut [Option<Use>],
+    op: &Op,
+) -> Result<Option<LinkWhy>, NoMemory>
+    requires { AreFine namer.world.now namer.class namer.pool.now fine.old }
+    ensures fault { IfOk result (λ fault. fault ≡ first_some (spec.instr_faults
         namer.entry.world.now namer.entry.class namer.entry.pool.now op.now)) }
+    ensures fine { AreFine namer.entry.world.now namer.entry.class namer.entry.pool.now fine.new }
 {
     match op {
         Op::PushConstant(i) => Ok(push_fault_at(namer.pool, false, *i)),
         Op::PushWideConstant(i) => Ok(push_fault_at(namer.pool, true, *i)),
-        Op::GetStatic(i) => Ok(field_fault_at(namer, true, *i)),
-        Op::PutStatic(i) => Ok(field_fault_at(namer, true, *i)),
-        Op::GetField(i) => Ok(field_fault_at(namer, false, *i)),
-        Op::PutField(i) => Ok(field_fault_at(namer, false, *i)),
-        Op::InvokeVirtual(i) => method_fault_at(alloc, namer, VIRTUAL, *i),
-        Op::InvokeSpecial(i) => method_fault_at(alloc, namer, SPECIAL, *i),
-        Op::InvokeStatic(i) => method_fault_at(alloc, namer, STATIC, *i),
-        Op::InvokeInterface(i, count) => method_fault_at(alloc, namer, interface_call(*count), *i),
+        Op::GetStatic(i) => known_fault(alloc, namer, fine, Use::StaticField, *i),
+        Op::PutStatic(i) => known_fault(alloc, namer, fine, Use::StaticField, *i),
+        Op::GetField(i) => known_fault(alloc, namer, fine, Use::ObjectField, *i),
+        Op::PutField(i) => known_fault(alloc, namer, fine, Use::ObjectField, *i),
+        Op::InvokeVirtual(i) => known_fault(alloc, namer, fine, Use::Method(VIRTUAL), *i),
+        Op::InvokeSpecial(i) => known_fault(alloc, namer, fine, Use::Method(SPECIAL), *i),
+        Op::InvokeStatic(i) => known_fault(alloc, namer, fine, Use::Method(STATIC), *i),
+        Op::InvokeInterface(i, count) => {
+            known_fault(alloc, namer, fine, Use::Method(interface_call(*count)), *i)
+        }
         Op::InvokeDynamic(_) => Ok(Some(LinkWhy::Unsupported)),
-        Op::New(i) => Ok(class_fault_at(namer, Purpose::Instance, *i)),
+        Op::New(i) => known_fault(alloc, namer, fine, Use::Class(Purpose::Instance), *i),
         Op::NewArray(primitive) => Ok(unless(
             !is_floating_primitive(*primitive),
             LinkWhy::Unsupported,
         )),
-        Op::ANewArray(i) => Ok(class_fault_at(namer, Purpose::Element, *i)),
-        Op::MultiANewArray(i, count) => Ok(class_fault_at(namer, Purpose::Array(*count), *i)),
-        Op::CheckCast(i) => Ok(class_fault_at(namer, Purpose::Type, *i)),
-        Op::InstanceOf(i) => Ok(class_fault_at(namer, Purpose::Type, *i)),
+        Op::ANewArray(i) => known_fault(alloc, namer, fine, Use::Class(Purpose::Element), *i),
+        Op::MultiANewArray(i, count) => {
+            known_fault(alloc, namer, fine, Use::Class(Purpose::Array(*count)), *i)
+        }
+        Op::CheckCast(i) => known_fault(alloc, namer, fine, Use::Class(Purpose::Type), *i),
+        Op::InstanceOf(i) => known_fault(alloc, namer, fine, Use::Class(Purpose::Type), *i),
         Op::Jsr(_) => Ok(Some(LinkWhy::Unsupported)),
         Op::Ret(_) => Ok(Some(LinkWhy::Unsupported)),
         Op::Floating(_) => Ok(Some(LinkWhy::Unsupported)),

@@ -4,6 +4,7 @@
 mod class_name;
 mod class_rules;
 mod code;
+mod constant_uses;
 mod instructions;
 mod program;
 mod rules;

@@ -4,13 +4,15 @@ ghost use Rattle.std.specs.Prelude.{◌≡◌, IfOk, Some, slice_get};
 ghost use Rattle.std.specs.List.{enumerate_from};
 ghost use Rattle.items.specs.First.{first_in};
 ghost use Rattle.linkage.specs.Faults as spec;
+ghost use Rattle.link_checks.specs.ConstantUses.{AreFine};
 ghost use Rattle.link_checks.specs.Firsts as firsts;
 ghost use Rattle.link_checks.specs.Firsts.{class_why, code_why, field_why, interface_why, method_why};
 
 use crate::class_rules::{field_fault, interface_fault, method_fault, name_fault, parent_fault};
 use crate::code::method_code_fault;
+use crate::constant_uses::{Use, no_uses};
 use crate::instructions::Namer;
-use class_model::ClassFile;
+use class_model::{ClassFile, Member};
 use class_resolution::{Hierarchy, name_at, own_name};
 use items::{Items, NoMemory};
 use linkage::{LinkFault, LinkWhy};
@@ -64,7 +66,27 @@ fn methods_fault(world: &Hierarchy, class: u32, file: &ClassFile) -> Option<Link
     None
 }
 
+// What is wrong with the code of methods in a class with this pool.
 fn codes_fault(
+    alloc: Global,
+    namer: Namer,
+    fine: &mut [Option<Use>],
+    methods: &[Member],
+) -> Result<Option<LinkWhy>, NoMemory>
+    requires { AreFine namer.world.now namer.class namer.pool.now fine.old }
+    ensures { IfOk result (λ fault. fault ≡ first_in (code_why namer.entry.world.now
+        namer.entry.class namer.entry.pool.now) methods.now) }
+{
+    for method in methods {
+        if let Some(why) = method_code_fault(alloc, namer, fine, method)? {
+            return Ok(Some(why));
+        }
+    }
+    Ok(None)
+}
+
+// What is wrong with the code of a class's methods.
+fn class_codes_fault(
     alloc: Global,
     world: &Hierarchy,
     class: u32,
@@ -73,17 +95,13 @@ fn codes_fault(
     ensures { IfOk result (λ fault. fault ≡
         first_in (code_why world.now class file.now.pool) file.now.methods) }
 {
-    for method in file.methods.iter() {
-        let namer = Namer {
-            world,
-            class,
-            pool: &file.pool,
-        };
-        if let Some(why) = method_code_fault(alloc, namer, method)? {
-            return Ok(Some(why));
-        }
-    }
-    Ok(None)
+    let namer = Namer {
+        world,
+        class,
+        pool: &file.pool,
+    };
+    let mut fine = no_uses(alloc, file.pool.len())?;
+    codes_fault(alloc, namer, &mut fine, &file.methods)
 }
 
 // What is wrong with a class.
@@ -101,7 +119,7 @@ fn class_fault(
     let interfaces = interfaces_fault(world, class, file);
     let fields = fields_fault(world, class, file);
     let methods = methods_fault(world, class, file);
-    let codes = codes_fault(alloc, world, class, file)?;
+    let codes = class_codes_fault(alloc, world, class, file)?;
     Ok(
         name.or(parent)
             .or(interfaces)

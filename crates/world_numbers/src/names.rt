@@ -1,6 +1,6 @@
 //! Texts, and the number of each.
 
-ghost use Rattle.std.specs.Prelude.{◌≡◌, [], ◌∷◌, ◌++◌, length, slice_get, OnOk, OnErr};
+ghost use Rattle.std.specs.Prelude.{◌≡◌, [], ◌∷◌, ◌++◌, None, length, slice_get, OnOk, OnErr};
 ghost use Rattle.std.specs.Option.{option_copied};
 ghost use Rattle.world_model.specs.Numbering as spec;
 
@@ -60,21 +60,19 @@ impl Names {
         self.texts.get(number as usize)
     }
 
-    /// Adds a text, unless it is there. Where memory runs out, as it counts past 2^32 texts, nothing changes.
-    pub fn add(&mut self, alloc: Global, text: &[u16]) -> Result<(), NoMemory>
-        ensures ok { OnOk result (self.new ≡ spec.with_name self.old text.now) }
+    // Adds a text that isn't there. Where memory runs out, as it counts past 2^32 texts, nothing changes.
+    fn add_new(&mut self, alloc: Global, text: &[u16]) -> Result<(), NoMemory>
+        requires { spec.number_of self.old text.now ≡ None }
+        ensures ok { OnOk result (self.new ≡ self.old ++ text.now ∷ []) }
         ensures err { OnErr result (self.new ≡ self.old) }
     {
-        if self.numbers.number(text).is_some() {
-            return Ok(());
-        }
         if self.texts.len() >= u32::MAX as usize {
             return Err(NoMemory);
         }
         let number = self.texts.len() as u32;
         let copy = Vec::from_slice(alloc, text)?;
         self.texts.push(Items::from(copy))?;
-        match self.numbers.add(alloc, text, number) {
+        match self.numbers.add_new(alloc, text, number) {
             Ok(()) => Ok(()),
             Err(error) => {
                 self.texts.pop();
@@ -83,13 +81,24 @@ impl Names {
         }
     }
 
+    /// Adds a text, unless it is there. Where memory runs out, as it counts past 2^32 texts, nothing changes.
+    pub fn add(&mut self, alloc: Global, text: &[u16]) -> Result<(), NoMemory>
+        ensures ok { OnOk result (self.new ≡ spec.with_name self.old text.now) }
+        ensures err { OnErr result (self.new ≡ self.old) }
+    {
+        if self.number(text).is_some() {
+            return Ok(());
+        }
+        self.add_new(alloc, text)
+    }
+
     /// Puts a text after all others, also where it is among them. Where memory runs out, as it counts past 2^32 texts, nothing changes.
     pub fn push(&mut self, alloc: Global, text: &[u16]) -> Result<(), NoMemory>
         ensures ok { OnOk result (self.new ≡ self.old ++ text.now ∷ []) }
         ensures err { OnErr result (self.new ≡ self.old) }
     {
         if self.number(text).is_none() {
-            return self.add(alloc, text);
+            return self.add_new(alloc, text);
         }
         if self.texts.len() >= u32::MAX as usize {
             return Err(NoMemory);

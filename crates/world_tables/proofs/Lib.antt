@@ -3,3 +3,4 @@ pub mod PcLaws
 pub mod InstanceLaws
 pub mod PlaceLaws
 pub mod OwnFieldLaws
+pub mod KnownNamingLaws

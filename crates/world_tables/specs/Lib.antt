@@ -4,3 +4,4 @@ pub mod Tables
 pub mod PcTables
 pub mod Places
 pub mod Parts
+pub mod KnownNamings

@@ -4,6 +4,7 @@
 
 mod code_tables;
 mod instance_fields;
+mod known_namings;
 mod main_method;
 mod member_tables;
 mod namings;
@@ -13,6 +14,4 @@ mod places;
 mod sites;
 mod tables;
 
-pub use namings::{all_catches, all_namings};
-pub use sites::{Linker, catch_of, naming_of};
 pub use tables::Tables;

@@ -3,9 +3,11 @@
 ghost use Rattle.std.specs.Prelude.{◌≡◌, ◌++◌, map, OnOk, IfOk};
 ghost use Rattle.world_model.specs.Infos.{codes_in, codes_of};
 ghost use Rattle.world_model.specs.Sites as spec;
+ghost use Rattle.world_tables.specs.KnownNamings.{AreKnown};
 ghost use Rattle.world_tables.specs.Namings.{namings_in};
 ghost use Rattle.world_tables.specs.Linkings.{linking_in};
 
+use crate::known_namings::{KnownNaming, no_namings};
 use crate::sites::{Linker, catch_of, naming_of};
 use class_model::{ClassFile, Const, Member, Row};
 use items::{Items, NoMemory};
@@ -19,14 +21,17 @@ fn instr_namings(
     l: Linker,
     class: u32,
     pool: &[Const],
+    known: &mut [Option<KnownNaming>],
     instrs: &[Instr],
 ) -> Result<Items<Naming>, NoMemory>
-    ensures { IfOk result (λ v. v ≡
+    requires { AreKnown (linking_in l) class pool.now known.old }
+    ensures namings { IfOk result (λ v. v ≡
         map (spec.instr_naming (linking_in l.entry) class pool.now) instrs.now) }
+    ensures known { AreKnown (linking_in l.entry) class pool.now known.new }
 {
     let mut namings = Vec::with_capacity(alloc, instrs.len())?;
     for instr in instrs {
-        namings.push(naming_of(alloc, l, class, pool, &instr.op)?)?;
+        namings.push(naming_of(alloc, l, class, pool, known, &instr.op)?)?;
     }
     Ok(Items::from(namings))
 }
@@ -36,14 +41,16 @@ fn code_namings(
     l: Linker,
     class: u32,
     pool: &[Const],
+    known: &mut [Option<KnownNaming>],
     codes: &[Option<MethodCode>],
     namings: &mut Vec<Items<Naming>>,
 ) -> Result<(), NoMemory>
+    requires { AreKnown (linking_in l) class pool.now known.old }
     ensures { OnOk result (namings.new.items ≡ namings.old.items
         ++ map (namings_in (linking_in l.entry) class pool.now) codes.now) }
 {
     for code in codes {
-        namings.push(instr_namings(alloc, l, class, pool, instrs_in(code))?)?;
+        namings.push(instr_namings(alloc, l, class, pool, known, instrs_in(code))?)?;
     }
     Ok(())
 }
@@ -61,7 +68,8 @@ fn add_namings(
     ensures { OnOk result (namings.new.items ≡
         namings.old.items ++ spec.namings_in (linking_in l.entry) (class, file.now)) }
 {
-    code_namings(alloc, l, class, &file.pool, codes, namings)?;
+    let mut known = no_namings(alloc, file.pool.len())?;
+    code_namings(alloc, l, class, &file.pool, &mut known, codes, namings)?;
     Ok(())
 }
 

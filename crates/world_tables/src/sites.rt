@@ -4,8 +4,10 @@ ghost use Rattle.std.specs.Prelude.{◌≡◌, Some, map, IfOk};
 ghost use Rattle.std.specs.Option.{option_map};
 ghost use Rattle.world_model.specs.Sites as spec;
 ghost use Rattle.class_resolution.specs.Keys.{key_of};
+ghost use Rattle.world_tables.specs.KnownNamings.{AreKnown};
 ghost use Rattle.world_tables.specs.Linkings.{linking_in};
 
+use crate::known_namings::{KnownNaming, Use, known_naming};
 use class_grammar::text_at;
 use class_model::{Const, Row};
 use class_resolution::{MemberKey, home_of, key_at, name_at, select_special};
@@ -136,7 +138,8 @@ fn field_naming(
     }
 }
 
-fn field_at(alloc: Global, l: Linker, pool: &[Const], index: u16) -> Result<Naming, NoMemory>
+/// The field that the constant at an index names.
+pub fn field_at(alloc: Global, l: Linker, pool: &[Const], index: u16) -> Result<Naming, NoMemory>
     ensures { IfOk result (λ n. n ≡ spec.naming_at pool.now index
         (spec.field_naming (linking_in l.entry) pool.now)) }
 {
@@ -257,7 +260,8 @@ fn method_naming(
     }
 }
 
-fn method_at(
+/// The method that the constant at an index names, or from which invokespecial selects.
+pub fn method_at(
     alloc: Global,
     l: Linker,
     class: u32,
@@ -286,44 +290,54 @@ fn class_naming(number: Option<u32>) -> Naming
     }
 }
 
-// The class at an index (JVMS 5.4.3.1).
-fn named_class(alloc: Global, l: Linker, pool: &[Const], index: u16) -> Result<Naming, NoMemory>
+/// The class at an index (JVMS 5.4.3.1).
+pub fn named_class(alloc: Global, l: Linker, pool: &[Const], index: u16) -> Result<Naming, NoMemory>
     ensures { IfOk result (λ n. n ≡ spec.named_class (linking_in l.entry) pool.now index) }
 {
     let number = l.numbers.class_number(alloc, name_at(pool, index))?;
     Ok(class_naming(number))
 }
 
-// The array of the class at an index.
-fn array_of_named(alloc: Global, l: Linker, pool: &[Const], index: u16) -> Result<Naming, NoMemory>
+/// The array of the class at an index.
+pub fn array_of_named(
+    alloc: Global,
+    l: Linker,
+    pool: &[Const],
+    index: u16,
+) -> Result<Naming, NoMemory>
     ensures { IfOk result (λ n. n ≡ spec.array_of_named (linking_in l.entry) pool.now index) }
 {
     let kind = array_of_kind(kind_named(alloc, name_at(pool, index))?);
     Ok(class_naming(l.numbers.array_number(&kind)))
 }
 
-/// What the constant of an instruction means in the code of a class with this pool.
+/// What the constant of an instruction means in the code of a class with this pool. What it means is noted.
 pub fn naming_of(
     alloc: Global,
     l: Linker,
     class: u32,
     pool: &[Const],
+    known: &mut [Option<KnownNaming>],
     op: &Op,
 ) -> Result<Naming, NoMemory>
-    ensures { IfOk result (λ n. n ≡
+    requires { AreKnown (linking_in l) class pool.now known.old }
+    ensures naming { IfOk result (λ n. n ≡
         spec.naming_of (linking_in l.entry) class pool.now op.now) }
+    ensures known { AreKnown (linking_in l.entry) class pool.now known.new }
 {
     match op {
         Op::PushConstant(i) | Op::PushWideConstant(i) => push_at(l, pool, *i),
-        Op::GetStatic(i) | Op::PutStatic(i) => field_at(alloc, l, pool, *i),
-        Op::GetField(i) | Op::PutField(i) => field_at(alloc, l, pool, *i),
-        Op::InvokeVirtual(i) => method_at(alloc, l, class, pool, false, *i),
-        Op::InvokeSpecial(i) => method_at(alloc, l, class, pool, true, *i),
-        Op::InvokeStatic(i) => method_at(alloc, l, class, pool, false, *i),
-        Op::InvokeInterface(i, _) => method_at(alloc, l, class, pool, false, *i),
-        Op::New(i) | Op::CheckCast(i) | Op::InstanceOf(i) => named_class(alloc, l, pool, *i),
-        Op::MultiANewArray(i, _) => named_class(alloc, l, pool, *i),
-        Op::ANewArray(i) => array_of_named(alloc, l, pool, *i),
+        Op::GetStatic(i) | Op::PutStatic(i) | Op::GetField(i) | Op::PutField(i) => {
+            known_naming(alloc, l, class, pool, known, Use::Field, *i)
+        }
+        Op::InvokeVirtual(i) | Op::InvokeStatic(i) | Op::InvokeInterface(i, _) => {
+            known_naming(alloc, l, class, pool, known, Use::Method, *i)
+        }
+        Op::InvokeSpecial(i) => known_naming(alloc, l, class, pool, known, Use::Special, *i),
+        Op::New(i) | Op::CheckCast(i) | Op::InstanceOf(i) | Op::MultiANewArray(i, _) => {
+            known_naming(alloc, l, class, pool, known, Use::Class, *i)
+        }
+        Op::ANewArray(i) => known_naming(alloc, l, class, pool, known, Use::Elements, *i),
         Op::NewArray(primitive) => {
             Ok(class_naming(l.numbers.array_number(&array_of_primitive(*primitive))))
         }

@@ -1,7 +1,9 @@
-use Rattle.std.proofs.Common.{◌≡◌, drop}
-use Rattle.std.specs.List.{fold}
-use Rattle.class_resolution.specs.TextNumbers.{mixed}
+use Rattle.std.proofs.Common.{◌≡◌, length}
+use Rattle.class_resolution.specs.TextNumbers.{hash_from, hash_of}
 use Rattle.class_resolution.proofs.text_numbers.hash_of.Given as goal
 
-abbrev pub invariant-loop-unit : goal.invariant-loop-unit
-invariant-loop-unit l = fold mixed 0 l.text ≡ fold mixed l.hash (drop l.unit-index l.text)
+abbrev pub invariant-loop-left : goal.invariant-loop-left
+invariant-loop-left l = hash_of l.text ≡ hash_from l.hash l.left
+
+abbrev pub decreases-loop-left : goal.decreases-loop-left
+decreases-loop-left l = length l.left

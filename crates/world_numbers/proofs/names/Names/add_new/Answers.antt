@@ -2,7 +2,7 @@ use Rattle.std.proofs.Common.{◌≡◌, ◌+◌, ℕ, List, [], ◌∷◌, ◌+
 use Rattle.class_resolution.specs.TextNumbers.{AddsText}
 use Rattle.world_model.specs.Numbering.{number_of}
 use Rattle.world_numbers.proofs.NameLaws.{one_more}
-use Rattle.world_numbers.proofs.names.Names.add.Goals as goal
+use Rattle.world_numbers.proofs.names.Names.add_new.Goals as goal
 
 pub invariant_of-self-in-Ok : goal.invariant_of-self-in-Ok
 invariant_of-self-in-Ok c =
@@ -12,5 +12,5 @@ invariant_of-self-in-Ok c =
     let number : c.len-number.result ≡ length texts = search rules in
     record {
       few = (let size : length c.push.new.self.items ≡ length texts + 1 = ap length new ∙ length-append texts (name ∷ []) in omega (arith, number));
-      numbers = λ text. one_more c.self.inside.numbers c.add.new.self texts name c.self.invariant.numbers (subst (λ (n : ℕ). AddsText c.self.inside.numbers name n c.add.new.self) number c.in-Ok.ensures.ok) text ∙ ap (λ (ns : List (List ℕ)). number_of ns text) (sym new);
+      numbers = λ text. one_more c.self.inside.numbers c.add_new.new.self texts name c.self.invariant.numbers (subst (λ (n : ℕ). AddsText c.self.inside.numbers name n c.add_new.new.self) number c.in-Ok.ensures.ok) text ∙ ap (λ (ns : List (List ℕ)). number_of ns text) (sym new);
     }
