@@ -1,5 +1,5 @@
 -- What the text of an entry of the pool may be used as.
-use Rattle.std.specs.Prelude.{ℕ, Bool, false, List, [], ◌∷◌, Option, is_some, ◌==◌, ◌&&◌, ◌||◌, if◌then◌else◌}
+use Rattle.std.specs.Prelude.{ℕ, Bool, true, false, List, [], ◌∷◌, Option, is_some, ◌==◌, ◌&&◌, if◌then◌else◌}
 use Rattle.std.specs.Option.{option_map_or}
 use Rattle.class_model.specs.declared.constant.Const.{Const}
 use Rattle.descriptors.specs.Descriptors.{bracket, class_letter, is_base}
@@ -8,6 +8,7 @@ use Rattle.class_grammar.specs.Names.{is_field_name, is_method_name, is_class_te
 use Rattle.class_grammar.specs.Pool.{text_of, text_at, is_text}
 use Rattle.class_grammar.specs.declared.class_why.ClassWhy.{ClassWhy}
 use Rattle.class_grammar.specs.declared.class_why.ClassWhy.TheVariants.{Index}
+use Rattle.class_checks.specs.Seen.{ends_with_semicolon}
 use Rattle.class_checks.specs.declared.text_roles.TextRoles.{TextRoles}
 
 -- the roles of a text; an entry that is no text has none
@@ -32,7 +33,15 @@ reason_at why pool index = if is_some (text_at pool index) then why else Index
 abbrev pub is_class_descriptor : List ℕ → Bool
 is_class_descriptor units = is_field units && begins_with (76 ∷ []) units
 
--- whether the text begins as the descriptor of a field
-abbrev pub begins_as_field : List ℕ → Bool
-begins_as_field [] = false
-begins_as_field (u ∷ us) = is_base u || u == class_letter || u == bracket
+abbrev pub is_empty : List ℕ → Bool
+is_empty [] = true
+is_empty (u ∷ us) = false
+
+-- Whether the text can be the descriptor of a field, by its first unit and its last one.
+abbrev pub may_be_field : List ℕ → Bool
+may_be_field [] = false
+may_be_field (u ∷ us) =
+    if u == bracket then true
+    else if u == class_letter then ends_with_semicolon us
+    else if is_base u then is_empty us
+    else false

@@ -9,6 +9,7 @@ mod file;
 mod members;
 mod names;
 mod pool;
+mod seen;
 mod sizes;
 mod text_roles;
 mod values;

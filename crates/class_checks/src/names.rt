@@ -1,10 +1,12 @@
 //! Names of fields, methods and classes, in the units of UTF-16 (JVMS 4.2).
 
-ghost use Rattle.std.specs.Prelude.{◌≡◌, ◌≤◌, ◌+◌, ◌∷◌, [], ◌||◌, codes, false, length};
+ghost use Rattle.std.specs.Prelude.{◌≡◌, ◌<◌, ◌≤◌, ◌+◌, ◌∷◌, [], ◌||◌, codes, false, length};
 ghost use Rattle.class_grammar.specs.Text.{same_text, is_one_of};
 ghost use Rattle.class_grammar.specs.Names as grammar;
 ghost use Rattle.class_checks.specs.Names as spec;
+ghost use Rattle.class_checks.specs.Seen as seen_spec;
 
+use crate::seen::{LANES, Seen, seen_behind_first};
 use class_grammar::is_same_counted;
 use std::sync::ledger::Ledger;
 use steps::Steps;
@@ -35,6 +37,16 @@ pub fn begins_with(unit: u8, units: &[u16]) -> bool
     }
 }
 
+/// Whether a text ends with a semicolon, as the descriptor of a class does.
+pub fn ends_with_semicolon(units: &[u16]) -> bool
+    ensures { result ≡ seen_spec.ends_with_semicolon units.now }
+{
+    match units {
+        [.., last] => *last == u16::from(b';'),
+        [] => false,
+    }
+}
+
 /// What the text may be the name of (JVMS 4.2.1, 4.2.2).
 pub fn names_of<L: Ledger>(units: &[u16], steps: &mut Steps<L>) -> Names
     ensures names { result ≡ spec.names_of units.now }
@@ -44,7 +56,7 @@ pub fn names_of<L: Ledger>(units: &[u16], steps: &mut Steps<L>) -> Names
         return NOTHING;
     }
     let is_initializer = is_initializer(units, steps);
-    let names = names_by_unit(units, steps);
+    let names = names_by_units(units, steps);
     Names {
         of_method: is_initializer || names.of_method,
         ..names
@@ -63,6 +75,47 @@ fn is_initializer<L: Ledger>(units: &[u16], steps: &mut Steps<L>) -> bool
 }
 
 // What the text may be by its units alone.
+#[tactic(auto, using(crate::proofs::SeenNames::no_name_ends))]
+fn names_by_units<L: Ledger>(units: &[u16], steps: &mut Steps<L>) -> Names
+    ensures names { result ≡ spec.names_by false false false units.now }
+    ensures cost { steps.new ≤ steps.old + length units.now }
+{
+    if ends_with_semicolon(units) {
+        return NOTHING;
+    }
+    if units.len() <= LANES {
+        return names_by_unit(units, steps);
+    }
+    names_by_lanes(units, steps)
+}
+
+// The same where there are more units than are looked at together.
+#[inline(never)]
+fn names_by_lanes<L: Ledger>(units: &[u16], steps: &mut Steps<L>) -> Names
+    requires { LANES < length units.now }
+    ensures names { result ≡ spec.names_by false false false units.now }
+    ensures cost { steps.new ≤ steps.old + length units.now }
+{
+    let seen = seen_behind_first(units, steps);
+    names_by_seen(units[0], units[units.len() - 1], seen)
+}
+
+// The same by the first unit, the last one, and what was seen behind the first.
+fn names_by_seen(first: u16, last: u16, seen: Seen) -> Names
+    ensures { result ≡ seen_spec.names_by_seen first last seen }
+{
+    if is_never_in_a_name(first) || seen.never {
+        return NOTHING;
+    }
+    let is_slashed = is_slash(first) || seen.slash;
+    Names {
+        of_field: !is_slashed,
+        of_method: !is_slashed && !(is_angle(first) || seen.angle),
+        of_class: !(is_slash(first) || seen.double || is_slash(last)),
+    }
+}
+
+// The same unit by unit.
 #[inline(never)]
 fn names_by_unit<L: Ledger>(units: &[u16], steps: &mut Steps<L>) -> Names
     ensures names { result ≡ spec.names_by false false false units.now }
@@ -109,6 +162,12 @@ fn is_never_in_a_name(unit: u16) -> bool
     ensures { result ≡ is_one_of (codes ".;[") unit }
 {
     unit == u16::from(b'.') || unit == u16::from(b';') || unit == u16::from(b'[')
+}
+
+fn is_slash(unit: u16) -> bool
+    ensures { result ≡ seen_spec.is_slash unit }
+{
+    unit == u16::from(b'/')
 }
 
 fn is_angle(unit: u16) -> bool

@@ -11,7 +11,7 @@ ghost use Rattle.class_checks.specs.Costs as costs;
 ghost use Rattle.class_checks.specs.Names as names_spec;
 ghost use Rattle.class_checks.specs.TextRoles as spec;
 
-use crate::names::{NOTHING, Names, begins_with, names_of};
+use crate::names::{NOTHING, Names, begins_with, ends_with_semicolon, names_of};
 use class_grammar::is_same_counted;
 use class_model::Const;
 use descriptors::{is_field_counted, is_method_counted};
@@ -143,28 +143,30 @@ fn is_method_text<L: Ledger>(units: &[u16], steps: &mut Steps<L>) -> bool
     is_method_counted(units, steps)
 }
 
-// Whether the text is the descriptor of a field. It is gone over where it begins as one.
+// Whether the text is the descriptor of a field. It is gone over where its first unit and its last one are those of one.
 #[tactic(auto, using(crate::proofs::NameLaws::no_field, crate::proofs::NameLaws::no_parenthesis_first))]
 fn is_field_text<L: Ledger>(units: &[u16], steps: &mut Steps<L>) -> bool
     ensures test { result ≡ descriptors_spec.is_field units.now }
     ensures cost { steps.new ≤ steps.old + length units.now }
     ensures none { grammar.begins_with (40 ∷ []) units.now ≡ true → steps.new ≡ steps.old }
 {
-    if !begins_as_field(units) {
+    if !may_be_field(units) {
         return false;
     }
     is_field_counted(units, steps)
 }
 
-// Whether the text begins as the descriptor of a field.
-fn begins_as_field(units: &[u16]) -> bool
-    ensures { result ≡ spec.begins_as_field units.now }
+// Whether the text can be the descriptor of a field, by its first unit and its last one.
+fn may_be_field(units: &[u16]) -> bool
+    ensures { result ≡ spec.may_be_field units.now }
 {
     match units {
-        [first, ..] => matches!(
-            *first,
-            BYTE | CHAR | DOUBLE | FLOAT | INT | LONG | SHORT | BOOL | CLASS | ARRAY
-        ),
+        [first, rest @ ..] => match *first {
+            ARRAY => true,
+            CLASS => ends_with_semicolon(rest),
+            BYTE | CHAR | DOUBLE | FLOAT | INT | LONG | SHORT | BOOL => rest.is_empty(),
+            _ => false,
+        },
         [] => false,
     }
 }

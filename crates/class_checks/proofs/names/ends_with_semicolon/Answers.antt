@@ -1,0 +1,6 @@
+use Rattle.std.proofs.Common.{arith}
+use Rattle.class_checks.proofs.SeenNames.{ends_by}
+use Rattle.class_checks.proofs.names.ends_with_semicolon.Goals as goal
+
+pub returns-in-len1-up : goal.returns-in-len1-up
+returns-in-len1-up c = rw c.from.ensures (ends_by c.args.units.now (omega arith))
