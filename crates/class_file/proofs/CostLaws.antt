@@ -1,9 +1,10 @@
 -- How many bytes a number or a run of bytes takes, and how many units a text has at most.
-use Rattle.std.proofs.Common.{◌≡◌, ℕ, ◌+◌, ◌≤◌, ltb, List, [], ◌∷◌, length, Result, Ok, Err, ap, subst, arith}
+use Rattle.std.proofs.Common.{◌≡◌, ℕ, ◌+◌, ◌≤◌, ltb, List, [], ◌∷◌, length, take, Result, Ok, Err, ap, subst, arith}
 use Rattle.std.specs.Prelude.{IfOk}
+use Rattle.std.specs.Io.{StartsWith}
 use Rattle.std.specs.Borrow.{Bor}
 use Rattle.std.proofs.lemmas.Bool.{ltb-false}
-use Rattle.std.proofs.lemmas.List.{length-drop, length-take, length-append}
+use Rattle.std.proofs.lemmas.List.{length-drop, length-take, length-take-le, length-append}
 use Rattle.std.proofs.lemmas.List.Concat.{flat_map-cons}
 use Rattle.byte_reader.specs.declared.fault.Stop.{Stop}
 use Rattle.byte_reader.specs.Reader.{Reads, ReadsBytes, number_at, bytes_at, fault_at}
@@ -31,6 +32,18 @@ pub run_sized : {W : Type 0} (short : W) (count : ℕ) (bytes : List ℕ) (r : R
     → IfOk r (λ x. length x.0.now + length x.1.now ≡ length bytes)
 run_sized short count bytes (Ok x) h = run_size short count bytes (x.0.now, x.1.now) h
 run_sized short count bytes (Err stop) h = tt
+
+run_front : {W : Type 0} (short : W) (count : ℕ) (bytes : List ℕ) (p : List ℕ × List ℕ) → bytes_at short count bytes ≡ Ok p → StartsWith bytes p.0
+run_front short count bytes p e =
+    let g = not_failed (ltb (length bytes) count) _ p (fault_at bytes short) e in
+    let long : count ≤ length bytes = ltb-false _ _ g.0 in
+    subst (λ (q : List ℕ × List ℕ). StartsWith bytes q.0) g.1 (ap (λ (n : ℕ). take n bytes) (length-take-le count bytes long))
+
+-- a run of bytes is in front
+pub run_in_front : {W : Type 0} (short : W) (count : ℕ) (bytes : List ℕ) (r : Result (Bor (List ℕ) × Bor (List ℕ)) (Stop W)) → ReadsBytes r (bytes_at short count bytes)
+    → IfOk r (λ x. StartsWith bytes x.0.now)
+run_in_front short count bytes (Ok x) h = run_front short count bytes (x.0.now, x.1.now) h
+run_in_front short count bytes (Err stop) h = tt
 
 -- each unit takes a byte or more
 pub no_more_units : (units : List ℕ) → length units ≤ length (text units)

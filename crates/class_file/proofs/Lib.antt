@@ -1,5 +1,6 @@
 pub mod Ranges
 pub mod NumberLaws
+pub mod PlainLaws
 pub mod PoolLaws
 pub mod AttributeLaws
 pub mod FileLaws

@@ -1,6 +1,7 @@
 //! The constant pool (JVMS 4.4).
 
 ghost use Rattle.std.specs.Prelude.{◌≡◌, ◌<◌, ◌≤◌, ◌+◌, ◌*◌, ◌^◌, length, IfOk, OnOk};
+ghost use Rattle.std.specs.Io.{StartsWith};
 ghost use Rattle.jvm_utf8.specs.Units as utf8;
 ghost use Rattle.byte_reader.specs.Reader.{GivesBy, Reads};
 ghost use Rattle.class_file.specs.Constants as spec;
@@ -8,6 +9,7 @@ ghost use Rattle.class_file.specs.Costs.{later, later_of_pool};
 ghost use Rattle.class_file.specs.Texts.{Appends, ComesWith, ReadsEntry, appended, constant_of};
 
 use crate::numbers::{bytes_of, pair_of, u1_of, u2_of, u4_of, u8_of};
+use crate::plain::{LANES, append_front, are_plain};
 use crate::texts::{Entry, place_texts, push_entry};
 use byte_reader::{Fault, Stop};
 use class_grammar::{ClassFault, ClassWhy};
@@ -22,8 +24,8 @@ use std::alloc::Global;
 use std::sync::ledger::Ledger;
 use steps::Steps;
 
-// Appends the units of a text, where so many bytes are left before it.
-fn units_of<L: Ledger>(
+// Appends the units of any text, where so many bytes are left before it.
+fn units_by_form<L: Ledger>(
     alloc: Global,
     units: &mut Vec<u16>,
     text: &[u8],
@@ -47,6 +49,31 @@ fn units_of<L: Ledger>(
     }
 }
 
+// Appends the units of a text in front of these bytes. Where each byte is a unit by itself, as in most texts, and enough bytes
+// follow, several are looked at together.
+fn units_of<L: Ledger>(
+    alloc: Global,
+    units: &mut Vec<u16>,
+    text: &[u8],
+    front: &[u8],
+    steps: &mut Steps<L>,
+) -> Result<(), Stop<ClassWhy>>
+    requires small { length text.now < 2 ^ 32 }
+    requires front { StartsWith front.now text.now }
+    ensures read { GivesBy (λ _. appended units.old.items units.new.items) result
+        (spec.units_of (length front.now) (utf8.units_of text.now)) }
+    ensures kept { OnOk result (Appends units.old.items units.new.items) }
+    ensures few { OnOk result (length (appended units.old.items units.new.items) ≤ length text.now) }
+    ensures cost { steps.new ≡ steps.old + length text.now }
+{
+    if text.len() + LANES <= front.len() && are_plain(front, text.len()) {
+        steps.spend(text.len());
+        append_front(units, front, text.len())?;
+        return Ok(());
+    }
+    units_by_form(alloc, units, text, front.len(), steps)
+}
+
 // Appends the units of a text after its length (JVMS 4.4.7), and gives the bytes after it.
 #[tactic(auto, unfolding(crate::specs::Constants::text_at))]
 fn text_of<'a, L: Ledger>(
@@ -67,7 +94,7 @@ fn text_of<'a, L: Ledger>(
 {
     let (count, front) = u2_of(bytes)?;
     let (text, rest) = bytes_of(usize::from(count), front)?;
-    units_of(alloc, units, text, front.len(), steps)?;
+    units_of(alloc, units, text, front, steps)?;
     Ok(rest)
 }
 

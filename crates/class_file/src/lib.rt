@@ -11,6 +11,7 @@ mod layout;
 mod members;
 mod names;
 mod numbers;
+mod plain;
 mod reader;
 mod texts;
 

@@ -1,6 +1,7 @@
 //! Numbers and runs of bytes (JVMS 4), with how many bytes they take.
 
 ghost use Rattle.std.specs.Prelude.{◌≡◌, ◌≤◌, ◌+◌, length, IfOk};
+ghost use Rattle.std.specs.Io.{StartsWith};
 ghost use Rattle.byte_reader.specs.Reader.{Reads, ReadsBytes};
 ghost use Rattle.class_file.specs.Numbers.{u1_at, u2_at, u4_at, u8_at, pair_at, run_at, sized_bytes_at};
 
@@ -53,6 +54,7 @@ pub fn pair_of(bytes: &[u8]) -> Result<((u16, u16), &[u8]), Stop<ClassWhy>>
 pub fn bytes_of(count: usize, bytes: &[u8]) -> Result<(&[u8], &[u8]), Stop<ClassWhy>>
     ensures read { ReadsBytes result (run_at count bytes.now) }
     ensures size { IfOk result (λ x. length x.0.now + length x.1.now ≡ length bytes.now) }
+    ensures front { IfOk result (λ x. StartsWith bytes.now x.0.now) }
 {
     byte_reader::bytes_of(count, bytes)
 }

@@ -4,7 +4,7 @@ use Rattle.jvm_utf8.proofs.TextLaws.{found}
 use Rattle.class_file.specs.Texts.{appended}
 use Rattle.class_file.proofs.CostLaws.{no_more_units}
 use Rattle.class_file.proofs.TextPlaces.{are_appended}
-use Rattle.class_file.proofs.constants.units_of.Goals as goal
+use Rattle.class_file.proofs.constants.units_by_form.Goals as goal
 
 pub returns-in-Ok-clause-read : goal.returns-in-Ok-clause-read
 returns-in-Ok-clause-read g c =
