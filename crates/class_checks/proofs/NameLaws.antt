@@ -1,5 +1,5 @@
 -- What the units of a text say of it as a name and as a descriptor.
-use Rattle.std.proofs.Common.{◌≡◌, ℕ, ◌+◌, ◌≤◌, Bool, true, false, cond, eqb, List, [], ◌∷◌, Some, None, ◌⊎◌, inl, inr, ◌*◌, refl, sym, subst, ◌∙◌, arith}
+use Rattle.std.proofs.Common.{◌≡◌, ℕ, zero, suc, ◌+◌, ◌-◌, ◌≤◌, Bool, true, false, cond, eqb, List, [], ◌∷◌, length, take, drop, ap, Some, None, ◌⊎◌, inl, inr, ◌*◌, refl, sym, subst, ◌∙◌, arith}
 use Rattle.std.specs.Prelude.{not, ◌&&◌, ◌||◌}
 use Rattle.std.specs.Option.{is_none}
 use Rattle.std.specs.List.{list_all}
@@ -20,6 +20,10 @@ use Rattle.class_checks.specs.Seen.{ends_with_semicolon, nothing}
 or_none : (b : Bool) → (b || false) ≡ true → b ≡ true
 or_none true h = refl
 or_none false h = absurd cc
+
+cases_bool : (b : Bool) → (b ≡ true) ⊎ (b ≡ false)
+cases_bool true = inl refl
+cases_bool false = inr refl
 
 no_parenthesis : (us : List ℕ) (b : Bool) → (b || false) ≡ false → is_none {T = ℕ} (elim (cond b (Some (Args 0 (Brackets 0))) None) [ None ↦ Some 0 | Some state ↦ first_bad state (0 + 1) us ]) ≡ false
 no_parenthesis us true h = absurd cc
@@ -78,6 +82,49 @@ no_field (u ∷ us) h = no_kind us (is_base u) (eqb u 76) (eqb u 91) _ h
 pub no_parenthesis_first : (units : List ℕ) → begins_with (40 ∷ []) units ≡ true → may_be_field units ≡ false
 no_parenthesis_first [] h = refl
 no_parenthesis_first (u ∷ us) h = subst (λ (n : ℕ). may_be_field (n ∷ us) ≡ false) (sym (eqb-true u 40 (or_none _ h))) refl
+
+-- ---- the descriptor of a class by its name
+
+last_unit : (e begun : Bool) (more : Bool) (slash : Bool) (at : ℕ) → e ≡ true
+    → begun ≡ is_none {T = ℕ} (elim (in_field (cond e (cond begun Ends Stops) (cond more (GoesOn (Name (not slash))) Stops))) [ None ↦ Some at | Some state ↦ first_bad state (at + 1) [] ])
+last_unit true true more slash at h = refl
+last_unit true false more slash at h = refl
+last_unit false begun more slash at h = absurd cc
+
+semicolon_within : (begun : Bool) (at v : ℕ) (vs part : List ℕ) → are_parts begun (59 ∷ part) ≡ is_none (first_bad (Field (Name begun)) at (59 ∷ (v ∷ vs)))
+semicolon_within true at v vs part = refl
+semicolon_within false at v vs part = refl
+
+unit_within : (e s n begun : Bool) (at : ℕ) (us part : List ℕ) → e ≡ false → are_parts (not s) part ≡ is_none (first_bad (Field (Name (not s))) (at + 1) us)
+    → cond s (begun && are_parts false part) (n && are_parts true part)
+    ≡ is_none {T = ℕ} (elim (in_field (cond e (cond begun Ends Stops) (cond (cond s begun n) (GoesOn (Name (not s))) Stops))) [ None ↦ Some at | Some state ↦ first_bad state (at + 1) us ])
+unit_within true s n begun at us part h r = absurd cc
+unit_within false true n true at us part h r = r
+unit_within false true n false at us part h r = refl
+unit_within false false true begun at us part h r = r
+unit_within false false false begun at us part h r = refl
+
+class_part : (begun : Bool) (at : ℕ) (us : List ℕ) (k : ℕ) → suc k ≡ length us → ends_with_semicolon us ≡ true → are_parts begun (take k us) ≡ is_none (first_bad (Field (Name begun)) at us)
+class_part begun at [] k size h = absurd cc
+class_part begun at (u ∷ []) zero size h = last_unit (eqb u 59) begun (name_goes_on begun u) (eqb u 47) at h
+class_part begun at (u ∷ []) (suc k) size h = absurd (omega arith)
+class_part begun at (u ∷ (v ∷ vs)) zero size h = absurd (omega arith)
+class_part begun at (u ∷ (v ∷ vs)) (suc k) size h =
+    elim (cases_bool (eqb u 59)) [
+      | inl e ↦ subst (λ (n : ℕ). are_parts begun (n ∷ take k (v ∷ vs)) ≡ is_none (first_bad (Field (Name begun)) at (n ∷ (v ∷ vs)))) (sym (eqb-true u 59 e)) (semicolon_within begun at v vs (take k (v ∷ vs)))
+      | inr e ↦ unit_within (eqb u 59) (eqb u 47) (chars.is_name_unit u) begun at (v ∷ vs) (take k (v ∷ vs)) e (class_part (not (eqb u 47)) (at + 1) (v ∷ vs) k (omega arith) h)
+    ]
+
+class_behind : (us : List ℕ) (n : ℕ) → n ≡ length us + 1 → ends_with_semicolon us ≡ true → are_parts false (take (n - 1 - 1) us) ≡ is_field (76 ∷ us)
+class_behind [] n size h = absurd cc
+class_behind (v ∷ vs) n size h = class_part false 1 (v ∷ vs) (n - 1 - 1) (omega arith) h
+
+-- a text that begins and ends as the descriptor of a class is one where the units between are the name of a class
+pub class_text : (units : List ℕ) (of_class : Bool) → begins_with (76 ∷ []) units ≡ true → may_be_field units ≡ true → of_class ≡ are_parts false (take (length units - 1 - 1) (drop 1 units)) → of_class ≡ is_field units
+class_text [] of_class first may e = absurd cc
+class_text (u ∷ us) of_class first may e =
+    let is : u ≡ 76 = eqb-true u 76 (or_none _ first) in
+    e ∙ class_behind us (length (u ∷ us)) (omega arith) (subst (λ (n : ℕ). may_be_field (n ∷ us) ≡ true) is may) ∙ ap (λ (n : ℕ). is_field (n ∷ us)) (sym is)
 
 -- ---- the descriptor of a class is no name
 

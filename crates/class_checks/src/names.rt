@@ -74,9 +74,9 @@ fn is_initializer<L: Ledger>(units: &[u16], steps: &mut Steps<L>) -> bool
     is_same_counted(units, b"<clinit>", steps)
 }
 
-// What the text may be by its units alone.
+/// What the text may be by its units alone.
 #[tactic(auto, using(crate::proofs::SeenNames::no_name_ends))]
-fn names_by_units<L: Ledger>(units: &[u16], steps: &mut Steps<L>) -> Names
+pub fn names_by_units<L: Ledger>(units: &[u16], steps: &mut Steps<L>) -> Names
     ensures names { result ≡ spec.names_by false false false units.now }
     ensures cost { steps.new ≤ steps.old + length units.now }
 {

@@ -11,7 +11,7 @@ ghost use Rattle.class_checks.specs.Costs as costs;
 ghost use Rattle.class_checks.specs.Names as names_spec;
 ghost use Rattle.class_checks.specs.TextRoles as spec;
 
-use crate::names::{NOTHING, Names, begins_with, ends_with_semicolon, names_of};
+use crate::names::{NOTHING, Names, begins_with, ends_with_semicolon, names_by_units, names_of};
 use class_grammar::is_same_counted;
 use class_model::Const;
 use descriptors::{is_field_counted, is_method_counted};
@@ -153,7 +153,20 @@ fn is_field_text<L: Ledger>(units: &[u16], steps: &mut Steps<L>) -> bool
     if !may_be_field(units) {
         return false;
     }
+    if begins_with(b'L', units) {
+        return is_ended_class(units, steps);
+    }
     is_field_counted(units, steps)
+}
+
+// Whether a text that begins and ends as the descriptor of a class is one, by the name between.
+fn is_ended_class<L: Ledger>(units: &[u16], steps: &mut Steps<L>) -> bool
+    requires begins { grammar.begins_with (76 ∷ []) units.now ≡ true }
+    requires ends { spec.may_be_field units.now ≡ true }
+    ensures test { result ≡ descriptors_spec.is_field units.now }
+    ensures cost { steps.new ≤ steps.old + length units.now }
+{
+    names_by_units(&units[1..units.len() - 1], steps).of_class
 }
 
 // Whether the text can be the descriptor of a field, by its first unit and its last one.
