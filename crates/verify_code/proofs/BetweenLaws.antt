@@ -27,7 +27,7 @@ use Rattle.verify_code.specs.Satisfied.{AllTaken, AreJudged, AreTaken, IsJudgedF
 
 -- ---- local variables
 
-as_long : (w : World) (xs ys : List VType) → all_assignable w xs ys ≡ true → length xs ≡ length ys
+pub as_long : (w : World) (xs ys : List VType) → all_assignable w xs ys ≡ true → length xs ≡ length ys
 as_long w [] [] e = refl
 as_long w [] (y ∷ ys) e = absurd cc
 as_long w (x ∷ xs) [] e = absurd cc
@@ -49,13 +49,13 @@ at_one xs ys zs i m false e same other = other (eqb-false i m e)
 
 -- ---- states
 
-three : (a b c : Bool) → ((a && b) && c) ≡ true → (a ≡ true) × (b ≡ true) × (c ≡ true)
+pub three : (a b c : Bool) → ((a && b) && c) ≡ true → (a ≡ true) × (b ≡ true) × (c ≡ true)
 three true true true e = (refl, refl, refl)
 three true true false e = absurd cc
 three true false c e = absurd cc
 three false b c e = absurd cc
 
-all_three : (a b c : Bool) → a ≡ true → b ≡ true → c ≡ true → ((a && b) && c) ≡ true
+pub all_three : (a b c : Bool) → a ≡ true → b ≡ true → c ≡ true → ((a && b) && c) ≡ true
 all_three a b c e f g = and_from (a && b) c (and_from a b e f) g
 
 record IsBetween (t u s : TypeState) : Type 0 where

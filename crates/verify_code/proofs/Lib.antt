@@ -1,5 +1,6 @@
 pub mod GuardLaws
 pub mod MergedLaws
+pub mod AcceptedLaws
 pub mod BetweenLaws
 pub mod HandlerLaws
 pub mod InstructionLaws

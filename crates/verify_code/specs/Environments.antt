@@ -1,7 +1,11 @@
 -- What is kept beside the tables of a method.
-use Rattle.std.specs.Prelude.{◌≡◌, ℕ, ◌<◌, ◌^◌, true, List, [], ◌∷◌, map}
+use Rattle.std.specs.Prelude.{◌≡◌, ℕ, ◌<◌, ◌^◌, true, IfSome, List, Option, [], ◌∷◌, map}
+use Rattle.std.specs.List.{All}
 use Rattle.verify_types.specs.Environment.{MapFrame, Instruction, Environment}
 use Rattle.verify_code.specs.declared.guards.Guard.{Guard}
+use Rattle.verify_frames.specs.declared.wanted.Wanted.{Wanted}
+use Rattle.verify_frames.specs.Wanted.{IsAsked}
+use Rattle.verify_code.specs.Accepted.{row_in}
 use Rattle.verify_code.specs.Guards.{guard_in}
 use Rattle.verify_code.specs.Merged.{AskSame}
 
@@ -10,9 +14,11 @@ abbrev pub AreInOrder : ℕ → List Instruction → Type 0
 AreInOrder pc [] = Unit {0}
 AreInOrder pc (i ∷ is) = (i.instr.pc ≡ pc) × (pc < i.instr.next) × (i.instr.next < 2 ^ 16) × AreInOrder i.instr.next is
 
--- the stack map has these frames, the instructions are in order, and these rows are satisfied where those of the exception table are
-pub record HasFrames (env : Environment) (frames : List MapFrame) (guards : List Guard) : Type 0 where
+-- the stack map has these frames, the instructions are in order, these rows are satisfied where those of the exception table are, and
+-- their handlers take what this accepts
+pub record HasFrames (env : Environment) (frames : List MapFrame) (guards : List Guard) (wanted : Option Wanted) : Type 0 where
   pub mapped : env.is_mapped ≡ true
   pub are : frames ≡ env.map
   pub in_order : AreInOrder 0 env.instructions
   pub guarded : AskSame env (map guard_in guards) env.handlers
+  pub asked : IfSome wanted (λ (x : Wanted). All (IsAsked env.map x) (map row_in guards))

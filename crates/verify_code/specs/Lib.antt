@@ -3,6 +3,7 @@ pub mod Findings
 pub mod Guards
 pub mod Handlers
 pub mod Merged
+pub mod Accepted
 pub mod Satisfied
 pub mod Walks
 pub mod Methods

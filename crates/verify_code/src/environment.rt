@@ -8,7 +8,7 @@ use crate::guards::{Guard, guards_of};
 use items::NoMemory;
 use std::alloc::Global;
 use std::marker::Model;
-use verify_frames::{Frames, first_frame, frames_of, state_of};
+use verify_frames::{Frames, Wanted, first_frame, frames_of, state_of};
 use verify_instructions::{Method, State};
 use world_model::Lookups;
 
@@ -19,6 +19,8 @@ pub struct Environment<'a, L: Lookups> {
     pub method: Method<'a>,
     pub frames: Frames,
     pub guards: Vec<Guard>,
+    /// What the handlers want of local variables, if there are many.
+    pub wanted: Option<Wanted>,
 }
 
 impl<'a, L: Lookups> Model for Environment<'a, L> {
@@ -31,7 +33,7 @@ impl<'a, L: Lookups> Model for Environment<'a, L> {
     ghost view = { λ a. environment_in (L.world a.world.now) a.method };
 
     ghost invariant = { λ a.
-        HasFrames (environment_in (L.world a.world.now) a.method) a.frames a.guards.items };
+        HasFrames (environment_in (L.world a.world.now) a.method) a.frames a.guards.items a.wanted };
 }
 
 impl<'a, L: Lookups> Environment<'a, L> {
@@ -58,6 +60,7 @@ impl<'a, L: Lookups> Environment<'a, L> {
                 method,
                 frames,
                 guards,
+                wanted: None,
             })),
             None => Ok(None),
         }

@@ -256,6 +256,9 @@ impl<'a, L: Lookups> Environment<'a, L> {
         if holds_at(pc, s.judged) {
             return Ok(s);
         }
+        if let Some(judged) = self.judged_by_wanted(pc, &s) {
+            return Ok(s.with_judged(Some(judged)));
+        }
         let twice = self.judged_twice(&s, stores);
         if let Some(judged) = judged_on(pc, twice) {
             return Ok(s.with_judged(Some(judged)));

@@ -1,6 +1,7 @@
 //! Verifies the code of a linked program (JVMS 4.10.1).
 #![tactic(auto)]
 
+mod accepted;
 mod checked;
 mod comparisons;
 mod environment;

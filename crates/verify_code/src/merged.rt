@@ -2,6 +2,7 @@
 
 ghost use Rattle.std.specs.Prelude.{◌≡◌, ◌++◌, ◌∷◌, [], IfOk, IfSome, MatchBool, OnOk, map};
 ghost use Rattle.verify_types.specs.Environment.{Environment as Env};
+ghost use Rattle.verify_code.specs.Accepted.{row_in};
 ghost use Rattle.verify_code.specs.Guards.{AskAlike, guard_in};
 ghost use Rattle.verify_code.specs.Merged.{AreAlike, AskSame, AsksLocals, IsNamed};
 
@@ -9,7 +10,7 @@ use crate::environment::Environment;
 use crate::guards::{Caught, Guard, joined};
 use class_model::Row;
 use items::NoMemory;
-use std::alloc::Global;
+use std::alloc::{AllocError, Global};
 use verify_types::{assignable, throwable_type};
 use world_model::Lookups;
 
@@ -54,6 +55,13 @@ fn named_as(guard: Guard, other: Guard) -> Guard
         },
         catch: other.catch,
     }
+}
+
+// The rows without what they catch.
+fn rows_of(alloc: Global, guards: &[Guard]) -> Result<Vec<Row>, AllocError>
+    ensures { IfOk result (λ rows. rows.items ≡ map row_in guards.now) }
+{
+    guards.iter().map(|guard| guard.row).collect(alloc)
 }
 
 impl Merged {
@@ -196,7 +204,7 @@ impl<'a, L: Lookups> Environment<'a, L> {
         Ok(merged)
     }
 
-    /// The same, where rows whose handlers ask the same are taken together if there are many.
+    /// The same, where rows whose handlers ask the same are taken together if there are many, and what the handlers want is known.
     pub fn with_merged(self, alloc: Global) -> Result<Self, NoMemory>
         ensures { IfOk result (λ env. env ≡ self.entry) }
     {
@@ -204,17 +212,21 @@ impl<'a, L: Lookups> Environment<'a, L> {
             return Ok(self);
         }
         let Merged { guards, last: _ } = self.merged(alloc)?;
+        let rows = rows_of(alloc, &guards)?;
+        let wanted = self.frames.wanted(alloc, &rows)?;
         let Environment {
             world,
             method,
             frames,
             guards: _,
+            wanted: _,
         } = self;
         Ok(Environment {
             world,
             method,
             frames,
             guards,
+            wanted,
         })
     }
 }

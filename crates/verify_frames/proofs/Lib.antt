@@ -13,4 +13,5 @@ pub mod StoreLaws
 pub mod KnownStateLaws
 pub mod StackLaws
 pub mod NearLaws
+pub mod WantedLaws
 pub mod StackMapLaws

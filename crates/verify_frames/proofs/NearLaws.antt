@@ -110,7 +110,7 @@ counted (Some us) ts c e h =
     let n : length (slot_types us) ≡ c = cc in
     sym n ∙ ap (λ (vs : List VType). length (slot_types vs)) same
 
-count_of : (p : Path) (ts : List VType) (c : ℕ) → types_on p ≡ Some ts → count_on p ≡ Some c → c ≡ length (slot_types ts)
+pub count_of : (p : Path) (ts : List VType) (c : ℕ) → types_on p ≡ Some ts → count_on p ≡ Some c → c ≡ length (slot_types ts)
 count_of p ts c e h = counted (types_on p) ts c e h
 
 is_counted : (o : Option (List VType)) (c : ℕ) → option_map (λ us. length (slot_types us)) o ≡ Some c → is_some o ≡ true
@@ -120,12 +120,12 @@ is_counted (Some us) c e = refl
 slots_both : (ts us : List VType) → slot_types (ts ++ us) ≡ slot_types ts ++ slot_types us
 slots_both ts us = flat_map-append types_of ts us
 
-slots_last : (ts : List VType) (t : VType) → slot_types (ts ++ t ∷ []) ≡ slot_types ts ++ types_of t
+pub slots_last : (ts : List VType) (t : VType) → slot_types (ts ++ t ∷ []) ≡ slot_types ts ++ types_of t
 slots_last ts t = slots_both ts (t ∷ []) ∙ ap (λ (s : List VType). slot_types ts ++ s) (append-nil (types_of t))
 
 -- ---- the slots of one type
 
-type_seam : (xs ys : List VType) (t : VType) (n : ℕ) → n ≡ length xs → type_at (xs ++ t ∷ ys) n ≡ t
+pub type_seam : (xs ys : List VType) (t : VType) (n : ℕ) → n ≡ length xs → type_at (xs ++ t ∷ ys) n ≡ t
 type_seam xs ys t n e = ap (λ k. type_at (xs ++ t ∷ ys) k) e ∙ get_or-append_seam xs t ys types.Top
 
 were_slots : (xs after : List VType) (t : VType) (n : ℕ) (b : Bool) → n ≡ length xs → AllWere (xs ++ (cond b (t ∷ types.Top ∷ []) (t ∷ []) ++ after)) (cond b (slot_at n t ∷ slot_at (n + 1) types.Top ∷ []) (slot_at n t ∷ []))
@@ -271,7 +271,7 @@ tops_at zero i = refl
 tops_at (suc k) zero = refl
 tops_at (suc k) (suc i) = tops_at k i
 
-top_past : (xs : List VType) (k i : ℕ) → length xs ≤ i → type_at (xs ++ replicate k types.Top) i ≡ types.Top
+pub top_past : (xs : List VType) (k i : ℕ) → length xs ≤ i → type_at (xs ++ replicate k types.Top) i ≡ types.Top
 top_past [] k i high = tops_at k i
 top_past (x ∷ xs) k zero high = absurd (omega arith)
 top_past (x ∷ xs) k (suc i) high = top_past xs k i (omega arith)
@@ -349,13 +349,13 @@ moves_to max had has p q m a b cs ds os onp onq hadp hasq lowp lowq covers unset
 
 -- ---- frames
 
-record Parts (constructor : Bool) (max : ℕ) (a : Option (List VType)) (t : TypeState) : Type 0 where
-  types : List VType
-  are : a ≡ Some types
-  locals : t.types.locals ≡ padded max (slot_types types)
-  flag : t.this_uninit ≡ (constructor && list_any is_this types)
+pub record Parts (constructor : Bool) (max : ℕ) (a : Option (List VType)) (t : TypeState) : Type 0 where
+  pub types : List VType
+  pub are : a ≡ Some types
+  pub locals : t.types.locals ≡ padded max (slot_types types)
+  pub flag : t.this_uninit ≡ (constructor && list_any is_this types)
 
-parts_of : (constructor : Bool) (max : ℕ) (a b : Option (List VType)) (t : TypeState) → option_map (state_where constructor max) (a >>= λ ls. b >>= λ ss. Some (record { locals = ls; stack = ss })) ≡ Some t → Parts constructor max a t
+pub parts_of : (constructor : Bool) (max : ℕ) (a b : Option (List VType)) (t : TypeState) → option_map (state_where constructor max) (a >>= λ ls. b >>= λ ss. Some (record { locals = ls; stack = ss })) ≡ Some t → Parts constructor max a t
 parts_of constructor max None b t e = absurd cc
 parts_of constructor max (Some ls) None t e = absurd cc
 parts_of constructor max (Some ls) (Some ss) t e =

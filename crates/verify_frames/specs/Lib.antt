@@ -6,5 +6,6 @@ pub mod Frames
 pub mod Overwrites
 pub mod Watches
 pub mod Near
+pub mod Wanted
 pub mod KnownStates
 pub mod StackMaps

@@ -1,6 +1,7 @@
 //! The frames of a method's stack map (JVMS 4.7.4), each at its pc.
 
 ghost use Rattle.std.specs.Prelude.{◌≡◌, IfOk, IfSome, None, map};
+ghost use Rattle.std.specs.List.{All};
 ghost use Rattle.std.specs.Option.{option_map};
 ghost use Rattle.stack_maps.specs.Changes.{made_whole};
 ghost use Rattle.verify_types.specs.Environment.{MapFrame, map_frame};
@@ -9,13 +10,17 @@ ghost use Rattle.verify_frames.specs.StackMaps.{pc_of};
 ghost use Rattle.verify_frames.specs.Frames.{frame_at, frame_in, stray_frame};
 ghost use Rattle.verify_frames.specs.Near.{IsNear};
 ghost use Rattle.verify_frames.specs.KnownStates.{IsShared};
+ghost use Rattle.verify_frames.specs.Wanted.{IsAsked};
 
+use crate::demands::{gathered, have_pcs, spans_of};
 use crate::entries::{entry_at, stray_entry};
 use crate::flags::{flags_of, have_same_flag};
 use crate::frame::Frame;
 use crate::frame_paths::{Entry, entry_of, is_known, put};
 use crate::near::moved;
 use crate::overwritten::Like;
+use crate::wanted::{Wanted, are_wanted};
+use class_model::Row;
 use items::NoMemory;
 use stack_maps::{FrameChange, VType};
 use std::alloc::Global;
@@ -161,6 +166,21 @@ impl Frames {
             Some(overwritten) => Ok(Some(Like { pc, overwritten })),
             None => Ok(None),
         }
+    }
+
+    /// What the frames of the handlers of these rows want of local variables. `None`: it wasn't found.
+    pub fn wanted(&self, alloc: Global, rows: &[Row]) -> Result<Option<Wanted>, NoMemory>
+        ensures { IfOk result (λ o. IfSome o (λ wanted. All (IsAsked self.now wanted) rows.now)) }
+    {
+        let spans = spans_of(alloc, &self.paths, &self.entries, rows)?;
+        let wanted = gathered(alloc, &self.paths, &spans)?;
+        if !have_pcs(&spans, &self.entries, rows) {
+            return Ok(None);
+        }
+        if !are_wanted(&self.paths, &spans, &wanted) {
+            return Ok(None);
+        }
+        Ok(Some(wanted))
     }
 
     /// The pc of the first frame after a pc, and before the next instruction unless that is the last. `None`: there is none.

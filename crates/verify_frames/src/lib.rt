@@ -1,6 +1,7 @@
 //! The frames of a method's stack map, and what is known of a state by them (JVMS 4.10.1).
 #![tactic(auto)]
 
+mod demands;
 mod entries;
 mod flags;
 mod frame;
@@ -12,6 +13,7 @@ mod near;
 mod overwritten;
 mod path_fits;
 mod stack_map;
+mod wanted;
 mod watch;
 
 pub use frame::Frame;
@@ -20,4 +22,5 @@ pub use frames::Frames;
 pub use known_state::{Fitted, Judged, KnownState, StatesAfter, Stored, holds_at, known_after};
 pub use overwritten::{Like, are_assignable, like_behind};
 pub use stack_map::frames_of;
+pub use wanted::{Slot, Span, Want, Wanted};
 pub use watch::{Around, are_same, types_around, watched};

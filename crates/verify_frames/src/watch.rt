@@ -77,8 +77,8 @@ fn is_same_base(a: Base, b: Base) -> bool
     }
 }
 
-// Whether two types are known to be the same.
-fn is_same_type(a: VType, b: VType) -> bool
+/// Whether two types are known to be the same.
+pub fn is_same_type(a: VType, b: VType) -> bool
     ensures { MatchBool result (a ≡ b) (Unit {0}) }
 {
     match a {
@@ -96,6 +96,14 @@ fn is_same_type(a: VType, b: VType) -> bool
         },
         VType::Null => match b {
             VType::Null => true,
+            _ => false,
+        },
+        VType::UninitThis => match b {
+            VType::UninitThis => true,
+            _ => false,
+        },
+        VType::Uninit(x) => match b {
+            VType::Uninit(y) => { if x == y { true } else { false } }
             _ => false,
         },
         VType::Named(n, base) => match b {
