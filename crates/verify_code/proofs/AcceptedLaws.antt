@@ -14,14 +14,16 @@ use Rattle.verify_types.specs.Environment.{Environment, Handler, MapFrame, map_a
 use Rattle.verify_types.specs.Handlers.{are_satisfied, caught, caught_type, fits_frame, is_satisfied}
 use Rattle.verify_types.specs.TypeStates.{TypeState, all_assignable, fits, with_stack}
 use Rattle.verify_frames.specs.declared.known_state.Stored.{Stored}
+use Rattle.verify_frames.specs.declared.known_state.Written.{Written}
+use Rattle.verify_frames.specs.declared.known_state.Written.TheVariants as writes
+use Rattle.verify_frames.specs.declared.overwritten.Overwritten.{Overwritten}
 use Rattle.verify_frames.specs.declared.wanted.Wanted.{Wanted}
-use Rattle.verify_frames.specs.declared.watch.Around.{Around}
-use Rattle.verify_frames.specs.KnownStates.{IsStored, holds_at}
-use Rattle.verify_frames.specs.Overwrites.{around, type_at}
+use Rattle.verify_frames.specs.KnownStates.{Spares, IsStored, holds_at}
+use Rattle.verify_frames.specs.Overwrites.{around, is_noted, type_at}
 use Rattle.verify_frames.specs.Wanted.{IsAsked, accepts, meets, row_span}
 use Rattle.verify_frames.proofs.OverwriteLaws.{all_by_number, one_by_one}
 use Rattle.verify_code.specs.declared.guards.Guard.{Guard}
-use Rattle.verify_code.specs.Accepted.{IsAccepted, accepts_around, row_in}
+use Rattle.verify_code.specs.Accepted.{IsAccepted, accepts_around, accepts_written, row_in}
 use Rattle.verify_code.specs.Guards.{guard_in}
 use Rattle.verify_code.specs.Merged.{AskSame, is_kept}
 use Rattle.verify_code.specs.Satisfied.{IsJudgedFrom}
@@ -92,40 +94,66 @@ at_one : (w : World) (wanted : Wanted) (from until : ℕ) (xs zs : List VType) (
 at_one w wanted from until xs zs i m true e taken other = inr (subst (λ j. accepts w wanted from until j (type_at zs j) ≡ true) (sym (eqb-true i m e)) taken)
 at_one w wanted from until xs zs i m false e taken other = other (eqb-false i m e)
 
-accepted_store : (env : Environment) (wanted : Wanted) (from until : ℕ) (s : TypeState) (st : Stored) (h : IsStored env s st) → accepts_around env.world wanted from until st.local (around s.types.locals st.local) ≡ true
-    → IsAccepted env.world wanted from until h.before s
-accepted_store env wanted from until s st h e =
-    let n = st.local in
+noted_accepted : (w : World) (wanted : Wanted) (from until : ℕ) (ls : List VType) (os : List Overwritten) (i : ℕ) → list_all (λ (o : Overwritten). accepts w wanted from until o.slot (type_at ls o.slot)) os ≡ true → is_noted os i ≡ true
+    → accepts w wanted from until i (type_at ls i) ≡ true
+noted_accepted w wanted from until ls [] i e noted = absurd cc
+noted_accepted w wanted from until ls (o ∷ os) i e noted =
+    let parts = and_parts (accepts w wanted from until o.slot (type_at ls o.slot)) (list_all (λ (x : Overwritten). accepts w wanted from until x.slot (type_at ls x.slot)) os) e in
+    by_test (eqb o.slot i) refl noted parts.0 (noted_accepted w wanted from until ls os i parts.1)
+  where
+    by_test : (b : Bool) → eqb o.slot i ≡ b → (b || is_noted os i) ≡ true → accepts w wanted from until o.slot (type_at ls o.slot) ≡ true → (is_noted os i ≡ true → accepts w wanted from until i (type_at ls i) ≡ true)
+        → accepts w wanted from until i (type_at ls i) ≡ true
+    by_test true is noted here rest = subst (λ k. accepts w wanted from until k (type_at ls k) ≡ true) (eqb-true o.slot i is) here
+    by_test false is noted here rest = rest noted
+
+accepted_objects : (env : Environment) (wanted : Wanted) (from until : ℕ) (s before : TypeState) (os : List Overwritten) → length before.types.locals ≡ length s.types.locals → before.this_uninit ≡ s.this_uninit
+    → ((i : ℕ) → is_noted os i ≡ false → type_at before.types.locals i ≡ type_at s.types.locals i) → list_all (λ (o : Overwritten). accepts env.world wanted from until o.slot (type_at s.types.locals o.slot)) os ≡ true
+    → IsAccepted env.world wanted from until before s
+accepted_objects env wanted from until s before os as_many flag others e = record { as_many = as_many; flag = flag; each = λ i. by_test i (is_noted os i) refl }
+  where
+    by_test : (i : ℕ) (b : Bool) → is_noted os i ≡ b → (type_at before.types.locals i ≡ type_at s.types.locals i) ⊎ (accepts env.world wanted from until i (type_at s.types.locals i) ≡ true)
+    by_test i true noted = inr (noted_accepted env.world wanted from until s.types.locals os i e noted)
+    by_test i false noted = inl (others i noted)
+
+accepted_store : (env : Environment) (wanted : Wanted) (from until n : ℕ) (s before : TypeState) → length before.types.locals ≡ length s.types.locals → before.this_uninit ≡ s.this_uninit
+    → ((i : ℕ) → (i ≡ n - 1 → ⊥) → (i ≡ n → ⊥) → (i ≡ n + 1 → ⊥) → type_at before.types.locals i ≡ type_at s.types.locals i) → accepts_around env.world wanted from until n (around s.types.locals n) ≡ true
+    → IsAccepted env.world wanted from until before s
+accepted_store env wanted from until n s before as_many flag kept e =
     let w = env.world in
     let zs = s.types.locals in
     let first = and_parts (accepts w wanted from until (n - 1) (type_at zs (n - 1))) (accepts w wanted from until n (type_at zs n) && accepts w wanted from until (n + 1) (type_at zs (n + 1))) e in
     let others = and_parts (accepts w wanted from until n (type_at zs n)) (accepts w wanted from until (n + 1) (type_at zs (n + 1))) first.1 in
     record {
-      as_many = h.as_many;
-      flag = h.flag;
+      as_many = as_many;
+      flag = flag;
       each = λ i.
-          at_one w wanted from until h.before.types.locals zs i (n - 1) (eqb i (n - 1)) refl first.0 (λ x.
-          at_one w wanted from until h.before.types.locals zs i n (eqb i n) refl others.0 (λ y.
-          at_one w wanted from until h.before.types.locals zs i (n + 1) (eqb i (n + 1)) refl others.1 (λ z.
-          inl (h.others i x y z))));
+          at_one w wanted from until before.types.locals zs i (n - 1) (eqb i (n - 1)) refl first.0 (λ x.
+          at_one w wanted from until before.types.locals zs i n (eqb i n) refl others.0 (λ y.
+          at_one w wanted from until before.types.locals zs i (n + 1) (eqb i (n + 1)) refl others.1 (λ z.
+          inl (kept i x y z))));
     }
+
+accepted_written : (env : Environment) (wanted : Wanted) (from until : ℕ) (s before : TypeState) (x : Written) → length before.types.locals ≡ length s.types.locals → before.this_uninit ≡ s.this_uninit
+    → ((i : ℕ) → Spares x i → type_at before.types.locals i ≡ type_at s.types.locals i) → accepts_written env.world wanted from until x s.types.locals ≡ true → IsAccepted env.world wanted from until before s
+accepted_written env wanted from until s before (writes.Store n) as_many flag others e = accepted_store env wanted from until n s before as_many flag (λ i x y z. others i (x, y, z)) e
+accepted_written env wanted from until s before (writes.Objects os) as_many flag others e = accepted_objects env wanted from until s before os.items as_many flag others e
 
 accepted_on : (env : Environment) (guards : List Guard) (wanted : Wanted) (from until pc : ℕ) (t s : TypeState) → IsAccepted env.world wanted from until t s → All (IsAsked env.map wanted) (map row_in guards) → AskSame env (map guard_in guards) env.handlers
     → from ≤ pc → pc < until → are_satisfied env pc t ≡ true → are_satisfied env pc s ≡ true
 accepted_on env guards wanted from until pc t s change asks alike low high e = sym (alike.same pc s) ∙ all_accepted env wanted pc from until t s guards change low high asks (alike.same pc t ∙ e)
 
-pub judged_accepted : (env : Environment) (w : World) (guards : List Guard) (wants : Option Wanted) (wanted : Wanted) (s : TypeState) (o : Option Stored) (st : Stored) (pc : ℕ) (types : Around) → w ≡ env.world → AskSame env (map guard_in guards) env.handlers
-    → IfSome wants (λ (x : Wanted). All (IsAsked env.map x) (map row_in guards)) → wants ≡ Some wanted → IfSome o (IsStored env s) → o ≡ Some st → holds_at pc (Some st.judged) ≡ true → types ≡ around s.types.locals st.local
-    → accepts_around w wanted pc st.judged.until st.local types ≡ true → IsJudgedFrom env s pc (record { at = pc; until = st.judged.until })
-judged_accepted env w guards wants wanted s o st pc types of alike asks are h is held left taken =
+pub judged_accepted : (env : Environment) (w : World) (guards : List Guard) (wants : Option Wanted) (wanted : Wanted) (s : TypeState) (o : Option Stored) (st : Stored) (pc : ℕ) (locals : List VType) → w ≡ env.world → AskSame env (map guard_in guards) env.handlers
+    → IfSome wants (λ (x : Wanted). All (IsAsked env.map x) (map row_in guards)) → wants ≡ Some wanted → IfSome o (IsStored env s) → o ≡ Some st → holds_at pc (Some st.judged) ≡ true → locals ≡ s.types.locals
+    → accepts_written w wanted pc st.judged.until st.written locals ≡ true → IsJudgedFrom env s pc (record { at = pc; until = st.judged.until })
+judged_accepted env w guards wants wanted s o st pc locals of alike asks are h is held left taken =
     let stored : IsStored env s st = subst (λ (x : Option Stored). IfSome x (IsStored env s)) is h in
     let all : All (IsAsked env.map wanted) (map row_in guards) = subst (λ (x : Option Wanted). IfSome x (λ (y : Wanted). All (IsAsked env.map y) (map row_in guards))) are asks in
     let until = st.judged.until in
     let parts = and_parts (nat_le st.judged.at pc) (nat_lt pc until) held in
     let low = leb-true st.judged.at pc parts.0 in
     let high = ltb-true pc until parts.1 in
-    let change = accepted_store env wanted pc until s st stored
-    (ap (λ x. accepts_around x wanted pc until st.local (around s.types.locals st.local)) (sym of) ∙ ap (λ a. accepts_around w wanted pc until st.local a) (sym left) ∙ taken) in
+    let change = accepted_written env wanted pc until s stored.before st.written stored.as_many stored.flag stored.others
+    (ap (λ x. accepts_written x wanted pc until st.written s.types.locals) (sym of) ∙ ap (λ (ls : List VType). accepts_written w wanted pc until st.written ls) (sym left) ∙ taken) in
     record {
       judged = record {
         at = accepted_on env guards wanted pc until pc stored.before s change all alike (omega arith) high (stored.judged.on pc low high);

@@ -15,8 +15,10 @@ use Rattle.verify_types.specs.Handlers.{are_satisfied, caught, caught_type, fits
 use Rattle.verify_types.specs.TypeStates.{TypeState, all_assignable, fits, with_stack}
 use Rattle.verify_frames.specs.declared.known_state.Judged.{Judged}
 use Rattle.verify_frames.specs.declared.known_state.Stored.{Stored}
+use Rattle.verify_frames.specs.declared.known_state.Written.{Written}
+use Rattle.verify_frames.specs.declared.known_state.Written.TheVariants as writes
 use Rattle.verify_frames.specs.declared.watch.Around.{Around}
-use Rattle.verify_frames.specs.KnownStates.{IsJudged, IsStored, holds_at}
+use Rattle.verify_frames.specs.KnownStates.{IsJudged, IsStored, Spares, holds_at}
 use Rattle.verify_frames.specs.Overwrites.{around, type_at}
 use Rattle.verify_frames.proofs.OverwriteLaws.{all_by_number, one_by_one, second_of}
 use Rattle.verify_code.specs.declared.satisfied.JudgedTwice.{JudgedTwice}
@@ -91,7 +93,7 @@ satisfied_between env t u s h between e f =
 
 -- ---- after a store
 
-between_store : (env : Environment) (n : ℕ) (s u : TypeState) (st : Stored) (h : IsStored env s st) → n ≡ st.local → around u.types.locals n ≡ around s.types.locals n → IsBetween h.before u s
+between_store : (env : Environment) (n : ℕ) (s u : TypeState) (st : Stored) (h : IsStored env s st) → st.written ≡ writes.Store n → around u.types.locals n ≡ around s.types.locals n → IsBetween h.before u s
 between_store env n s u st h e same = record {
   each = λ i.
       let xs = h.before.types.locals in
@@ -100,23 +102,23 @@ between_store env n s u st h e same = record {
       at_one xs ys zs i (n - 1) (eqb i (n - 1)) refl (ap (λ (a : Around). a.before) same) (λ x.
       at_one xs ys zs i n (eqb i n) refl (ap (λ (a : Around). a.at) same) (λ y.
       at_one xs ys zs i (n + 1) (eqb i (n + 1)) refl (ap (λ (a : Around). a.next) same) (λ z.
-      inl (subst (λ (k : ℕ). (i ≡ k - 1 → ⊥) → (i ≡ k → ⊥) → (i ≡ k + 1 → ⊥) → type_at xs i ≡ type_at zs i) (sym e) (h.others i) x y z))));
+      inl (subst (λ (x : Written). Spares x i → type_at xs i ≡ type_at zs i) e (h.others i) (x, y, z)))));
   as_many = h.as_many;
   flag = h.flag;
 }
 
 -- the state before the store, and one with the types that it left
-pub judged_by_store : (env : Environment) (s : TypeState) (o : Option Stored) (st : Stored) (types : Around) (r : Option Judged) (j : Judged) → IfSome o (IsStored env s) → o ≡ Some st → types ≡ around s.types.locals st.local
-    → IfSome r (AreTaken env st.local types) → r ≡ Some j → AreJudged env s (record { one = st.judged; other = j })
-judged_by_store env s o st types r j h is now taken found =
+pub judged_by_store : (env : Environment) (s : TypeState) (o : Option Stored) (st : Stored) (n : ℕ) (types : Around) (r : Option Judged) (j : Judged) → IfSome o (IsStored env s) → o ≡ Some st → st.written ≡ writes.Store n → types ≡ around s.types.locals n
+    → IfSome r (AreTaken env n types) → r ≡ Some j → AreJudged env s (record { one = st.judged; other = j })
+judged_by_store env s o st n types r j h is wrote now taken found =
     let stored : IsStored env s st = subst (λ (x : Option Stored). IfSome x (IsStored env s)) is h in
-    let there : AreTaken env st.local types j = subst (λ (x : Option Judged). IfSome x (AreTaken env st.local types)) found taken in
+    let there : AreTaken env n types j = subst (λ (x : Option Judged). IfSome x (AreTaken env n types)) found taken in
     record {
       first = stored.before;
       second = there.state;
       one = stored.judged;
       other = there.judged;
-      both = λ k e f. satisfied_between env stored.before there.state s k (between_store env st.local s there.state st stored refl (there.around ∙ now)) e f;
+      both = λ k e f. satisfied_between env stored.before there.state s k (between_store env n s there.state st stored wrote (there.around ∙ now)) e f;
     }
 
 pub judged_itself : (env : Environment) (s : TypeState) (o : Option Judged) (j : Judged) → IfSome o (IsJudged env s) → o ≡ Some j → AreJudged env s (record { one = j; other = j })

@@ -1,12 +1,15 @@
-//! Stores after which the exception handlers are satisfied as before, since what they want of the local variable takes the new type.
+//! Instructions after which the exception handlers are satisfied as before, since what they want of local variables takes the new types.
 
 ghost use Rattle.std.specs.Prelude.{◌≡◌, IfSome, MatchBool};
-ghost use Rattle.verify_code.specs.Accepted.{accepts_around};
+ghost use Rattle.verify_code.specs.Accepted.{accepts_all, accepts_around, accepts_written};
 ghost use Rattle.verify_code.specs.Satisfied.{IsJudgedFrom};
 ghost use Rattle.verify_frames.specs.KnownStates.{Holds, type_state};
 
 use crate::environment::Environment;
-use verify_frames::{Around, Judged, KnownState, Wanted, holds_at, types_around};
+use stack_maps::VType;
+use verify_frames::{
+    Around, Judged, KnownState, Overwritten, Wanted, Written, holds_at, type_at, types_around,
+};
 use world_model::Lookups;
 
 // Whether these types around a local variable are accepted at the pcs from one on and before another.
@@ -26,8 +29,43 @@ fn accepts_around<L: Lookups>(
             && wanted.accepts(w, from, until, slot + 1, types.next))
 }
 
+// Whether the types of all of these local variables are.
+fn accepts_all<L: Lookups>(
+    w: &L,
+    wanted: &Wanted,
+    from: u32,
+    until: u32,
+    objects: &[Overwritten],
+    locals: &[VType],
+) -> bool
+    ensures { result ≡
+        accepts_all (L.world w.now) wanted.now from until objects.now locals.now }
+{
+    objects.iter().all(|o| wanted.accepts(w, from, until, o.slot, type_at(locals, o.slot)))
+}
+
+// Whether the types of local variables that were written are accepted at the pcs from one on and before another.
+fn accepts_written<L: Lookups>(
+    w: &L,
+    wanted: &Wanted,
+    from: u32,
+    until: u32,
+    written: &Written,
+    locals: &[VType],
+) -> bool
+    ensures { result ≡
+        accepts_written (L.world w.now) wanted.now from until written.now locals.now }
+{
+    match written {
+        Written::Store(local) => {
+            accepts_around(w, wanted, from, until, *local, types_around(locals, *local))
+        }
+        Written::Objects(objects) => accepts_all(w, wanted, from, until, objects, locals),
+    }
+}
+
 impl<'a, L: Lookups> Environment<'a, L> {
-    /// Where a state after a store satisfies the handlers, if it does so at the pc, as what they want of the local variable shows.
+    /// Where a state after an instruction satisfies the handlers, if it does so at the pc, as what they want of local variables shows.
     pub fn judged_by_wanted(&self, pc: u32, s: &KnownState) -> Option<Judged>
         requires holds { Holds self.now s.now }
         ensures { IfSome result (IsJudgedFrom self.now (type_state s.now) pc) }
@@ -35,15 +73,15 @@ impl<'a, L: Lookups> Environment<'a, L> {
         let Some(wanted) = &self.wanted else {
             return None;
         };
-        let Some(stored) = s.stored else {
+        let Some(stored) = &s.stored else {
             return None;
         };
         if !holds_at(pc, Some(stored.judged)) {
             return None;
         }
         let until = stored.judged.until;
-        let types = types_around(s.state.types.locals(), stored.local);
-        if !accepts_around(self.world, wanted, pc, until, stored.local, types) {
+        let locals = s.state.types.locals();
+        if !accepts_written(self.world, wanted, pc, until, &stored.written, locals) {
             return None;
         }
         Some(Judged { at: pc, until })

@@ -18,7 +18,7 @@ use crate::satisfied::{JudgedTwice, SatisfiedStores, judged_on};
 use class_model::Row;
 use items::NoMemory;
 use stack_maps::VType;
-use verify_frames::{Judged, KnownState, holds_at, types_around};
+use verify_frames::{Judged, KnownState, Written, holds_at, types_around};
 use verify_instructions::State;
 use verify_types::{assignable, throwable_type};
 use world_model::Lookups;
@@ -183,11 +183,14 @@ impl<'a, L: Lookups> Environment<'a, L> {
                 other: judged,
             });
         }
-        let Some(stored) = s.stored else {
+        let Some(stored) = &s.stored else {
             return None;
         };
-        let around = types_around(s.state.types.locals(), stored.local);
-        match stores.taken(stored.local, around) {
+        let Written::Store(local) = stored.written else {
+            return None;
+        };
+        let around = types_around(s.state.types.locals(), local);
+        match stores.taken(local, around) {
             Some(other) => Some(JudgedTwice {
                 one: stored.judged,
                 other,
@@ -227,14 +230,17 @@ impl<'a, L: Lookups> Environment<'a, L> {
         if self.guards.len() < MANY {
             return Ok(());
         }
-        let Some(stored) = s.stored else {
+        let Some(stored) = &s.stored else {
+            return Ok(());
+        };
+        let Written::Store(local) = stored.written else {
             return Ok(());
         };
         let Some(judged) = judged else {
             return Ok(());
         };
-        let around = types_around(s.state.types.locals(), stored.local);
-        stores.put(stored.local, around, judged)
+        let around = types_around(s.state.types.locals(), local);
+        stores.put(local, around, judged)
     }
 
     /// A state, and where it satisfies the exception handlers: at the pc, if it does so at all.

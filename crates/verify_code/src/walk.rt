@@ -245,7 +245,13 @@ impl<'a, L: Lookups> Environment<'a, L> {
     }
 
     // Types one instruction.
-    fn after(&self, s: KnownState, i: &Instr, naming: Naming) -> Result<After, NoMemory>
+    fn after(
+        &self,
+        alloc: Global,
+        s: KnownState,
+        i: &Instr,
+        naming: Naming,
+    ) -> Result<After, NoMemory>
         requires low { i.now.pc < 2 ^ 16 }
         requires holds { Holds self.now s }
         ensures { IfOk result
@@ -259,14 +265,13 @@ impl<'a, L: Lookups> Environment<'a, L> {
             fitted,
         } = s;
         let this_uninit = state.this_uninit;
-        let watch = watched(&i.op, &state.types);
+        let watch = watched(alloc, &i.op, &state.types)?;
         let like = like_behind(&i.op, like, &state.types)?;
         let mut state = state;
-        match state.apply(self.world, &self.method, i.pc as u16, naming, &i.op) {
-            Ok(()) => {
-                let after = known_after(state, this_uninit, watch, like, judged, fitted);
-                Ok(After::Kept(after))
-            }
+        let applied = state.apply(self.world, &self.method, i.pc as u16, naming, &i.op);
+        let after = known_after(state, this_uninit, watch, like, judged, fitted);
+        match applied {
+            Ok(()) => Ok(After::Kept(after)),
             Err(stop) => Ok(After::Broken(broken_rule(stop)?)),
         }
     }
@@ -291,7 +296,7 @@ impl<'a, L: Lookups> Environment<'a, L> {
             (type_state s) v) }
     {
         let findings = self.findings(&s, fits, i, naming, is_last);
-        match self.after(s, i, naming)? {
+        match self.after(alloc, s, i, naming)? {
             After::Broken(why) => Ok(Verdict::Broken(findings.why_broken(why))),
             After::Kept(after) => {
                 let compared = self.compared(alloc, after, i, is_last)?;

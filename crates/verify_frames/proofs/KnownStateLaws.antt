@@ -39,7 +39,7 @@ use Rattle.verify_frames.specs.declared.watch.Watch.TheVariants as kinds
 use Rattle.verify_frames.specs.declared.known_state.Stored.{Stored}
 use Rattle.verify_frames.proofs.KeepLaws.{after_kept}
 use Rattle.verify_frames.proofs.FinishLaws.{after_finished}
-use Rattle.verify_frames.proofs.WatchLaws.{same_locals}
+use Rattle.verify_frames.proofs.WatchLaws.{but_objects, same_locals}
 use Rattle.verify_frames.proofs.ItselfLaws.{LocalsThemselves}
 
 -- ---- states with the same local variables and the same flag
@@ -277,14 +277,17 @@ fits_same env s t None locals flag h = tt
 fits_same env s t (Some f) locals flag h = all_same env s t f.pcs.items locals flag h
 
 -- a store of this instruction
-stored_after : (env : Environment) (i : Instruction) (s after : TypeState) (watch : Watch) (o : Option Judged) → Watches i.instr.op s.types.locals watch → state_after env i s ≡ Ok after → IfSome o (IsJudged env s)
-    → IfSome (stored_by watch o) (IsStored env after)
-stored_after env i s after kinds.Kept o h e j = tt
-stored_after env i s after kinds.Changed o h e j = tt
-stored_after env i s after (kinds.Store n was) None h e j = tt
-stored_after env i s after (kinds.Store n was) (Some x) h e j =
+stored_after : (env : Environment) (i : Instruction) (s after : TypeState) (watch : Watch) (o : Option Judged) → Watches i.instr.op s.types.locals watch → state_after env i s ≡ Ok after → s.this_uninit ≡ after.this_uninit
+    → IfSome o (IsJudged env s) → IfSome (stored_by watch o) (IsStored env after)
+stored_after env i s after watch None h e flag j = tt
+stored_after env i s after kinds.Kept (Some x) h e flag j = tt
+stored_after env i s after kinds.Changed (Some x) h e flag j = tt
+stored_after env i s after (kinds.Store n was) (Some x) h e flag j =
     let stored = after_stored env i h.0.kind n s after h.0.is e in
-    record { before = s; judged = j; as_many = stored.as_many; others = stored.others; flag = stored.flag }
+    record { before = s; judged = j; as_many = stored.as_many; others = λ k away. stored.others k away.0 away.1 away.2; flag = flag }
+stored_after env i s after (kinds.Objects os) (Some x) h e flag j =
+    let but = but_objects env i s after os.items h.0 h.1 e in
+    record { before = s; judged = j; as_many = but.as_many; others = but.kept; flag = flag }
 
 -- what is known of the state after an instruction is true of it
 pub holds_after : (env : Environment) (i : Instruction) (s after : KnownState) (like : Option Like) (watch : Watch) (now : State) → Holds env s → state_after env i (type_state s) ≡ Ok (state_in now)
@@ -298,7 +301,7 @@ holds_after env i s after like watch now holds h noted watches (changed flag e) 
       record {
         like = λ l is. like_after env i s.like l (type_state s) (state_in now) holds.like (sym flag) h (subst (λ (o : Option Like). IfSome o (NotedBehind i.instr.op (type_state s).types.locals s.like)) is noted);
         judged = tt;
-        stored = stored_after env i (type_state s) (state_in now) watch s.judged watches h holds.judged;
+        stored = stored_after env i (type_state s) (state_in now) watch s.judged watches h (sym flag) holds.judged;
         fitted = tt;
       },
     )

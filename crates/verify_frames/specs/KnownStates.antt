@@ -13,6 +13,8 @@ use Rattle.verify_frames.specs.declared.frame.Frame.{Frame}
 use Rattle.verify_frames.specs.declared.known_state.StatesAfter.{StatesAfter}
 use Rattle.verify_frames.specs.declared.known_state.Judged.{Judged}
 use Rattle.verify_frames.specs.declared.known_state.Stored.{Stored}
+use Rattle.verify_frames.specs.declared.known_state.Written.{Written}
+use Rattle.verify_frames.specs.declared.known_state.Written.TheVariants as writes
 use Rattle.verify_frames.specs.declared.known_state.Fitted.{Fitted}
 use Rattle.verify_frames.specs.declared.known_state.KnownState.{KnownState}
 use Rattle.verify_frames.specs.declared.overwritten.Like.{Like}
@@ -20,7 +22,7 @@ use Rattle.verify_frames.specs.declared.overwritten.Overwritten.{Overwritten}
 use Rattle.verify_frames.specs.Frames.{frame_at, frame_in}
 use Rattle.verify_frames.specs.declared.watch.Watch.{Watch}
 use Rattle.verify_frames.specs.declared.watch.Watch.TheVariants as watches
-use Rattle.verify_frames.specs.Overwrites.{AreBut, type_at}
+use Rattle.verify_frames.specs.Overwrites.{AreBut, is_noted, type_at}
 use Rattle.verify_frames.specs.Watches.{ShowsKept}
 
 abbrev pub type_state : KnownState → TypeState
@@ -44,18 +46,29 @@ pub record IsJudged (env : Environment) (s : TypeState) (j : Judged) : Type 0 wh
   pub at : are_satisfied env j.at s ≡ true
   pub on : (pc : ℕ) → j.at ≤ pc → pc < j.until → are_satisfied env pc s ≡ true
 
--- the state before a store to this local variable, which had the same flag, satisfied the handlers
+-- these may not change this local variable
+abbrev pub Spares : Written → ℕ → Type 0
+Spares (writes.Store n) i = (i ≡ n - 1 → ⊥) × (i ≡ n → ⊥) × (i ≡ n + 1 → ⊥)
+Spares (writes.Objects os) i = is_noted os.items i ≡ false
+
+-- the state before these local variables were written, which had the same flag, satisfied the handlers
 pub record IsStored (env : Environment) (s : TypeState) (st : Stored) : Type 0 where
   pub before : TypeState
   pub judged : IsJudged env before st.judged
   pub as_many : length before.types.locals ≡ length s.types.locals
-  pub others : (i : ℕ) → (i ≡ st.local - 1 → ⊥) → (i ≡ st.local → ⊥) → (i ≡ st.local + 1 → ⊥) → type_at before.types.locals i ≡ type_at s.types.locals i
+  pub others : (i : ℕ) → Spares st.written i → type_at before.types.locals i ≡ type_at s.types.locals i
   pub flag : before.this_uninit ≡ s.this_uninit
 
--- the store that an instruction is, where handlers were satisfied before it
+-- the local variables that an instruction may have changed, if it is known
+abbrev pub written_by : Watch → Option Written
+written_by (watches.Store n was) = Some (writes.Store n)
+written_by (watches.Objects os) = Some (writes.Objects os)
+written_by watch = None
+
+-- what an instruction may have changed, where handlers were satisfied before it
 abbrev pub stored_by : Watch → Option Judged → Option Stored
-stored_by (watches.Store n was) judged = option_map (λ (j : Judged). record { local = n; judged = j }) judged
-stored_by watch judged = None
+stored_by watch None = None
+stored_by watch (Some j) = option_map (λ (x : Written). record { written = x; judged = j }) (written_by watch)
 
 -- the local variables and the flag of a state fit those of the frame at this pc
 pub record FitsLocals (env : Environment) (s : TypeState) (pc : ℕ) : Type 0 where

@@ -26,11 +26,20 @@ pub struct Judged {
     pub until: u32,
 }
 
-/// A store, before which the exception handlers of a state were satisfied.
-#[derive(Clone, Copy, Debug, PartialEq, Eq)]
+/// The local variables that an instruction may have changed.
+#[derive(Drop)]
+pub enum Written {
+    /// Those that a store to this one may change.
+    Store(u16),
+    /// These alone, which were of these types.
+    Objects(Vec<Overwritten>),
+}
+
+/// An instruction, before which the exception handlers of a state were satisfied.
+#[derive(Drop)]
 pub struct Stored {
-    /// The local variable that was stored to.
-    pub local: u16,
+    /// The local variables that it may have changed.
+    pub written: Written,
     /// Where they were satisfied.
     pub judged: Judged,
 }
@@ -49,7 +58,7 @@ pub struct KnownState {
     pub like: Option<Like>,
     /// Where they satisfy the exception handlers.
     pub judged: Option<Judged>,
-    /// The store after which it isn't known whether they do.
+    /// The instruction after which it isn't known whether they do.
     pub stored: Option<Stored>,
     /// Frames that they fit.
     pub fitted: Option<Fitted>,
@@ -191,15 +200,26 @@ fn is_same(a: bool, b: bool) -> bool
     if a { b } else { !b }
 }
 
-// The store that an instruction is, where handlers were satisfied before it.
+// The local variables that an instruction may have changed, if it is known.
+fn written_by(watch: Watch) -> Option<Written>
+    ensures { result ≡ spec.written_by watch }
+{
+    match watch {
+        Watch::Store(local, _) => Some(Written::Store(local)),
+        Watch::Objects(objects) => Some(Written::Objects(objects)),
+        _ => None,
+    }
+}
+
+// What an instruction may have changed, where handlers were satisfied before it.
 fn stored_by(watch: Watch, judged: Option<Judged>) -> Option<Stored>
     ensures { result ≡ spec.stored_by watch judged }
 {
-    let Watch::Store(local, _) = watch else {
+    let Some(judged) = judged else {
         return None;
     };
-    match judged {
-        Some(judged) => Some(Stored { local, judged }),
+    match written_by(watch) {
+        Some(written) => Some(Stored { written, judged }),
         None => None,
     }
 }

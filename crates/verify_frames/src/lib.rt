@@ -19,8 +19,10 @@ mod watch;
 pub use frame::Frame;
 pub use frame_state::{first_frame, state_of};
 pub use frames::Frames;
-pub use known_state::{Fitted, Judged, KnownState, StatesAfter, Stored, holds_at, known_after};
-pub use overwritten::{Like, are_assignable, like_behind};
+pub use known_state::{
+    Fitted, Judged, KnownState, StatesAfter, Stored, Written, holds_at, known_after,
+};
+pub use overwritten::{Like, Overwritten, are_assignable, like_behind, type_at};
 pub use stack_map::frames_of;
 pub use wanted::{Slot, Span, Want, Wanted};
 pub use watch::{Around, are_same, types_around, watched};

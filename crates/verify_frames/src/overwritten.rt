@@ -15,8 +15,8 @@ use world_model::Lookups;
 // With more local variables overwritten, a state isn't compared by these any longer.
 const MOST: usize = 128;
 
-// With more unfinished objects in local variables, a state is like no frame after one is made or finished.
-const MOST_UNFINISHED: usize = 32;
+/// With more unfinished objects in local variables, a state is like no frame after one is made or finished.
+pub const MOST_UNFINISHED: usize = 32;
 
 /// A local variable that was overwritten, and its type before.
 #[derive(Clone, Copy, Debug, PartialEq, Eq)]
@@ -115,8 +115,8 @@ fn behind_store(like: Like, locals: &[VType], n: u16) -> Result<Option<Like>, No
     Ok(Some(Like { pc, overwritten }))
 }
 
-// Notes local variables that may be overwritten.
-fn note_all(
+/// Notes local variables that may be overwritten.
+pub fn note_all(
     overwritten: &mut Vec<Overwritten>,
     locals: &[VType],
     slots: &[usize],

@@ -1,12 +1,14 @@
 //! Whether an instruction changes local variables.
 
-ghost use Rattle.std.specs.Prelude.{◌≡◌, MatchBool};
-ghost use Rattle.verify_frames.specs.Overwrites.{around};
-ghost use Rattle.verify_frames.specs.Watches.{ShowsKept, Watches};
+ghost use Rattle.std.specs.Prelude.{◌≡◌, IfOk, MatchBool};
+ghost use Rattle.verify_frames.specs.Overwrites.{AllWere, around};
+ghost use Rattle.verify_frames.specs.Watches.{ShowsKept, Watches, WatchesObjects};
 
-use crate::overwritten::{finishes, keeps_locals, type_at};
+use crate::overwritten::{MOST_UNFINISHED, Overwritten, finishes, keeps_locals, note_all, type_at};
+use items::NoMemory;
 use opcodes::Op;
 use stack_maps::{Base, VType};
+use std::alloc::Global;
 use verify_instructions::Types;
 
 /// The types around a local variable, and its own.
@@ -18,12 +20,14 @@ pub struct Around {
 }
 
 /// What shows whether an instruction changed local variables.
-#[derive(Clone, Copy, Debug, PartialEq, Eq)]
+#[derive(Drop)]
 pub enum Watch {
     /// It changes none.
     Kept,
     /// It stores to this one; before it, these were the types around it.
     Store(u16, Around),
+    /// It may change these alone, which were of these types before it.
+    Objects(Vec<Overwritten>),
     /// It may change any.
     Changed,
 }
@@ -140,31 +144,61 @@ pub fn are_same(a: Around, b: Around) -> bool
     true
 }
 
+// What shows whether an instruction that makes or finishes an object changes local variables, where these types come before it.
+fn watched_objects(alloc: Global, types: &Types) -> Result<Watch, NoMemory>
+    ensures { IfOk result (WatchesObjects types.now.locals) }
+{
+    let slots = types.unfinished();
+    if slots.is_empty() {
+        return Ok(Watch::Kept);
+    }
+    if slots.len() > MOST_UNFINISHED {
+        return Ok(Watch::Changed);
+    }
+    let mut objects = Vec::new(alloc);
+    note_all(&mut objects, types.locals(), slots)?;
+    Ok(Watch::Objects(objects))
+}
+
 /// What shows whether an instruction changes local variables, where these types come before it.
-pub fn watched(op: &Op, types: &Types) -> Watch
-    ensures { Watches op.now types.now.locals result }
+pub fn watched(alloc: Global, op: &Op, types: &Types) -> Result<Watch, NoMemory>
+    ensures { IfOk result (Watches op.now types.now.locals) }
 {
     if let Op::Store(_, n) = op {
-        return Watch::Store(*n, types_around(types.locals(), *n));
+        return Ok(Watch::Store(*n, types_around(types.locals(), *n)));
     }
     if keeps_locals(op) {
-        return Watch::Kept;
+        return Ok(Watch::Kept);
     }
-    if finishes(op) && types.unfinished().is_empty() {
-        Watch::Kept
-    } else {
-        Watch::Changed
+    if finishes(op) {
+        return watched_objects(alloc, types);
     }
+    Ok(Watch::Changed)
+}
+
+// Whether local variables are known to be of the types that were noted.
+fn are_as_before(objects: &[Overwritten], locals: &[VType]) -> bool
+    ensures { MatchBool result (AllWere locals.now objects.now) (Unit {0}) }
+{
+    let mut rest = objects;
+    while let Some((o, behind)) = rest.split_first() {
+        if !is_same_type(type_at(locals, o.slot), o.was) {
+            return false;
+        }
+        rest = behind;
+    }
+    true
 }
 
 impl Watch {
     /// Whether the local variables after the instruction are known to be those before it.
-    pub fn is_kept(self, locals: &[VType]) -> bool
-        ensures { MatchBool result (ShowsKept self locals.now) (Unit {0}) }
+    pub fn is_kept(&self, locals: &[VType]) -> bool
+        ensures { MatchBool result (ShowsKept self.now locals.now) (Unit {0}) }
     {
         match self {
             Watch::Kept => true,
-            Watch::Store(n, was) => are_same(types_around(locals, n), was),
+            Watch::Store(n, was) => are_same(types_around(locals, *n), *was),
+            Watch::Objects(objects) => are_as_before(objects, locals),
             Watch::Changed => false,
         }
     }

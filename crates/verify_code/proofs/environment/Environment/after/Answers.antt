@@ -8,15 +8,15 @@ use Rattle.verify_frames.proofs.KnownStateLaws.{holds_after}
 use Rattle.verify_code.proofs.WalkLaws.{gives_broken, gives_kept}
 use Rattle.verify_code.proofs.environment.Environment.after.Goals as goal
 
-pub returns-in_ok-broken_rule-in-Err : goal.returns-in_ok-broken_rule-in-Err
-returns-in_ok-broken_rule-in-Err g c =
+pub returns : goal.returns
+returns g c =
     ap (λ (env : Environment). state_after env (instruction_of c.args.i.now c.args.naming) (type_state c.args.s)) (sym c.self.view_is)
-    ∙ gives_broken c.apply.result _ _ c.in-Err.stop c.in_ok-broken_rule-in-Err.field-0 c.apply.ensures c.in-Err.is c.in_ok-broken_rule-in-Err.ensures
+    ∙ gives_broken c.apply-applied.result _ _ c.in-Err.stop c.in_ok-broken_rule-in-Err.field-0 c.apply-applied.ensures c.in-Err.is c.in_ok-broken_rule-in-Err.ensures
 
 pub returns-in-Ok : goal.returns-in-Ok
 returns-in-Ok g c =
     let i = instruction_of c.args.i.now c.args.naming in
     let is =
     ap (λ (env : Environment). state_after env i (type_state c.args.s)) (sym c.self.view_is)
-    ∙ gives_kept c.apply.result (state_in c.apply.new.self) _ c.in-Ok.field-0 c.apply.ensures c.in-Ok.is in
-    holds_after c.args.self.now i c.args.s c.known_after-after.result c.in_ok-like.like c.watched-watch.result c.apply.new.self c.requires.holds is c.in_ok-like.ensures c.watched-watch.ensures c.known_after-after.ensures
+    ∙ gives_kept c.apply-applied.result (state_in c.apply-applied.new.self) _ c.in-Ok.field-0 c.apply-applied.ensures c.in-Ok.is in
+    holds_after c.args.self.now i c.args.s c.known_after-after.result c.in_ok-like.like c.in_ok-watch.watch c.apply-applied.new.self c.requires.holds is c.in_ok-like.ensures c.in_ok-watch.ensures c.known_after-after.ensures

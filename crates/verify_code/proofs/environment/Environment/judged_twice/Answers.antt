@@ -12,5 +12,5 @@ pub returns-in-Some-taken : goal.returns-in-Some-taken
 returns-in-Some-taken g c =
     let env = c.args.self.now in
     let stored = c.in-Some-stored.stored in
-    judged_by_store env (type_state c.args.s.now) c.args.s.now.stored stored c.types_around-around.result c.taken.result c.in-Some-taken.other c.requires.holds.stored c.in-Some-stored.is
-    (c.types_around-around.ensures ∙ ap (λ (ls : List VType). around ls stored.local) c.locals.ensures) (c.taken.ensures env c.requires.taken) c.in-Some-taken.is
+    judged_by_store env (type_state c.args.s.now) c.args.s.now.stored stored c.in-Store.local c.types_around-around.result c.taken.result c.in-Some-taken.other c.requires.holds.stored c.in-Some-stored.is c.in-Store.is
+    (c.types_around-around.ensures ∙ ap (λ (ls : List VType). around ls c.in-Store.local) c.locals.ensures) (c.taken.ensures env c.requires.taken) c.in-Some-taken.is

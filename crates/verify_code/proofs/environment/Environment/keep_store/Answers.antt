@@ -14,5 +14,5 @@ returns g c =
     kept_store _ _ _ env c.put.result c.put.ensures c.requires.taken (record {
       state = s;
       judged = subst (λ (o : Option Judged). IfSome o (IsJudged env s)) c.in-Some-judged.is c.requires.judged;
-      around = sym (c.types_around-around.ensures ∙ ap (λ (ls : List VType). around ls c.in-Some.stored.local) c.locals.ensures);
+      around = sym (c.types_around-around.ensures ∙ ap (λ (ls : List VType). around ls c.in-Store.local) c.locals.ensures);
     })
