@@ -33,6 +33,8 @@ mod native_texts;
 #[cfg(test)]
 mod permits;
 #[cfg(test)]
+mod runs;
+#[cfg(test)]
 mod sleepers;
 #[cfg(test)]
 mod stack_map_frames;

@@ -10,3 +10,4 @@ pub mod CallLaws
 pub mod ReturnLaws
 pub mod KeepLaws
 pub mod HistoryLaws
+pub mod KeptLaws

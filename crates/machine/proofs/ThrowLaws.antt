@@ -1,6 +1,6 @@
 -- What the machine throws.
 use Rattle.std.proofs.Common.{◌≡◌, ℕ, List, Option, Some, None, Result, Ok, Err, ap, sym, ◌∙◌}
-use Rattle.std.specs.Prelude.{OnOk, unwrap_or}
+use Rattle.std.specs.Prelude.{IfOk, OnOk, unwrap_or}
 use Rattle.items.proofs.Binds.{bind_is}
 use Rattle.instruction_rows.specs.declared.value.Value.{Value}
 use Rattle.heap_objs.specs.Heap.{Heap}
@@ -21,6 +21,11 @@ use Rattle.machine.specs.States.{state_of}
 pub on_ok : {A E : Type 0} {X Y : Type 0} (r : Result A E) → OnOk r X → (X → Y) → OnOk r Y
 on_ok (Ok x) is f = f is
 on_ok (Err e) is f = tt
+
+-- the same of what holds of the value
+pub if_ok : {A E : Type 0} (P Q : A → Type 0) (r : Result A E) → IfOk r P → ((x : A) → P x → Q x) → IfOk r Q
+if_ok P Q (Ok x) is f = f x is
+if_ok P Q (Err e) is f = tt
 
 -- the parts that throw an object, in a heap
 abbrev pub thrown : Parts → Heap → ℕ → Parts

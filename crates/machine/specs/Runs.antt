@@ -8,9 +8,6 @@ use Rattle.history.specs.Java.{java}
 use Rattle.ref_model.specs.declared.ending.Ending.{Ending}
 use Rattle.ref_model.specs.declared.ending.Ending.TheVariants.{Limit}
 use Rattle.ref_model.specs.declared.ending.Which.TheVariants.{Events}
-use Rattle.ref_model.specs.declared.limits.Limits.{Limits}
-use Rattle.world_model.specs.World.{World}
-use Rattle.typed_frames.specs.TypedStates.{IsTypedState}
 use Rattle.ref_model.specs.Setting.{Setting}
 use Rattle.ref_model.specs.Opening.{opening}
 use Rattle.ref_model.specs.State.{State}
@@ -41,11 +38,6 @@ abbrev pub IsTold : Setting → ℕ → Option Ending → Ending → Type 0
 IsTold p entries (Some e) told = told ≡ e
 IsTold p entries None told = (told ≡ Limit Events p.limits.events) × (p.limits.events < entries + entries_left)
 
--- how a run ended, by how the program did
-abbrev pub told_of : Limits → Option Ending → Ending
-told_of limits (Some e) = e
-told_of limits None = Limit Events limits.events
-
 -- In each entry of the history all steps but the last are local instructions; the last is none, or it is an invokestatic, or the step after
 -- 10,000 local instructions. (own)
 abbrev pub AreGrouped : Setting → List Entry → Type 0
@@ -55,13 +47,6 @@ AreGrouped p history = (r : State) → opening p ≡ Some r → are_grouped_from
 -- entry has one step at least, and a step of a thread that is mounted and unmounted again takes three entries.
 abbrev pub IsComplete : Setting → State → Type 0
 IsComplete p last = (n : ℕ) (q : State) (e : Ending) → alone p n ≡ Some q → ending q ≡ Some e → 3 * n + 3 ≤ p.limits.events → last ≡ q
-
--- the entries of the main thread lead from one state to the other, in which it may go on
-pub record Ran (w : World) (r : State) (history : List Entry) (q : State) : Type 0 where
-  pub runs : (p : Setting) → p.world ≡ w → opening p ≡ Some r → run p history ≡ Some q
-  pub entries : AllByRecursion IsMainEntry history
-  pub grouped : (p : Setting) → p.world ≡ w → opening p ≡ Some r → are_grouped_from p history (first_outcome r) ≡ true
-  pub typed : IsTypedState w q
 
 -- The history, without its mount and unmount entries, is one of the reference machine, whose entries are grouped; the run ended so, and
 -- what the program wrote to its two streams is the output of that history. A program that ends in time has ended.

@@ -1,5 +1,5 @@
 -- Steps of the main thread that leave a state which keeps to the typing.
-use Rattle.std.specs.Prelude.{◌≡◌, ℕ, suc, ◌<◌, true, List, Some, slice_get}
+use Rattle.std.specs.Prelude.{◌≡◌, ℕ, suc, ◌<◌, true, List, [], ◌∷◌, ◌++◌, Some, slice_get}
 use Rattle.vthread_state.specs.declared.phase.Phase.TheVariants.{Run}
 use Rattle.vthread_state.specs.declared.thread.Status.TheVariants.{Live}
 use Rattle.world_model.specs.World.{World}
@@ -8,6 +8,8 @@ use Rattle.typed_frames.specs.TypedStates.{IsTypedState}
 use Rattle.ref_model.specs.State.{JavaThread, State, with_frames}
 use Rattle.ref_model.specs.LocalRows.{rows}
 use Rattle.ref_model.specs.Entries.{is_grouped}
+use Rattle.history.specs.declared.entry.Entry.{Entry}
+use Rattle.machine.specs.Runs.{main_entry}
 use Rattle.machine.specs.States.{IsStep}
 
 -- A thread whose frames are those of the state after so many local instructions, which the history doesn't have yet. (own)
@@ -29,3 +31,9 @@ pub record Advances (w : World) (n : ℕ) (r q : State) : Type 0 where
   pub ahead : IsAhead w r 0 n frames
   pub grouped : is_grouped w r 0 (suc n) ≡ true
   pub kept : IsKept w (with_frames r 0 frames) q
+
+-- an entry was appended to the history, which led from one state to the other
+pub record IsMade (w : World) (r : State) (old new : List Entry) (q : State) : Type 0 where
+  pub local : ℕ
+  pub entries : new ≡ old ++ main_entry local ∷ []
+  pub advances : Advances w local r q

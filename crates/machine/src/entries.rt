@@ -1,6 +1,6 @@
 //! Entries of the history: local instructions, and one more step after them.
 
-ghost use Rattle.std.specs.Prelude.{◌≡◌, ◌≤◌, None, IfOk};
+ghost use Rattle.std.specs.Prelude.{◌≡◌, ◌≤◌, ◌+◌, ◌-◌, None, length, vec_capacity, IfOk, OnErr, OnOk};
 ghost use Rattle.ref_model.specs.Ending.{ending};
 ghost use Rattle.typed_frames.specs.TypedStates.{IsTypedState};
 ghost use Rattle.vthread_state.specs.declared.phase.Phase.TheVariants.{Run, Throwing};
@@ -8,12 +8,14 @@ ghost use Rattle.vthread_state.specs.declared.thread.Status.TheVariants.{Live};
 ghost use Rattle.method_calls.specs.Selections.{AreSelected};
 ghost use Rattle.machine.specs.Ready.{IsReady};
 ghost use Rattle.machine.specs.States.{state_of};
-ghost use Rattle.machine.specs.Steps.{Advances};
+ghost use Rattle.machine.specs.Runs.{main_entry};
+ghost use Rattle.machine.specs.Steps.{Advances, IsMade};
 
 use crate::last_steps::{fetched_step, unwinding_step};
 use crate::local::{MOST_LOCAL, go_on, makes_more, run_top};
 use crate::parts::Parts;
 use continuation::Mounted;
+use history::{Entry, What};
 use items::NoMemory;
 use jvm_edges::Gate;
 use method_calls::Selections;
@@ -72,9 +74,9 @@ fn throwing_entry(
     Ok(0)
 }
 
-/// The next entry of the main thread: the answer is how many local instructions come before its last step. The gate is passed before them.
+// The steps of the main thread's next entry: the answer is how many local instructions come before its last step. The gate is passed before them.
 #[inline(always)]
-pub(crate) fn advance<G: Gate>(
+fn advance<G: Gate>(
     alloc: Global,
     program: &ReadyProgram,
     selections: &mut Selections,
@@ -100,4 +102,48 @@ pub(crate) fn advance<G: Gate>(
         Status::Live(Phase::Throwing(o)) => { throwing_entry(alloc, program, parts, mounted, o) }
         _ => Err(NoMemory),
     }
+}
+
+// An entry of carrier 0: so many local instructions of thread 0, and one more step.
+#[inline(always)]
+fn entry(local: u32) -> Entry
+    requires { local ≤ 10000 }
+    ensures { result ≡ main_entry local }
+{
+    Entry {
+        carrier: 0,
+        what: What::Step {
+            thread: 0,
+            steps: local + 1,
+            pick: None,
+        },
+    }
+}
+
+/// Makes the next entry of the main thread, and appends it to the history. The gate is passed before its local instructions.
+#[inline(always)]
+pub(crate) fn make_entry<G: Gate>(
+    alloc: Global,
+    program: &ReadyProgram,
+    selections: &mut Selections,
+    parts: &mut Parts,
+    mounted: &mut Mounted,
+    history: &mut Vec<Entry>,
+    gate: &G,
+) -> Result<(), NoMemory>
+    requires ready { IsReady program.now }
+    requires typed { IsTypedState program.now (state_of parts.old mounted.old.stack.frames) }
+    requires going { ending (state_of parts.old mounted.old.stack.frames) ≡ None }
+    requires selected { AreSelected program.now selections.old }
+    ensures made { OnOk result (IsMade program.now
+        (state_of parts.old mounted.old.stack.frames) history.old.items history.new.items
+        (state_of parts.new mounted.new.stack.frames)) }
+    ensures kept { OnErr result (history.new.items ≡ history.old.items) }
+    ensures spare { vec_capacity history.old - length history.old.items
+        ≤ vec_capacity history.new - length history.new.items + 1 }
+    ensures selections { AreSelected program.now selections.new }
+{
+    let local = advance(alloc, program, selections, parts, mounted, gate)?;
+    history.push(entry(local))?;
+    Ok(())
 }

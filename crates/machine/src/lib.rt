@@ -8,6 +8,7 @@ mod events;
 mod execution;
 mod last_steps;
 mod local;
+mod machine_state;
 mod parts;
 mod program_run;
 mod returns;
@@ -15,6 +16,7 @@ mod throwing;
 mod world;
 
 pub use execution::Execution;
+pub use machine_state::Machine;
 pub use parts::Parts;
 pub use program_run::run;
 pub use world::MachineWorld;

@@ -1,12 +1,11 @@
-use Rattle.std.proofs.Common.{◌≡◌, length}
-use Rattle.method_calls.specs.Selections.{AreSelected}
-use Rattle.machine.specs.Runs.{Ran}
-use Rattle.machine.specs.States.{state_of}
+use Rattle.std.proofs.Common.{◌≡◌, ◌-◌, false, length}
 use Rattle.machine.proofs.program_run.run_on.Given as goal
 
-abbrev pub invariant-loop : goal.invariant-loop
-invariant-loop g l = record {
-  ran : Ran l.program (state_of l.fn.parts l.fn.mounted.stack.frames) l.history.items (state_of l.parts l.mounted.stack.frames);
-  count : length l.history.items ≡ l.counter;
-  selected : AreSelected l.program l.selections;
+abbrev pub invariant-loop-ending : goal.invariant-loop-ending
+invariant-loop-ending g l = record {
+  works : l.machine.given_up ≡ false;
+  setting : l.machine.setting ≡ l.fn.machine.setting;
 }
+
+abbrev pub decreases-loop-ending : goal.decreases-loop-ending
+decreases-loop-ending g l = l.machine.setting.limits.events - length l.machine.history

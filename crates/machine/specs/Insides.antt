@@ -1,0 +1,50 @@
+-- What the parts of a machine have to do with its history.
+use Rattle.std.specs.Prelude.{◌≡◌, ◌-◌, Bool, false, List, [], ◌∷◌, length, vec_capacity}
+use Rattle.history.specs.declared.entry.Entry.{Entry}
+use Rattle.state_model.specs.Frames.{Frame}
+use Rattle.ref_model.specs.Setting.{Setting}
+use Rattle.ref_model.specs.State.{State}
+use Rattle.opening.specs.Openings.{setting}
+use Rattle.typed_frames.specs.TypedStates.{IsTypedState}
+use Rattle.method_calls.specs.Selections.{AreSelected, Kept}
+use Rattle.machine.specs.declared.parts.Parts.{Parts}
+use Rattle.machine.specs.declared.machine_state.Machine.TheInside.{Inside}
+use Rattle.machine.specs.Machines.{IsLegal, Known}
+use Rattle.machine.specs.Ready.{IsReady}
+use Rattle.machine.specs.States.{main_thread}
+
+-- These parts and frames are those of a state of the reference machine.
+pub record AreParts (a : Parts) (frames : List Frame) (q : State) : Type 0 where
+  pub heap : a.natives.heap.objects ≡ q.heap
+  pub room : a.natives.heap.cells - a.natives.heap.used ≡ q.room
+  pub statics : a.statics.items ≡ q.statics
+  pub threads : main_thread a.status frames ∷ [] ≡ q.threads
+  pub now : 0 ≡ q.now
+  pub out : a.natives.out.items ≡ q.out
+  pub err : a.natives.err.items ≡ q.err
+  pub main_threw : a.main_threw ≡ q.main_threw
+  pub exited : a.natives.exited ≡ q.exited
+
+-- The history is one of the reference machine, and the parts and frames are those of the state that it gives, unless the machine gave up.
+pub record IsKept (p : Setting) (a : Parts) (frames : List Frame) (selections : Kept) (history : List Entry) (given_up : Bool) : Type 0 where
+  pub ready : IsReady p.world
+  pub legal : IsLegal p history
+  pub typed : IsTypedState p.world legal.state
+  pub parts : given_up ≡ false → AreParts a frames legal.state
+  pub selected : AreSelected p.world selections
+
+-- ---- a machine by its fields
+
+abbrev pub setting_in : Inside → Setting
+setting_in a = setting a.program.now a.main a.limits
+
+abbrev pub known : Inside → Known
+known a = record {
+  setting = setting_in a;
+  history = a.history.items;
+  spare = vec_capacity a.history - length a.history.items;
+  given_up = a.given_up;
+}
+
+abbrev pub IsSound : Inside → Type 0
+IsSound a = IsKept (setting_in a) a.parts a.mounted.stack.frames a.selections a.history.items a.given_up
