@@ -12,7 +12,7 @@ use Rattle.verify_instructions.specs.declared.state.Uninitialized.{Uninitialized
 use Rattle.verify_instructions.specs.declared.state.Uninitialized.TheVariants as objects
 
 abbrev pub types_in : Inside → Contents VType
-types_in a = record { locals = a.locals; stack = a.stack }
+types_in a = record { locals = a.slots.value.locals; stack = a.slots.value.stack }
 
 abbrev pub state_in : State → TypeState
 state_in s = record { types = s.types; this_uninit = s.this_uninit }

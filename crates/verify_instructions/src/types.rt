@@ -22,11 +22,17 @@ use stack_maps::VType;
 use std::alloc::{AllocError, Global};
 use std::marker::Model;
 
-/// The types of a frame, slot by slot (JVMS 4.10.1.4).
+// The types of the local variables and of the operand stack.
 #[derive(Drop)]
-pub struct Types {
+struct SlotTypes {
     locals: Locals,
     stack: OperandStack,
+}
+
+/// The types of a frame, slot by slot (JVMS 4.10.1.4). They lie in memory of their own, since a state is handed on at each instruction.
+#[derive(Drop)]
+pub struct Types {
+    slots: Box<SlotTypes>,
 }
 
 impl Model for Types {
@@ -48,7 +54,8 @@ impl Types {
     {
         let locals = Locals::new(alloc, locals)?;
         let stack = OperandStack::new(alloc, stack)?;
-        Ok(Types { locals, stack })
+        let slots = Box::new(alloc, SlotTypes { locals, stack })?;
+        Ok(Types { slots })
     }
 
     /// The same with another operand stack, the top of which is its last item.
@@ -56,30 +63,31 @@ impl Types {
         ensures locals { IfOk result (λ types. types.locals ≡ self.locals) }
         ensures stack { IfOk result (λ types. types.stack ≡ reverse stack.items) }
     {
-        let Types { locals, stack: _ } = self;
-        let stack = OperandStack::new(alloc, stack)?;
-        Ok(Types { locals, stack })
+        let Types { slots } = self;
+        let mut slots = slots;
+        slots.stack = OperandStack::new(alloc, stack)?;
+        Ok(Types { slots })
     }
 
     /// The types of the local variables.
     pub fn locals(&self) -> &[VType]
         ensures { result.now ≡ self.now.locals }
     {
-        self.locals.as_slice()
+        self.slots.locals.as_slice()
     }
 
     /// Slots of local variables, among them each whose type is that of an object that isn't initialized.
     pub fn unfinished(&self) -> &[usize]
         ensures { AreListed result.now self.now.locals }
     {
-        self.locals.unfinished()
+        self.slots.locals.unfinished()
     }
 
     /// The types of the operand stack, its top last.
     pub fn stack(&self) -> &[VType]
         ensures { reverse result.now ≡ self.now.stack }
     {
-        self.stack.as_slice()
+        self.slots.stack.as_slice()
     }
 
     // Takes a long.
@@ -87,9 +95,9 @@ impl Types {
         ensures popped { Takes result self.new.stack (spec.type_popped Kind.Long self.old.stack) }
         ensures locals { self.new.locals ≡ self.old.locals }
     {
-        match self.stack.pop() {
+        match self.slots.stack.pop() {
             None => Err(Stop::Broken(RowWhy::Depth)),
-            Some(VType::Top) => match self.stack.pop() {
+            Some(VType::Top) => match self.slots.stack.pop() {
                 Some(VType::Long) => Ok(VType::Long),
                 _ => Err(Stop::Broken(RowWhy::Kind)),
             },
@@ -102,7 +110,7 @@ impl Types {
         ensures popped { Takes result self.new.stack (spec.type_popped Kind.Int self.old.stack) }
         ensures locals { self.new.locals ≡ self.old.locals }
     {
-        match self.stack.pop() {
+        match self.slots.stack.pop() {
             None => Err(Stop::Broken(RowWhy::Depth)),
             Some(VType::Int) => Ok(VType::Int),
             Some(_) => Err(Stop::Broken(RowWhy::Kind)),
@@ -115,7 +123,7 @@ impl Types {
             (spec.type_popped Kind.Reference self.old.stack) }
         ensures locals { self.new.locals ≡ self.old.locals }
     {
-        match self.stack.pop() {
+        match self.slots.stack.pop() {
             None => Err(Stop::Broken(RowWhy::Depth)),
             Some(t) => match kind_of_type(t) {
                 Some(Kind::Reference) => Ok(t),
@@ -142,9 +150,9 @@ impl Types {
         ensures locals { self.new.locals ≡ self.old.locals }
         ensures full { OnErr result (result ≡ Err Stop.NoMemory) }
     {
-        self.stack.push(t)?;
+        self.slots.stack.push(t)?;
         if is_wide(t) {
-            self.stack.push(VType::Top)?;
+            self.slots.stack.push(VType::Top)?;
         }
         Ok(())
     }
@@ -155,7 +163,7 @@ impl Types {
             (λ t. self.old.stack ≡ t ∷ self.new.stack) }
         ensures locals { self.new.locals ≡ self.old.locals }
     {
-        self.stack.pop()
+        self.slots.stack.pop()
     }
 
     /// Pushes the type of one slot.
@@ -164,7 +172,7 @@ impl Types {
         ensures locals { self.new.locals ≡ self.old.locals }
         ensures full { OnErr result (result ≡ Err Stop.NoMemory) }
     {
-        self.stack.push(t)?;
+        self.slots.stack.push(t)?;
         Ok(())
     }
 
@@ -177,7 +185,7 @@ impl Types {
         if n >= self.local_count() {
             return Err(Stop::Broken(RowWhy::Locals));
         }
-        self.locals.set(n, t)?;
+        self.slots.locals.set(n, t)?;
         Ok(())
     }
 
@@ -186,7 +194,7 @@ impl Types {
         ensures locals { OnOk result (self.new.locals ≡ slice_set self.old.locals slot t) }
         ensures stack { self.new.stack ≡ self.old.stack }
     {
-        self.locals.set(slot, t)
+        self.slots.locals.set(slot, t)
     }
 
     // A long before this local variable loses its second slot.
@@ -201,7 +209,7 @@ impl Types {
             return;
         };
         if is_wide(*before) {
-            self.locals.unset(n - 1);
+            self.slots.locals.unset(n - 1);
         }
     }
 
@@ -276,7 +284,7 @@ impl Types {
     pub fn depth(&self) -> usize
         ensures { result ≡ length self.now.stack }
     {
-        self.stack.len()
+        self.slots.stack.len()
     }
 
     /// How many local variables there are.
@@ -318,7 +326,7 @@ impl Types {
     pub fn has_operand(&self, object: Uninitialized) -> bool
         ensures { result ≡ list_any (is_object object) self.now.stack }
     {
-        self.stack.has(object)
+        self.slots.stack.has(object)
     }
 
     /// Gives local variables that hold the object another type.
@@ -326,7 +334,7 @@ impl Types {
         ensures locals { self.new.locals ≡ replaced (is_object object) t self.old.locals }
         ensures stack { self.new.stack ≡ self.old.stack }
     {
-        self.locals.replace(object, t);
+        self.slots.locals.replace(object, t);
     }
 
     /// Gives operands that are the object another type.
@@ -336,7 +344,7 @@ impl Types {
         ensures locals { self.new.locals ≡ self.old.locals }
         ensures full { OnErr result (result ≡ Err Stop.NoMemory) }
     {
-        self.stack.replace(object, t)?;
+        self.slots.stack.replace(object, t)?;
         Ok(())
     }
 }
