@@ -1,5 +1,5 @@
 //! Texts of which each byte is a unit by itself, sixteen bytes at a time (JVMS 4.4.7). What is looked at together may go on
-//! behind the text.
+//! behind the text, by fifteen bytes at most.
 
 ghost use Rattle.std.specs.Prelude.{◌≡◌, ◌<◌, ◌≤◌, ◌+◌, ◌++◌, length, take, drop, OnOk};
 ghost use Rattle.std.specs.List.{list_all, prefix_len};
