@@ -15,6 +15,8 @@ mod class_sketch;
 #[cfg(test)]
 mod code_sketch;
 #[cfg(test)]
+mod counted;
+#[cfg(test)]
 mod edges;
 #[cfg(test)]
 mod first_states;
