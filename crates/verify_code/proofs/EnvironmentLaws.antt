@@ -40,3 +40,7 @@ has_frames w m code ns cs first bytes frames guards begins is e decoded guarded 
 -- what holds of all holds of those after the first
 pub behind_all : (P : ℕ → Type 0) (xs ys : List ℕ) (x : ℕ) → xs ≡ x ∷ ys → All P xs → All P ys
 behind_all P xs ys x e h = λ k d low. let all : All P (x ∷ ys) = subst (λ zs. All P zs) e h in all (suc k) d (omega arith)
+
+-- and of the first
+pub first_all : (P : ℕ → Type 0) (xs ys : List ℕ) (x : ℕ) → xs ≡ x ∷ ys → All P xs → P x
+first_all P xs ys x e h = let all : All P (x ∷ ys) = subst (λ zs. All P zs) e h in all 0 x (omega arith)

@@ -1,11 +1,10 @@
 //! Where the state after an instruction goes (JVMS 4.10.1.9), compared with the frames of the stack map there.
 
 ghost use Rattle.std.specs.Prelude.{◌≡◌, ◌&&◌, ◌||◌, IfOk, MatchBool};
-ghost use Rattle.std.specs.List.{All};
 ghost use Rattle.instruction_rows.specs.Table.{row};
 ghost use Rattle.verify_types.specs.Faults.{fits_next};
 ghost use Rattle.verify_types.specs.TypeStates.{TypeState};
-ghost use Rattle.verify_frames.specs.KnownStates.{FitsLocals, Holds, MayBeLike, MayFit, type_state};
+ghost use Rattle.verify_frames.specs.KnownStates.{AllFit, FitsBut, FitsLocals, Holds, MayBeLike, MayFit, type_state};
 ghost use Rattle.verify_code.specs.Walks.{goes_to};
 
 use crate::environment::Environment;
@@ -76,16 +75,20 @@ impl<'a, L: Lookups> Environment<'a, L> {
         &self,
         alloc: Global,
         s: &KnownState,
+        slots: &[usize],
         other: u32,
         pc: u32,
     ) -> Result<bool, NoMemory>
-        ensures { IfOk result (λ b. FitsLocals self.now (type_state s.now) other
+        ensures { IfOk result (λ b. FitsBut self.now slots.now (type_state s.now) other
             → MatchBool b (FitsLocals self.now (type_state s.now) pc) (Unit {0})) }
     {
         let there = Like::new(alloc, other);
         let near = self.frames.near(alloc, &there, pc)?;
         match near {
             Some(near) => {
+                if !self.fits_wholly(s, slots, other) {
+                    return Ok(false);
+                }
                 let others = &near.overwritten;
                 Ok(are_assignable(self.world, others, s.state.types.locals()))
             }
@@ -98,15 +101,15 @@ impl<'a, L: Lookups> Environment<'a, L> {
         &self,
         alloc: Global,
         s: &KnownState,
-        pcs: &[u32],
+        fitted: &Fitted,
         pc: u32,
     ) -> Result<bool, NoMemory>
-        ensures { IfOk result (λ b. All (FitsLocals self.now (type_state s.now)) pcs.now
+        ensures { IfOk result (λ b. AllFit self.now (type_state s.now) fitted.now
             → MatchBool b (FitsLocals self.now (type_state s.now) pc) (Unit {0})) }
     {
-        let mut rest = pcs;
+        let mut rest: &[u32] = &fitted.pcs;
         while let Some((other, behind)) = rest.split_first() {
-            if self.fits_near(alloc, s, *other, pc)? {
+            if self.fits_near(alloc, s, &fitted.changed, *other, pc)? {
                 return Ok(true);
             }
             rest = behind;
@@ -125,7 +128,7 @@ impl<'a, L: Lookups> Environment<'a, L> {
         if self.among(&fitted.pcs, pc).is_some() {
             return Ok(None);
         }
-        if self.fits_near_one(alloc, s, &fitted.pcs, pc)? {
+        if self.fits_near_one(alloc, s, fitted, pc)? {
             Ok(Some(pc))
         } else {
             Ok(None)

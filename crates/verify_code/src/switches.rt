@@ -1,6 +1,6 @@
 //! Targets (JVMS 4.10.1.9): many frames may have the same local variables, which are then compared once.
 
-ghost use Rattle.std.specs.Prelude.{◌≡◌, [], ◌∷◌, ℤ, Bool, IfOk, IfSome, true};
+ghost use Rattle.std.specs.Prelude.{◌≡◌, [], ◌∷◌, ℕ, ℤ, Bool, IfOk, IfSome, List, MatchBool, true};
 ghost use Rattle.std.specs.List.{All, list_all};
 ghost use Rattle.std.specs.Option.{option_map_or};
 ghost use Rattle.instruction_rows.specs.Rows.{targets_of_row};
@@ -10,14 +10,14 @@ ghost use Rattle.verify_types.specs.Environment.{map_at};
 ghost use Rattle.verify_types.specs.Faults as spec;
 ghost use Rattle.verify_types.specs.Handlers as handlers;
 ghost use Rattle.verify_types.specs.TypeStates.{TypeState};
-ghost use Rattle.verify_frames.specs.KnownStates.{Compares, FitsLocals, Holds, MayFit, type_state};
+ghost use Rattle.verify_frames.specs.KnownStates.{AllFit, Compares, FitsBut, FitsLocals, Holds, MayFit, type_state};
 
 use crate::environment::Environment;
 use crate::targets::pc_of;
 use items::NoMemory;
 use opcodes::{LookupSwitch, Match, Op, TableSwitch};
 use std::alloc::Global;
-use verify_frames::{Frame, KnownState};
+use verify_frames::{Fitted, Frame, KnownState};
 use world_model::Lookups;
 
 // A target of an instruction. `None`: it has none.
@@ -79,7 +79,8 @@ impl<'a, L: Lookups> Environment<'a, L> {
 
     /// A frame with the local variables of the one at a pc, among these. `None`: there is none.
     pub fn among(&self, pcs: &[u32], pc: u32) -> Option<u32>
-        ensures { (s : TypeState) → All (FitsLocals self.now s) pcs.now → MayFit self.now s result }
+        ensures { (s : TypeState) (slots : List ℕ) → All (FitsBut self.now slots s) pcs.now
+            → IfSome result (FitsBut self.now slots s) }
     {
         let mut rest = pcs;
         while let Some((other, behind)) = rest.split_first() {
@@ -91,13 +92,41 @@ impl<'a, L: Lookups> Environment<'a, L> {
         None
     }
 
+    /// Whether a state fits the local variables of a frame, where it does so but for some.
+    pub fn fits_wholly(&self, s: &KnownState, slots: &[usize], pc: u32) -> bool
+        ensures { FitsBut self.now slots.now (type_state s.now) pc
+            → MatchBool result (FitsLocals self.now (type_state s.now) pc) (Unit {0}) }
+    {
+        if !self
+            .frames
+            .takes(self.world, pc, s.state.types.locals(), slots)
+        {
+            return false;
+        }
+        true
+    }
+
+    // The same among these, where a state fits it.
+    fn fitted_among(&self, s: &KnownState, fitted: &Fitted, pc: u32) -> Option<u32>
+        ensures { AllFit self.now (type_state s.now) fitted.now
+            → MayFit self.now (type_state s.now) result }
+    {
+        let Some(other) = self.among(&fitted.pcs, pc) else {
+            return None;
+        };
+        if !self.fits_wholly(s, &fitted.changed, other) {
+            return None;
+        }
+        Some(other)
+    }
+
     // The same among those that a state is known to fit.
     fn known_fitted(&self, s: &KnownState, pc: u32) -> Option<u32>
         requires { Holds self.now s.now }
         ensures { MayFit self.now (type_state s.now) result }
     {
         match &s.fitted {
-            Some(fitted) => self.among(&fitted.pcs, pc),
+            Some(fitted) => self.fitted_among(s, fitted, pc),
             None => None,
         }
     }

@@ -269,7 +269,7 @@ impl<'a, L: Lookups> Environment<'a, L> {
         let like = like_behind(&i.op, like, &state.types)?;
         let mut state = state;
         let applied = state.apply(self.world, &self.method, i.pc as u16, naming, &i.op);
-        let after = known_after(state, this_uninit, watch, like, judged, fitted);
+        let after = known_after(state, this_uninit, watch, like, judged, fitted)?;
         match applied {
             Ok(()) => Ok(After::Kept(after)),
             Err(stop) => Ok(After::Broken(broken_rule(stop)?)),

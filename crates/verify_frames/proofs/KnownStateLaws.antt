@@ -1,5 +1,6 @@
 -- States with the local variables of a frame of the map.
-use Rattle.std.proofs.Common.{◌≡◌, ℕ, Bool, true, false, cond, List, [], Option, Some, None, Ok, refl, ap, sym, subst, ◌∙◌}
+use Rattle.std.proofs.Common.{◌≡◌, ℕ, suc, Bool, true, false, cond, eqb, List, [], ◌∷◌, length, Option, Some, None, Ok, refl, ap, sym, subst, ◌∙◌, arith}
+use Rattle.std.proofs.lemmas.Bool.{eqb-true}
 use Rattle.std.specs.Prelude.{◌&&◌, ◌||◌, not, reverse, is_some, IfSome}
 use Rattle.std.specs.List.{All}
 use Rattle.std.specs.Option.{option_map, option_map_or}
@@ -22,23 +23,28 @@ use Rattle.verify_frames.specs.declared.known_state.Fitted.{Fitted}
 use Rattle.verify_frames.specs.declared.known_state.KnownState.{KnownState}
 use Rattle.verify_frames.specs.FramePaths.{entry_in, frame_types, state_where}
 use Rattle.verify_frames.specs.Frames.{frame_at, frame_in}
+use Rattle.verify_frames.specs.Takes.{Takes}
 use Rattle.verify_frames.specs.declared.overwritten.Like.{Like}
 use Rattle.verify_frames.specs.declared.overwritten.Overwritten.{Overwritten}
 use Rattle.verify_instructions.specs.Views.{state_in}
 use Rattle.verify_instructions.specs.declared.state.State.{State}
 use Rattle.verify_frames.specs.declared.watch.Watch.{Watch}
 use Rattle.verify_frames.specs.Watches.{Watches}
-use Rattle.verify_frames.specs.Overwrites.{AreBut, IsRestored, NotedBehind, are_assignable, overwritten_since}
+use Rattle.verify_frames.specs.Overwrites.{type_at, AreBut, IsRestored, NotedBehind, are_assignable, overwritten_since}
 use Rattle.verify_frames.specs.Overwrites.NotedBehind.{leaves, stores, objects}
-use Rattle.verify_frames.specs.KnownStates.{AllHold, BothHold, Compares, FitAll, FitsLocals, MayBeLike, MayFit, KnownAfter, states_after, stored_by, IsStored, either_of, going, IsJudged, IsLike, IsOver, IsShared, Holds, type_state}
+use Rattle.verify_frames.specs.KnownStates.{AllFit, AllHold, AreBehind, FitsBut, Spares, written_by, BothHold, Compares, FitAll, FitsLocals, MayBeLike, MayFit, KnownAfter, states_after, stored_by, IsStored, either_of, going, IsJudged, IsLike, IsOver, IsShared, Holds, type_state}
 use Rattle.verify_frames.specs.KnownStates.KnownAfter.{nothing, changed, kept}
-use Rattle.verify_frames.proofs.OverwriteLaws.{fits_but, none_left, none_noted, objects_noted}
+use Rattle.verify_frames.proofs.OverwriteLaws.{all_by_number, fits_but, one_by_one, none_left, none_noted, objects_noted}
 use Rattle.verify_frames.proofs.StoreLaws.{after_stored}
 use Rattle.verify_frames.specs.declared.known_state.Judged.{Judged}
 use Rattle.verify_frames.specs.declared.watch.Watch.TheVariants as kinds
 use Rattle.verify_frames.specs.declared.known_state.Stored.{Stored}
+use Rattle.verify_frames.specs.declared.known_state.Written.{Written}
+use Rattle.verify_frames.specs.declared.known_state.Written.TheVariants as writes
+use Rattle.verify_instructions.specs.Unfinished.{is_listed}
 use Rattle.verify_frames.proofs.KeepLaws.{after_kept}
 use Rattle.verify_frames.proofs.FinishLaws.{after_finished}
+use Rattle.verify_frames.proofs.NearLaws.{as_many_fit}
 use Rattle.verify_frames.proofs.WatchLaws.{but_objects, same_locals}
 use Rattle.verify_frames.proofs.ItselfLaws.{LocalsThemselves}
 
@@ -259,22 +265,65 @@ like_after env i like l s after holds flag h (objects before op is now) =
       flag = b.flag ∙ flag;
     }
 
-locals_same : (env : Environment) (s t : TypeState) (pc : ℕ) → s.types.locals ≡ t.types.locals → s.this_uninit ≡ t.this_uninit → FitsLocals env s pc → FitsLocals env t pc
-locals_same env s t pc locals flag h = record {
+-- a frame that local variables fitted before some were written, and did so but for some already
+but_behind : (env : Environment) (s t : TypeState) (slots now : List ℕ) (pc : ℕ) → length s.types.locals ≡ length t.types.locals → s.this_uninit ≡ t.this_uninit → ((i : ℕ) → is_listed now i ≡ false → is_listed slots i ≡ false)
+    → ((i : ℕ) → is_listed now i ≡ false → type_at s.types.locals i ≡ type_at t.types.locals i) → FitsBut env slots s pc → FitsBut env now t pc
+but_behind env s t slots now pc as_many flag keeps same h = record {
   frame = h.frame;
   state = h.state;
   at = h.at;
   is = h.is;
-  locals = ap (λ ls. all_assignable env.world ls h.state.types.locals) (sym locals) ∙ h.locals;
+  as_many = sym as_many ∙ h.as_many;
+  kept = λ i e. subst (λ (x : VType). assignable env.world x (type_at h.state.types.locals i) ≡ true) (same i e) (h.kept i (keeps i e));
   flag = ap (λ b. not b || h.state.this_uninit) (sym flag) ∙ h.flag;
 }
 
-all_same : (env : Environment) (s t : TypeState) (pcs : List ℕ) → s.types.locals ≡ t.types.locals → s.this_uninit ≡ t.this_uninit → All (FitsLocals env s) pcs → All (FitsLocals env t) pcs
-all_same env s t pcs locals flag h = λ k d low. locals_same env s t _ locals flag (h k d low)
+all_same : (env : Environment) (s t : TypeState) (f : Fitted) → s.types.locals ≡ t.types.locals → s.this_uninit ≡ t.this_uninit → AllFit env s f → AllFit env t f
+all_same env s t f locals flag h = λ k d low.
+    but_behind env s t f.changed.items f.changed.items _ (ap (λ (ls : List VType). length ls) locals) flag (λ i e. e) (λ i e. ap (λ (ls : List VType). type_at ls i) locals) (h k d low)
+
+-- a frame that local variables fit, they fit but for some
+pub fits_weaker : (env : Environment) (slots : List ℕ) (s : TypeState) (pc : ℕ) → FitsLocals env s pc → FitsBut env slots s pc
+fits_weaker env slots s pc h = record {
+  frame = h.frame;
+  state = h.state;
+  at = h.at;
+  is = h.is;
+  as_many = as_many_fit env.world s.types.locals h.state.types.locals h.locals;
+  kept = λ i e. one_by_one env.world s.types.locals h.state.types.locals h.locals i;
+  flag = h.flag;
+}
+
+-- ---- what was written
+
+record Changes (x : Written) (s after : TypeState) : Type 0 where
+  as_many : length s.types.locals ≡ length after.types.locals
+  others : (i : ℕ) → Spares x i → type_at s.types.locals i ≡ type_at after.types.locals i
+
+written_change : (env : Environment) (i : Instruction) (s after : TypeState) (watch : Watch) (x : Written) → Watches i.instr.op s.types.locals watch → written_by watch ≡ Some x → state_after env i s ≡ Ok after → Changes x s after
+written_change env i s after kinds.Kept x h is e = absurd cc
+written_change env i s after kinds.Changed x h is e = absurd cc
+written_change env i s after (kinds.Store n was) x h is e =
+    let stored = after_stored env i h.0.kind n s after h.0.is e in
+    let same : writes.Store n ≡ x = cc in
+    subst (λ (y : Written). Changes y s after) same (record { as_many = stored.as_many; others = λ k away. stored.others k away.0 away.1 away.2 })
+written_change env i s after (kinds.Objects os) x h is e =
+    let but = but_objects env i s after os.items h.0 h.1 e in
+    let same : writes.Objects os ≡ x = cc in
+    subst (λ (y : Written). Changes y s after) same (record { as_many = but.as_many; others = but.kept })
+
+fitted_after : (env : Environment) (i : Instruction) (s after : TypeState) (watch : Watch) (fitted now : Option Fitted) → Watches i.instr.op s.types.locals watch → state_after env i s ≡ Ok after → s.this_uninit ≡ after.this_uninit
+    → IfSome now (AreBehind (written_by watch) fitted) → FitAll env s fitted → FitAll env after now
+fitted_after env i s after watch fitted None h e flag behind all = tt
+fitted_after env i s after watch fitted (Some f) h e flag behind all =
+    let change = written_change env i s after watch behind.written h behind.is e in
+    let before : AllFit env s behind.before = subst (λ (o : Option Fitted). FitAll env s o) behind.was all in
+    let they : All (FitsBut env behind.before.changed.items s) f.pcs.items = subst (λ (ps : List ℕ). All (FitsBut env behind.before.changed.items s) ps) (sym behind.pcs) before in
+    λ k d low. but_behind env s after behind.before.changed.items f.changed.items _ change.as_many flag behind.kept (λ j free. change.others j (behind.others j free)) (they k d low)
 
 pub fits_same : (env : Environment) (s t : TypeState) (o : Option Fitted) → s.types.locals ≡ t.types.locals → s.this_uninit ≡ t.this_uninit → FitAll env s o → FitAll env t o
 fits_same env s t None locals flag h = tt
-fits_same env s t (Some f) locals flag h = all_same env s t f.pcs.items locals flag h
+fits_same env s t (Some f) locals flag h = all_same env s t f locals flag h
 
 -- a store of this instruction
 stored_after : (env : Environment) (i : Instruction) (s after : TypeState) (watch : Watch) (o : Option Judged) → Watches i.instr.op s.types.locals watch → state_after env i s ≡ Ok after → s.this_uninit ≡ after.this_uninit
@@ -295,14 +344,14 @@ pub holds_after : (env : Environment) (i : Instruction) (s after : KnownState) (
     → (state_after env i (type_state s) ≡ Ok (type_state after)) × Holds env after
 holds_after env i s after like watch now holds h noted watches (nothing e) =
     subst (λ (x : KnownState). (state_after env i (type_state s) ≡ Ok (type_state x)) × Holds env x) (sym e) (h, record { like = λ l is. absurd cc; judged = tt; stored = tt; fitted = tt })
-holds_after env i s after like watch now holds h noted watches (changed flag e) =
+holds_after env i s after like watch now holds h noted watches (changed fitted flag behind e) =
     subst (λ (x : KnownState). (state_after env i (type_state s) ≡ Ok (type_state x)) × Holds env x) (sym e) (
       h,
       record {
         like = λ l is. like_after env i s.like l (type_state s) (state_in now) holds.like (sym flag) h (subst (λ (o : Option Like). IfSome o (NotedBehind i.instr.op (type_state s).types.locals s.like)) is noted);
         judged = tt;
         stored = stored_after env i (type_state s) (state_in now) watch s.judged watches h (sym flag) holds.judged;
-        fitted = tt;
+        fitted = fitted_after env i (type_state s) (state_in now) watch s.fitted fitted watches h (sym flag) behind holds.fitted;
       },
     )
 holds_after env i s after like watch now holds h noted watches (kept flag shows e) =
@@ -354,10 +403,6 @@ judged_over env os s pc f there t judged none h at is known =
         let same : with_stack h.before (reverse (slot_types ss)) ≡ t = cc in
         judged_same env s t judged (whole ∙ ap (λ (x : TypeState). x.types.locals) same) (sym h.flag ∙ ap (λ (x : TypeState). x.this_uninit) same) known
 
--- the same frames in another list
-pub again_fits : (env : Environment) (t : TypeState) (f again : Fitted) (o : Option Fitted) → o ≡ Some f → again.pcs.items ≡ f.pcs.items → FitAll env t o → FitAll env t (Some again)
-again_fits env t f again o is same h = subst (λ (pcs : List ℕ). All (FitsLocals env t) pcs) (sym same) (subst (λ (x : Option Fitted). FitAll env t x) is h)
-
 -- and so does it fit the frames
 pub fitted_over : (env : Environment) (os : List Overwritten) (s : TypeState) (pc : ℕ) (f : Frame) (there : MapFrame) (t : TypeState) (fitted : Option Fitted) → os ≡ [] → IsOver env os s pc f → map_at env pc ≡ Some there → there.state ≡ Some t
     → FitAll env s fitted → FitAll env t fitted
@@ -385,3 +430,29 @@ new_both env s false h = record { going = none_hold env; spare = one_holds env s
 pub new_going : (s : KnownState) (goes_on : Bool) → going (states_after s goes_on) ≡ cond goes_on (Some (type_state s)) None
 new_going s true = refl
 new_going s false = refl
+
+-- ---- a frame that a state fits but for some local variables, which fit too
+
+listed_one : (P : ℕ → Type 0) (slots : List ℕ) (i : ℕ) → is_listed slots i ≡ true → All P slots → P i
+listed_one P [] i e all = absurd cc
+listed_one P (n ∷ slots) i e all = by_test (eqb n i) refl e (λ more. listed_one P slots i more (λ k d low. all (suc k) d (omega arith)))
+  where
+    by_test : (b : Bool) → eqb n i ≡ b → (b || is_listed slots i) ≡ true → (is_listed slots i ≡ true → P i) → P i
+    by_test true is e rest = subst P (eqb-true n i is) (all 0 n (omega arith))
+    by_test false is e rest = rest e
+
+pub fits_wholly : (env : Environment) (w : World) (fs : List MapFrame) (slots : List ℕ) (s : TypeState) (pc : ℕ) → w ≡ env.world → fs ≡ env.map → Takes w fs pc s.types.locals slots → FitsBut env slots s pc → FitsLocals env s pc
+fits_wholly env w fs slots s pc of same takes h = record {
+  frame = h.frame;
+  state = h.state;
+  at = h.at;
+  is = h.is;
+  locals = all_by_number env.world s.types.locals h.state.types.locals h.as_many (λ i. by_test i (is_listed slots i) refl);
+  flag = h.flag;
+}
+  where
+    by_test : (i : ℕ) (b : Bool) → is_listed slots i ≡ b → assignable env.world (type_at s.types.locals i) (type_at h.state.types.locals i) ≡ true
+    by_test i true e =
+        ap (λ (x : World). assignable x (type_at s.types.locals i) (type_at h.state.types.locals i)) (sym of)
+        ∙ listed_one (λ k. assignable w (type_at s.types.locals k) (type_at h.state.types.locals k) ≡ true) slots i e (takes.each h.frame h.state (ap (λ ms. frame_at pc ms) same ∙ h.at) h.is)
+    by_test i false e = h.kept i e

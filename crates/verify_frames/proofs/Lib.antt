@@ -14,4 +14,6 @@ pub mod KnownStateLaws
 pub mod StackLaws
 pub mod NearLaws
 pub mod WantedLaws
+pub mod SkipLaws
+pub mod TakeLaws
 pub mod StackMapLaws

@@ -71,13 +71,13 @@ were_both ls (o ∷ os) ps h k = (h.0, were_both ls os ps h.1 k)
 
 -- ---- the types of a path, from its front on
 
-record Front (q : Path) (ts : List VType) : Type 0 where
-  front : List VType
-  rest : List VType
-  is : types_on q ≡ Some front
-  parts : ts ≡ front ++ rest
+pub record Front (q : Path) (ts : List VType) : Type 0 where
+  pub front : List VType
+  pub rest : List VType
+  pub is : types_on q ≡ Some front
+  pub parts : ts ≡ front ++ rest
 
-front_of : (more q : Path) (ts : List VType) → types_on (more ++ q) ≡ Some ts → Front q ts
+pub front_of : (more q : Path) (ts : List VType) → types_on (more ++ q) ≡ Some ts → Front q ts
 front_of [] q ts e = record { front = ts; rest = []; is = e; parts = sym (append-nil ts) }
 front_of (x ∷ more) q ts e = step (types_on (more ++ q)) x (λ us is. front_of more q us is) refl e
   where
@@ -90,12 +90,12 @@ front_of (x ∷ more) q ts e = step (types_on (more ++ q)) x (λ us is. front_of
         record { front = b.front; rest = b.rest ++ u ∷ []; is = b.is; parts = sym whole ∙ ap (λ (vs : List VType). vs ++ u ∷ []) b.parts ∙ append_assoc b.front b.rest (u ∷ []) }
 
 -- the path is this type on another, whose types are these
-record Last (below : Path) (t : VType) (us : List VType) : Type 0 where
-  under : List VType
-  is : types_on below ≡ Some under
-  parts : us ≡ under ++ t ∷ []
+pub record Last (below : Path) (t : VType) (us : List VType) : Type 0 where
+  pub under : List VType
+  pub is : types_on below ≡ Some under
+  pub parts : us ≡ under ++ t ∷ []
 
-last_of : (q below : Path) (item : Option VType) (t : VType) (us : List VType) → q ≡ item ∷ below → item ≡ Some t → types_on q ≡ Some us → Last below t us
+pub last_of : (q below : Path) (item : Option VType) (t : VType) (us : List VType) → q ≡ item ∷ below → item ≡ Some t → types_on q ≡ Some us → Last below t us
 last_of q below item t us at is e =
     step (types_on below) refl (sym (ap types_on at ∙ ap (λ i. types_on below >>= λ vs. i >>= λ u. Some (vs ++ u ∷ [])) is) ∙ e)
   where
@@ -117,7 +117,7 @@ is_counted : (o : Option (List VType)) (c : ℕ) → option_map (λ us. length (
 is_counted None c e = absurd cc
 is_counted (Some us) c e = refl
 
-slots_both : (ts us : List VType) → slot_types (ts ++ us) ≡ slot_types ts ++ slot_types us
+pub slots_both : (ts us : List VType) → slot_types (ts ++ us) ≡ slot_types ts ++ slot_types us
 slots_both ts us = flat_map-append types_of ts us
 
 pub slots_last : (ts : List VType) (t : VType) → slot_types (ts ++ t ∷ []) ≡ slot_types ts ++ types_of t
@@ -375,7 +375,7 @@ known_one : (constructor : Bool) (max : ℕ) (o : Option FrameTypes) → is_some
 known_one constructor max None e = absurd cc
 known_one constructor max (Some ts) e = record { state = state_where constructor max ts; is = refl }
 
-state_same : (f g : MapFrame) (o : Option MapFrame) (t : TypeState) → o ≡ Some f → o ≡ Some g → f.state ≡ Some t → g.state ≡ Some t
+pub state_same : (f g : MapFrame) (o : Option MapFrame) (t : TypeState) → o ≡ Some f → o ≡ Some g → f.state ≡ Some t → g.state ≡ Some t
 state_same f g o t at there is = let same : f ≡ g = cc in ap (λ (x : MapFrame). x.state) (sym same) ∙ is
 
 -- the flag of a frame by its path
@@ -428,7 +428,7 @@ noted_or_kept : (w : World) (os : List Overwritten) (before now locals : List VT
 noted_or_kept w os before now locals i true e but fits others = at_noted w os now locals i but.were e others
 noted_or_kept w os before now locals i false e but fits others = subst (λ t. assignable w (type_at locals i) t ≡ true) (sym (but.kept i e)) (one_by_one w locals before fits i)
 
-as_many_fit : (w : World) (xs ys : List VType) → all_assignable w xs ys ≡ true → length xs ≡ length ys
+pub as_many_fit : (w : World) (xs ys : List VType) → all_assignable w xs ys ≡ true → length xs ≡ length ys
 as_many_fit w [] [] e = refl
 as_many_fit w [] (y ∷ ys) e = absurd cc
 as_many_fit w (x ∷ xs) [] e = absurd cc

@@ -47,7 +47,7 @@ same_by_number [] (y ∷ ys) e h = absurd (omega arith)
 same_by_number (x ∷ xs) [] e h = absurd (omega arith)
 same_by_number (x ∷ xs) (y ∷ ys) e h = ap (λ z. z ∷ xs) (h zero) ∙ ap (λ zs. y ∷ zs) (same_by_number xs ys (omega arith) (λ i. h (suc i)))
 
-type_past : (xs : List VType) (i : ℕ) → length xs ≤ i → type_at xs i ≡ types.Top
+pub type_past : (xs : List VType) (i : ℕ) → length xs ≤ i → type_at xs i ≡ types.Top
 type_past [] i high = refl
 type_past (x ∷ xs) zero high = absurd (omega arith)
 type_past (x ∷ xs) (suc i) high = type_past xs i (omega arith)

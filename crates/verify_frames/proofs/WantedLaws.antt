@@ -84,7 +84,7 @@ pub record Fits (wanted : Wanted) (p : Path) (from until : ℕ) : Type 0 where
   pub is : types_on p ≡ Some types
   pub each : (w : World) (slot : ℕ) (t : VType) → accepts w wanted from until slot t ≡ true → assignable w t (type_at (slot_types types) slot) ≡ true
 
-past_last : (xs : List VType) (t : VType) (i : ℕ) (b : Bool) → length xs < i → type_at (xs ++ cond b (t ∷ types.Top ∷ []) (t ∷ [])) i ≡ types.Top
+pub past_last : (xs : List VType) (t : VType) (i : ℕ) (b : Bool) → length xs < i → type_at (xs ++ cond b (t ∷ types.Top ∷ []) (t ∷ [])) i ≡ types.Top
 past_last [] t zero b high = absurd (omega arith)
 past_last [] t (suc zero) true high = refl
 past_last [] t (suc (suc i)) true high = refl
@@ -92,7 +92,7 @@ past_last [] t (suc i) false high = refl
 past_last (x ∷ xs) t zero b high = absurd (omega arith)
 past_last (x ∷ xs) t (suc i) b high = past_last xs t i b (omega arith)
 
-seam : (xs : List VType) (t : VType) (i : ℕ) (b : Bool) → i ≡ length xs → type_at (xs ++ cond b (t ∷ types.Top ∷ []) (t ∷ [])) i ≡ t
+pub seam : (xs : List VType) (t : VType) (i : ℕ) (b : Bool) → i ≡ length xs → type_at (xs ++ cond b (t ∷ types.Top ∷ []) (t ∷ [])) i ≡ t
 seam xs t i true e = type_seam xs (types.Top ∷ []) t i e
 seam xs t i false e = type_seam xs [] t i e
 
@@ -145,7 +145,7 @@ fits_wanted paths spans wanted all (x ∷ q) n from until e at = by_node (all.ea
 
 -- ---- a frame
 
-takes_padded : (w : World) (max slot : ℕ) (xs : List VType) (t : VType) → assignable w t (type_at xs slot) ≡ true → assignable w t (type_at (padded max xs) slot) ≡ true
+pub takes_padded : (w : World) (max slot : ℕ) (xs : List VType) (t : VType) → assignable w t (type_at xs slot) ≡ true → assignable w t (type_at (padded max xs) slot) ≡ true
 takes_padded w max slot xs t h = by_test (ltb slot (length xs)) refl
   where
     by_test : (b : Bool) → ltb slot (length xs) ≡ b → assignable w t (type_at (padded max xs) slot) ≡ true

@@ -19,6 +19,8 @@ use Rattle.verify_frames.specs.declared.known_state.Fitted.{Fitted}
 use Rattle.verify_frames.specs.declared.known_state.KnownState.{KnownState}
 use Rattle.verify_frames.specs.declared.overwritten.Like.{Like}
 use Rattle.verify_frames.specs.declared.overwritten.Overwritten.{Overwritten}
+use Rattle.verify_instructions.specs.Unfinished.{is_listed}
+use Rattle.verify_types.specs.Assignability.{assignable}
 use Rattle.verify_frames.specs.Frames.{frame_at, frame_in}
 use Rattle.verify_frames.specs.declared.watch.Watch.{Watch}
 use Rattle.verify_frames.specs.declared.watch.Watch.TheVariants as watches
@@ -66,9 +68,22 @@ written_by (watches.Objects os) = Some (writes.Objects os)
 written_by watch = None
 
 -- what an instruction may have changed, where handlers were satisfied before it
+abbrev pub stored_in : Option Written → Option Judged → Option Stored
+stored_in written None = None
+stored_in written (Some j) = option_map (λ (x : Written). record { written = x; judged = j }) written
+
 abbrev pub stored_by : Watch → Option Judged → Option Stored
-stored_by watch None = None
-stored_by watch (Some j) = option_map (λ (x : Written). record { written = x; judged = j }) (written_by watch)
+stored_by watch judged = stored_in (written_by watch) judged
+
+-- these slots, with another among them
+pub record Lists (slots : List ℕ) (slot : ℕ) (now : List ℕ) : Type 0 where
+  pub kept : (i : ℕ) → is_listed now i ≡ false → is_listed slots i ≡ false
+  pub other : (i : ℕ) → is_listed now i ≡ false → i ≡ slot → ⊥
+
+-- these slots, and among them all that may be changed
+pub record ListsAll (slots : List ℕ) (spares : ℕ → Type 0) (now : List ℕ) : Type 0 where
+  pub kept : (i : ℕ) → is_listed now i ≡ false → is_listed slots i ≡ false
+  pub others : (i : ℕ) → is_listed now i ≡ false → spares i
 
 -- the local variables and the flag of a state fit those of the frame at this pc
 pub record FitsLocals (env : Environment) (s : TypeState) (pc : ℕ) : Type 0 where
@@ -79,9 +94,22 @@ pub record FitsLocals (env : Environment) (s : TypeState) (pc : ℕ) : Type 0 wh
   pub locals : all_assignable env.world s.types.locals state.types.locals ≡ true
   pub flag : (not s.this_uninit || state.this_uninit) ≡ true
 
+-- so they do, but for local variables with these numbers
+pub record FitsBut (env : Environment) (changed : List ℕ) (s : TypeState) (pc : ℕ) : Type 0 where
+  pub frame : MapFrame
+  pub state : TypeState
+  pub at : map_at env pc ≡ Some frame
+  pub is : frame.state ≡ Some state
+  pub as_many : length s.types.locals ≡ length state.types.locals
+  pub kept : (i : ℕ) → is_listed changed i ≡ false → assignable env.world (type_at s.types.locals i) (type_at state.types.locals i) ≡ true
+  pub flag : (not s.this_uninit || state.this_uninit) ≡ true
+
+abbrev pub AllFit : Environment → TypeState → Fitted → Type 0
+AllFit env s f = All (FitsBut env f.changed.items s) f.pcs.items
+
 -- so they do at these pcs, if there are some
 abbrev pub FitAll : Environment → TypeState → Option Fitted → Type 0
-FitAll env s fitted = IfSome fitted (λ (f : Fitted). All (FitsLocals env s) f.pcs.items)
+FitAll env s fitted = IfSome fitted (AllFit env s)
 
 -- so they do at this pc, if there is one
 abbrev pub MayFit : Environment → TypeState → Option ℕ → Type 0
@@ -98,10 +126,20 @@ pub record Holds (env : Environment) (s : KnownState) : Type 0 where
 abbrev pub holds_at : ℕ → Option Judged → Bool
 holds_at pc judged = option_map_or (λ (j : Judged). nat_le j.at pc && nat_lt pc j.until) judged false
 
+-- these frames, and the local variables that were written are among those that may be others
+pub record AreBehind (wrote : Option Written) (fitted : Option Fitted) (now : Fitted) : Type 0 where
+  pub before : Fitted
+  pub written : Written
+  pub was : fitted ≡ Some before
+  pub is : wrote ≡ Some written
+  pub pcs : now.pcs.items ≡ before.pcs.items
+  pub kept : (i : ℕ) → is_listed now.changed.items i ≡ false → is_listed before.changed.items i ≡ false
+  pub others : (i : ℕ) → is_listed now.changed.items i ≡ false → Spares written i
+
 -- what is known of a state after an instruction, where the one before it had this flag and these were known
 pub data KnownAfter (this_uninit : Bool) (watch : Watch) (like : Option Like) (judged : Option Judged) (fitted : Option Fitted) (s : State) (after : KnownState) : Type 0 where
   nothing : after ≡ record { state = s; like = None; judged = None; stored = None; fitted = None } → KnownAfter this_uninit watch like judged fitted s after
-  changed : s.this_uninit ≡ this_uninit → after ≡ record { state = s; like = like; judged = None; stored = stored_by watch judged; fitted = None } → KnownAfter this_uninit watch like judged fitted s after
+  changed : (now : Option Fitted) → s.this_uninit ≡ this_uninit → IfSome now (AreBehind (written_by watch) fitted) → after ≡ record { state = s; like = like; judged = None; stored = stored_by watch judged; fitted = now } → KnownAfter this_uninit watch like judged fitted s after
   kept : s.this_uninit ≡ this_uninit → ShowsKept watch s.types.locals → after ≡ record { state = s; like = like; judged = judged; stored = None; fitted = fitted }
       → KnownAfter this_uninit watch like judged fitted s after
 

@@ -6,6 +6,8 @@ pub mod Frames
 pub mod Overwrites
 pub mod Watches
 pub mod Near
+pub mod Skips
+pub mod Takes
 pub mod Wanted
 pub mod KnownStates
 pub mod StackMaps

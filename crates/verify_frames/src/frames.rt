@@ -1,6 +1,6 @@
 //! The frames of a method's stack map (JVMS 4.7.4), each at its pc.
 
-ghost use Rattle.std.specs.Prelude.{◌≡◌, IfOk, IfSome, None, map};
+ghost use Rattle.std.specs.Prelude.{◌≡◌, IfOk, IfSome, MatchBool, None, map};
 ghost use Rattle.std.specs.List.{All};
 ghost use Rattle.std.specs.Option.{option_map};
 ghost use Rattle.stack_maps.specs.Changes.{made_whole};
@@ -10,6 +10,7 @@ ghost use Rattle.verify_frames.specs.StackMaps.{pc_of};
 ghost use Rattle.verify_frames.specs.Frames.{frame_at, frame_in, stray_frame};
 ghost use Rattle.verify_frames.specs.Near.{IsNear};
 ghost use Rattle.verify_frames.specs.KnownStates.{IsShared};
+ghost use Rattle.verify_frames.specs.Takes.{Takes};
 ghost use Rattle.verify_frames.specs.Wanted.{IsAsked};
 
 use crate::demands::{gathered, have_pcs, spans_of};
@@ -19,6 +20,8 @@ use crate::frame::Frame;
 use crate::frame_paths::{Entry, entry_of, is_known, put};
 use crate::near::moved;
 use crate::overwritten::Like;
+use crate::skips::skips_of;
+use crate::takes::takes_all;
 use crate::wanted::{Wanted, are_wanted};
 use class_model::Row;
 use items::NoMemory;
@@ -29,6 +32,9 @@ use type_paths::Paths;
 use verify_instructions::is_constructor;
 use world_model::{Lookups, MethodInfo};
 
+// With fewer local variables the types of single ones aren't asked for.
+const LONG: u16 = 64;
+
 /// The frames of a stack map, by rising pc. They take memory in proportion to its bytes.
 #[derive(Drop)]
 pub struct Frames {
@@ -38,6 +44,8 @@ pub struct Frames {
     entries: Vec<Entry>,
     // In a constructor, for each node whether the object that it makes is on its path.
     flags: Vec<bool>,
+    // For each node one further down its path, where there are many local variables.
+    skips: Vec<u32>,
 }
 
 impl Model for Frames {
@@ -78,12 +86,14 @@ impl Frames {
         }
         let is_constructor = is_constructor(m);
         let flags = flags_of(alloc, &paths, is_constructor)?;
+        let skips = skips_of(alloc, &paths, max_locals >= LONG)?;
         Ok(Frames {
             paths,
             is_constructor,
             max_locals,
             entries,
             flags,
+            skips,
         })
     }
 
@@ -166,6 +176,20 @@ impl Frames {
             Some(overwritten) => Ok(Some(Like { pc, overwritten })),
             None => Ok(None),
         }
+    }
+
+    /// Whether local variables with these numbers fit those of the frame at a pc.
+    pub fn takes<L: Lookups>(&self, w: &L, pc: u32, locals: &[VType], slots: &[usize]) -> bool
+        ensures { MatchBool result
+            (Takes (L.world w.now) self.now pc locals.now slots.now) (Unit {0}) }
+    {
+        let Some(entry) = entry_at(&self.entries, pc) else {
+            return false;
+        };
+        if !takes_all(w, &self.paths, &self.skips, entry.locals, locals, slots) {
+            return false;
+        }
+        true
     }
 
     /// What the frames of the handlers of these rows want of local variables. `None`: it wasn't found.

@@ -1,12 +1,12 @@
 //! States with the local variables of a frame of the stack map.
 
-ghost use Rattle.std.specs.Prelude.{◌≡◌, IfOk, MatchBool, None};
-ghost use Rattle.std.specs.List.{All};
+ghost use Rattle.std.specs.Prelude.{◌≡◌, [], false, IfOk, IfSome, MatchBool, None, OnOk};
 ghost use Rattle.verify_types.specs.Environment.{Environment};
 ghost use Rattle.verify_types.specs.TypeStates.{TypeState};
 ghost use Rattle.verify_instructions.specs.Views.{state_in};
-ghost use Rattle.verify_frames.specs.Overwrites.{IsRestored, overwritten_since};
+ghost use Rattle.verify_frames.specs.Overwrites.{IsRestored, is_noted, overwritten_since};
 ghost use Rattle.verify_frames.specs.KnownStates as spec;
+ghost use Rattle.verify_frames.specs.declared.known_state.Written.TheVariants as writes;
 
 use crate::overwritten::{Like, Overwritten, overwritten_since, restored};
 use crate::watch::Watch;
@@ -16,6 +16,9 @@ use verify_instructions::State;
 
 // At most so many frames that a state fits are kept.
 const MOST: usize = 16;
+
+// With more local variables written, none are kept.
+const MOST_CHANGED: usize = 128;
 
 /// Where the exception handlers of a state are satisfied.
 #[derive(Clone, Copy, Debug, PartialEq, Eq)]
@@ -48,6 +51,8 @@ pub struct Stored {
 #[derive(Drop)]
 pub struct Fitted {
     pub pcs: Vec<u32>,
+    /// The local variables that were written since, and may not fit.
+    pub changed: Vec<usize>,
 }
 
 /// A state, and what is known of its local variables and its flag.
@@ -65,39 +70,117 @@ pub struct KnownState {
 }
 
 // The frames that are kept, unless they are too many.
-fn kept(alloc: Global, fitted: Option<Fitted>) -> Vec<u32>
+fn kept(alloc: Global, fitted: Option<Fitted>) -> Fitted
     ensures { (env : Environment) (s : TypeState) → spec.FitAll env s fitted
-        → All (spec.FitsLocals env s) result.items }
+        → spec.AllFit env s result }
 {
     let Some(fitted) = fitted else {
-        return Vec::new(alloc);
+        return Fitted::new(alloc);
     };
-    let Fitted { pcs } = fitted;
-    if pcs.len() < MOST {
-        pcs
+    if fitted.pcs.len() < MOST {
+        fitted
     } else {
-        Vec::new(alloc)
+        Fitted::new(alloc)
     }
+}
+
+// Adds a local variable, unless it is among these.
+fn list(slots: &mut Vec<usize>, slot: usize) -> Result<(), AllocError>
+    ensures { OnOk result (spec.Lists slots.old.items slot slots.new.items) }
+{
+    if slots.iter().any(|n| *n == slot) {
+        return Ok(());
+    }
+    slots.push(slot)?;
+    Ok(())
+}
+
+// Adds local variables that a store may change.
+fn list_store(slots: &mut Vec<usize>, n: u16) -> Result<(), AllocError>
+    ensures { OnOk result (spec.ListsAll slots.old.items (spec.Spares (writes.Store n)) slots.new.items) }
+{
+    let slot = usize::from(n);
+    list(slots, slot.saturating_sub(1))?;
+    list(slots, slot)?;
+    list(slots, slot + 1)
+}
+
+// Adds these local variables.
+fn list_objects(slots: &mut Vec<usize>, objects: &[Overwritten]) -> Result<(), AllocError>
+    ensures { OnOk result
+        (spec.ListsAll slots.old.items (λ i. is_noted objects.now i ≡ false) slots.new.items) }
+{
+    let mut rest = objects;
+    while let Some((o, behind)) = rest.split_first() {
+        list(slots, o.slot)?;
+        rest = behind;
+    }
+    Ok(())
+}
+
+// Adds local variables that may have been changed.
+fn list_written(slots: &mut Vec<usize>, written: &Written) -> Result<(), AllocError>
+    ensures { OnOk result
+        (spec.ListsAll slots.old.items (spec.Spares written.now) slots.new.items) }
+{
+    match written {
+        Written::Store(n) => list_store(slots, *n),
+        Written::Objects(objects) => list_objects(slots, objects),
+    }
+}
+
+// The same frames after an instruction, unless too many local variables were written.
+fn fitted_behind(
+    fitted: Option<Fitted>,
+    written: &Option<Written>,
+) -> Result<Option<Fitted>, AllocError>
+    ensures { IfOk result (λ o. IfSome o (spec.AreBehind written.now fitted)) }
+{
+    let Some(fitted) = fitted else {
+        return Ok(None);
+    };
+    let Some(written) = written else {
+        return Ok(None);
+    };
+    let Fitted { pcs, changed } = fitted;
+    if changed.len() > MOST_CHANGED {
+        return Ok(None);
+    }
+    let mut changed = changed;
+    list_written(&mut changed, written)?;
+    Ok(Some(Fitted { pcs, changed }))
 }
 
 impl Fitted {
     /// Frames that a state is known to fit, and another.
     pub fn with(alloc: Global, fitted: Option<Fitted>, pc: u32) -> Result<Self, NoMemory>
         ensures { IfOk result (λ now. (env : Environment) (s : TypeState)
-            → spec.FitAll env s fitted → spec.FitsLocals env s pc
-            → All (spec.FitsLocals env s) now.pcs.items) }
+            → spec.FitAll env s fitted → spec.FitsLocals env s pc → spec.AllFit env s now) }
     {
-        let mut pcs = kept(alloc, fitted);
+        let Fitted { pcs, changed } = kept(alloc, fitted);
+        let mut pcs = pcs;
         pcs.push(pc)?;
-        Ok(Fitted { pcs })
+        Ok(Fitted { pcs, changed })
+    }
+
+    // No frames.
+    fn new(alloc: Global) -> Self
+        ensures { result.pcs.items ≡ [] }
+    {
+        Fitted {
+            pcs: Vec::new(alloc),
+            changed: Vec::new(alloc),
+        }
     }
 
     /// The same frames.
     pub fn again(&self) -> Result<Self, NoMemory>
-        ensures { IfOk result (λ other. other.pcs.items ≡ self.now.pcs.items) }
+        ensures { IfOk result (λ other. (env : Environment) (s : TypeState)
+            → spec.AllFit env s self.now → spec.AllFit env s other) }
     {
         Ok(Fitted {
             pcs: self.pcs.clone()?,
+            changed: self.changed.clone()?,
         })
     }
 }
@@ -212,13 +295,13 @@ fn written_by(watch: Watch) -> Option<Written>
 }
 
 // What an instruction may have changed, where handlers were satisfied before it.
-fn stored_by(watch: Watch, judged: Option<Judged>) -> Option<Stored>
-    ensures { result ≡ spec.stored_by watch judged }
+fn stored_by(written: Option<Written>, judged: Option<Judged>) -> Option<Stored>
+    ensures { result ≡ spec.stored_in written judged }
 {
     let Some(judged) = judged else {
         return None;
     };
-    match written_by(watch) {
+    match written {
         Some(written) => Some(Stored { written, judged }),
         None => None,
     }
@@ -233,34 +316,36 @@ pub fn known_after(
     like: Option<Like>,
     judged: Option<Judged>,
     fitted: Option<Fitted>,
-) -> KnownState
-    ensures { spec.KnownAfter this_uninit watch like judged fitted state result }
+) -> Result<KnownState, NoMemory>
+    ensures { IfOk result (spec.KnownAfter this_uninit watch like judged fitted state) }
 {
     if !is_same(state.this_uninit, this_uninit) {
-        return KnownState {
+        return Ok(KnownState {
             state,
             like: None,
             judged: None,
             stored: None,
             fitted: None,
-        };
+        });
     }
     if watch.is_kept(state.types.locals()) {
-        return KnownState {
+        return Ok(KnownState {
             state,
             like,
             judged,
             stored: None,
             fitted,
-        };
+        });
     }
-    KnownState {
+    let written = written_by(watch);
+    let fitted = fitted_behind(fitted, &written)?;
+    Ok(KnownState {
         state,
         like,
         judged: None,
-        stored: stored_by(watch, judged),
-        fitted: None,
-    }
+        stored: stored_by(written, judged),
+        fitted,
+    })
 }
 
 /// Whether the exception handlers are known to be satisfied at a pc.

@@ -12,7 +12,9 @@ mod known_state;
 mod near;
 mod overwritten;
 mod path_fits;
+mod skips;
 mod stack_map;
+mod takes;
 mod wanted;
 mod watch;
 

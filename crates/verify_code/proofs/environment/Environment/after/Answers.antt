@@ -19,4 +19,4 @@ returns-in-Ok g c =
     let is =
     ap (λ (env : Environment). state_after env i (type_state c.args.s)) (sym c.self.view_is)
     ∙ gives_kept c.apply-applied.result (state_in c.apply-applied.new.self) _ c.in-Ok.field-0 c.apply-applied.ensures c.in-Ok.is in
-    holds_after c.args.self.now i c.args.s c.known_after-after.result c.in_ok-like.like c.in_ok-watch.watch c.apply-applied.new.self c.requires.holds is c.in_ok-like.ensures c.in_ok-watch.ensures c.known_after-after.ensures
+    holds_after c.args.self.now i c.args.s c.in_ok-after.after c.in_ok-like.like c.in_ok-watch.watch c.apply-applied.new.self c.requires.holds is c.in_ok-like.ensures c.in_ok-watch.ensures c.in_ok-after.ensures

@@ -1,8 +1,9 @@
-use Rattle.std.proofs.Common.{◌≡◌, true, sym, ◌∙◌}
+use Rattle.std.proofs.Common.{◌≡◌, true, Option, subst, sym, ◌∙◌}
 use Rattle.verify_frames.specs.Overwrites.{overwritten_since}
-use Rattle.verify_frames.specs.KnownStates.{type_state}
+use Rattle.verify_frames.specs.KnownStates.{FitAll, type_state}
+use Rattle.verify_frames.specs.declared.known_state.Fitted.{Fitted}
 use Rattle.verify_frames.proofs.OverwriteLaws.{none_in}
-use Rattle.verify_frames.proofs.KnownStateLaws.{again_fits, fitted_over}
+use Rattle.verify_frames.proofs.KnownStateLaws.{fitted_over}
 use Rattle.verify_code.proofs.environment.Environment.fitted_over.Goals as goal
 
 pub returns-in_ok-again-in-Some-shared : goal.returns-in_ok-again-in-Some-shared
@@ -11,5 +12,5 @@ returns-in_ok-again-in-Some-shared g c = λ f t at is.
     let known = c.args.s.now.fitted in
     let empty : c.is_empty.result ≡ true = cc in
     let none = sym c.overwritten.ensures ∙ none_in c.is_empty.result c.overwritten.result.now c.is_empty.ensures empty in
-    again_fits env t c.in-Some.fitted c.in_ok-again-in-Some-shared.field-0 known c.in-Some.is c.in_ok-again-in-Some-shared.ensures
-    (fitted_over env (overwritten_since c.args.s.now.like) (type_state c.args.s.now) c.args.pc c.in-Some-shared.field-0 f t known none c.in-Some-shared.ensures at is c.requires.fitted)
+    c.in_ok-again-in-Some-shared.ensures env t
+    (subst (λ (o : Option Fitted). FitAll env t o) c.in-Some.is (fitted_over env (overwritten_since c.args.s.now.like) (type_state c.args.s.now) c.args.pc c.in-Some-shared.field-0 f t known none c.in-Some-shared.ensures at is c.requires.fitted))

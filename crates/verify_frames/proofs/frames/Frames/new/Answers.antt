@@ -25,6 +25,7 @@ invariant_of-result g c = record {
       built_rise (g.L.Lookups.world c.args.w.now) c.args.m.now.class c.args.first.now c.args.changes.now c.loop-change.paths c.loop-change.entries.items c.loop-change.locals c.loop-change.rest.now
       c.loop-change.invariant c.in_default.ensures.cases c.requires;
   flagged = c.in_ok-flags.ensures;
+  skipping = c.in_ok-skips.ensures;
 }
 
 pub returns : goal.returns

@@ -1,0 +1,12 @@
+use Rattle.std.proofs.Common.{List, subst, sym}
+use Rattle.std.specs.List.{All}
+use Rattle.std.proofs.lemmas.List.Elements.{All-push}
+use Rattle.verify_frames.specs.KnownStates.{FitsBut}
+use Rattle.verify_frames.proofs.KnownStateLaws.{fits_weaker}
+use Rattle.verify_frames.proofs.known_state.Fitted.with.Goals as goal
+
+pub returns : goal.returns
+returns c = λ env s all here.
+    let kept = c.kept-pcs.result in
+    let P = FitsBut env kept.changed.items s in
+    subst (λ (ps : List _). All P ps) (sym c.in_ok-push.ensures.items) (All-push P kept.pcs.items c.args.pc (c.kept-pcs.ensures env s all) (fits_weaker env kept.changed.items s c.args.pc here))
