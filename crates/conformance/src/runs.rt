@@ -39,7 +39,9 @@ fn smallest_program(alloc: Global) -> Result<Program, Fail>
     let Some(main) = main_in(&world, &units_of(alloc, b"A")?) else {
         return Err("no main".into());
     };
-    let checked = accept(alloc, world).ok().ok_or("refused")?;
+    let Ok(checked) = accept(alloc, world) else {
+        return Err("refused".into());
+    };
     let ready = ReadyProgram::new(alloc, checked)?;
     Ok(Program { ready, main })
 }

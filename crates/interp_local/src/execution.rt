@@ -42,19 +42,25 @@ fn branch(taken: bool, target: i64, used: usize) -> Left
 
 // Executes an instruction that stays in its frame.
 #[inline(never)]
-pub(crate) fn execute(op: &Op, naming: Naming, row: &mut [Cell], locals: usize, used: usize) -> Left
+pub(crate) fn execute(
+    op: &Op,
+    naming: &Naming,
+    row: &mut [Cell],
+    locals: usize,
+    used: usize,
+) -> Left
     requires fits { locals + used ≤ length row.old }
-    requires made { Fits (frame_row (table.row op.now) naming (contents_at row.old locals used))
+    requires made { Fits (frame_row (table.row op.now) naming.now (contents_at row.old locals used))
         locals row.old }
-    ensures { Leaves (frame_row (table.row op.now) naming (contents_at row.old locals used))
+    ensures { Leaves (frame_row (table.row op.now) naming.now (contents_at row.old locals used))
         row.new locals result.used (way_to result.target) }
 {
     match op {
         Op::Simple(simple) => on(make_simple(*simple, row, locals, used)),
         Op::PushInt(n) => on(push_int(row, locals, used, i32::from(*n))),
         Op::PushLong(n) => on(push_long(row, locals, used, i64::from(*n))),
-        Op::PushConstant(_) => on(constant(naming, row, locals, used)),
-        Op::PushWideConstant(_) => on(constant(naming, row, locals, used)),
+        Op::PushConstant(_) => on(constant(*naming, row, locals, used)),
+        Op::PushWideConstant(_) => on(constant(*naming, row, locals, used)),
         Op::Load(kind, n) => on(load(*kind, *n, row, locals, used)),
         Op::Store(kind, n) => on(store(*kind, *n, row, locals, used)),
         Op::Increment(n, amount) => {

@@ -7,5 +7,5 @@ use world_model::Naming;
 #[derive(Clone, Copy)]
 pub struct Fetched<'a> {
     pub instr: &'a Instr,
-    pub naming: Naming,
+    pub naming: &'a Naming,
 }

@@ -78,7 +78,7 @@ pub(crate) fn pc_at(code: &[Instr], at: usize) -> u32
 pub(crate) fn fetch_at<'a>(code: &PreparedCode<'a>, at: usize) -> Fetched<'a>
     requires { at < length code.now.instrs.now }
     ensures instr { slice_get code.now.instrs.now at ≡ Some result.instr.now }
-    ensures naming { result.naming ≡ places.naming_at code.now.namings.now at }
+    ensures naming { result.naming.now ≡ places.naming_at code.now.namings.now at }
 {
     Fetched {
         instr: instr_at(code.instrs, at),

@@ -1,5 +1,5 @@
 -- Returns to callers, as local instructions, and where a run of them ends instead.
-use Rattle.std.proofs.Common.{◌≡◌, ℕ, ◌+◌, ◌-◌, ◌<◌, Bool, true, false, List, [], ◌∷◌, Option, Some, None, refl, ap, sym, ◌∙◌, arith}
+use Rattle.std.proofs.Common.{◌≡◌, ℕ, ◌+◌, ◌-◌, Bool, true, false, List, [], ◌∷◌, Option, Some, None, refl, ap, sym, subst, ◌∙◌, ◌≤◌, arith}
 use Rattle.std.specs.Prelude.{IsTrue}
 use Rattle.items.proofs.Binds.{bind_is}
 use Rattle.opcodes.specs.declared.op.Kind.{Kind}
@@ -18,7 +18,7 @@ use Rattle.interp_local.specs.Runs.{stays_on}
 use Rattle.method_calls.specs.FrameSteps.{top_is_root, top_returned}
 use Rattle.interp_local.specs.declared.fetched.Fetched.{Fetched}
 use Rattle.interp_local.specs.Fetched.{IsTopAt, instruction_of}
-use Rattle.machine.specs.LocalRuns.{GoesBack, returned_kind}
+use Rattle.machine.specs.LocalRuns.{GoesOver, IsLongRun, returned_kind}
 use Rattle.machine.proofs.LocalLaws.{kind_row, not_back, root_ends, rows_join, row_behind}
 
 inside : {A : Type 0} (a b : A) → ◌≡◌ {A = Option A} (Some a) (Some b) → a ≡ b
@@ -34,7 +34,7 @@ names_none w f i kind at is = λ j index m found called named.
 
 -- the return to the caller was made
 pub back_made : (w : World) (frames after : List Frame) (f : Fetched) (kind : Option Kind) → AreTyped w → Typed w frames → IsTopAt w frames f
-    → returned_kind (row_of f.instr.now.op) ≡ Some kind → top_returned w kind frames ≡ Some after → GoesBack w frames after true
+    → returned_kind (row_of f.instr.now.op) ≡ Some kind → top_returned w kind frames ≡ Some after → GoesOver w frames after true
 back_made w [] after f kind typed fits top is made = absurd fits
 back_made w (g ∷ below) after f kind typed fits top is made =
     let i = instruction_of f in
@@ -46,34 +46,51 @@ back_made w (g ∷ below) after f kind typed fits top is made =
 
 -- the return is from a root frame
 pub root_back : (w : World) (frames after : List Frame) (f : Fetched) (kind : Option Kind) → Typed w frames → IsTopAt w frames f
-    → returned_kind (row_of f.instr.now.op) ≡ Some kind → top_is_root w frames ≡ true → after ≡ frames → GoesBack w frames after false
+    → returned_kind (row_of f.instr.now.op) ≡ Some kind → top_is_root w frames ≡ true → after ≡ frames → GoesOver w frames after false
 root_back w [] after f kind fits top is root same = absurd fits
 root_back w (g ∷ below) after f kind fits top is root same =
     (same, root_ends w g below (instruction_of f) kind top.at (kind_row (row_of f.instr.now.op) kind is) root)
 
 -- the instruction is no return
 pub none_back : (w : World) (frames : List Frame) (f : Fetched) → Typed w frames → IsTopAt w frames f → stays_on w frames ≡ false
-    → returned_kind (row_of f.instr.now.op) ≡ None → GoesBack w frames frames false
+    → returned_kind (row_of f.instr.now.op) ≡ None → GoesOver w frames frames false
 none_back w [] f fits top leaves none = absurd fits
 none_back w (g ∷ below) f fits top leaves none =
     (refl, not_back w g below (instruction_of f) top.at leaves none)
 
--- ---- a run goes on after a return
+-- ---- a run goes on in another frame
 
-turned : (a b : ℕ) → a + (1 + b) ≡ b + (1 + a)
+turned : (a b : ℕ) → a + b ≡ b + a
 turned a b = omega arith
 
-pub goes_again : (w : World) (a b : ℕ) (first mid back last : List Frame) → rows w a first ≡ Some mid → GoesBack w mid back true
-    → rows w b back ≡ Some last → rows w (a + (1 + b)) first ≡ Some last
-goes_again w a b first mid back last made returned more =
-    rows_join w (1 + a) b (a + (1 + b)) first back last (turned a b) (row_behind w a (1 + a) first mid back refl made returned.0) more
+one_behind : (n : ℕ) → n + 1 ≡ 1 + n
+one_behind n = omega arith
 
--- a run that made fewer instructions than it might is at none that stays in its frame
-pub stopped_first : (found stays : Bool) (steps : ℕ) → found ≡ stays → (IsTrue found → steps ≡ 10000) → steps < 10000 → stays ≡ false
-stopped_first true stays steps is all few = let whole = all refl in absurd (omega arith)
-stopped_first false stays steps is all few = sym is
+-- so many more were made
+pub ran_more : (w : World) (a b : ℕ) (first mid last : List Frame) → rows w a first ≡ Some mid → rows w b mid ≡ Some last → rows w (a + b) first ≡ Some last
+ran_more w a b first mid last made more = rows_join w a b (a + b) first mid last (turned a b) made more
 
--- the same of one after a return
-pub stopped : (found stays : Bool) (steps more : ℕ) → found ≡ stays → (IsTrue found → more ≡ 10000 - 1 - steps) → steps < 10000 → steps + (1 + more) < 10000 → stays ≡ false
-stopped true stays steps more is all few less = let whole = all refl in absurd (omega arith)
+-- and then the one that leads to another frame
+pub goes_again : (w : World) (n : ℕ) (first mid last : List Frame) → rows w n first ≡ Some mid → GoesOver w mid last true → rows w (n + 1) first ≡ Some last
+goes_again w n first mid last made over = row_behind w n (n + 1) first mid last (one_behind n) made over.0
+
+-- a run of the top frame that made fewer instructions than it might is at none that stays in its frame
+pub stopped : (found stays : Bool) (steps more : ℕ) → found ≡ stays → (IsTrue found → more ≡ 10001 - steps) → steps ≤ 10001 → (steps + more ≡ 10001 → ⊥) → stays ≡ false
+stopped true stays steps more is all few less = let whole = all refl in absurd (less (omega arith))
 stopped false stays steps more is all few less = sym is
+
+pub long_run : (w : World) (n : ℕ) (first mid last : List Frame) → rows w n first ≡ Some mid → Typed w mid → n ≤ 10001 → GoesOver w mid last false → IsLongRun w n first last
+long_run w n first mid last made typed few over = subst (λ (fs : List Frame). IsLongRun w n first fs) (sym over.0) (record {
+  rows = made;
+  typed = typed;
+  few = few;
+  ends = λ less. over.1;
+})
+
+pub whole_run : (w : World) (n : ℕ) (first last : List Frame) → rows w n first ≡ Some last → Typed w last → n ≡ 10001 → IsLongRun w n first last
+whole_run w n first last made typed whole = record {
+  rows = made;
+  typed = typed;
+  few = omega (arith, whole);
+  ends = λ less. absurd (omega (arith, whole, less));
+}

@@ -1,5 +1,6 @@
 -- Steps of the main thread keep to the typing.
-use Rattle.std.proofs.Common.{◌≡◌, ℕ, ◌<◌, List, [], ◌∷◌, length, Option, Some, None, refl, ap, sym, ◌∙◌, subst, arith}
+use Rattle.std.proofs.Common.{◌≡◌, ℕ, ◌<◌, ◌≤◌, List, [], ◌∷◌, length, Option, Some, None, refl, ap, sym, ◌∙◌, subst, arith}
+use Rattle.items.proofs.Binds.{some_is}
 use Rattle.vthread_state.specs.declared.phase.Phase.TheVariants.{Run, Throwing}
 use Rattle.vthread_state.specs.declared.thread.Status.TheVariants.{Live}
 use Rattle.world_model.specs.World.{World}
@@ -10,11 +11,12 @@ use Rattle.ref_model.specs.State.{State}
 use Rattle.ref_model.specs.Ending.{ending}
 use Rattle.ref_model.specs.Entries.{are_grouped_steps, frames_at, running_frames}
 use Rattle.ref_model.specs.Fetch.{fetched}
-use Rattle.ref_model.specs.LocalRows.{row}
+use Rattle.ref_model.specs.LocalRows.{row, rows}
 use Rattle.ref_model.specs.Step.{step, row_or_event}
 use Rattle.ref_model.specs.Throwing.{throwing_step}
 use Rattle.typed_frames.specs.Typed.{Typed}
 use Rattle.typed_frames.specs.TypedStates.{IsTypedState}
+use Rattle.typed_frames.proofs.KeepLaws.{rows_keep}
 use Rattle.typed_frames.proofs.ThreadLaws.{frames_keep}
 use Rattle.typed_steps.specs.Namings.{IsStepNaming}
 use Rattle.typed_steps.proofs.Steps.{step_keeps, running_is_typed}
@@ -26,8 +28,9 @@ use Rattle.machine.specs.Ready.{IsReady}
 use Rattle.machine.specs.Returning.{ThrowingSteps}
 use Rattle.machine.specs.States.{main_thread, state_of, IsStep, IsRunStep}
 use Rattle.machine.specs.Steps.{Advances, IsKept}
-use Rattle.machine.specs.LocalRuns.{IsLocalRun}
-use Rattle.machine.proofs.LocalLaws.{run_grouped}
+use Rattle.machine.specs.LocalRuns.{IsLocalRun, IsLongRun}
+use Rattle.machine.proofs.LocalLaws.{ends_may, most_may, run_grouped}
+use Rattle.machine.proofs.StaticLaws.{names_static}
 use Rattle.machine.proofs.RunLaws.{run_is_step, throwing_is_step}
 
 -- ---- the frames of the main thread
@@ -115,3 +118,20 @@ throw_advances w a b o frames after throws step = record {
   grouped = ap (are_grouped_steps w 0) (ap (running_frames frames) throws);
   kept = step;
 }
+
+-- ---- an entry of a run of local instructions
+
+-- the run ends, and one more step follows
+pub local_run : (w : World) (n : ℕ) (first last : List Frame) → IsLongRun w n first last → n ≤ 10000 → IsLocalRun w n first last
+local_run w n first last run few = record { rows = run.rows; typed = run.typed; few = few; last = ends_may w n last (run.ends few) }
+
+-- the last of its instructions is the last step of its entry
+pub whole_advances : (w : World) (a : Parts) (n : ℕ) (first last : List Frame) → IsReady w → IsTypedState w (state_of a first) → a.status ≡ Live Run → ending (state_of a first) ≡ None → IsLongRun w n first last → n ≡ 10001
+    → Advances w 10000 (state_of a first) (state_of a last)
+whole_advances w a n first last ready typed running goes run whole =
+    let all : rows w 10001 first ≡ Some last = ap (λ k. rows w k first) (sym whole) ∙ run.rows in
+    let parts = some_is (rows w 10000 first) (row w) last all in
+    let mid : List Frame = parts.0 in
+    let fits : Typed w mid = rows_keep w 10000 first mid ready.linked.typed (λ f. names_static w f ready) (main_is_typed w a first typed running) parts.1 in
+    run_advances w a a 10000 first mid last running (record { rows = parts.1; typed = fits; few = omega arith; last = most_may w mid })
+    (local_kept w a mid last (main_keeps w a first mid typed fits) running goes parts.2 run.typed)

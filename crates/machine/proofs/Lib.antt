@@ -1,6 +1,7 @@
 pub mod RunLaws
 pub mod LocalLaws
 pub mod BackLaws
+pub mod StaticLaws
 pub mod GroupLaws
 pub mod AloneLaws
 pub mod StepLaws

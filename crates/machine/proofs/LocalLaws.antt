@@ -1,6 +1,6 @@
 -- Runs of local instructions, and where they end.
 use Rattle.std.proofs.Common.{◌≡◌, ℕ, zero, suc, ◌+◌, ◌≤◌, Bool, true, false, not, List, [], ◌∷◌, Option, Some, None, refl, ap, sym, ◌∙◌, arith}
-use Rattle.std.specs.Prelude.{is_some, nat_le, ◌&&◌, ◌||◌, if◌then◌else◌}
+use Rattle.std.specs.Prelude.{is_some, nat_le, ◌==◌, ◌&&◌, ◌||◌, if◌then◌else◌}
 use Rattle.std.specs.Option.{option_map_or}
 use Rattle.std.proofs.lemmas.Bool.{le-leb}
 use Rattle.items.specs.Options.{◌>>=◌}
@@ -65,6 +65,13 @@ not_false false e = absurd cc
 pub no_row_ends : (w : World) (frames : List Frame) → row w frames ≡ None → ends_run w frames ≡ true
 no_row_ends w frames e = or_left (not (is_some (row w frames))) (stands_at_static_call w frames) (not_none (row w frames) e)
 
+-- after a run that ends, an entry may end with the next step
+pub ends_may : (w : World) (n : ℕ) (frames : List Frame) → ends_run w frames ≡ true → may_be_last w n frames ≡ true
+ends_may w n frames ends = or_left (ends_run w frames) (n == most_local_steps) ends
+
+pub most_may : (w : World) (frames : List Frame) → may_be_last w 10000 frames ≡ true
+most_may w frames = or_right (ends_run w frames) true refl
+
 -- the row of the instruction that is fetched
 fetched_row : (w : World) (f : Frame) (below : List Frame) (i : Instruction) (act : Row) → fetched w f ≡ Some i → row_of i.instr.op ≡ act
     → local_act w i act f below ≡ None → ends_run w (f ∷ below) ≡ true
@@ -73,7 +80,7 @@ fetched_row w f below i act at is none =
     no_row_ends w (f ∷ below) (bind_is (fetched w f) (λ j. local_act w j (row_of j.instr.op) f below) i nothing at
     (ap (λ (a : Row). local_act w i a f below) is ∙ none))
 
-static_ends : (w : World) (f : Frame) (below : List Frame) (i : Instruction) → fetched w f ≡ Some i → is_static_call (row_of i.instr.op) ≡ true
+pub static_ends : (w : World) (f : Frame) (below : List Frame) (i : Instruction) → fetched w f ≡ Some i → is_static_call (row_of i.instr.op) ≡ true
     → ends_run w (f ∷ below) ≡ true
 static_ends w f below i at is =
     or_right (not (is_some (row w (f ∷ below)))) (stands_at_static_call w (f ∷ below))

@@ -1,5 +1,5 @@
 -- Runs of local instructions of a thread, in its top frame and in those to which it returns.
-use Rattle.std.specs.Prelude.{◌≡◌, ℕ, ◌≤◌, Bool, true, false, not, List, Option, Some, None, is_some, ◌||◌}
+use Rattle.std.specs.Prelude.{◌≡◌, ℕ, suc, ◌≤◌, Bool, true, false, not, List, Option, Some, None, is_some, ◌||◌}
 use Rattle.opcodes.specs.declared.op.Kind.{Kind}
 use Rattle.instruction_rows.specs.Rows.{Row, returns}
 use Rattle.world_model.specs.World.{World}
@@ -17,15 +17,11 @@ returned_kind r = None
 abbrev pub ends_run : World → List Frame → Bool
 ends_run w frames = not (is_some (row w frames)) || stands_at_static_call w frames
 
--- whether a return to the caller was made; if not, the frames stay, and a run ends with them
-abbrev pub GoesBack : World → List Frame → List Frame → Bool → Type 0
-GoesBack w old new true = (row w old ≡ Some new) × Typed w new
-GoesBack w old new false = (new ≡ old) × (ends_run w old ≡ true)
-
--- whether one more local instruction was made; if not, the frames stay
-abbrev pub MakesMore : World → List Frame → List Frame → Bool → Type 0
-MakesMore w old new true = (row w old ≡ Some new) × Typed w new
-MakesMore w old new false = new ≡ old
+-- Whether a local instruction was made that leads to another frame, a return to the caller or an invokestatic; if not, the frames stay, and a
+-- run ends with them.
+abbrev pub GoesOver : World → List Frame → List Frame → Bool → Type 0
+GoesOver w old new true = (row w old ≡ Some new) × Typed w new
+GoesOver w old new false = (new ≡ old) × (ends_run w old ≡ true)
 
 -- So many local instructions were made, after which an entry may end with the next step.
 pub record IsLocalRun (w : World) (n : ℕ) (old new : List Frame) : Type 0 where
@@ -34,6 +30,9 @@ pub record IsLocalRun (w : World) (n : ℕ) (old new : List Frame) : Type 0 wher
   pub few : n ≤ most_local_steps
   pub last : may_be_last w n new ≡ true
 
--- Frames that so many local instructions led to are led on: with the ones that follow there are n, after which an entry may end.
-abbrev pub GoesOn : World → ℕ → ℕ → List Frame → List Frame → Type 0
-GoesOn w steps n old new = (first : List Frame) → rows w steps first ≡ Some old → IsLocalRun w n first new
+-- So many local instructions were made, at most one more than come before the last step of an entry; with fewer, a run ends with the frames.
+pub record IsLongRun (w : World) (n : ℕ) (old new : List Frame) : Type 0 where
+  pub rows : rows w n old ≡ Some new
+  pub typed : Typed w new
+  pub few : n ≤ suc most_local_steps
+  pub ends : n ≤ most_local_steps → ends_run w new ≡ true

@@ -12,7 +12,7 @@ ghost use Rattle.machine.specs.Runs.{main_entry};
 ghost use Rattle.machine.specs.Steps.{Advances, IsMade};
 
 use crate::last_steps::{fetched_step, unwinding_step};
-use crate::local::{MOST_LOCAL, go_on, makes_more, run_top};
+use crate::local::{MOST_STEPS, run_local};
 use crate::parts::Parts;
 use continuation::Mounted;
 use history::{Entry, What};
@@ -43,13 +43,12 @@ fn running_entry(
     ensures few { IfOk result (λ n. n ≤ 10000) }
     ensures selections { AreSelected program.now selections.new }
 {
-    let mut run = run_top(program, mounted, MOST_LOCAL);
-    let steps = go_on(program, mounted, &mut run)?;
-    if makes_more(program, mounted, steps) {
-        return Ok(steps);
+    let stop = run_local(program, selections, mounted)?;
+    if stop.steps == MOST_STEPS {
+        return Ok(MOST_STEPS - 1);
     }
-    fetched_step(alloc, program, selections, parts, mounted, &run.next)?;
-    Ok(steps)
+    fetched_step(alloc, program, selections, parts, mounted, stop.next)?;
+    Ok(stop.steps)
 }
 
 // One step of a thread that throws an object. There are no local ones before it.

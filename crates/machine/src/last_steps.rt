@@ -68,13 +68,13 @@ pub(crate) fn fetched_step(
     selections: &mut Selections,
     parts: &mut Parts,
     mounted: &mut Mounted,
-    fetched: &Fetched<'_>,
+    fetched: Fetched<'_>,
 ) -> Result<(), NoMemory>
     requires ready { IsReady program.now }
     requires typed { IsTypedState program.now (state_of parts.old mounted.old.stack.frames) }
     requires running { parts.old.status ≡ Live Run }
     requires going { ending (state_of parts.old mounted.old.stack.frames) ≡ None }
-    requires next { IsTopAt program.now mounted.old.stack.frames fetched.now }
+    requires next { IsTopAt program.now mounted.old.stack.frames fetched }
     requires selected { AreSelected program.now selections.old }
     ensures kept { OnOk result (IsKept program.now (state_of parts.old mounted.old.stack.frames)
         (state_of parts.new mounted.new.stack.frames)) }
@@ -87,7 +87,7 @@ pub(crate) fn fetched_step(
         parts,
         mounted,
         fetched.instr,
-        &fetched.naming,
+        fetched.naming,
     )
 }
 

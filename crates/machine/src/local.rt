@@ -1,24 +1,33 @@
 //! Runs of local instructions: those of the top frame, and of the frames to which it returns.
 
-ghost use Rattle.std.specs.Prelude.{◌≡◌, ◌≤◌, Some, false, IfNone, IfOk, IfSome, IsTrue};
+ghost use Rattle.std.specs.Prelude.{◌≡◌, ◌≤◌, Some, false, true, IfNone, IfOk, IfSome, IsTrue};
 ghost use Rattle.std.specs.Option.{option_map};
 ghost use Rattle.instruction_rows.specs.Table.{row as row_of, simple_row};
 ghost use Rattle.interp_local.specs.Runs.{stays_on};
 ghost use Rattle.interp_local.specs.Fetched.{IsTopAt};
+ghost use Rattle.ref_model.specs.Entries as entries;
 ghost use Rattle.ref_model.specs.LocalRows.{row, rows};
 ghost use Rattle.typed_frames.specs.Typed.{Typed};
-ghost use Rattle.machine.specs.LocalRuns.{GoesBack, GoesOn, MakesMore, returned_kind};
+ghost use Rattle.method_calls.specs.Selections.{AreSelected};
+ghost use Rattle.machine.specs.LocalRuns.{GoesOver, IsLongRun, returned_kind};
 ghost use Rattle.machine.specs.Ready.{IsReady};
 
 use continuation::Mounted;
 use interp_local::{Fetched, TopRun, run_and_fetch};
 use items::NoMemory;
-use method_calls::{Left, leave};
+use method_calls::{Entered, Left, Selections, enter, leave, static_callee};
 use opcodes::{Kind, Op, Simple};
 use ready_program::ReadyProgram;
 
-/// How many local instructions an entry has at most before its last step.
-pub(crate) const MOST_LOCAL: u32 = 10_000;
+/// How many steps an entry has at most.
+pub(crate) const MOST_STEPS: u32 = 10_001;
+
+/// A run of local instructions: how many were made, and the instruction before which it stopped.
+#[derive(Clone, Copy)]
+pub(crate) struct LocalRun<'a> {
+    pub(crate) steps: u32,
+    pub(crate) next: Fetched<'a>,
+}
 
 /// A return, with the kind of what it gives back.
 #[derive(Clone, Copy)]
@@ -50,7 +59,7 @@ pub(crate) fn return_at(op: &Op) -> Option<Return>
 
 // Executes the instructions that stay in the top frame, at most so many.
 #[inline(always)]
-pub(crate) fn run_top<'a>(program: &'a ReadyProgram, mounted: &mut Mounted, most: u32) -> TopRun<'a>
+fn run_top<'a>(program: &'a ReadyProgram, mounted: &mut Mounted, most: u32) -> TopRun<'a>
     requires { Typed program.now mounted.old.stack.frames }
     ensures rows { rows program.now result.steps mounted.old.stack.frames
         ≡ Some mounted.new.stack.frames }
@@ -61,44 +70,6 @@ pub(crate) fn run_top<'a>(program: &'a ReadyProgram, mounted: &mut Mounted, most
     ensures next { IsTopAt program.now mounted.new.stack.frames result.next }
 {
     run_and_fetch(program.prepared(), mounted, most)
-}
-
-/// The next local instruction of a thread, if it is at one that stays in its frame. The answer is the instruction at which it is where it
-/// isn't; then nothing has changed.
-#[inline(never)]
-pub(crate) fn local_step<'a>(
-    program: &'a ReadyProgram,
-    mounted: &mut Mounted,
-) -> Option<Fetched<'a>>
-    requires { Typed program.now mounted.old.stack.frames }
-    ensures made { IfNone result (row program.now mounted.old.stack.frames
-        ≡ Some mounted.new.stack.frames) }
-    ensures kept { IfSome result (λ x. mounted.new.stack.frames ≡ mounted.old.stack.frames) }
-    ensures next { IfSome result (IsTopAt program.now mounted.new.stack.frames) }
-    ensures typed { Typed program.now mounted.new.stack.frames }
-{
-    let stop = run_top(program, mounted, 1);
-    if stop.steps == 1 {
-        None
-    } else {
-        Some(stop.next)
-    }
-}
-
-/// Makes the next instruction, where it is local too, after as many local ones as an entry may have before its last step: whether it does. If
-/// not, nothing changes.
-#[inline(always)]
-pub(crate) fn makes_more(program: &ReadyProgram, mounted: &mut Mounted, steps: u32) -> bool
-    requires { Typed program.now mounted.old.stack.frames }
-    ensures { MakesMore program.now mounted.old.stack.frames mounted.new.stack.frames result }
-{
-    if steps < MOST_LOCAL {
-        return false;
-    }
-    match local_step(program, mounted) {
-        None => true,
-        Some(_) => false,
-    }
 }
 
 // Goes back to the caller, where the instruction of the top frame, which doesn't stay in it, is a return that isn't from a root frame: whether
@@ -113,7 +84,7 @@ fn go_back(
     requires typed { Typed program.now mounted.old.stack.frames }
     requires leaves { stays_on program.now mounted.old.stack.frames ≡ false }
     requires next { IsTopAt program.now mounted.old.stack.frames fetched.now }
-    ensures { IfOk result (GoesBack program.now mounted.old.stack.frames
+    ensures { IfOk result (GoesOver program.now mounted.old.stack.frames
         mounted.new.stack.frames) }
 {
     let Some(returns) = return_at(&fetched.instr.op) else {
@@ -126,31 +97,96 @@ fn go_back(
     }
 }
 
-/// Goes on after a run of the top frame with the local instructions of the thread, in the frames to which it returns, until one isn't local or
-/// enters a method, or 10,000 were made: how many were made. The run is then that of the last frame.
+// Goes on in the method that an invokestatic names, where it is a local instruction and the frame has room: whether it does.
 #[inline(always)]
-pub(crate) fn go_on<'a>(
-    program: &'a ReadyProgram,
+fn go_into(
+    program: &ReadyProgram,
+    selections: &mut Selections,
     mounted: &mut Mounted,
-    run: &mut TopRun<'a>,
-) -> Result<u32, NoMemory>
+    fetched: &Fetched<'_>,
+) -> Result<bool, NoMemory>
     requires ready { IsReady program.now }
     requires typed { Typed program.now mounted.old.stack.frames }
-    requires few { run.old.steps ≤ 10000 }
-    requires stays { run.old.stays ≡ stays_on program.now mounted.old.stack.frames }
-    requires slice { IsTrue run.old.stays → run.old.steps ≡ 10000 }
-    requires next { IsTopAt program.now mounted.old.stack.frames run.old.next }
-    ensures run { IfOk result (λ n. GoesOn program.now run.old.steps n
-        mounted.old.stack.frames mounted.new.stack.frames) }
-    ensures next { IfOk result (λ n. IsTopAt program.now mounted.new.stack.frames run.new.next) }
+    requires next { IsTopAt program.now mounted.old.stack.frames fetched.now }
+    requires calls { entries.is_static_call (row_of fetched.now.instr.now.op) ≡ true }
+    requires selected { AreSelected program.now selections.old }
+    ensures over { IfOk result (GoesOver program.now mounted.old.stack.frames
+        mounted.new.stack.frames) }
+    ensures selections { AreSelected program.now selections.new }
 {
-    let mut steps = run.steps;
-    while steps < MOST_LOCAL {
-        if !go_back(program, mounted, &run.next)? {
-            return Ok(steps);
-        }
-        *run = run_top(program, mounted, MOST_LOCAL - 1 - steps);
-        steps += 1 + run.steps;
+    let Some(callee) = static_callee(program, selections, fetched.naming) else {
+        return Ok(false);
+    };
+    match enter(callee, mounted)? {
+        Entered::Begun => Ok(true),
+        Entered::Throws(_) | Entered::Undefined => Ok(false),
     }
-    Ok(steps)
+}
+
+// Whether an instruction is an invokestatic.
+#[inline(always)]
+fn is_static_call(op: &Op) -> bool
+    ensures { result ≡ entries.is_static_call (row_of op.now) }
+{
+    matches!(op, Op::InvokeStatic(_))
+}
+
+// Makes the instruction of the top frame, which doesn't stay in it, where it is a local one that leads to another frame: whether it is.
+#[inline(always)]
+fn go_over(
+    program: &ReadyProgram,
+    selections: &mut Selections,
+    mounted: &mut Mounted,
+    fetched: &Fetched<'_>,
+) -> Result<bool, NoMemory>
+    requires ready { IsReady program.now }
+    requires typed { Typed program.now mounted.old.stack.frames }
+    requires leaves { stays_on program.now mounted.old.stack.frames ≡ false }
+    requires next { IsTopAt program.now mounted.old.stack.frames fetched.now }
+    requires selected { AreSelected program.now selections.old }
+    ensures over { IfOk result (GoesOver program.now mounted.old.stack.frames
+        mounted.new.stack.frames) }
+    ensures selections { AreSelected program.now selections.new }
+{
+    if is_static_call(&fetched.instr.op) {
+        return go_into(program, selections, mounted, fetched);
+    }
+    go_back(program, mounted, fetched)
+}
+
+/// Makes the local instructions of a thread, in its top frame, in the frames to which it returns and in those of methods that invokestatic begins,
+/// until one isn't local, or 10,001 were made.
+#[inline(always)]
+pub(crate) fn run_local<'a>(
+    program: &'a ReadyProgram,
+    selections: &mut Selections,
+    mounted: &mut Mounted,
+) -> Result<LocalRun<'a>, NoMemory>
+    requires ready { IsReady program.now }
+    requires typed { Typed program.now mounted.old.stack.frames }
+    requires selected { AreSelected program.now selections.old }
+    ensures run { IfOk result (λ run. IsLongRun program.now run.steps
+        mounted.old.stack.frames mounted.new.stack.frames) }
+    ensures next { IfOk result (λ run.
+        IsTopAt program.now mounted.new.stack.frames run.next) }
+    ensures selections { AreSelected program.now selections.new }
+{
+    let mut steps = 0;
+    loop {
+        let run = run_top(program, mounted, MOST_STEPS - steps);
+        steps += run.steps;
+        if steps == MOST_STEPS {
+            return Ok(LocalRun {
+                steps,
+                next: run.next,
+            });
+        }
+        if !go_over(program, selections, mounted, &run.next)? {
+            return Ok(LocalRun {
+                steps,
+                next: run.next,
+            });
+        }
+        steps += 1;
+    }
 }

@@ -23,10 +23,12 @@ use Rattle.ref_model.specs.Members.{is_hold, is_synchronized, native_at}
 use Rattle.ref_model.specs.declared.exception.Exception.TheVariants as exceptions
 use Rattle.method_calls.specs.declared.target.Target.{Target}
 use Rattle.method_calls.specs.declared.receivers.Receiver.{Receiver}
+use Rattle.method_calls.specs.declared.selections.NamedMethod.{NamedMethod}
+use Rattle.method_calls.specs.declared.target.Callee.{Callee}
 use Rattle.method_calls.specs.declared.target.Target.TheVariants as targets
 use Rattle.method_calls.specs.Receivers.{tested}
-use Rattle.method_calls.specs.Selections.{FitsReceiver}
-use Rattle.method_calls.specs.Targets.{Gives, IsReceived, begins, numbered_effect, received_effect, selected_effect, special_effect, virtual_effect}
+use Rattle.method_calls.specs.Selections.{FitsReceiver, IsNamed}
+use Rattle.method_calls.specs.Targets.{Gives, IsLocalCallee, IsLocalCode, IsReceived, IsStaticCallee, begins, numbered_effect, received_effect, selected_effect, special_effect, virtual_effect}
 
 pub named_is : (w : World) (naming : Naming) (n : ℕ) (m : MethodInfo) → Some n ≡ method_of naming.site → Some m ≡ slice_get w.methods n →
     named_method w naming ≡ Some (record { number = n; method = m })
@@ -109,3 +111,21 @@ fits_is_received w receiver n slots target h = λ r depth stack.
 pub other_is_received : (w : World) (receiver : Receiver) (n slots : ℕ) → is_sub w receiver.class receiver.named ≡ false →
     IsReceived w receiver n slots (targets.Throws (late_failure w receiver.named))
 other_is_received w receiver n slots e = λ r depth stack. tested_other w receiver (λ class. selected_effect w r depth class n slots stack) e
+
+-- ---- the method that an invokestatic begins
+
+inside : {A : Type 0} (a b : A) → ◌≡◌ {A = Option A} (Some a) (Some b) → a ≡ b
+inside a b e = cc
+
+pub static_named : (w : World) (naming : Naming) (n : ℕ) (m : NamedMethod) (c : Callee) → method_of naming.site ≡ Some n → m.number ≡ n → IsNamed w m → m.unbound ≡ targets.Code c
+    → IsStaticCallee w naming c
+static_named w naming n m c site number named is =
+    let local : IsLocalCallee w m.number m.slots c = subst (IsLocalCode w m.number m.slots) is named.local in
+    let same : named.method ≡ local.method = inside named.method local.method (named.is ∙ local.at) in
+    record {
+      number = m.number;
+      named = site ∙ ap (λ (k : ℕ). Some k) (sym number);
+      slots = m.slots;
+      callee = local;
+      takes = named.slots ∙ ap (λ (x : MethodInfo). argument_slots x.signature) same;
+    }

@@ -1,11 +1,14 @@
 -- What an invocation comes to.
-use Rattle.std.specs.Prelude.{ℕ, suc, ◌≡◌, ◌-◌, ◌++◌, List, [], Option, Some, None, drop, length, nat_le, nat_lt, replicate, reverse, take, if◌then◌else◌}
+use Rattle.std.specs.Prelude.{ℕ, suc, ◌≡◌, ◌-◌, ◌++◌, true, List, [], Option, Some, None, drop, length, nat_le, nat_lt, replicate, reverse, slice_get, take, if◌then◌else◌}
 use Rattle.items.specs.Options.{◌>>=◌}
 use Rattle.lib_table.specs.declared.native.Native.{Native}
 use Rattle.instruction_rows.specs.declared.value.Slot.{Slot}
 use Rattle.instruction_rows.specs.declared.value.Slot.TheVariants.{Second}
 use Rattle.instruction_rows.specs.Rows.{Row, invoke}
+use Rattle.world_model.specs.declared.members.MethodCode.{MethodCode}
+use Rattle.world_model.specs.declared.members.MethodInfo.{MethodInfo}
 use Rattle.world_model.specs.declared.sites.Naming.{Naming}
+use Rattle.world_model.specs.Decoded.{code_at}
 use Rattle.world_model.specs.World.{World}
 use Rattle.heap_objs.specs.Heap.{Heap}
 use Rattle.continuation.specs.Continuation.{Continuation}
@@ -13,7 +16,9 @@ use Rattle.ref_model.specs.State.{State}
 use Rattle.state_model.specs.Frames.{Frame}
 use Rattle.ref_model.specs.declared.exception.Exception.TheVariants as exceptions
 use Rattle.ref_model.specs.Effects.{Effect, invokes, throws}
-use Rattle.ref_model.specs.LocalRows.{most_frames}
+use Rattle.ref_model.specs.Fetch.{method_of}
+use Rattle.ref_model.specs.Kinds.{argument_slots}
+use Rattle.ref_model.specs.LocalRows.{has_local_call, most_frames}
 use Rattle.ref_model.specs.NativeRows.{native_acted}
 use Rattle.ref_model.specs.Natives.{native_row}
 use Rattle.ref_model.specs.Calls.{choice_of, chosen, entered, invoked, method_numbered}
@@ -66,6 +71,27 @@ numbered_effect w r depth n slots stack = method_numbered w n >>= λ m. entered 
 
 abbrev pub IsNumbered : World → ℕ → ℕ → Target → Type 0
 IsNumbered w n slots target = (r : State) (depth : ℕ) (stack : List Slot) → Gives w r depth stack (numbered_effect w r depth n slots stack) target
+
+-- A method with code that begins as a local instruction where an invokestatic names it, and takes so many slots.
+pub record IsLocalCallee (w : World) (n slots : ℕ) (c : Callee) : Type 0 where
+  pub method : MethodInfo
+  pub at : slice_get w.methods n ≡ Some method
+  pub local : has_local_call w (record { number = n; method = method }) ≡ true
+  pub code : MethodCode
+  pub has : code_at w n ≡ Some code
+  pub is : c ≡ record { method = n; slots = slots; locals = code.max_locals; operands = code.max_stack }
+
+abbrev pub IsLocalCode : World → ℕ → ℕ → Target → Type 0
+IsLocalCode w n slots (targets.Code c) = IsLocalCallee w n slots c
+IsLocalCode w n slots target = Unit {0}
+
+-- an invokestatic that names it, with its arguments
+pub record IsStaticCallee (w : World) (naming : Naming) (c : Callee) : Type 0 where
+  pub number : ℕ
+  pub named : method_of naming.site ≡ Some number
+  pub slots : ℕ
+  pub callee : IsLocalCallee w number slots c
+  pub takes : slots ≡ argument_slots callee.method.signature
 
 -- that which is selected for a receiver of this class runs
 abbrev pub selected_effect : World → State → ℕ → ℕ → ℕ → ℕ → List Slot → Option Effect

@@ -7,7 +7,7 @@ ghost use Rattle.world_model.specs.Decoded.{code_at};
 ghost use Rattle.ref_model.specs.Fetch as fetch;
 ghost use Rattle.ref_model.specs.Members as members;
 ghost use Rattle.ref_model.specs.Members.{native_at};
-ghost use Rattle.method_calls.specs.Targets.{IsInvoked, IsNumbered, IsReceived, IsSelected, IsSpecial, IsVirtual};
+ghost use Rattle.method_calls.specs.Targets.{IsInvoked, IsLocalCode, IsNumbered, IsReceived, IsSelected, IsSpecial, IsStaticCallee, IsVirtual};
 ghost use Rattle.method_calls.specs.Selections.{AreSelected, IsNamed};
 ghost use Rattle.object_events.specs.Operands.{HasTop};
 
@@ -56,7 +56,8 @@ fn coded<W: CallWorld>(
     requires method { slice_get (W.world world.now).methods n ≡ Some method.now }
     requires code { code_at (W.world world.now) n ≡ Some code.now }
     requires plain { native_at (W.world world.now) n ≡ None }
-    ensures { IsNumbered (W.world world.now) n slots result }
+    ensures numbered { IsNumbered (W.world world.now) n slots result }
+    ensures local { IsLocalCode (W.world world.now) n slots result }
 {
     if is_synchronized(method) || world.is_hold(method) {
         return Target::Undefined;
@@ -71,7 +72,8 @@ fn coded<W: CallWorld>(
 
 // The method with a number runs, and takes so many slots (JVMS 4.6: without code it is abstract).
 fn numbered<W: CallWorld>(world: &W, n: u32, slots: u16) -> Target
-    ensures { IsNumbered (W.world world.now) n slots result }
+    ensures numbered { IsNumbered (W.world world.now) n slots result }
+    ensures local { IsLocalCode (W.world world.now) n slots result }
 {
     let Some(method) = world.method(n) else {
         return Target::Undefined;
@@ -251,6 +253,25 @@ fn invoke_special<W: CallWorld>(
             }
         }
         Err(e) => Target::Throws(e),
+    }
+}
+
+/// The method that an invokestatic begins as a local instruction. `None`: it isn't known to be one.
+#[inline(always)]
+pub fn static_callee<W: CallWorld>(
+    world: &W,
+    selections: &mut Selections,
+    naming: &Naming,
+) -> Option<Callee>
+    requires { AreSelected (W.world world.now) selections.old }
+    ensures callee { IfSome result (IsStaticCallee (W.world world.now) naming.now) }
+    ensures selections { AreSelected (W.world world.now) selections.new }
+{
+    let n = method_of(naming)?;
+    let method = named(world, selections, n)?;
+    match method.unbound {
+        Target::Code(callee) => Some(callee),
+        _ => None,
     }
 }
 

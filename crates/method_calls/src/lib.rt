@@ -14,7 +14,7 @@ mod world;
 pub use arguments::argument_slots;
 pub use catching::{Caught, catch_object};
 pub use entering::{Entered, enter};
-pub use invocations::invoke;
+pub use invocations::{invoke, static_callee};
 pub use returning::{Left, is_root, leave};
 pub use selections::Selections;
 pub use target::{Callee, Target};

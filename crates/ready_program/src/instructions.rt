@@ -11,16 +11,19 @@ use opcodes::Instr;
 use world_model::{Naming, Site};
 use world_tables::Tables;
 
+// What the constant means of an instruction that has none.
+static NO_CONSTANT: Naming = Naming {
+    site: Site::Plain,
+    class: None,
+};
+
 #[inline(always)]
-fn naming_at(namings: &[Naming], i: u32) -> Naming
-    ensures { result ≡ get_or namings.now i plain }
+fn naming_at(namings: &[Naming], i: u32) -> &Naming
+    ensures { result.now ≡ get_or namings.now i plain }
 {
     match namings.get(i as usize) {
-        Some(naming) => *naming,
-        None => Naming {
-            site: Site::Plain,
-            class: None,
-        },
+        Some(naming) => naming,
+        None => &NO_CONSTANT,
     }
 }
 
@@ -28,7 +31,7 @@ fn naming_at(namings: &[Naming], i: u32) -> Naming
 #[inline(always)]
 fn instruction_at<'a>(
     instrs: &'a [Instr],
-    namings: &[Naming],
+    namings: &'a [Naming],
     index: Option<u32>,
 ) -> Option<Fetched<'a>>
     ensures { option_map instruction_of result ≡ instruction_by instrs.now namings.now index }

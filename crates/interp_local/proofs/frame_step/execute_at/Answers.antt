@@ -10,16 +10,16 @@ use Rattle.interp_local.proofs.frame_step.execute_at.Goals.{After-naming_at-nami
 
 -- the instruction goes on, from each frame at the index
 goes : (g : given.Over) (c : After-naming_at-naming g) (here : IsAt c.args.p.now c.args.code.now.instrs.now c.args.frame.now c.args.row.now c.args.used c.args.at)
-    → GoesOn c.args.p.now (frame_of c.args.frame.now here.pc c.args.row.now c.args.used) (record { instr = c.instr_at-instr.result.now; naming = c.naming_at-naming.result })
+    → GoesOn c.args.p.now (frame_of c.args.frame.now here.pc c.args.row.now c.args.used) (record { instr = c.instr_at-instr.result.now; naming = c.naming_at-naming.result.now })
 goes g c here =
-    goes_at c.args.p.now c.args.code.now c.args.frame.now c.args.row.now c.args.used c.args.at c.instr_at-instr.result.now c.naming_at-naming.result
+    goes_at c.args.p.now c.args.code.now c.args.frame.now c.args.row.now c.args.used c.args.at c.instr_at-instr.result.now c.naming_at-naming.result.now
     c.requires.typed c.requires.code here c.instr_at-instr.ensures c.naming_at-naming.ensures c.requires.stays
 
 next : (g : given.Over) (c : After-next_pc-pc g) (here : IsAt c.args.p.now c.args.code.now.instrs.now c.args.frame.now c.args.row.now c.args.used c.args.at)
-    → GoesOn c.args.p.now (frame_of c.args.frame.now here.pc c.args.row.now c.args.used) (record { instr = c.instr_at-instr.result.now; naming = c.naming_at-naming.result })
+    → GoesOn c.args.p.now (frame_of c.args.frame.now here.pc c.args.row.now c.args.used) (record { instr = c.instr_at-instr.result.now; naming = c.naming_at-naming.result.now })
     → Next c.args.p.now (frame_of c.args.frame.now here.pc c.args.row.now c.args.used) (frame_of c.args.frame.now c.next_pc-pc.result c.execute-left.new.row c.execute-left.result.used)
 next g c here on =
-    next_frame c.args.p.now (frame_of c.args.frame.now here.pc c.args.row.now c.args.used) (record { instr = c.instr_at-instr.result.now; naming = c.naming_at-naming.result })
+    next_frame c.args.p.now (frame_of c.args.frame.now here.pc c.args.row.now c.args.used) (record { instr = c.instr_at-instr.result.now; naming = c.naming_at-naming.result.now })
     on _ c.next_pc-pc.result c.execute-left.ensures c.next_pc-pc.ensures
 
 pub instr_at-instr-requires : goal.instr_at-instr-requires
@@ -29,7 +29,7 @@ pub execute-left-requires : goal.execute-left-requires
 execute-left-requires g c =
     let f = c.args.frame.now in
     let row = c.args.row.now in
-    let i : Instruction = record { instr = c.instr_at-instr.result.now; naming = c.naming_at-naming.result } in
+    let i : Instruction = record { instr = c.instr_at-instr.result.now; naming = c.naming_at-naming.result.now } in
     record {
       fits = omega (arith, used_at c.args.p.now c.args.code.now.instrs.now f row c.args.used c.args.at c.requires.typed c.requires.at);
       made = fits_at c.args.p.now f c.requires.at.pc row c.args.used i (goes g (goal.at.execute-left-requires g c).After-naming_at-naming c.requires.at) c.requires.fits;
@@ -37,7 +37,7 @@ execute-left-requires g c =
 
 pub next_pc-pc-requires : goal.next_pc-pc-requires
 next_pc-pc-requires g c =
-    let i : Instruction = record { instr = c.instr_at-instr.result.now; naming = c.naming_at-naming.result } in
+    let i : Instruction = record { instr = c.instr_at-instr.result.now; naming = c.naming_at-naming.result.now } in
     let on = goes g (goal.at.next_pc-pc-requires g c).After-naming_at-naming c.requires.at in
     record { pc = on.pc; is = leads c.args.p.now (frame_of c.args.frame.now c.requires.at.pc c.args.row.now c.args.used) i on _ c.execute-left.ensures }
 

@@ -7,4 +7,4 @@ pub returns-clause-kept : goal.returns-clause-kept
 returns-clause-kept c =
     on_ok c.instruction_step.result c.instruction_step.ensures.steps
     (frames_kept c.args.program.now c.args.parts.now c.instruction_step.new.parts c.args.mounted.now.stack.frames c.instruction_step.new.mounted.stack.frames
-    (instruction_of c.args.fetched.now) c.requires.next.frame c.requires.ready c.requires.typed c.requires.running c.requires.going c.requires.next.at)
+    (instruction_of c.args.fetched) c.requires.next.frame c.requires.ready c.requires.typed c.requires.running c.requires.going c.requires.next.at)

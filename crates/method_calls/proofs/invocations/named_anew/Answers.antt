@@ -12,6 +12,7 @@ returns-clause-named g c =
       is = c.in_ok-method.ensures;
       slots = c.in_ok-slots.ensures.slots;
       few = c.in_ok-slots.ensures.few;
-      unbound = c.numbered.ensures;
-      bound = subst (λ s. IsNumbered w c.args.n s c.numbered-2.result) next c.numbered-2.ensures;
+      unbound = c.numbered.ensures.numbered;
+      bound = subst (λ s. IsNumbered w c.args.n s c.numbered-2.result) next c.numbered-2.ensures.numbered;
+      local = c.numbered.ensures.local;
     }

@@ -13,4 +13,4 @@ returns-in-Some-method_number g c = λ r depth stack.
     let P : Option Effect → Type 0 = λ x. Gives w r depth stack x c.numbered.result in
     let by : Option Choice → Option Effect = λ o. o >>= λ choice. chosen w choice act in
     subst P (sym (ap by (sym c.in_ok-choice.ensures ∙ c.in-Some.is ∙ ap Some c.in-Method.is) ∙ ap act (sym c.in-Some-method_number.ensures)))
-    (c.numbered.ensures r depth stack)
+    (c.numbered.ensures.numbered r depth stack)
