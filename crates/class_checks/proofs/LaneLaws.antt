@@ -5,7 +5,7 @@ use Rattle.std.proofs.lemmas.Bool.{cases_eq, eq-eqb, ne_eqb}
 use Rattle.std.proofs.lemmas.List.{length-map}
 use Rattle.std.proofs.lemmas.Simd.{zip2_splat, mask_l-mod, length-zip2}
 use lib.Lanes.{zip2, mask_l, top}
-use Rattle.class_checks.specs.Seen.{any_pair, is_slash, is_never, is_angle}
+use Rattle.class_checks.specs.NameUnits.{any_pair, is_slash, is_stop, is_angle}
 
 -- ---- a mask that is not zero
 
@@ -106,11 +106,11 @@ and_two false false = refl
 pub slash_decides : Decides (λ u v. hit v 47) (λ u v. is_slash v)
 slash_decides u v = one (eqb v 47)
 
-pub never_decides : Decides (λ u v. bit_or (bit_or (hit v 46) (hit v 59)) (hit v 91)) (λ u v. is_never v)
-never_decides u v = or_three (eqb v 46) (eqb v 59) (eqb v 91)
+pub stop_decides : Decides (λ u v. bit_or (bit_or (hit v 46) (hit v 59)) (hit v 91)) (λ u v. is_stop v)
+stop_decides u v = or_three (eqb v 46) (eqb v 59) (eqb v 91)
 
 pub angle_decides : Decides (λ u v. bit_or (hit v 60) (hit v 62)) (λ u v. is_angle v)
 angle_decides u v = or_two (eqb v 60) (eqb v 62)
 
-pub double_decides : Decides (λ u v. bit_and (hit u 47) (hit v 47)) (λ u v. is_slash u && is_slash v)
-double_decides u v = and_two (eqb u 47) (eqb v 47)
+pub empty_part_decides : Decides (λ u v. bit_and (hit u 47) (hit v 47)) (λ u v. is_slash u && is_slash v)
+empty_part_decides u v = and_two (eqb u 47) (eqb v 47)

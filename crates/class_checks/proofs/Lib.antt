@@ -2,5 +2,5 @@ pub mod ItemLaws
 pub mod FileLaws
 pub mod LaneLaws
 pub mod NameLaws
-pub mod SeenLaws
-pub mod SeenNames
+pub mod NameUnitLaws
+pub mod NamesByUnits

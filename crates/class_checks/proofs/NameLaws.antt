@@ -13,7 +13,7 @@ use Rattle.descriptors.specs.States.{Field, Whole, Args, first_bad, in_field, na
 use Rattle.class_grammar.specs.Names.{is_name_unit, is_method_unit, begins_with}
 use Rattle.class_checks.specs.TextRoles.{is_class_descriptor, is_empty, may_be_field}
 use Rattle.class_checks.specs.Names.{names_of, names_by}
-use Rattle.class_checks.specs.Seen.{ends_with_semicolon, nothing}
+use Rattle.class_checks.specs.NameUnits.{ends_with_semicolon, nothing}
 
 -- ---- the first unit of a descriptor
 

@@ -1,5 +1,5 @@
 pub mod Names
-pub mod Seen
+pub mod NameUnits
 pub mod TextRoles
 pub mod Sizes
 pub mod Costs

@@ -8,7 +8,7 @@ use Rattle.class_grammar.specs.Names.{is_field_name, is_method_name, is_class_te
 use Rattle.class_grammar.specs.Pool.{text_of, text_at, is_text}
 use Rattle.class_grammar.specs.declared.class_why.ClassWhy.{ClassWhy}
 use Rattle.class_grammar.specs.declared.class_why.ClassWhy.TheVariants.{Index}
-use Rattle.class_checks.specs.Seen.{ends_with_semicolon}
+use Rattle.class_checks.specs.NameUnits.{ends_with_semicolon}
 use Rattle.class_checks.specs.declared.text_roles.TextRoles.{TextRoles}
 
 -- the roles of a text; an entry that is no text has none

@@ -4,9 +4,9 @@ ghost use Rattle.std.specs.Prelude.{◌≡◌, ◌<◌, ◌≤◌, ◌+◌, ◌�
 ghost use Rattle.class_grammar.specs.Text.{same_text, is_one_of};
 ghost use Rattle.class_grammar.specs.Names as grammar;
 ghost use Rattle.class_checks.specs.Names as spec;
-ghost use Rattle.class_checks.specs.Seen as seen_spec;
+ghost use Rattle.class_checks.specs.NameUnits as units_spec;
 
-use crate::seen::{LANES, Seen, seen_behind_first};
+use crate::name_units::{LANES, NameUnits, name_units_behind_first};
 use class_grammar::is_same_counted;
 use std::sync::ledger::Ledger;
 use steps::Steps;
@@ -39,7 +39,7 @@ pub fn begins_with(unit: u8, units: &[u16]) -> bool
 
 /// Whether a text ends with a semicolon, as the descriptor of a class does.
 pub fn ends_with_semicolon(units: &[u16]) -> bool
-    ensures { result ≡ seen_spec.ends_with_semicolon units.now }
+    ensures { result ≡ units_spec.ends_with_semicolon units.now }
 {
     match units {
         [.., last] => *last == u16::from(b';'),
@@ -75,7 +75,7 @@ fn is_initializer<L: Ledger>(units: &[u16], steps: &mut Steps<L>) -> bool
 }
 
 /// What the text may be by its units alone.
-#[tactic(auto, using(crate::proofs::SeenNames::no_name_ends))]
+#[tactic(auto, using(crate::proofs::NamesByUnits::no_name_ends))]
 pub fn names_by_units<L: Ledger>(units: &[u16], steps: &mut Steps<L>) -> Names
     ensures names { result ≡ spec.names_by false false false units.now }
     ensures cost { steps.new ≤ steps.old + length units.now }
@@ -96,22 +96,22 @@ fn names_by_lanes<L: Ledger>(units: &[u16], steps: &mut Steps<L>) -> Names
     ensures names { result ≡ spec.names_by false false false units.now }
     ensures cost { steps.new ≤ steps.old + length units.now }
 {
-    let seen = seen_behind_first(units, steps);
-    names_by_seen(units[0], units[units.len() - 1], seen)
+    let behind = name_units_behind_first(units, steps);
+    names_from(units[0], units[units.len() - 1], behind)
 }
 
-// The same by the first unit, the last one, and what was seen behind the first.
-fn names_by_seen(first: u16, last: u16, seen: Seen) -> Names
-    ensures { result ≡ seen_spec.names_by_seen first last seen }
+// The same by the first unit, the last one, and those behind the first.
+fn names_from(first: u16, last: u16, behind: NameUnits) -> Names
+    ensures { result ≡ units_spec.names_from first last behind }
 {
-    if is_never_in_a_name(first) || seen.never {
+    if is_never_in_a_name(first) || behind.stop {
         return NOTHING;
     }
-    let is_slashed = is_slash(first) || seen.slash;
+    let is_slashed = is_slash(first) || behind.slash;
     Names {
         of_field: !is_slashed,
-        of_method: !is_slashed && !(is_angle(first) || seen.angle),
-        of_class: !(is_slash(first) || seen.double || is_slash(last)),
+        of_method: !is_slashed && !(is_angle(first) || behind.angle),
+        of_class: !(is_slash(first) || behind.empty_part || is_slash(last)),
     }
 }
 
@@ -165,7 +165,7 @@ fn is_never_in_a_name(unit: u16) -> bool
 }
 
 fn is_slash(unit: u16) -> bool
-    ensures { result ≡ seen_spec.is_slash unit }
+    ensures { result ≡ units_spec.is_slash unit }
 {
     unit == u16::from(b'/')
 }

@@ -154,13 +154,13 @@ fn is_field_text<L: Ledger>(units: &[u16], steps: &mut Steps<L>) -> bool
         return false;
     }
     if begins_with(b'L', units) {
-        return is_ended_class(units, steps);
+        return is_class_by_name(units, steps);
     }
     is_field_counted(units, steps)
 }
 
 // Whether a text that begins and ends as the descriptor of a class is one, by the name between.
-fn is_ended_class<L: Ledger>(units: &[u16], steps: &mut Steps<L>) -> bool
+fn is_class_by_name<L: Ledger>(units: &[u16], steps: &mut Steps<L>) -> bool
     requires begins { grammar.begins_with (76 ∷ []) units.now ≡ true }
     requires ends { spec.may_be_field units.now ≡ true }
     ensures test { result ≡ descriptors_spec.is_field units.now }

@@ -1,5 +1,5 @@
 use Rattle.std.proofs.Common.{arith}
-use Rattle.class_checks.proofs.SeenNames.{ends_by}
+use Rattle.class_checks.proofs.NamesByUnits.{ends_by}
 use Rattle.class_checks.proofs.names.ends_with_semicolon.Goals as goal
 
 pub returns-in-len1-up : goal.returns-in-len1-up

@@ -1,4 +1,4 @@
--- What the units that were seen in a text say of it as a name.
+-- What the units that decide on names say of it as a name.
 use Rattle.std.proofs.Common.{◌≡◌, ℕ, zero, suc, ◌-◌, ◌<◌, Bool, true, false, cond, eqb, List, [], ◌∷◌, length, drop, get_or, ◌⊎◌, inl, inr, refl, sym, ap, subst, ◌∙◌, arith}
 use Rattle.std.specs.Prelude.{not, ◌&&◌, ◌||◌}
 use Rattle.std.specs.List.{list_all}
@@ -7,15 +7,15 @@ use Rattle.descriptors.specs.Descriptors.{are_parts}
 use Rattle.descriptors.specs.Descriptors as chars
 use Rattle.class_grammar.specs.Names.{is_name_unit, is_method_unit}
 use Rattle.class_checks.specs.declared.names.Names.{Names}
-use Rattle.class_checks.specs.declared.seen.Seen.{Seen}
+use Rattle.class_checks.specs.declared.name_units.NameUnits.{NameUnits}
 use Rattle.class_checks.specs.Names.{names_by}
-use Rattle.class_checks.specs.Seen.{any_pair, is_slash, is_never, is_angle, seen_in, last_of, ends_with_semicolon, nothing, names_by_seen}
+use Rattle.class_checks.specs.NameUnits.{any_pair, is_slash, is_stop, is_angle, name_units_of, last_of, ends_with_semicolon, nothing, names_from}
 use Rattle.class_checks.proofs.NameLaws.{NoName, no_name_behind, has_no_name}
 
 -- ---- a unit that no name has
 
-never_first : (u : ℕ) (us : List ℕ) → is_never u ≡ true → NoName (u ∷ us)
-never_first u us h =
+stop_first : (u : ℕ) (us : List ℕ) → is_stop u ≡ true → NoName (u ∷ us)
+stop_first u us h =
     elim (which (eqb u 46) (eqb u 59) (eqb u 91) h) [
       | inl e ↦ subst (λ (n : ℕ). NoName (n ∷ us)) (sym (eqb-true u 46 e)) (record { plain = refl; angled = refl; parts = λ begun. refl })
       | inr (inl e) ↦ subst (λ (n : ℕ). NoName (n ∷ us)) (sym (eqb-true u 59 e)) (record { plain = refl; angled = refl; parts = λ begun. refl })
@@ -36,8 +36,8 @@ or_neither : (a b : Bool) → (a || b) ≡ false → (a ≡ false) × (b ≡ fal
 or_neither true b h = absurd cc
 or_neither false b h = (refl, h)
 
-abbrev never_in : ℕ → List ℕ → Bool
-never_in p us = any_pair (λ u v. is_never v) (p ∷ us) us
+abbrev stop_in : ℕ → List ℕ → Bool
+stop_in p us = any_pair (λ u v. is_stop v) (p ∷ us) us
 
 abbrev slash_in : ℕ → List ℕ → Bool
 slash_in p us = any_pair (λ u v. is_slash v) (p ∷ us) us
@@ -45,15 +45,15 @@ slash_in p us = any_pair (λ u v. is_slash v) (p ∷ us) us
 abbrev angle_in : ℕ → List ℕ → Bool
 angle_in p us = any_pair (λ u v. is_angle v) (p ∷ us) us
 
-abbrev double_in : ℕ → List ℕ → Bool
-double_in p us = any_pair (λ u v. is_slash u && is_slash v) (p ∷ us) us
+abbrev empty_part_in : ℕ → List ℕ → Bool
+empty_part_in p us = any_pair (λ u v. is_slash u && is_slash v) (p ∷ us) us
 
-never_later : (p : ℕ) (us : List ℕ) → never_in p us ≡ true → NoName us
-never_later p [] h = absurd cc
-never_later p (u ∷ us) h =
-    elim (or_cases (is_never u) (never_in u us) h) [
-      | inl e ↦ never_first u us e
-      | inr more ↦ no_name_behind u us (never_later u us more)
+stop_later : (p : ℕ) (us : List ℕ) → stop_in p us ≡ true → NoName us
+stop_later p [] h = absurd cc
+stop_later p (u ∷ us) h =
+    elim (or_cases (is_stop u) (stop_in u us) h) [
+      | inl e ↦ stop_first u us e
+      | inr more ↦ no_name_behind u us (stop_later u us more)
     ]
 
 -- ---- where there is none of these
@@ -81,35 +81,35 @@ method_step n false true m true z p q = rw p refl
 method_step n false true m false z p q = rw p refl
 method_step n false false m y z p q = rw p q
 
-class_step : (before s n : Bool) (us : List ℕ) (double last : Bool) → n ≡ true → are_parts (not s) us ≡ not (double || last)
-    → cond s (not before && are_parts false us) (n && are_parts true us) ≡ not (((before && s) || double) || last)
-class_step true true n us double last p q = refl
-class_step false true n us double last p q = q
-class_step true false n us double last p q = rw p q
-class_step false false n us double last p q = rw p q
+class_step : (before s n : Bool) (us : List ℕ) (empty_part last : Bool) → n ≡ true → are_parts (not s) us ≡ not (empty_part || last)
+    → cond s (not before && are_parts false us) (n && are_parts true us) ≡ not (((before && s) || empty_part) || last)
+class_step true true n us empty_part last p q = refl
+class_step false true n us empty_part last p q = q
+class_step true false n us empty_part last p q = rw p q
+class_step false false n us empty_part last p q = rw p q
 
 -- what the units behind one say
 record Behind (p : ℕ) (us : List ℕ) : Type 0 where
   plain : list_all is_name_unit us ≡ not (slash_in p us)
   angled : list_all is_method_unit us ≡ (not (slash_in p us) && not (angle_in p us))
-  parts : are_parts (not (is_slash p)) us ≡ not (double_in p us || is_slash (last_of p us))
+  parts : are_parts (not (is_slash p)) us ≡ not (empty_part_in p us || is_slash (last_of p us))
 
-behind : (p : ℕ) (us : List ℕ) → never_in p us ≡ false → Behind p us
+behind : (p : ℕ) (us : List ℕ) → stop_in p us ≡ false → Behind p us
 behind p [] h = record { plain = refl; angled = refl; parts = refl }
 behind p (u ∷ us) h =
-    let none = or_neither (is_never u) (never_in u us) h in
+    let none = or_neither (is_stop u) (stop_in u us) h in
     let r = behind u us none.1 in
     let unit = name_unit (eqb u 46) (eqb u 59) (eqb u 91) (eqb u 47) none.0 in
     record {
       plain = field_step (is_name_unit u) (is_slash u) _ _ unit r.plain;
       angled = method_step (is_name_unit u) (is_slash u) (is_angle u) _ _ _ unit r.angled;
-      parts = class_step (is_slash p) (is_slash u) (chars.is_name_unit u) us (double_in u us) (is_slash (last_of u us)) (part_unit (eqb u 46) (eqb u 59) (eqb u 91) none.0) r.parts;
+      parts = class_step (is_slash p) (is_slash u) (chars.is_name_unit u) us (empty_part_in u us) (is_slash (last_of u us)) (part_unit (eqb u 46) (eqb u 59) (eqb u 91) none.0) r.parts;
     }
 
-class_first : (s n : Bool) (us : List ℕ) (double last : Bool) → n ≡ true → are_parts (not s) us ≡ not (double || last)
-    → cond s (false && are_parts false us) (n && are_parts true us) ≡ not (s || double || last)
-class_first true n us double last p q = refl
-class_first false n us double last p q = rw p q
+class_first : (s n : Bool) (us : List ℕ) (empty_part last : Bool) → n ≡ true → are_parts (not s) us ≡ not (empty_part || last)
+    → cond s (false && are_parts false us) (n && are_parts true us) ≡ not (s || empty_part || last)
+class_first true n us empty_part last p q = refl
+class_first false n us empty_part last p q = rw p q
 
 same_names : (a b c p q r : Bool) → a ≡ p → b ≡ q → c ≡ r → ◌≡◌ {A = Names} (record { of_field = a; of_method = b; of_class = c }) (record { of_field = p; of_method = q; of_class = r })
 same_names a b c p q r e f g = rw (e, f, g) refl
@@ -118,18 +118,18 @@ chosen : (b : Bool) (x y z : Names) → (b ≡ true → z ≡ x) → (b ≡ fals
 chosen true x y z p q = p refl
 chosen false x y z p q = q refl
 
-pub seen_names : (u : ℕ) (us : List ℕ) → names_by false false false (u ∷ us) ≡ names_by_seen u (last_of u us) (seen_in (u ∷ us) us)
-seen_names u us =
-    chosen (is_never u || never_in u us) nothing _ _
-    (λ h. has_no_name (u ∷ us) (elim (or_cases (is_never u) (never_in u us) h) [ inl e ↦ never_first u us e | inr more ↦ no_name_behind u us (never_later u us more) ]))
+pub names_of_units : (u : ℕ) (us : List ℕ) → names_by false false false (u ∷ us) ≡ names_from u (last_of u us) (name_units_of (u ∷ us) us)
+names_of_units u us =
+    chosen (is_stop u || stop_in u us) nothing _ _
+    (λ h. has_no_name (u ∷ us) (elim (or_cases (is_stop u) (stop_in u us) h) [ inl e ↦ stop_first u us e | inr more ↦ no_name_behind u us (stop_later u us more) ]))
     (λ h.
-    let none = or_neither (is_never u) (never_in u us) h in
+    let none = or_neither (is_stop u) (stop_in u us) h in
     let r = behind u us none.1 in
     let unit = name_unit (eqb u 46) (eqb u 59) (eqb u 91) (eqb u 47) none.0 in
     same_names _ _ _ _ _ _
     (field_step (is_name_unit u) (is_slash u) _ _ unit r.plain)
     (method_step (is_name_unit u) (is_slash u) (is_angle u) _ _ _ unit r.angled)
-    (class_first (is_slash u) (chars.is_name_unit u) us (double_in u us) (is_slash (last_of u us)) (part_unit (eqb u 46) (eqb u 59) (eqb u 91) none.0) r.parts))
+    (class_first (is_slash u) (chars.is_name_unit u) us (empty_part_in u us) (is_slash (last_of u us)) (part_unit (eqb u 46) (eqb u 59) (eqb u 91) none.0) r.parts))
 
 last_at : (u : ℕ) (us : List ℕ) (k : ℕ) → k ≡ length us → get_or (u ∷ us) k 0 ≡ last_of u us
 last_at u [] zero e = refl
@@ -138,11 +138,11 @@ last_at u (v ∷ vs) zero e = absurd (omega arith)
 last_at u (v ∷ vs) (suc k) e = last_at v vs k (omega arith)
 
 -- the same of a text, by the units at its ends
-pub text_names : (units : List ℕ) (result : Names) (seen : Seen) → 0 < length units → result ≡ names_by_seen (get_or units 0 0) (get_or units (length units - 1) 0) seen
-    → seen ≡ seen_in units (drop 1 units) → result ≡ names_by false false false units
-text_names [] result seen h e s = absurd (omega arith)
-text_names (u ∷ us) result seen h e s =
-    e ∙ ap (λ (n : ℕ). names_by_seen u n seen) (last_at u us (length (u ∷ us) - 1) (omega arith)) ∙ ap (names_by_seen u (last_of u us)) s ∙ sym (seen_names u us)
+pub text_names : (units : List ℕ) (result : Names) (rest : NameUnits) → 0 < length units → result ≡ names_from (get_or units 0 0) (get_or units (length units - 1) 0) rest
+    → rest ≡ name_units_of units (drop 1 units) → result ≡ names_by false false false units
+text_names [] result rest h e s = absurd (omega arith)
+text_names (u ∷ us) result rest h e s =
+    e ∙ ap (λ (n : ℕ). names_from u n rest) (last_at u us (length (u ∷ us) - 1) (omega arith)) ∙ ap (names_from u (last_of u us)) s ∙ sym (names_of_units u us)
 
 -- ---- a semicolon at the end
 
@@ -151,7 +151,7 @@ ends_by [] h = absurd (omega arith)
 ends_by (u ∷ us) h = ap (λ (n : ℕ). eqb n 59) (last_at u us (length (u ∷ us) - 1) (omega arith))
 
 semicolon_last : (u : ℕ) (us : List ℕ) → last_of u us ≡ 59 → NoName (u ∷ us)
-semicolon_last u [] e = never_first u [] (ap is_never e)
+semicolon_last u [] e = stop_first u [] (ap is_stop e)
 semicolon_last u (v ∷ vs) e = no_name_behind u (v ∷ vs) (semicolon_last v vs e)
 
 pub no_name_ends : (units : List ℕ) → ends_with_semicolon units ≡ true → nothing ≡ names_by false false false units

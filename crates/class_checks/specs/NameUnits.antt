@@ -2,14 +2,14 @@
 use Rattle.std.specs.Prelude.{ℕ, Bool, false, not, List, [], ◌∷◌, codes, ◌==◌, ◌&&◌, ◌||◌, if◌then◌else◌}
 use Rattle.class_grammar.specs.Text.{is_one_of}
 use Rattle.class_checks.specs.declared.names.Names.{Names}
-use Rattle.class_checks.specs.declared.seen.Seen.{Seen}
+use Rattle.class_checks.specs.declared.name_units.NameUnits.{NameUnits}
 
 abbrev pub is_slash : ℕ → Bool
 is_slash u = u == 47
 
 -- no name has it
-abbrev pub is_never : ℕ → Bool
-is_never u = is_one_of (codes ".;[") u
+abbrev pub is_stop : ℕ → Bool
+is_stop u = is_one_of (codes ".;[") u
 
 abbrev pub is_angle : ℕ → Bool
 is_angle u = is_one_of (codes "<>") u
@@ -21,20 +21,20 @@ any_pair test (u ∷ us) [] = false
 any_pair test (u ∷ us) (v ∷ vs) = test u v || any_pair test us vs
 
 -- which of these units stand in a text, each with the one before it
-abbrev pub seen_in : List ℕ → List ℕ → Seen
-seen_in before units = record {
-  never = any_pair (λ u v. is_never v) before units;
+abbrev pub name_units_of : List ℕ → List ℕ → NameUnits
+name_units_of before units = record {
+  stop = any_pair (λ u v. is_stop v) before units;
   slash = any_pair (λ u v. is_slash v) before units;
   angle = any_pair (λ u v. is_angle v) before units;
-  double = any_pair (λ u v. is_slash u && is_slash v) before units;
+  empty_part = any_pair (λ u v. is_slash u && is_slash v) before units;
 }
 
-abbrev pub either : Seen → Seen → Seen
+abbrev pub either : NameUnits → NameUnits → NameUnits
 either a b = record {
-  never = a.never || b.never;
+  stop = a.stop || b.stop;
   slash = a.slash || b.slash;
   angle = a.angle || b.angle;
-  double = a.double || b.double;
+  empty_part = a.empty_part || b.empty_part;
 }
 
 -- the last of a unit and those after it
@@ -50,11 +50,11 @@ abbrev pub nothing : Names
 nothing = record { of_field = false; of_method = false; of_class = false }
 
 -- the names of a text, by its first and its last unit and by those behind the first
-abbrev pub names_by_seen : ℕ → ℕ → Seen → Names
-names_by_seen first last seen =
-    if is_never first || seen.never then nothing
+abbrev pub names_from : ℕ → ℕ → NameUnits → Names
+names_from first last behind =
+    if is_stop first || behind.stop then nothing
     else record {
-      of_field = not (is_slash first || seen.slash);
-      of_method = not (is_slash first || seen.slash) && not (is_angle first || seen.angle);
-      of_class = not (is_slash first || seen.double || is_slash last);
+      of_field = not (is_slash first || behind.slash);
+      of_method = not (is_slash first || behind.slash) && not (is_angle first || behind.angle);
+      of_class = not (is_slash first || behind.empty_part || is_slash last);
     }

@@ -2,8 +2,8 @@
 use Rattle.std.proofs.Common.{◌≡◌, ℕ, zero, suc, ◌+◌, ◌≤◌, Bool, true, false, List, [], ◌∷◌, length, take, drop, refl, sym, ap, ◌∙◌, arith}
 use Rattle.std.proofs.lemmas.List.{length-drop, drop-drop}
 use Rattle.std.specs.Prelude.{◌||◌}
-use Rattle.class_checks.specs.declared.seen.Seen.{Seen}
-use Rattle.class_checks.specs.Seen.{any_pair, seen_in, either}
+use Rattle.class_checks.specs.declared.name_units.NameUnits.{NameUnits}
+use Rattle.class_checks.specs.NameUnits.{any_pair, name_units_of, either}
 
 or_assoc : (a b c : Bool) → (a || (b || c)) ≡ ((a || b) || c)
 or_assoc true b c = refl
@@ -70,35 +70,35 @@ module _ (test : ℕ → ℕ → Bool) where
 
 -- ---- the four tests together
 
-pub same_seen : (a b c d p q r s : Bool) → a ≡ p → b ≡ q → c ≡ r → d ≡ s
-    → ◌≡◌ {A = Seen} (record { never = a; slash = b; angle = c; double = d }) (record { never = p; slash = q; angle = r; double = s })
-same_seen a b c d p q r s e f g h = rw (e, f, g, h) refl
+pub same_units : (a b c d p q r s : Bool) → a ≡ p → b ≡ q → c ≡ r → d ≡ s
+    → ◌≡◌ {A = NameUnits} (record { stop = a; slash = b; angle = c; empty_part = d }) (record { stop = p; slash = q; angle = r; empty_part = s })
+same_units a b c d p q r s e f g h = rw (e, f, g, h) refl
 
-either_assoc : (a b c : Seen) → either (either a b) c ≡ either a (either b c)
+either_assoc : (a b c : NameUnits) → either (either a b) c ≡ either a (either b c)
 either_assoc a b c =
-    same_seen _ _ _ _ _ _ _ _ (sym (or_assoc a.never b.never c.never)) (sym (or_assoc a.slash b.slash c.slash)) (sym (or_assoc a.angle b.angle c.angle)) (sym (or_assoc a.double b.double c.double))
+    same_units _ _ _ _ _ _ _ _ (sym (or_assoc a.stop b.stop c.stop)) (sym (or_assoc a.slash b.slash c.slash)) (sym (or_assoc a.angle b.angle c.angle)) (sym (or_assoc a.empty_part b.empty_part c.empty_part))
 
-seen_more : (at : ℕ) (us vs : List ℕ) → either (seen_in (take at us) (take at vs)) (seen_in (take 8 (drop at us)) (take 8 (drop at vs))) ≡ seen_in (take (at + 8) us) (take (at + 8) vs)
-seen_more at us vs =
+units_more : (at : ℕ) (us vs : List ℕ) → either (name_units_of (take at us) (take at vs)) (name_units_of (take 8 (drop at us)) (take 8 (drop at vs))) ≡ name_units_of (take (at + 8) us) (take (at + 8) vs)
+units_more at us vs =
     let part : (test : ℕ → ℕ → Bool) → (any_pair test (take at us) (take at vs) || any_pair test (take 8 (drop at us)) (take 8 (drop at vs))) ≡ any_pair test (take (at + 8) us) (take (at + 8) vs) = λ test. sym (more test at 8 (at + 8) us vs refl) in
-    same_seen _ _ _ _ _ _ _ _ (part _) (part _) (part _) (part _)
+    same_units _ _ _ _ _ _ _ _ (part _) (part _) (part _) (part _)
 
 behind : (at : ℕ) (units : List ℕ) → drop (at + 1) units ≡ drop at (drop 1 units)
 behind at units = ap (λ (n : ℕ). drop n units) (let e : at + 1 ≡ 1 + at = omega arith in e) ∙ sym (drop-drop at 1 units)
 
 -- eight units more were looked at
-pub seen_on : (at : ℕ) (units : List ℕ) (end now chunk new : Seen) → now ≡ either end (seen_in (take at units) (take at (drop 1 units)))
-    → chunk ≡ seen_in (take 8 (drop at units)) (take 8 (drop (at + 1) units)) → new ≡ either now chunk → new ≡ either end (seen_in (take (at + 8) units) (take (at + 8) (drop 1 units)))
-seen_on at units end now chunk new so_far here e =
-    let eight : chunk ≡ seen_in (take 8 (drop at units)) (take 8 (drop at (drop 1 units))) = here ∙ ap (λ (l : List ℕ). seen_in (take 8 (drop at units)) (take 8 l)) (behind at units) in
-    e ∙ ap (λ (s : Seen). either s chunk) so_far ∙ either_assoc end (seen_in (take at units) (take at (drop 1 units))) chunk
-    ∙ ap (either end) (ap (either (seen_in (take at units) (take at (drop 1 units)))) eight ∙ seen_more at units (drop 1 units))
+pub units_on : (at : ℕ) (units : List ℕ) (end now chunk new : NameUnits) → now ≡ either end (name_units_of (take at units) (take at (drop 1 units)))
+    → chunk ≡ name_units_of (take 8 (drop at units)) (take 8 (drop (at + 1) units)) → new ≡ either now chunk → new ≡ either end (name_units_of (take (at + 8) units) (take (at + 8) (drop 1 units)))
+units_on at units end now chunk new so_far here e =
+    let eight : chunk ≡ name_units_of (take 8 (drop at units)) (take 8 (drop at (drop 1 units))) = here ∙ ap (λ (l : List ℕ). name_units_of (take 8 (drop at units)) (take 8 l)) (behind at units) in
+    e ∙ ap (λ (s : NameUnits). either s chunk) so_far ∙ either_assoc end (name_units_of (take at units) (take at (drop 1 units))) chunk
+    ∙ ap (either end) (ap (either (name_units_of (take at units) (take at (drop 1 units)))) eight ∙ units_more at units (drop 1 units))
 
 -- all were looked at
-pub seen_whole : (last at : ℕ) (units : List ℕ) (now : Seen) → length units ≤ last + 9 → last ≤ at
-    → now ≡ either (seen_in (take 8 (drop last units)) (take 8 (drop (last + 1) units))) (seen_in (take at units) (take at (drop 1 units))) → now ≡ seen_in units (drop 1 units)
-seen_whole last at units now size le e =
+pub units_whole : (last at : ℕ) (units : List ℕ) (now : NameUnits) → length units ≤ last + 9 → last ≤ at
+    → now ≡ either (name_units_of (take 8 (drop last units)) (take 8 (drop (last + 1) units))) (name_units_of (take at units) (take at (drop 1 units))) → now ≡ name_units_of units (drop 1 units)
+units_whole last at units now size le e =
     let vs = drop 1 units in
     let part : (test : ℕ → ℕ → Bool) → (any_pair test (take 8 (drop last units)) (take 8 (drop last vs)) || any_pair test (take at units) (take at vs)) ≡ any_pair test units vs = λ test. ends_with test at last 8 units vs le (omega (arith, length-drop 1 units)) in
-    e ∙ ap (λ (l : List ℕ). either (seen_in (take 8 (drop last units)) (take 8 l)) (seen_in (take at units) (take at vs))) (behind last units)
-    ∙ same_seen _ _ _ _ _ _ _ _ (part _) (part _) (part _) (part _)
+    e ∙ ap (λ (l : List ℕ). either (name_units_of (take 8 (drop last units)) (take 8 l)) (name_units_of (take at units) (take at vs))) (behind last units)
+    ∙ same_units _ _ _ _ _ _ _ _ (part _) (part _) (part _) (part _)
