@@ -29,6 +29,7 @@ fn kinds_agree<L: Ledger>(
     steps: &mut Steps<L>,
 ) -> Result<bool, AllocError>
     requires { length units.now < 2 ^ 16 }
+    ensures { steps.new ≡ steps.old + 2 * length units.now }
 {
     let field = field_kind_counted(alloc, units, steps);
     let method = method_kind_counted(alloc, units, steps);
