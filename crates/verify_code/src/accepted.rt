@@ -73,9 +73,10 @@ impl<'a, L: Lookups> Environment<'a, L> {
         let Some(wanted) = &self.wanted else {
             return None;
         };
-        let Some(stored) = &s.stored else {
+        let Some(held) = &s.stored else {
             return None;
         };
+        let stored = held.get();
         if !holds_at(pc, Some(stored.judged)) {
             return None;
         }

@@ -13,7 +13,7 @@ use crate::targets::pc_of;
 use items::NoMemory;
 use opcodes::{Instr, Op};
 use std::alloc::Global;
-use verify_frames::{Fitted, KnownState, Like, are_assignable};
+use verify_frames::{Fitted, Held, KnownState, Like, are_assignable};
 use world_model::Lookups;
 
 // With fewer local variables a comparison costs less than what is kept to save it.
@@ -125,10 +125,10 @@ impl<'a, L: Lookups> Environment<'a, L> {
         let Some(fitted) = &s.fitted else {
             return Ok(None);
         };
-        if self.among(&fitted.pcs, pc).is_some() {
+        if self.among(&fitted.get().pcs, pc).is_some() {
             return Ok(None);
         }
-        if self.fits_near_one(alloc, s, fitted, pc)? {
+        if self.fits_near_one(alloc, s, fitted.get(), pc)? {
             Ok(Some(pc))
         } else {
             Ok(None)
@@ -149,7 +149,7 @@ impl<'a, L: Lookups> Environment<'a, L> {
             stored,
             fitted,
         } = s;
-        let fitted = Fitted::with(alloc, fitted, pc)?;
+        let fitted = Held::new(alloc, Fitted::with(alloc, fitted, pc)?)?;
         Ok(KnownState {
             state,
             like,

@@ -183,9 +183,10 @@ impl<'a, L: Lookups> Environment<'a, L> {
                 other: judged,
             });
         }
-        let Some(stored) = &s.stored else {
+        let Some(held) = &s.stored else {
             return None;
         };
+        let stored = held.get();
         let Written::Store(local) = stored.written else {
             return None;
         };
@@ -230,9 +231,10 @@ impl<'a, L: Lookups> Environment<'a, L> {
         if self.guards.len() < MANY {
             return Ok(());
         }
-        let Some(stored) = &s.stored else {
+        let Some(held) = &s.stored else {
             return Ok(());
         };
+        let stored = held.get();
         let Written::Store(local) = stored.written else {
             return Ok(());
         };

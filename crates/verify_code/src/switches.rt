@@ -126,7 +126,7 @@ impl<'a, L: Lookups> Environment<'a, L> {
         ensures { MayFit self.now (type_state s.now) result }
     {
         match &s.fitted {
-            Some(fitted) => self.fitted_among(s, fitted, pc),
+            Some(fitted) => self.fitted_among(s, fitted.get(), pc),
             None => None,
         }
     }
@@ -203,7 +203,7 @@ impl<'a, L: Lookups> Environment<'a, L> {
             return None;
         };
         if let Some(fitted) = &s.fitted {
-            if self.among(&fitted.pcs, pc).is_some() {
+            if self.among(&fitted.get().pcs, pc).is_some() {
                 return None;
             }
         }

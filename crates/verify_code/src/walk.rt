@@ -25,7 +25,7 @@ use items::NoMemory;
 use opcodes::Instr;
 use std::alloc::Global;
 use verify_frames::{
-    Fitted, Frame, Judged, KnownState, Like, StatesAfter, holds_at, known_after, like_behind,
+    Fitted, Frame, Held, Judged, KnownState, Like, StatesAfter, holds_at, known_after, like_behind,
     watched,
 };
 use verify_instructions::{State, Stop, behind_first, first_naming, goes_on};
@@ -134,7 +134,12 @@ impl<'a, L: Lookups> Environment<'a, L> {
     }
 
     // Frames that the state of the frame of the map at a pc fits, if its local variables are those of this state.
-    fn fitted_over(&self, s: &KnownState, pc: u32) -> Result<Option<Fitted>, NoMemory>
+    fn fitted_over(
+        &self,
+        alloc: Global,
+        s: &KnownState,
+        pc: u32,
+    ) -> Result<Option<Held<Fitted>>, NoMemory>
         requires { Holds self.now s.now }
         ensures { IfOk result (λ fitted. (f : MapFrame) (t : TypeState) →
             map_at self.now pc ≡ Some f → f.state ≡ Some t → FitAll self.now t fitted) }
@@ -146,22 +151,27 @@ impl<'a, L: Lookups> Environment<'a, L> {
             return Ok(None);
         };
         match self.shared(s, pc) {
-            Some(_) => Ok(Some(fitted.again()?)),
+            Some(_) => Ok(Some(Held::new(alloc, fitted.get().again()?)?)),
             None => Ok(None),
         }
     }
 
     // The same, after an instruction.
-    fn fitted_there(&self, before: &StatesAfter, pc: u32) -> Result<Option<Fitted>, NoMemory>
+    fn fitted_there(
+        &self,
+        alloc: Global,
+        before: &StatesAfter,
+        pc: u32,
+    ) -> Result<Option<Held<Fitted>>, NoMemory>
         requires { BothHold self.now before.now }
         ensures { IfOk result (λ fitted. (f : MapFrame) (t : TypeState) →
             map_at self.now pc ≡ Some f → f.state ≡ Some t → FitAll self.now t fitted) }
     {
         if let Some(s) = &before.going {
-            return self.fitted_over(s, pc);
+            return self.fitted_over(alloc, s, pc);
         }
         match &before.spare {
-            Some(s) => self.fitted_over(s, pc),
+            Some(s) => self.fitted_over(alloc, s, pc),
             None => Ok(None),
         }
     }
@@ -193,7 +203,7 @@ impl<'a, L: Lookups> Environment<'a, L> {
             None => true,
         };
         let judged = self.judged_there(&before, pc);
-        let fitted = self.fitted_there(&before, pc)?;
+        let fitted = self.fitted_there(alloc, &before, pc)?;
         let like = Like::new(alloc, pc);
         match self.state_there(alloc, before.either(), &frame, pc)? {
             Some(state) => Ok(Arrival {
@@ -269,7 +279,7 @@ impl<'a, L: Lookups> Environment<'a, L> {
         let like = like_behind(&i.op, like, &state.types)?;
         let mut state = state;
         let applied = state.apply(self.world, &self.method, i.pc as u16, naming, &i.op);
-        let after = known_after(state, this_uninit, watch, like, judged, fitted)?;
+        let after = known_after(alloc, state, this_uninit, watch, like, judged, fitted)?;
         match applied {
             Ok(()) => Ok(After::Kept(after)),
             Err(stop) => Ok(After::Broken(broken_rule(stop)?)),

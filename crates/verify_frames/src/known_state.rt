@@ -8,6 +8,7 @@ ghost use Rattle.verify_frames.specs.Overwrites.{IsRestored, is_noted, overwritt
 ghost use Rattle.verify_frames.specs.KnownStates as spec;
 ghost use Rattle.verify_frames.specs.declared.known_state.Written.TheVariants as writes;
 
+use crate::held::Held;
 use crate::overwritten::{Like, Overwritten, overwritten_since, restored};
 use crate::watch::Watch;
 use items::NoMemory;
@@ -64,21 +65,21 @@ pub struct KnownState {
     /// Where they satisfy the exception handlers.
     pub judged: Option<Judged>,
     /// The instruction after which it isn't known whether they do.
-    pub stored: Option<Stored>,
+    pub stored: Option<Held<Stored>>,
     /// Frames that they fit.
-    pub fitted: Option<Fitted>,
+    pub fitted: Option<Held<Fitted>>,
 }
 
 // The frames that are kept, unless they are too many.
-fn kept(alloc: Global, fitted: Option<Fitted>) -> Fitted
+fn kept(alloc: Global, fitted: Option<Held<Fitted>>) -> Fitted
     ensures { (env : Environment) (s : TypeState) → spec.FitAll env s fitted
         → spec.AllFit env s result }
 {
     let Some(fitted) = fitted else {
         return Fitted::new(alloc);
     };
-    if fitted.pcs.len() < MOST {
-        fitted
+    if fitted.get().pcs.len() < MOST {
+        fitted.into_inner()
     } else {
         Fitted::new(alloc)
     }
@@ -131,9 +132,10 @@ fn list_written(slots: &mut Vec<usize>, written: &Written) -> Result<(), AllocEr
 
 // The same frames after an instruction, unless too many local variables were written.
 fn fitted_behind(
-    fitted: Option<Fitted>,
+    alloc: Global,
+    fitted: Option<Held<Fitted>>,
     written: &Option<Written>,
-) -> Result<Option<Fitted>, AllocError>
+) -> Result<Option<Held<Fitted>>, AllocError>
     ensures { IfOk result (λ o. IfSome o (spec.AreBehind written.now fitted)) }
 {
     let Some(fitted) = fitted else {
@@ -142,18 +144,18 @@ fn fitted_behind(
     let Some(written) = written else {
         return Ok(None);
     };
-    let Fitted { pcs, changed } = fitted;
+    let Fitted { pcs, changed } = fitted.into_inner();
     if changed.len() > MOST_CHANGED {
         return Ok(None);
     }
     let mut changed = changed;
     list_written(&mut changed, written)?;
-    Ok(Some(Fitted { pcs, changed }))
+    Ok(Some(Held::new(alloc, Fitted { pcs, changed })?))
 }
 
 impl Fitted {
     /// Frames that a state is known to fit, and another.
-    pub fn with(alloc: Global, fitted: Option<Fitted>, pc: u32) -> Result<Self, NoMemory>
+    pub fn with(alloc: Global, fitted: Option<Held<Fitted>>, pc: u32) -> Result<Self, NoMemory>
         ensures { IfOk result (λ now. (env : Environment) (s : TypeState)
             → spec.FitAll env s fitted → spec.FitsLocals env s pc → spec.AllFit env s now) }
     {
@@ -295,27 +297,32 @@ fn written_by(watch: Watch) -> Option<Written>
 }
 
 // What an instruction may have changed, where handlers were satisfied before it.
-fn stored_by(written: Option<Written>, judged: Option<Judged>) -> Option<Stored>
-    ensures { result ≡ spec.stored_in written judged }
+fn stored_by(
+    alloc: Global,
+    written: Option<Written>,
+    judged: Option<Judged>,
+) -> Result<Option<Held<Stored>>, AllocError>
+    ensures { IfOk result (λ stored. stored ≡ spec.stored_in written judged) }
 {
     let Some(judged) = judged else {
-        return None;
+        return Ok(None);
     };
     match written {
-        Some(written) => Some(Stored { written, judged }),
-        None => None,
+        Some(written) => Ok(Some(Held::new(alloc, Stored { written, judged })?)),
+        None => Ok(None),
     }
 }
 
 /// A state after an instruction, and what is known of it where the one before it had this flag, was so judged and fitted these frames. It is
 /// like this frame if it has the same flag.
 pub fn known_after(
+    alloc: Global,
     state: State,
     this_uninit: bool,
     watch: Watch,
     like: Option<Like>,
     judged: Option<Judged>,
-    fitted: Option<Fitted>,
+    fitted: Option<Held<Fitted>>,
 ) -> Result<KnownState, NoMemory>
     ensures { IfOk result (spec.KnownAfter this_uninit watch like judged fitted state) }
 {
@@ -338,12 +345,13 @@ pub fn known_after(
         });
     }
     let written = written_by(watch);
-    let fitted = fitted_behind(fitted, &written)?;
+    let fitted = fitted_behind(alloc, fitted, &written)?;
+    let stored = stored_by(alloc, written, judged)?;
     Ok(KnownState {
         state,
         like,
         judged: None,
-        stored: stored_by(written, judged),
+        stored,
         fitted,
     })
 }

@@ -14,4 +14,4 @@ returns c =
     changed fitted
     (if_shown c.is_same.result _ c.if-not-is_same.false c.is_same.ensures)
     (subst (λ (o : Option Written). IfSome fitted (AreBehind o c.args.fitted)) wrote c.in_ok-fitted.ensures)
-    (ap (λ (x : Option Stored). record { state = c.args.state; like = c.args.like; judged = None; stored = x; fitted = fitted }) (c.stored_by.ensures ∙ ap (λ (o : Option Written). stored_in o c.args.judged) wrote))
+    (ap (λ (x : Option Stored). record { state = c.args.state; like = c.args.like; judged = None; stored = x; fitted = fitted }) (c.in_ok-stored.ensures ∙ ap (λ (o : Option Written). stored_in o c.args.judged) wrote))

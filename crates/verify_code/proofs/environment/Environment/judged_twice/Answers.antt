@@ -1,4 +1,4 @@
-use Rattle.std.proofs.Common.{List, ap, ◌∙◌}
+use Rattle.std.proofs.Common.{Some, sym, List, ap, ◌∙◌}
 use Rattle.stack_maps.specs.declared.types.VType.{VType}
 use Rattle.verify_frames.specs.KnownStates.{type_state}
 use Rattle.verify_frames.specs.Overwrites.{around}
@@ -11,6 +11,6 @@ returns-in-Some g c = judged_itself c.args.self.now (type_state c.args.s.now) c.
 pub returns-in-Some-taken : goal.returns-in-Some-taken
 returns-in-Some-taken g c =
     let env = c.args.self.now in
-    let stored = c.in-Some-stored.stored in
-    judged_by_store env (type_state c.args.s.now) c.args.s.now.stored stored c.in-Store.local c.types_around-around.result c.taken.result c.in-Some-taken.other c.requires.holds.stored c.in-Some-stored.is c.in-Store.is
+    let stored = c.get-stored.result.now in
+    judged_by_store env (type_state c.args.s.now) c.args.s.now.stored stored c.in-Store.local c.types_around-around.result c.taken.result c.in-Some-taken.other c.requires.holds.stored (c.in-Some-stored.is ∙ ap Some (sym c.get-stored.ensures)) c.in-Store.is
     (c.types_around-around.ensures ∙ ap (λ (ls : List VType). around ls c.in-Store.local) c.locals.ensures) (c.taken.ensures env c.requires.taken) c.in-Some-taken.is
