@@ -323,6 +323,47 @@ def handlers_apart(c):
     c.method(step * 13000 + RETURN + (RETURN + b"\xbf" + RETURN) * 2000, frames, rows, locals=3)
 
 
+def handlers_between(c):
+    """The same, and one handler that wants an int there, at a pc before all of the stores and at one behind them."""
+    throwable = u1(7) + u2(c.pool.of_class(b"java/lang/Throwable"))
+    step = b"\xbb" + u2(c.pool.of_class(b"java/lang/Object")) + b"\x4b"
+    store = ICONST_0 + ISTORE_0 + NOP
+    first = 4 * 12990 + 7
+    append = [u1(252) + u2(0 if i else first) + u1(TOP) for i in range(2000)]
+    frames = [frame for i in range(2000) for frame in (append[i], u1(64) + throwable, u1(250) + u2(0))]
+    last = u1(255) + u2(0) + u2(1) + u1(INTEGER) + u2(1) + throwable
+    rows = [(0, first - 1, first + 3 * i + 1, 0) for i in range(2000)] + [(at, at + 1, first + 6000, 0) for at in (2, first - 2)]
+    c.method(store + step * 12990 + store + RETURN + (RETURN + b"\xbf" + RETURN) * 2000 + b"\xbf", frames + [last], rows, locals=3)
+
+
+def deep_handlers(c):
+    """2,000 stores of ever new types, under 300 rows to handlers whose frames have 20,000 local variables and are near one another."""
+    throwable = u1(7) + u2(c.pool.of_class(b"java/lang/Throwable"))
+    step = b"\xbb" + u2(c.pool.of_class(b"java/lang/Object")) + b"\x4b"
+    first = 4 * 2000 + 2
+    append = [u1(252) + u2(0 if i else first - 2) + u1(TOP) for i in range(300)]
+    frames = [frame for i in range(300) for frame in (append[i], u1(64) + throwable, u1(251) + u2(0))]
+    rows = [(1, first - 1, first + 3 * i + 1, 0) for i in range(300)]
+    code = RETURN + step * 2000 + RETURN + (RETURN + b"\xbf" + RETURN) * 300
+    c.method(code, [full_frame(1, [TOP] + [INTEGER] * 19999)] + frames, rows, locals=20301)
+
+
+def rows_apart(c):
+    """60,000 rows of one pc each, in turn to two handlers whose frames don't share their local variables."""
+    throwable = u1(7) + u2(c.pool.of_class(b"java/lang/Throwable"))
+    frames = [u1(247) + u2(60001) + throwable, u1(255) + u2(0) + u2(1) + u1(TOP) + u2(1) + throwable]
+    rows = [(i, i + 1, 60001 + i % 2, 0) for i in range(60000)]
+    c.method(NOP * 60000 + RETURN + b"\xbf\xbf", frames, rows, locals=2)
+
+
+def stores_before(c):
+    """4,000 times a store of an int and one of null into a local variable, and a branch to a written-out frame of 65,535."""
+    end = 8 * 4000 + 1
+    step = lambda at: ICONST_0 + ISTORE_0 + ACONST_NULL + b"\x4b" + ICONST_0 + b"\x99" + u2(end - at - 5)
+    frames = [full_frame(1, [INTEGER] * LOCALS), full_frame(end - 2, [TOP] + [INTEGER] * (LOCALS - 1))]
+    c.method(RETURN + b"".join(step(at) for at in range(1, end, 8)) + RETURN, frames)
+
+
 def gotos_apart(c):
     """10,000 jumps from frames of 65,535 ints to one of as many unset local variables."""
     end = 3 * 10000 + 1
@@ -470,6 +511,10 @@ KINDS = {
     "many-overwritten": lambda: methods_of(many_overwritten, 1),
     "constructor-frames": lambda: methods_of(constructor_frames, 1),
     "handlers-apart": lambda: methods_of(handlers_apart, 1),
+    "handlers-between": lambda: methods_of(handlers_between, 1),
+    "deep-handlers": lambda: methods_of(deep_handlers, 1),
+    "rows-apart": lambda: methods_of(rows_apart, 1),
+    "stores-before": lambda: methods_of(stores_before, 1),
     "gotos-apart": lambda: methods_of(gotos_apart, 1),
     "switches-apart": lambda: methods_of(switches_apart, 1),
     "far-and-near": lambda: methods_of(far_and_near, 1),
