@@ -32,8 +32,8 @@ impl<'a, L: Lookups> Model for Environment<'a, L> {
 
     ghost view = { λ a. environment_in (L.world a.world.now) a.method };
 
-    ghost invariant = { λ a.
-        HasFrames (environment_in (L.world a.world.now) a.method) a.frames a.guards.items a.wanted };
+    ghost invariant = { λ a. HasFrames
+        (environment_in (L.world a.world.now) a.method) a.frames a.guards.items a.wanted };
 }
 
 impl<'a, L: Lookups> Environment<'a, L> {

@@ -98,7 +98,8 @@ fn list(slots: &mut Vec<usize>, slot: usize) -> Result<(), AllocError>
 
 // Adds local variables that a store may change.
 fn list_store(slots: &mut Vec<usize>, n: u16) -> Result<(), AllocError>
-    ensures { OnOk result (spec.ListsAll slots.old.items (spec.Spares (writes.Store n)) slots.new.items) }
+    ensures { OnOk result
+        (spec.ListsAll slots.old.items (spec.Spares (writes.Store n)) slots.new.items) }
 {
     let slot = usize::from(n);
     list(slots, slot.saturating_sub(1))?;
