@@ -25,10 +25,10 @@ use Rattle.verify_instructions.specs.declared.stop.Stop.TheVariants as stops
 use Rattle.verify_instructions.specs.Answers.{Leaves}
 use Rattle.verify_code.specs.Findings.{instruction_of, findings_at, findings_whys}
 use Rattle.verify_frames.specs.Frames.{stray_frame}
-use Rattle.verify_frames.specs.declared.known_state.StatesAfter.{StatesAfter}
+use Rattle.verify_frames.specs.declared.known_state.StateAfter.{StateAfter}
 use Rattle.verify_frames.specs.declared.known_state.KnownState.{KnownState}
-use Rattle.verify_frames.specs.KnownStates.{states_after, going, type_state}
-use Rattle.verify_frames.proofs.KnownStateLaws.{new_both, new_going, none_hold}
+use Rattle.verify_frames.specs.KnownStates.{going, type_state}
+use Rattle.verify_frames.proofs.KnownStateLaws.{new_going, none_hold, one_holds}
 use Rattle.verify_code.specs.Walks.{GoesOn, IsKept, IsPassed, arrives, place, goes_to, fault_from}
 
 -- ---- one instruction
@@ -82,18 +82,18 @@ unknown_missing env i naming entry is_last h = missing (map_at env i.pc) h
     missing (Some f) h = absurd cc
 
 -- what goes on after it, where no rule is broken
-pub passed_unknown : (env : Environment) (p : Placed) (b : StatesAfter) → b ≡ record { going = None; spare = None } → first_some (whys_at env p) ≡ None → behind env p.instruction p.state ≡ None → IsPassed env p b
-passed_unknown env p b e none at = subst (IsPassed env p) (sym e) (record { none = none; is = sym at; holds = record { going = none_hold env; spare = none_hold env } })
+pub passed_unknown : (env : Environment) (p : Placed) (b : StateAfter) → b ≡ record { known = None; goes_on = false } → first_some (whys_at env p) ≡ None → behind env p.instruction p.state ≡ None → IsPassed env p b
+passed_unknown env p b e none at = subst (IsPassed env p) (sym e) (record { none = none; is = sym at; holds = none_hold env })
 
-pub passed_on : (env : Environment) (i : Instr) (naming : Naming) (entry : Option TypeState) (is_last : Bool) (s : TypeState) (after : KnownState) (on : Bool) (b : StatesAfter)
-    → IsKept env (place i naming (Some s) entry is_last) s after → on ≡ row_goes_on (row i.op) → b ≡ states_after after on → IsPassed env (place i naming (Some s) entry is_last) b
+pub passed_on : (env : Environment) (i : Instr) (naming : Naming) (entry : Option TypeState) (is_last : Bool) (s : TypeState) (after : KnownState) (on : Bool) (b : StateAfter)
+    → IsKept env (place i naming (Some s) entry is_last) s after → on ≡ row_goes_on (row i.op) → b ≡ record { known = Some after; goes_on = on } → IsPassed env (place i naming (Some s) entry is_last) b
 passed_on env i naming entry is_last s after on b h goes e = subst (IsPassed env (place i naming (Some s) entry is_last)) (sym e) (record {
   none = h.none;
   is =
       new_going after on
       ∙ ap (λ t. cond t (Some (type_state after)) None) goes
       ∙ ap (λ r. cond (row_goes_on (row i.op)) (result_ok r) None) (sym h.is);
-  holds = new_both env after on h.holds;
+  holds = one_holds env after h.holds;
 })
 
 -- ---- faults in a list
@@ -168,7 +168,7 @@ fault_at_first env entry before i is ns naming is_last fault named last h =
     (ap (λ p. first_some (placed_faults env p)) (sym (head_is env entry before i is ns naming is_last named last)) ∙ h)
 
 -- without one there, it is the first of those after it
-pub fault_behind_first : (env : Environment) (entry before : Option TypeState) (after : StatesAfter) (i : Instr) (is : List Instr) (ns : List Naming) (naming : Naming) (is_last : Bool)
+pub fault_behind_first : (env : Environment) (entry before : Option TypeState) (after : StateAfter) (i : Instr) (is : List Instr) (ns : List Naming) (naming : Naming) (is_last : Bool)
     → naming ≡ Naming_at ns → is_last ≡ nat_eq (length is) 0
     → GoesOn env (place i naming (standing env i.pc before) entry is_last) after
     → fault_from env entry before (with_namings (i ∷ is) ns) ≡ fault_from env None (going after) (with_namings is (drop 1 ns))

@@ -13,9 +13,9 @@ use Rattle.verify_types.specs.Handlers.{fits_frame}
 use Rattle.verify_types.specs.Walk.{Placed, behind, placed, walk}
 use Rattle.items.specs.First.{first_some}
 use Rattle.verify_types.specs.Faults.{fits_target, fits_next, state_whys, whys_at, placed_faults}
-use Rattle.verify_frames.specs.declared.known_state.StatesAfter.{StatesAfter}
+use Rattle.verify_frames.specs.declared.known_state.StateAfter.{StateAfter}
 use Rattle.verify_frames.specs.declared.known_state.KnownState.{KnownState}
-use Rattle.verify_frames.specs.KnownStates.{BothHold, Holds, going, type_state}
+use Rattle.verify_frames.specs.KnownStates.{AllHold, Holds, going, type_state}
 use Rattle.verify_code.specs.Findings.{instruction_of}
 use Rattle.verify_code.specs.declared.walk.After.{After}
 use Rattle.verify_code.specs.declared.walk.After.TheVariants as afters
@@ -59,20 +59,20 @@ IsVerdict env p s (verdicts.Broken why) = first_some (state_whys env p s) ≡ So
 IsVerdict env p s (verdicts.Kept after) = IsKept env p s after
 
 -- no rule is broken, and this state goes on
-pub record IsPassed (env : Environment) (p : Placed) (after : StatesAfter) : Type 0 where
+pub record IsPassed (env : Environment) (p : Placed) (after : StateAfter) : Type 0 where
   pub none : first_some (whys_at env p) ≡ None
   pub is : going after ≡ behind env p.instruction p.state
-  pub holds : BothHold env after
+  pub holds : AllHold env after.known
 
 abbrev pub IsPassage : Environment → Placed → Passage → Type 0
 IsPassage env p (passages.Broken why) = first_some (whys_at env p) ≡ Some why
 IsPassage env p (passages.On after) = IsPassed env p after
 
 -- there is no fault, and this state goes on
-pub record GoesOn (env : Environment) (p : Placed) (after : StatesAfter) : Type 0 where
+pub record GoesOn (env : Environment) (p : Placed) (after : StateAfter) : Type 0 where
   pub none : first_some (placed_faults env p) ≡ None
   pub is : going after ≡ behind env p.instruction p.state
-  pub holds : BothHold env after
+  pub holds : AllHold env after.known
 
 abbrev pub IsStep : Environment → Placed → Step → Type 0
 IsStep env p (steps.Fault fault) = first_some (placed_faults env p) ≡ Some fault

@@ -12,7 +12,7 @@ ghost use Rattle.verify_types.specs.Handlers.{are_satisfied};
 ghost use Rattle.verify_instructions.specs.Views.{state_in};
 ghost use Rattle.verify_code.specs.Findings.{instruction_of, findings_at};
 ghost use Rattle.verify_frames.specs.Frames.{frame_in};
-ghost use Rattle.verify_frames.specs.KnownStates.{AllHold, BothHold, FitAll, IsJudged, Holds, going, holds_at, type_state};
+ghost use Rattle.verify_frames.specs.KnownStates.{AllHold, FitAll, IsJudged, Holds, going, holds_at, type_state};
 ghost use Rattle.verify_code.specs.Satisfied.{AllTaken};
 ghost use Rattle.verify_code.specs.Walks.{IsAfter, IsPassage, IsStep, IsVerdict, arrives, entry_of, place, walk_fault};
 
@@ -25,7 +25,7 @@ use items::NoMemory;
 use opcodes::Instr;
 use std::alloc::Global;
 use verify_frames::{
-    Fitted, Frame, Held, Judged, KnownState, Like, StatesAfter, holds_at, known_after, like_behind,
+    Fitted, Frame, Held, Judged, KnownState, Like, StateAfter, holds_at, known_after, like_behind,
     watched,
 };
 use verify_instructions::{State, Stop, behind_first, first_naming, goes_on};
@@ -57,14 +57,14 @@ pub enum Verdict {
 #[derive(Drop)]
 pub enum Passage {
     Broken(VerifyWhy),
-    On(StatesAfter),
+    On(StateAfter),
 }
 
 /// The first fault at an instruction or between it and the next, or else the state that goes on after it.
 #[derive(Drop)]
 pub enum Step {
     Fault(PcFault),
-    On(StatesAfter),
+    On(StateAfter),
 }
 
 // The rule that was broken.
@@ -119,15 +119,12 @@ impl<'a, L: Lookups> Environment<'a, L> {
     }
 
     // The same, after an instruction.
-    fn judged_there(&self, before: &StatesAfter, pc: u32) -> Option<Judged>
-        requires { BothHold self.now before.now }
+    fn judged_there(&self, before: &StateAfter, pc: u32) -> Option<Judged>
+        requires { AllHold self.now before.now.known }
         ensures { (f : MapFrame) (t : TypeState) → map_at self.now pc ≡ Some f
             → f.state ≡ Some t → IfSome result (IsJudged self.now t) }
     {
-        if let Some(s) = &before.going {
-            return self.judged_over(s, pc);
-        }
-        match &before.spare {
+        match &before.known {
             Some(s) => self.judged_over(s, pc),
             None => None,
         }
@@ -160,19 +157,27 @@ impl<'a, L: Lookups> Environment<'a, L> {
     fn fitted_there(
         &self,
         alloc: Global,
-        before: &StatesAfter,
+        before: &StateAfter,
         pc: u32,
     ) -> Result<Option<Held<Fitted>>, NoMemory>
-        requires { BothHold self.now before.now }
+        requires { AllHold self.now before.now.known }
         ensures { IfOk result (λ fitted. (f : MapFrame) (t : TypeState) →
             map_at self.now pc ≡ Some f → f.state ≡ Some t → FitAll self.now t fitted) }
     {
-        if let Some(s) = &before.going {
-            return self.fitted_over(alloc, s, pc);
-        }
-        match &before.spare {
+        match &before.known {
             Some(s) => self.fitted_over(alloc, s, pc),
             None => Ok(None),
+        }
+    }
+
+    // Whether the state in which the method begins, if it is this one, fits the frame of the map at a pc.
+    fn enters(&self, before: &StateAfter, is_entry: bool, frame: &Frame<'_>, pc: u32) -> bool
+        requires { map_at self.now pc ≡ Some (frame_in frame.now) }
+        ensures { result ≡ arrives self.now pc (entry_of is_entry (going before.now)) }
+    {
+        match &before.known {
+            Some(s) => !(before.goes_on && is_entry) || self.fits_frame(&s.state, frame),
+            None => true,
         }
     }
 
@@ -180,11 +185,11 @@ impl<'a, L: Lookups> Environment<'a, L> {
     fn arrive(
         &self,
         alloc: Global,
-        before: StatesAfter,
+        before: StateAfter,
         is_entry: bool,
         pc: u32,
     ) -> Result<Arrival, NoMemory>
-        requires { BothHold self.now before }
+        requires { AllHold self.now before.known }
         ensures state { IfOk result (λ a. option_map type_state a.known ≡
             standing self.now pc (going before)) }
         ensures fits { IfOk result (λ a. a.fits ≡
@@ -192,20 +197,16 @@ impl<'a, L: Lookups> Environment<'a, L> {
         ensures holds { IfOk result (λ a. AllHold self.now a.known) }
     {
         let Some(frame) = self.frames.at(pc) else {
-            let StatesAfter { going, spare: _ } = before;
             return Ok(Arrival {
-                known: going,
+                known: before.going(),
                 fits: true,
             });
         };
-        let fits = match &before.going {
-            Some(s) => !is_entry || self.fits_frame(&s.state, &frame),
-            None => true,
-        };
+        let fits = self.enters(&before, is_entry, &frame, pc);
         let judged = self.judged_there(&before, pc);
         let fitted = self.fitted_there(alloc, &before, pc)?;
         let like = Like::new(alloc, pc);
-        match self.state_there(alloc, before.either(), &frame, pc)? {
+        match self.state_there(alloc, before.known, &frame, pc)? {
             Some(state) => Ok(Arrival {
                 known: Some(KnownState {
                     state,
@@ -328,7 +329,7 @@ impl<'a, L: Lookups> Environment<'a, L> {
         if self.has_frame(i.pc) {
             Passage::Broken(VerifyWhy::Map)
         } else {
-            Passage::On(StatesAfter::unknown())
+            Passage::On(StateAfter::unknown())
         }
     }
 
@@ -357,7 +358,7 @@ impl<'a, L: Lookups> Environment<'a, L> {
         let s = self.judged(i.pc, s, stores)?;
         match self.judge(alloc, s, fits, i, naming, is_last)? {
             Verdict::Broken(why) => Ok(Passage::Broken(why)),
-            Verdict::Kept(after) => Ok(Passage::On(StatesAfter::new(after, goes_on(&i.op)))),
+            Verdict::Kept(after) => Ok(Passage::On(StateAfter::new(after, goes_on(&i.op)))),
         }
     }
 
@@ -365,7 +366,7 @@ impl<'a, L: Lookups> Environment<'a, L> {
     fn step(
         &self,
         alloc: Global,
-        before: StatesAfter,
+        before: StateAfter,
         is_entry: bool,
         i: &Instr,
         naming: Naming,
@@ -373,7 +374,7 @@ impl<'a, L: Lookups> Environment<'a, L> {
         stores: &mut SatisfiedStores,
     ) -> Result<Step, NoMemory>
         requires low { i.now.pc < 2 ^ 16 }
-        requires holds { BothHold self.now before }
+        requires holds { AllHold self.now before.known }
         requires taken { AllTaken self.now stores.old }
         ensures taken { OnOk result (AllTaken self.now stores.new) }
         ensures step { IfOk result (IsStep self.now (place i.now naming
@@ -405,7 +406,7 @@ impl<'a, L: Lookups> Environment<'a, L> {
             stored: None,
             fitted: None,
         };
-        let mut before = StatesAfter::new(first, true);
+        let mut before = StateAfter::new(first, true);
         let mut stores = SatisfiedStores::new(alloc);
         let mut is_entry = true;
         let mut rest: &[Instr] = &self.method.code.code;

@@ -18,7 +18,6 @@ use Rattle.verify_types.specs.TypeStates.{TypeState, all_assignable, fits, with_
 use Rattle.verify_instructions.proofs.Lists.{pointwise_reverse}
 use Rattle.verify_frames.specs.declared.frame.Frame.{Frame}
 use Rattle.verify_frames.specs.declared.frame_paths.Entry.{Entry}
-use Rattle.verify_frames.specs.declared.known_state.StatesAfter.{StatesAfter}
 use Rattle.verify_frames.specs.declared.known_state.Fitted.{Fitted}
 use Rattle.verify_frames.specs.declared.known_state.KnownState.{KnownState}
 use Rattle.verify_frames.specs.FramePaths.{entry_in, frame_types, state_where}
@@ -32,7 +31,7 @@ use Rattle.verify_frames.specs.declared.watch.Watch.{Watch}
 use Rattle.verify_frames.specs.Watches.{Watches}
 use Rattle.verify_frames.specs.Overwrites.{type_at, AreBut, IsRestored, NotedBehind, are_assignable, overwritten_since}
 use Rattle.verify_frames.specs.Overwrites.NotedBehind.{leaves, stores, objects}
-use Rattle.verify_frames.specs.KnownStates.{AllFit, AllHold, AreBehind, FitsBut, Spares, written_by, BothHold, Compares, FitAll, FitsLocals, MayBeLike, MayFit, KnownAfter, states_after, stored_by, IsStored, either_of, going, IsJudged, IsLike, IsOver, IsShared, Holds, type_state}
+use Rattle.verify_frames.specs.KnownStates.{AllFit, AllHold, AreBehind, Compares, FitAll, FitsBut, FitsLocals, Holds, IsJudged, IsLike, IsOver, IsShared, IsStored, KnownAfter, MayBeLike, MayFit, Spares, if_going, stored_by, type_state, written_by}
 use Rattle.verify_frames.specs.KnownStates.KnownAfter.{nothing, changed, kept}
 use Rattle.verify_frames.proofs.OverwriteLaws.{all_by_number, fits_but, one_by_one, none_left, none_noted, objects_noted}
 use Rattle.verify_frames.proofs.StoreLaws.{after_stored}
@@ -416,18 +415,11 @@ fitted_over env os s pc f there t fitted none h at is known =
         let same : with_stack h.before (reverse (slot_types ss)) ≡ t = cc in
         fits_same env s t fitted (whole ∙ ap (λ (x : TypeState). x.types.locals) same) (sym h.flag ∙ ap (λ (x : TypeState). x.this_uninit) same) known
 
-pub either_holds : (env : Environment) (b : StatesAfter) → BothHold env b → AllHold env (either_of b)
-either_holds env b h = of_these b.going b.spare h.going h.spare
-  where
-    of_these : (o p : Option KnownState) → AllHold env o → AllHold env p → AllHold env (option_map_or (λ s. Some s) o p)
-    of_these None p h k = k
-    of_these (Some s) p h k = h
+pub going_holds : (env : Environment) (known : Option KnownState) (goes_on : Bool) → AllHold env known → AllHold env (if_going known goes_on)
+going_holds env known true h = h
+going_holds env known false h = none_hold env
 
-pub new_both : (env : Environment) (s : KnownState) (goes_on : Bool) → Holds env s → BothHold env (states_after s goes_on)
-new_both env s true h = record { going = one_holds env s h; spare = none_hold env }
-new_both env s false h = record { going = none_hold env; spare = one_holds env s h }
-
-pub new_going : (s : KnownState) (goes_on : Bool) → going (states_after s goes_on) ≡ cond goes_on (Some (type_state s)) None
+pub new_going : (s : KnownState) (goes_on : Bool) → option_map type_state (if_going (Some s) goes_on) ≡ cond goes_on (Some (type_state s)) None
 new_going s true = refl
 new_going s false = refl
 

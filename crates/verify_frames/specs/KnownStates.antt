@@ -10,7 +10,7 @@ use Rattle.verify_types.specs.Handlers.{are_satisfied}
 use Rattle.verify_instructions.specs.Views.{state_in}
 use Rattle.verify_instructions.specs.declared.state.State.{State}
 use Rattle.verify_frames.specs.declared.frame.Frame.{Frame}
-use Rattle.verify_frames.specs.declared.known_state.StatesAfter.{StatesAfter}
+use Rattle.verify_frames.specs.declared.known_state.StateAfter.{StateAfter}
 use Rattle.verify_frames.specs.declared.known_state.Judged.{Judged}
 use Rattle.verify_frames.specs.declared.known_state.Stored.{Stored}
 use Rattle.verify_frames.specs.declared.known_state.Written.{Written}
@@ -146,19 +146,12 @@ pub data KnownAfter (this_uninit : Bool) (watch : Watch) (like : Option Like) (j
 abbrev pub AllHold : Environment → Option KnownState → Type 0
 AllHold env o = (s : KnownState) → o ≡ Some s → Holds env s
 
-abbrev pub states_after : KnownState → Bool → StatesAfter
-states_after s goes_on = if goes_on then record { going = Some s; spare = None } else record { going = None; spare = Some s }
-
-abbrev pub either_of : StatesAfter → Option KnownState
-either_of b = option_map_or (λ s. Some s) b.going b.spare
+abbrev pub if_going : Option KnownState → Bool → Option KnownState
+if_going known goes_on = if goes_on then known else None
 
 -- what goes on, as the definitions see it
-abbrev pub going : StatesAfter → Option TypeState
-going b = option_map type_state b.going
-
-pub record BothHold (env : Environment) (b : StatesAfter) : Type 0 where
-  pub going : AllHold env b.going
-  pub spare : AllHold env b.spare
+abbrev pub going : StateAfter → Option TypeState
+going b = option_map type_state (if_going b.known b.goes_on)
 
 -- the state with the operand stack of a frame, where its types are known
 abbrev pub over_stack_of : Frame → TypeState → Option TypeState

@@ -232,50 +232,40 @@ impl KnownState {
     }
 }
 
-/// The state that goes on after an instruction, or else one that doesn't, whose local variables may serve at the next frame.
+/// The state after an instruction, and whether it goes on. The local variables of one that doesn't may serve at the next frame.
 #[derive(Drop)]
-pub struct StatesAfter {
-    pub going: Option<KnownState>,
-    pub spare: Option<KnownState>,
+pub struct StateAfter {
+    pub known: Option<KnownState>,
+    pub goes_on: bool,
 }
 
-impl StatesAfter {
+impl StateAfter {
     /// Nothing is known after an instruction.
     pub fn unknown() -> Self
-        ensures { result ≡ record { going = None; spare = None } }
+        ensures { result ≡ record { known = None; goes_on = false } }
     {
-        StatesAfter {
-            going: None,
-            spare: None,
+        StateAfter {
+            known: None,
+            goes_on: false,
         }
     }
 
     /// This is the state after an instruction, and goes on or not.
     pub fn new(after: KnownState, goes_on: bool) -> Self
-        ensures { result ≡ spec.states_after after goes_on }
+        ensures { result ≡ record { known = Some after; goes_on = goes_on } }
     {
-        if goes_on {
-            StatesAfter {
-                going: Some(after),
-                spare: None,
-            }
-        } else {
-            StatesAfter {
-                going: None,
-                spare: Some(after),
-            }
+        StateAfter {
+            known: Some(after),
+            goes_on,
         }
     }
 
-    /// A state whose local variables may serve, if there is one.
-    pub fn either(self) -> Option<KnownState>
-        ensures { result ≡ spec.either_of self }
+    /// The state, if it goes on.
+    pub fn going(self) -> Option<KnownState>
+        ensures { result ≡ spec.if_going self.known self.goes_on }
     {
-        let StatesAfter { going, spare } = self;
-        match going {
-            Some(s) => Some(s),
-            None => spare,
-        }
+        let StateAfter { known, goes_on } = self;
+        if goes_on { known } else { None }
     }
 }
 

@@ -24,7 +24,7 @@ pub use frame_state::{first_frame, state_of};
 pub use frames::Frames;
 pub use held::Held;
 pub use known_state::{
-    Fitted, Judged, KnownState, StatesAfter, Stored, Written, holds_at, known_after,
+    Fitted, Judged, KnownState, StateAfter, Stored, Written, holds_at, known_after,
 };
 pub use overwritten::{Like, Overwritten, are_assignable, like_behind, type_at};
 pub use stack_map::frames_of;

@@ -5,7 +5,7 @@ use Rattle.verify_instructions.specs.Views.{state_in}
 use Rattle.verify_frames.specs.declared.known_state.KnownState.{KnownState}
 use Rattle.verify_frames.specs.Frames.{frame_at, frame_in}
 use Rattle.verify_frames.specs.KnownStates.{AllHold}
-use Rattle.verify_frames.proofs.KnownStateLaws.{either_holds, new_holds}
+use Rattle.verify_frames.proofs.KnownStateLaws.{going_holds, new_holds}
 use Rattle.verify_code.proofs.environment.Environment.arrive.Goals as goal
 
 pub returns-in-Some-2-clause-holds : goal.returns-in-Some-2-clause-holds
@@ -18,5 +18,5 @@ returns-in-Some-2-clause-holds g c =
     (c.judged_there-judged.ensures (frame_in c.in-Some.frame) (state_in c.in-Some-2.state) at is) refl
     (c.in_ok-fitted.ensures (frame_in c.in-Some.frame) (state_in c.in-Some-2.state) at is)
 
-pub state_there-requires-clause-holds : goal.state_there-requires-clause-holds
-state_there-requires-clause-holds g c = subst (AllHold c.args.self.now) (sym c.either.ensures) (either_holds c.args.self.now c.args.before c.requires)
+pub returns-in_default-clause-holds : goal.returns-in_default-clause-holds
+returns-in_default-clause-holds g c = subst (AllHold c.args.self.now) (sym c.going.ensures) (going_holds c.args.self.now c.args.before.known c.args.before.goes_on c.requires)
