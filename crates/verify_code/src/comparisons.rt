@@ -198,6 +198,7 @@ impl<'a, L: Lookups> Environment<'a, L> {
     }
 
     // Compares the state after an instruction, and keeps nothing more of it.
+    #[inline(always)]
     fn compared_alone(&self, s: KnownState, i: &Instr, is_last: bool) -> Compared
         requires { Holds self.now s }
         ensures fits { result.fits ≡
@@ -210,6 +211,7 @@ impl<'a, L: Lookups> Environment<'a, L> {
     }
 
     /// Compares the state after an instruction.
+    #[inline(always)]
     pub fn compared(
         &self,
         alloc: Global,

@@ -182,6 +182,7 @@ impl<'a, L: Lookups> Environment<'a, L> {
     }
 
     // The state before the instruction at a pc: that of the frame of the map there, or else this one.
+    #[inline(always)]
     fn arrive(
         &self,
         alloc: Global,
@@ -256,6 +257,7 @@ impl<'a, L: Lookups> Environment<'a, L> {
     }
 
     // Types one instruction.
+    #[inline(always)]
     fn after(
         &self,
         alloc: Global,
@@ -288,6 +290,7 @@ impl<'a, L: Lookups> Environment<'a, L> {
     }
 
     // Judges one instruction.
+    #[inline(always)]
     fn judge(
         &self,
         alloc: Global,
@@ -334,6 +337,7 @@ impl<'a, L: Lookups> Environment<'a, L> {
     }
 
     // Judges an instruction with the state before it, if it has one.
+    #[inline(always)]
     fn pass(
         &self,
         alloc: Global,
@@ -363,6 +367,7 @@ impl<'a, L: Lookups> Environment<'a, L> {
     }
 
     // Judges an instruction, and what lies between it and the next.
+    #[inline(always)]
     fn step(
         &self,
         alloc: Global,
