@@ -7,3 +7,4 @@ pub mod InstructionLaws
 pub mod EnvironmentLaws
 pub mod WalkLaws
 pub mod MethodLaws
+pub mod AskingLaws

@@ -25,3 +25,7 @@ pub record AskAlike (hs ks : List Handler) : Type 0 where
 pub record Meet (a b : Row) : Type 0 where
   pub first : a.start ≤ b.end
   pub second : b.start ≤ a.end
+
+-- where a row starts
+abbrev pub start_of : Guard → ℕ
+start_of g = g.row.start

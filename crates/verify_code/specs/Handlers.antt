@@ -1,6 +1,6 @@
 -- An exception handler, part by part.
-use Rattle.std.specs.Prelude.{◌≡◌, ℕ, Bool, true, false, IfSome, not, List, [], ◌∷◌, Option, nat_le, nat_lt, ◌&&◌, ◌||◌, if◌then◌else◌}
-use Rattle.std.specs.Option.{option_map_or}
+use Rattle.std.specs.Prelude.{◌≡◌, ℕ, Bool, true, false, IfSome, not, List, [], ◌∷◌, Option, Some, None, min, nat_le, nat_lt, ◌&&◌, ◌||◌, if◌then◌else◌}
+use Rattle.std.specs.Option.{option_and_then, option_map_or}
 use Rattle.class_model.specs.declared.attribute.Row.{Row}
 use Rattle.stack_maps.specs.declared.types.VType.{VType}
 use Rattle.verify_types.specs.Assignability.{assignable}
@@ -32,6 +32,10 @@ covers_twice t r = row_covers t.one.at r && row_covers t.other.at r
 -- such
 abbrev pub keeps_more : Environment → Option JudgedTwice → ℕ → TypeState → Handler → Bool
 keeps_more env twice pc s h = not (covers pc h) || (option_map_or (λ t. covers_twice t h.row) twice false || is_satisfied env s h)
+
+-- the lower of two pcs at which states satisfy the handlers, if both lie at this pc or before it
+abbrev pub lower_of : Option JudgedTwice → ℕ → Option ℕ
+lower_of twice pc = option_and_then (λ t. if nat_le t.one.at pc && nat_le t.other.at pc then Some (min t.one.at t.other.at) else None) twice
 
 -- whether the handler at this pc, which catches this, is satisfied
 abbrev pub catches_at : Environment → TypeState → ℕ → Option ℕ → Bool

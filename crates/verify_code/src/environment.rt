@@ -19,6 +19,8 @@ pub struct Environment<'a, L: Lookups> {
     pub method: Method<'a>,
     pub frames: Frames,
     pub guards: Vec<Guard>,
+    /// Whether the rows are known to lie in the order of their starts.
+    pub are_sorted: bool,
     /// What the handlers want of local variables, if there are many.
     pub wanted: Option<Wanted>,
 }
@@ -33,7 +35,8 @@ impl<'a, L: Lookups> Model for Environment<'a, L> {
     ghost view = { λ a. environment_in (L.world a.world.now) a.method };
 
     ghost invariant = { λ a. HasFrames
-        (environment_in (L.world a.world.now) a.method) a.frames a.guards.items a.wanted };
+        (environment_in (L.world a.world.now) a.method) a.frames a.guards.items
+        a.are_sorted a.wanted };
 }
 
 impl<'a, L: Lookups> Environment<'a, L> {
@@ -60,6 +63,7 @@ impl<'a, L: Lookups> Environment<'a, L> {
                 method,
                 frames,
                 guards,
+                are_sorted: false,
                 wanted: None,
             })),
             None => Ok(None),

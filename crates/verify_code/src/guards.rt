@@ -2,7 +2,8 @@
 
 ghost use Rattle.std.specs.Prelude.{◌≡◌, ◌++◌, ◌∷◌, [], IfOk, IfSome, MatchBool, Some, drop, get_or, map, None};
 ghost use Rattle.verify_types.specs.Environment.{with_catches};
-ghost use Rattle.verify_code.specs.Guards.{AskAlike, Meet, guard_in, opened};
+ghost use Rattle.std.specs.List.Sorted.{IsNonDecreasingBy};
+ghost use Rattle.verify_code.specs.Guards.{AskAlike, Meet, guard_in, opened, start_of};
 
 use class_model::Row;
 use items::NoMemory;
@@ -116,6 +117,16 @@ fn with_last(guards: Vec<Guard>, last: Option<Guard>) -> Result<Vec<Guard>, NoMe
     if let Some(last) = last {
         guards.push(last)?;
     }
+    Ok(guards)
+}
+
+/// The rows in the order of their starts.
+pub fn sorted(guards: Vec<Guard>) -> Result<Vec<Guard>, AllocError>
+    ensures alike { IfOk result (λ v. AskAlike (map guard_in v.items) (map guard_in guards.items)) }
+    ensures sorted { IfOk result (λ v. IsNonDecreasingBy start_of v.items) }
+{
+    let mut guards = guards;
+    guards.sort_by_key(|guard| guard.row.start)?;
     Ok(guards)
 }
 

@@ -12,6 +12,7 @@ ghost use Rattle.verify_code.specs.Handlers as parts;
 ghost use Rattle.verify_code.specs.Handlers.{IsCatcher, IsRowKept, handler, caught_fits, keeps_more};
 ghost use Rattle.verify_frames.specs.KnownStates.{IsJudged, Holds, holds_at, type_state};
 
+use crate::asking::{asking, next_start};
 use crate::environment::Environment;
 use crate::guards::{Caught, Guard, is_last};
 use crate::satisfied::{JudgedTwice, SatisfiedStores, judged_on};
@@ -41,30 +42,6 @@ fn is_covered_twice(row: &Row, twice: Option<JudgedTwice>) -> bool
         Some(t) => is_covered(row, t.one.at) && is_covered(row, t.other.at),
         None => false,
     }
-}
-
-// The start of a row, where it lies after a pc and before the next.
-fn nearer(pc: u32, next: u32, start: u32) -> u32
-    ensures { result ≡ parts.nearer pc next start }
-{
-    if pc < start && start < next {
-        start
-    } else {
-        next
-    }
-}
-
-// The first pc after this one at which a row starts; 65,536 where there is none.
-fn next_start(guards: &[Guard], pc: u32) -> u32
-    ensures { result ≡ parts.next_start pc 65536 (map guard_in guards.now) }
-{
-    let mut next = 65_536;
-    let mut rest = guards;
-    while let Some((guard, behind)) = rest.split_first() {
-        next = nearer(pc, next, u32::from(guard.row.start));
-        rest = behind;
-    }
-    next
 }
 
 impl<'a, L: Lookups> Environment<'a, L> {
@@ -208,12 +185,13 @@ impl<'a, L: Lookups> Environment<'a, L> {
         ensures judged { IfSome result (IsJudged self.now (type_state s.now)) }
         ensures found { holds_at pc result ≡ spec.are_satisfied self.now pc (type_state s.now) }
     {
-        if !self.are_more_satisfied(twice, pc, s, &self.guards) {
+        let asking = asking(&self.guards, self.are_sorted, twice, pc);
+        if !self.are_more_satisfied(twice, pc, s, asking) {
             return None;
         }
         Some(Judged {
             at: pc,
-            until: next_start(&self.guards, pc),
+            until: next_start(&self.guards, self.are_sorted, pc),
         })
     }
 

@@ -2,6 +2,7 @@
 #![tactic(auto)]
 
 mod accepted;
+mod asking;
 mod checked;
 mod comparisons;
 mod environment;

@@ -7,7 +7,7 @@ ghost use Rattle.verify_code.specs.Guards.{AskAlike, guard_in};
 ghost use Rattle.verify_code.specs.Merged.{AreAlike, AskSame, AsksLocals, IsNamed};
 
 use crate::environment::Environment;
-use crate::guards::{Caught, Guard, joined};
+use crate::guards::{Caught, Guard, joined, sorted};
 use class_model::Row;
 use items::NoMemory;
 use std::alloc::{AllocError, Global};
@@ -212,6 +212,7 @@ impl<'a, L: Lookups> Environment<'a, L> {
             return Ok(self);
         }
         let Merged { guards, last: _ } = self.merged(alloc)?;
+        let guards = sorted(guards)?;
         let rows = rows_of(alloc, &guards)?;
         let wanted = self.frames.wanted(alloc, &rows)?;
         let Environment {
@@ -219,6 +220,7 @@ impl<'a, L: Lookups> Environment<'a, L> {
             method,
             frames,
             guards: _,
+            are_sorted: _,
             wanted: _,
         } = self;
         Ok(Environment {
@@ -226,6 +228,7 @@ impl<'a, L: Lookups> Environment<'a, L> {
             method,
             frames,
             guards,
+            are_sorted: true,
             wanted,
         })
     }

@@ -17,7 +17,7 @@ returns-then-not-are_more_satisfied-clause-found g c =
     let alike : AskSame c.args.self.now hs c.args.self.now.handlers = subst (λ (e : Environment). AskSame e hs e.handlers) c.self.view_is c.self.invariant.guarded in
     sym c.if-not-are_more_satisfied.true
     ∙ satisfied_is c.args.self.now c.args.pc (type_state c.args.s.now) hs c.args.twice c.are_more_satisfied.result alike
-    (c.are_more_satisfied.ensures ∙ ap (λ (gs : List Guard). list_all (keeps_more c.args.self.now c.args.twice c.args.pc (type_state c.args.s.now)) (map guard_in gs)) c.deref.ensures.value) c.requires.twice
+    (c.are_more_satisfied.ensures ∙ c.asking-asking.ensures c.args.self.now (type_state c.args.s.now) ∙ ap (λ (gs : List Guard). list_all (keeps_more c.args.self.now c.args.twice c.args.pc (type_state c.args.s.now)) (map guard_in gs)) c.deref.ensures.value) c.requires.twice
 
 pub returns-clause-judged : goal.returns-clause-judged
 returns-clause-judged g c =
@@ -27,7 +27,7 @@ returns-clause-judged g c =
     let alike : AskSame env hs env.handlers = subst (λ (e : Environment). AskSame e hs e.handlers) c.self.view_is c.self.invariant.guarded in
     let satisfied : are_satisfied env c.args.pc s ≡ true =
     sym (satisfied_is env c.args.pc s hs c.args.twice c.are_more_satisfied.result alike
-    (c.are_more_satisfied.ensures ∙ ap (λ (gs : List Guard). list_all (keeps_more env c.args.twice c.args.pc s) (map guard_in gs)) c.deref.ensures.value) c.requires.twice)
+    (c.are_more_satisfied.ensures ∙ c.asking-asking.ensures c.args.self.now (type_state c.args.s.now) ∙ ap (λ (gs : List Guard). list_all (keeps_more env c.args.twice c.args.pc s) (map guard_in gs)) c.deref.ensures.value) c.requires.twice)
     ∙ c.if-not-are_more_satisfied.false in
     judged_here env s c.args.pc c.next_start.result hs alike
     (c.next_start.ensures ∙ ap (λ (gs : List Guard). next_start c.args.pc 65536 (map guard_in gs)) c.deref-2.ensures.value)
@@ -40,4 +40,4 @@ returns-clause-found g c =
     holds_here c.args.pc c.next_start.result (map guard_in c.deref-2.result.now) c.requires.low c.next_start.ensures
     ∙ sym c.if-not-are_more_satisfied.false
     ∙ satisfied_is c.args.self.now c.args.pc (type_state c.args.s.now) hs c.args.twice c.are_more_satisfied.result alike
-    (c.are_more_satisfied.ensures ∙ ap (λ (gs : List Guard). list_all (keeps_more c.args.self.now c.args.twice c.args.pc (type_state c.args.s.now)) (map guard_in gs)) c.deref.ensures.value) c.requires.twice
+    (c.are_more_satisfied.ensures ∙ c.asking-asking.ensures c.args.self.now (type_state c.args.s.now) ∙ ap (λ (gs : List Guard). list_all (keeps_more c.args.self.now c.args.twice c.args.pc (type_state c.args.s.now)) (map guard_in gs)) c.deref.ensures.value) c.requires.twice
