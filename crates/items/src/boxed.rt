@@ -33,6 +33,14 @@ impl<T> Boxed<T> {
     {
         &*self.inner
     }
+
+    /// Takes the value out.
+    pub fn into_inner(self) -> T
+        ensures { result ≡ self }
+    {
+        let Boxed { inner } = self;
+        Box::into_inner(inner)
+    }
 }
 
 impl<T: Clone> Clone for Boxed<T> {

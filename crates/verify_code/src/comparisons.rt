@@ -10,10 +10,10 @@ ghost use Rattle.verify_code.specs.Walks.{goes_to};
 use crate::environment::Environment;
 use crate::switches::branch_target;
 use crate::targets::pc_of;
-use items::NoMemory;
+use items::{Boxed, NoMemory};
 use opcodes::{Instr, Op};
 use std::alloc::Global;
-use verify_frames::{Fitted, Held, KnownState, Like, are_assignable};
+use verify_frames::{Fitted, KnownState, Like, are_assignable};
 use world_model::Lookups;
 
 // With fewer local variables a comparison costs less than what is kept to save it.
@@ -149,7 +149,7 @@ impl<'a, L: Lookups> Environment<'a, L> {
             stored,
             fitted,
         } = s;
-        let fitted = Held::new(alloc, Fitted::with(alloc, fitted, pc)?)?;
+        let fitted = Boxed::new(alloc, Fitted::with(alloc, fitted, pc)?)?;
         Ok(KnownState {
             state,
             like,

@@ -21,11 +21,11 @@ use crate::environment::Environment;
 use crate::findings::Findings;
 use crate::satisfied::SatisfiedStores;
 use instruction_rows::RowWhy;
-use items::NoMemory;
+use items::{Boxed, NoMemory};
 use opcodes::Instr;
 use std::alloc::Global;
 use verify_frames::{
-    Fitted, Frame, Held, Judged, KnownState, Like, StateAfter, holds_at, known_after, like_behind,
+    Fitted, Frame, Judged, KnownState, Like, StateAfter, holds_at, known_after, like_behind,
     watched,
 };
 use verify_instructions::{State, Stop, behind_first, first_naming, goes_on};
@@ -136,7 +136,7 @@ impl<'a, L: Lookups> Environment<'a, L> {
         alloc: Global,
         s: &KnownState,
         pc: u32,
-    ) -> Result<Option<Held<Fitted>>, NoMemory>
+    ) -> Result<Option<Boxed<Fitted>>, NoMemory>
         requires { Holds self.now s.now }
         ensures { IfOk result (λ fitted. (f : MapFrame) (t : TypeState) →
             map_at self.now pc ≡ Some f → f.state ≡ Some t → FitAll self.now t fitted) }
@@ -148,7 +148,7 @@ impl<'a, L: Lookups> Environment<'a, L> {
             return Ok(None);
         };
         match self.shared(s, pc) {
-            Some(_) => Ok(Some(Held::new(alloc, fitted.get().again()?)?)),
+            Some(_) => Ok(Some(Boxed::new(alloc, fitted.get().again()?)?)),
             None => Ok(None),
         }
     }
@@ -159,7 +159,7 @@ impl<'a, L: Lookups> Environment<'a, L> {
         alloc: Global,
         before: &StateAfter,
         pc: u32,
-    ) -> Result<Option<Held<Fitted>>, NoMemory>
+    ) -> Result<Option<Boxed<Fitted>>, NoMemory>
         requires { AllHold self.now before.now.known }
         ensures { IfOk result (λ fitted. (f : MapFrame) (t : TypeState) →
             map_at self.now pc ≡ Some f → f.state ≡ Some t → FitAll self.now t fitted) }

@@ -8,10 +8,9 @@ ghost use Rattle.verify_frames.specs.Overwrites.{IsRestored, is_noted, overwritt
 ghost use Rattle.verify_frames.specs.KnownStates as spec;
 ghost use Rattle.verify_frames.specs.declared.known_state.Written.TheVariants as writes;
 
-use crate::held::Held;
 use crate::overwritten::{Like, Overwritten, overwritten_since, restored};
 use crate::watch::Watch;
-use items::NoMemory;
+use items::{Boxed, NoMemory};
 use std::alloc::{AllocError, Global};
 use verify_instructions::State;
 
@@ -65,13 +64,13 @@ pub struct KnownState {
     /// Where they satisfy the exception handlers.
     pub judged: Option<Judged>,
     /// The instruction after which it isn't known whether they do.
-    pub stored: Option<Held<Stored>>,
+    pub stored: Option<Boxed<Stored>>,
     /// Frames that they fit.
-    pub fitted: Option<Held<Fitted>>,
+    pub fitted: Option<Boxed<Fitted>>,
 }
 
 // The frames that are kept, unless they are too many.
-fn kept(alloc: Global, fitted: Option<Held<Fitted>>) -> Fitted
+fn kept(alloc: Global, fitted: Option<Boxed<Fitted>>) -> Fitted
     ensures { (env : Environment) (s : TypeState) → spec.FitAll env s fitted
         → spec.AllFit env s result }
 {
@@ -134,9 +133,9 @@ fn list_written(slots: &mut Vec<usize>, written: &Written) -> Result<(), AllocEr
 // The same frames after an instruction, unless too many local variables were written.
 fn fitted_behind(
     alloc: Global,
-    fitted: Option<Held<Fitted>>,
+    fitted: Option<Boxed<Fitted>>,
     written: &Option<Written>,
-) -> Result<Option<Held<Fitted>>, AllocError>
+) -> Result<Option<Boxed<Fitted>>, AllocError>
     ensures { IfOk result (λ o. IfSome o (spec.AreBehind written.now fitted)) }
 {
     let Some(fitted) = fitted else {
@@ -151,12 +150,12 @@ fn fitted_behind(
     }
     let mut changed = changed;
     list_written(&mut changed, written)?;
-    Ok(Some(Held::new(alloc, Fitted { pcs, changed })?))
+    Ok(Some(Boxed::new(alloc, Fitted { pcs, changed })?))
 }
 
 impl Fitted {
     /// Frames that a state is known to fit, and another.
-    pub fn with(alloc: Global, fitted: Option<Held<Fitted>>, pc: u32) -> Result<Self, NoMemory>
+    pub fn with(alloc: Global, fitted: Option<Boxed<Fitted>>, pc: u32) -> Result<Self, NoMemory>
         ensures { IfOk result (λ now. (env : Environment) (s : TypeState)
             → spec.FitAll env s fitted → spec.FitsLocals env s pc → spec.AllFit env s now) }
     {
@@ -292,14 +291,14 @@ fn stored_by(
     alloc: Global,
     written: Option<Written>,
     judged: Option<Judged>,
-) -> Result<Option<Held<Stored>>, AllocError>
+) -> Result<Option<Boxed<Stored>>, AllocError>
     ensures { IfOk result (λ stored. stored ≡ spec.stored_in written judged) }
 {
     let Some(judged) = judged else {
         return Ok(None);
     };
     match written {
-        Some(written) => Ok(Some(Held::new(alloc, Stored { written, judged })?)),
+        Some(written) => Ok(Some(Boxed::new(alloc, Stored { written, judged })?)),
         None => Ok(None),
     }
 }
@@ -313,7 +312,7 @@ pub fn known_after(
     watch: Watch,
     like: Option<Like>,
     judged: Option<Judged>,
-    fitted: Option<Held<Fitted>>,
+    fitted: Option<Boxed<Fitted>>,
 ) -> Result<KnownState, NoMemory>
     ensures { IfOk result (spec.KnownAfter this_uninit watch like judged fitted state) }
 {

@@ -8,7 +8,6 @@ mod frame;
 mod frame_paths;
 mod frame_state;
 mod frames;
-mod held;
 mod known_state;
 mod near;
 mod overwritten;
@@ -22,7 +21,6 @@ mod watch;
 pub use frame::Frame;
 pub use frame_state::{first_frame, state_of};
 pub use frames::Frames;
-pub use held::Held;
 pub use known_state::{
     Fitted, Judged, KnownState, StateAfter, Stored, Written, holds_at, known_after,
 };
