@@ -20,7 +20,8 @@ use Rattle.verify_frames.specs.declared.overwritten.Overwritten.{Overwritten}
 use Rattle.verify_frames.specs.declared.wanted.Wanted.{Wanted}
 use Rattle.verify_frames.specs.KnownStates.{Spares, IsStored, holds_at}
 use Rattle.verify_frames.specs.Overwrites.{around, is_noted, type_at}
-use Rattle.verify_frames.specs.Wanted.{IsAsked, accepts, meets, row_span}
+use Rattle.verify_frames.specs.PcSets.{meets, row_span}
+use Rattle.verify_frames.specs.Wanted.{IsAsked, accepts}
 use Rattle.verify_frames.proofs.OverwriteLaws.{all_by_number, one_by_one}
 use Rattle.verify_code.specs.declared.guards.Guard.{Guard}
 use Rattle.verify_code.specs.Accepted.{IsAccepted, accepts_around, accepts_written, row_in}

@@ -8,6 +8,7 @@ pub mod Watches
 pub mod Near
 pub mod Skips
 pub mod Takes
+pub mod PcSets
 pub mod Wanted
 pub mod KnownStates
 pub mod StackMaps

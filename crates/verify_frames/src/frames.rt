@@ -13,16 +13,16 @@ ghost use Rattle.verify_frames.specs.KnownStates.{IsShared};
 ghost use Rattle.verify_frames.specs.Takes.{Takes};
 ghost use Rattle.verify_frames.specs.Wanted.{IsAsked};
 
-use crate::demands::{gathered, have_pcs, spans_of};
 use crate::entries::{entry_at, stray_entry};
 use crate::flags::{flags_of, have_same_flag};
 use crate::frame::Frame;
 use crate::frame_paths::{Entry, entry_of, is_known, put};
+use crate::gathering::gathered;
 use crate::near::moved;
 use crate::overwritten::Like;
 use crate::skips::skips_of;
 use crate::takes::takes_all;
-use crate::wanted::{Wanted, are_wanted};
+use crate::wanted::Wanted;
 use class_model::Row;
 use items::NoMemory;
 use stack_maps::{FrameChange, VType};
@@ -192,19 +192,11 @@ impl Frames {
         true
     }
 
-    /// What the frames of the handlers of these rows want of local variables. `None`: it wasn't found.
+    /// What the frames of the handlers of these rows, which begin in order, want of local variables. `None`: it wasn't found.
     pub fn wanted(&self, alloc: Global, rows: &[Row]) -> Result<Option<Wanted>, NoMemory>
         ensures { IfOk result (λ o. IfSome o (λ wanted. All (IsAsked self.now wanted) rows.now)) }
     {
-        let spans = spans_of(alloc, &self.paths, &self.entries, rows)?;
-        let wanted = gathered(alloc, &self.paths, &spans)?;
-        if !have_pcs(&spans, &self.entries, rows) {
-            return Ok(None);
-        }
-        if !are_wanted(&self.paths, &spans, &wanted) {
-            return Ok(None);
-        }
-        Ok(Some(wanted))
+        gathered(alloc, &self.paths, &self.entries, rows)
     }
 
     /// The pc of the first frame after a pc, and before the next instruction unless that is the last. `None`: there is none.

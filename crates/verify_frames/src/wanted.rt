@@ -2,29 +2,27 @@
 //! local variable, and not with all frames.
 
 ghost use Rattle.std.specs.Prelude.{◌≡◌, ◌∷◌, [], MatchBool};
+ghost use Rattle.std.specs.List.{All};
+ghost use Rattle.verify_frames.specs.Entries.{AreRising};
+ghost use Rattle.verify_frames.specs.PcSets.{Covers};
 ghost use Rattle.verify_frames.specs.Wanted as spec;
+ghost use Rattle.verify_frames.specs.Wanted.{HasPcs};
 
-use crate::watch::{Around, is_same_type};
+use crate::entries::entry_at;
+use crate::frame_paths::Entry;
+use crate::pc_sets::{PcSet, Span, covers, meet, row_span};
+use crate::watch::is_same_type;
 use class_model::Row;
-use items::NoMemory;
 use stack_maps::VType;
-use std::alloc::Global;
 use type_paths::Paths;
 use verify_types::assignable;
 use world_model::Lookups;
 
-/// The pcs from one on and before another.
-#[derive(Clone, Copy, Debug, PartialEq, Eq)]
-pub struct Span {
-    pub from: u32,
-    pub until: u32,
-}
-
-/// A type that frames of handlers want of a slot; all pcs at which they do are among these.
+/// A type that frames of handlers want of a slot, and the number of a set that has all pcs at which they do.
 #[derive(Clone, Copy, Debug, PartialEq, Eq)]
 pub struct Want {
     pub item: VType,
-    pub span: Span,
+    pub pcs: usize,
 }
 
 /// What is wanted of a slot.
@@ -33,80 +31,53 @@ pub struct Slot {
     pub wants: Vec<Want>,
 }
 
-/// What is wanted of each slot.
+/// What is wanted of each slot, with the sets of pcs by number, which wants can share.
 #[derive(Drop)]
 pub struct Wanted {
+    pub sets: Vec<PcSet>,
     pub slots: Vec<Slot>,
 }
 
-/// The pcs in the range of a row.
-pub fn row_span(row: &Row) -> Span
-    ensures { result ≡ spec.row_span row.now }
+/// The set of a number; no pcs where there is none.
+pub fn set_at(sets: &[PcSet], n: usize) -> &[Span]
+    ensures { result.now ≡ spec.set_at sets.now n }
 {
-    Span {
-        from: row.start as u32,
-        until: row.end as u32,
+    match sets.get(n) {
+        Some(set) => &set.spans,
+        None => &[],
     }
 }
 
-/// The pcs of a node.
-pub fn span_at(spans: &[Span], n: usize) -> Span
-    ensures { result ≡ spec.span_at spans.now n }
+// The pcs of a node, by the number of its set.
+fn pcs_of<'a>(sets: &'a [PcSet], nodes: &[usize], n: usize) -> &'a [Span]
+    ensures { result.now ≡ spec.pcs_of sets.now nodes.now n }
 {
-    match spans.get(n) {
-        Some(span) => *span,
-        None => Span { from: 0, until: 0 },
+    match nodes.get(n) {
+        Some(set) => set_at(sets, *set),
+        None => &[],
     }
 }
 
-/// Whether pcs lie among others.
-pub fn is_within(span: Span, outer: Span) -> bool
-    ensures { MatchBool result (spec.IsWithin span outer) (Unit {0}) }
+// Whether the type that is wanted is this one, at these pcs or more.
+fn is_the_type(sets: &[PcSet], want: Want, item: VType, pcs: &[Span]) -> bool
+    ensures { MatchBool result (spec.Serves sets.now (want ∷ []) item pcs.now) (Unit {0}) }
 {
-    outer.from <= span.from && span.until <= outer.until
-}
-
-// Whether pcs have some in common with those from one on and before another.
-fn meets(span: Span, from: u32, until: u32) -> bool
-    ensures { result ≡ spec.meets span from until }
-{
-    span.from < until && from < span.until
-}
-
-/// The least range with the pcs of both.
-pub fn hull(a: Span, b: Span) -> Span {
-    if a.until == 0 {
-        return b;
-    }
-    if b.until == 0 {
-        return a;
-    }
-    Span {
-        from: a.from.min(b.from),
-        until: a.until.max(b.until),
-    }
-}
-
-// Whether something that is wanted at these pcs, or more, is this type.
-fn is_the_type(want: Want, item: VType, span: Span) -> bool
-    ensures { MatchBool result (spec.Serves (want ∷ []) item span) (Unit {0}) }
-{
-    if !is_within(span, want.span) {
+    if !is_same_type(want.item, item) {
         return false;
     }
-    if !is_same_type(want.item, item) {
+    if !covers(set_at(sets, want.pcs), pcs) {
         return false;
     }
     true
 }
 
 // Whether one of these is the type, at these pcs or more.
-fn serve(wants: &[Want], item: VType, span: Span) -> bool
-    ensures { MatchBool result (spec.Serves wants.now item span) (Unit {0}) }
+fn serve(sets: &[PcSet], wants: &[Want], item: VType, pcs: &[Span]) -> bool
+    ensures { MatchBool result (spec.Serves sets.now wants.now item pcs.now) (Unit {0}) }
 {
     let mut rest = wants;
     while let Some((want, behind)) = rest.split_first() {
-        if is_the_type(*want, item, span) {
+        if is_the_type(sets, *want, item, pcs) {
             return true;
         }
         rest = behind;
@@ -114,47 +85,7 @@ fn serve(wants: &[Want], item: VType, span: Span) -> bool
     false
 }
 
-impl Slot {
-    // Adds a type that is wanted at these pcs.
-    fn add(&mut self, item: VType, span: Span) -> Result<(), NoMemory> {
-        for want in self.wants.iter_mut() {
-            if is_same_type(want.item, item) {
-                want.span = hull(want.span, span);
-                return Ok(());
-            }
-        }
-        self.wants.push(Want { item, span })?;
-        Ok(())
-    }
-}
-
 impl Wanted {
-    /// Nothing is wanted.
-    pub fn new(alloc: Global) -> Self {
-        Wanted {
-            slots: Vec::new(alloc),
-        }
-    }
-
-    /// Adds a type that is wanted of a slot at these pcs.
-    pub fn add(
-        &mut self,
-        alloc: Global,
-        slot: usize,
-        item: VType,
-        span: Span,
-    ) -> Result<(), NoMemory> {
-        for _ in self.slots.len()..slot.saturating_add(1) {
-            self.slots.push(Slot {
-                wants: Vec::new(alloc),
-            })?;
-        }
-        match self.slots.get_mut(slot) {
-            Some(wants) => wants.add(item, span),
-            None => Ok(()),
-        }
-    }
-
     // What is wanted of a slot.
     fn wants_at(&self, slot: usize) -> &[Want]
         ensures { result.now ≡ spec.wants_at self.now slot }
@@ -169,16 +100,17 @@ impl Wanted {
     pub fn accepts<L: Lookups>(&self, w: &L, from: u32, until: u32, slot: usize, t: VType) -> bool
         ensures { result ≡ spec.accepts (L.world w.now) self.now from until slot t }
     {
-        self.wants_at(slot).iter().all(|x| !meets(x.span, from, until) || assignable(w, t, x.item))
+        self.wants_at(slot).iter().all(|x| assignable(w, t, x.item)
+            || !meet(set_at(&self.sets, x.pcs), from, until))
     }
 }
 
 // Whether the last type of the path of a node is wanted at its pcs, if it has some, and those of the node below are no fewer.
-fn is_wanted_at(paths: &Paths, spans: &[Span], wanted: &Wanted, n: usize) -> bool
-    ensures { MatchBool result (spec.IsWantedAt paths.now spans.now wanted.now n) (Unit {0}) }
+fn is_wanted_at(paths: &Paths, nodes: &[usize], wanted: &Wanted, n: usize) -> bool
+    ensures { MatchBool result (spec.IsWantedAt paths.now nodes.now wanted.now n) (Unit {0}) }
 {
-    let span = span_at(spans, n);
-    if span.until == 0 {
+    let pcs = pcs_of(&wanted.sets, nodes, n);
+    if pcs.is_empty() {
         return true;
     }
     let Some(top) = paths.top(n) else {
@@ -191,21 +123,45 @@ fn is_wanted_at(paths: &Paths, spans: &[Span], wanted: &Wanted, n: usize) -> boo
     let Some(slot) = paths.slots(below) else {
         return false;
     };
-    if !is_within(span, span_at(spans, below)) {
+    if !covers(pcs_of(&wanted.sets, nodes, below), pcs) {
         return false;
     }
-    if !serve(wanted.wants_at(slot as usize), item, span) {
+    if !serve(&wanted.sets, wanted.wants_at(slot as usize), item, pcs) {
         return false;
     }
     true
 }
 
-/// Whether what the nodes with these pcs have is wanted at them.
-pub fn are_wanted(paths: &Paths, spans: &[Span], wanted: &Wanted) -> bool
-    ensures { MatchBool result (spec.AreWanted paths.now spans.now wanted.now) (Unit {0}) }
+/// Whether what the nodes with these sets of pcs have is wanted at them.
+pub fn are_wanted(paths: &Paths, nodes: &[usize], wanted: &Wanted) -> bool
+    ensures { MatchBool result (spec.AreWanted paths.now nodes.now wanted.now) (Unit {0}) }
 {
-    for n in 0..spans.len() {
-        if !is_wanted_at(paths, spans, wanted, n) {
+    for n in 0..nodes.len() {
+        if !is_wanted_at(paths, nodes, wanted, n) {
+            return false;
+        }
+    }
+    true
+}
+
+// Whether the node of the frame of a row's handler has its pcs, if there is one.
+fn has_pcs(sets: &[PcSet], nodes: &[usize], entries: &[Entry], row: &Row) -> bool
+    requires { AreRising entries.now }
+    ensures { MatchBool result (HasPcs sets.now nodes.now entries.now row.now) (Unit {0}) }
+{
+    match entry_at(entries, row.handler as u32) {
+        Some(entry) => covers(pcs_of(sets, nodes, entry.locals), &[row_span(row)]),
+        None => true,
+    }
+}
+
+/// Whether the nodes of the frames of all handlers have the pcs of their rows.
+pub fn have_pcs(sets: &[PcSet], nodes: &[usize], entries: &[Entry], rows: &[Row]) -> bool
+    requires { AreRising entries.now }
+    ensures { MatchBool result (All (HasPcs sets.now nodes.now entries.now) rows.now) (Unit {0}) }
+{
+    for row in rows {
+        if !has_pcs(sets, nodes, entries, row) {
             return false;
         }
     }

@@ -4,4 +4,4 @@ use Rattle.verify_frames.specs.Wanted.{IsWantedAt}
 use Rattle.verify_frames.proofs.wanted.are_wanted.Given as goal
 
 abbrev pub invariant-loop-n : goal.invariant-loop-n
-invariant-loop-n l = (k : ℕ) → k < l.n → IsWantedAt l.paths l.spans l.wanted k
+invariant-loop-n l = (k : ℕ) → k < l.n → IsWantedAt l.paths l.nodes l.wanted k
