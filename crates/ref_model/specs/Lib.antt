@@ -18,6 +18,7 @@ pub mod StringNatives
 pub mod BuilderNatives
 pub mod Printing
 pub mod Natives
+pub mod Operands
 pub mod Calls
 pub mod Throwing
 pub mod Ending
