@@ -17,8 +17,7 @@ use Rattle.instruction_rows.proofs.KindLaws.{holds, is_of}
 use Rattle.instruction_rows.proofs.Steps.{ok_is, passed}
 use Rattle.world_model.specs.declared.members.MethodInfo.{MethodInfo}
 use Rattle.world_model.specs.World.{World, class_type}
-use Rattle.verify_types.specs.Assignability.{assignable}
-use Rattle.verify_types.specs.Operands.{only_if, popped_as, wanted, all_wanted}
+use Rattle.verify_types.specs.Operands.{only_if, wanted, all_wanted}
 use Rattle.verify_types.specs.Objects.{named_class}
 use Rattle.verify_types.specs.TypeStates.{TypeState, with_stack, is_this, is_new, replaced}
 use Rattle.verify_types.specs.Environment.{Instruction, Environment, is_constructor}
@@ -33,6 +32,7 @@ use Rattle.typed_frames.specs.CallLaws.{CallerWaits, takes_receiver}
 use Rattle.typed_frames.proofs.FetchLaws.{parts, fine}
 use Rattle.typed_frames.proofs.ReturnLaws.{back_is}
 use Rattle.typed_frames.proofs.Exceptions.{class_kind}
+use Rattle.typed_frames.proofs.ValueLaws.{wanted_is}
 use Rattle.typed_frames.proofs.CallLaws.{is_named, result_is}
 
 -- what the typing says, apart from frames
@@ -48,22 +48,12 @@ pub record Took (w : World) (s after : TypeState) (m : Named) : Type 0 where
 
 -- ---- methods but constructors
 
-wanted_reference : (w : World) (class : ℕ) (ts rest : List VType) → wanted w (class_type w class) ts ≡ Ok rest
-    → (x : VType × List VType) × (type_popped kinds.Reference ts ≡ Ok x) × (x.1 ≡ rest)
-wanted_reference w class ts rest e =
-    let here : (type_popped kinds.Reference ts then λ x. only_if (assignable w x.0 (class_type w class)) whys.Kind x.1) ≡ Ok rest =
-    ap (λ o. popped_as o ts then λ x. only_if (assignable w x.0 (class_type w class)) whys.Kind x.1) (sym (class_kind w class)) ∙ e in
-    let parts = ok_is (type_popped kinds.Reference ts)
-    (λ (x : VType × List VType). only_if (assignable w x.0 (class_type w class)) whys.Kind x.1) rest here in
-    let low = passed (assignable w parts.0.0 (class_type w class)) parts.0.1 rest whys.Kind parts.2 in
-    (parts.0, parts.1, low.1)
-
 instance_took : (w : World) (s after : TypeState) (class : ℕ) (m : Named) → instance_called w m.method class s ≡ Ok after → Took w s after m
 instance_took w s after class m e =
     let args = ok_is (arguments_taken w m.method s.types.stack)
     (λ rest. wanted w (class_type w class) rest then λ below. result_given w m.method s below) after e in
     let low = ok_is (wanted w (class_type w class) args.0) (λ below. result_given w m.method s below) after args.2 in
-    let x = wanted_reference w class args.0 low.0 low.1 in
+    let x = wanted_is w (class_type w class) kinds.Reference args.0 low.0 (class_kind w class) low.1 in
     let given = passed (not (has_initializer_name m.method.name)) (with_stack s (result_pushed w m.method low.0)) after whys.Init low.2 in
     record {
       rest = args.0;

@@ -21,4 +21,6 @@ pub mod ThreadLaws
 pub mod Raises
 pub mod NativeCalls
 pub mod NativeEnters
+pub mod OperandTypes
+pub mod OperandProofs
 pub mod EnterProofs

@@ -17,7 +17,7 @@ use Rattle.instruction_rows.specs.declared.row_why.RowWhy.TheVariants as whys
 use Rattle.instruction_rows.specs.Results.{◌then◌}
 use Rattle.instruction_rows.specs.Kinds.{Function, kind_of_type}
 use Rattle.instruction_rows.specs.TypeEffect.{type_popped, types_popped}
-use Rattle.instruction_rows.proofs.Steps.{ok_is, passed}
+use Rattle.instruction_rows.proofs.Steps.{ok_is}
 use Rattle.world_model.specs.World.{World}
 use Rattle.verify_types.specs.Assignability.{assignable}
 use Rattle.verify_types.specs.ClassTypes.{type_of_element, type_of_kind}
@@ -27,8 +27,10 @@ use Rattle.ref_model.specs.Kinds.{kind_of_element_type, value_kind}
 use Rattle.ref_model.specs.State.{State}
 use Rattle.ref_model.specs.NativeRows.{Answer, NativeRow, native}
 use Rattle.ref_model.specs.Natives.{native_row}
+use Rattle.ref_model.specs.Operands.{argument_kinds}
 use Rattle.typed_frames.specs.NativeLaws.{IsBack}
-use Rattle.typed_frames.specs.NativeKinds.{has_element_kind, has_kind, argument_kinds, native_takes, GivesKind}
+use Rattle.typed_frames.specs.NativeKinds.{has_element_kind, has_kind, native_takes, GivesKind}
+use Rattle.typed_frames.proofs.ValueLaws.{wanted_is}
 
 -- ---- the kinds of types
 
@@ -82,17 +84,12 @@ same_types : (a b : List VType) → ◌≡◌ {A = Result (List VType) RowWhy} (
 same_types a b e = cc
 
 -- an operand of a type is one of its kind
-kind_popped : (w : World) (t : FieldType) (ts rest : List VType) → wanted w (type_of_kind w t) ts ≡ Ok rest
+pub kind_popped : (w : World) (t : FieldType) (ts rest : List VType) → wanted w (type_of_kind w t) ts ≡ Ok rest
     → (x : VType × List VType) × (type_popped (value_kind t) ts ≡ Ok x) × (x.1 ≡ rest)
 kind_popped w t ts rest e = by (has_kind t) refl
   where
     by : (b : Bool) → has_kind t ≡ b → (x : VType × List VType) × (type_popped (value_kind t) ts ≡ Ok x) × (x.1 ≡ rest)
-    by true has =
-        let named = type_of_kind w t in
-        let here : (type_popped (value_kind t) ts then λ x. only_if (assignable w x.0 named) whys.Kind x.1) ≡ Ok rest =
-        ap (λ o. popped_as o ts then λ x. only_if (assignable w x.0 named) whys.Kind x.1) (sym (type_kind w t has)) ∙ e in
-        let parts = ok_is (type_popped (value_kind t) ts) (λ (x : VType × List VType). only_if (assignable w x.0 named) whys.Kind x.1) rest here in
-        (parts.0, parts.1, (passed (assignable w parts.0.0 named) parts.0.1 rest whys.Kind parts.2).1)
+    by true has = wanted_is w (type_of_kind w t) (value_kind t) ts rest (type_kind w t has) e
     by false has =
         let none = no_type_kind w t has in
         let here = ap (λ o. popped_as o ts then λ x. only_if (assignable w x.0 (type_of_kind w t)) whys.Kind x.1) (sym none) ∙ e in

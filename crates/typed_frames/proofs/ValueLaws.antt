@@ -82,12 +82,18 @@ pub record PoppedAs (k : Kind) (xs : List Slot) (rest : List VType) : Type 0 whe
   pub is : popped k xs ≡ Some (value, left)
   pub below : AreOf rest left
 
-pub wanted_popped : (w : World) (t : VType) (k : Kind) (ts rest : List VType) (xs : List Slot) → kind_of_type t ≡ Some k
-    → wanted w t ts ≡ Ok rest → AreOf ts xs → PoppedAs k xs rest
-wanted_popped w t k ts rest xs kind e of =
+-- what is wanted is popped by the kind of its type
+pub wanted_is : (w : World) (t : VType) (k : Kind) (ts rest : List VType) → kind_of_type t ≡ Some k → wanted w t ts ≡ Ok rest
+    → (x : VType × List VType) × (type_popped k ts ≡ Ok x) × (x.1 ≡ rest)
+wanted_is w t k ts rest kind e =
     let here : (type_popped k ts then λ x. only_if (assignable w x.0 t) whys.Kind x.1) ≡ Ok rest =
     ap (λ o. popped_as o ts then λ x. only_if (assignable w x.0 t) whys.Kind x.1) (sym kind) ∙ e in
     let parts = ok_is (type_popped k ts) (λ (x : VType × List VType). only_if (assignable w x.0 t) whys.Kind x.1) rest here in
-    let low = passed (assignable w parts.0.0 t) parts.0.1 rest whys.Kind parts.2 in
-    let pop = popped_of k ts parts.0 xs parts.1 of in
-    record { value = pop.value; left = pop.left; is = pop.is; below = subst (λ (us : List VType). AreOf us pop.left) low.1 pop.of }
+    (parts.0, parts.1, (passed (assignable w parts.0.0 t) parts.0.1 rest whys.Kind parts.2).1)
+
+pub wanted_popped : (w : World) (t : VType) (k : Kind) (ts rest : List VType) (xs : List Slot) → kind_of_type t ≡ Some k
+    → wanted w t ts ≡ Ok rest → AreOf ts xs → PoppedAs k xs rest
+wanted_popped w t k ts rest xs kind e of =
+    let x = wanted_is w t k ts rest kind e in
+    let pop = popped_of k ts x.0 xs x.1 of in
+    record { value = pop.value; left = pop.left; is = pop.is; below = subst (λ (us : List VType). AreOf us pop.left) x.2 pop.of }

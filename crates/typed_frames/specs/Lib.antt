@@ -9,3 +9,4 @@ pub mod NativeKinds
 pub mod CallLaws
 pub mod StepKinds
 pub mod EnterLaws
+pub mod OperandLaws

@@ -1,5 +1,5 @@
 -- Native methods by the kinds of what they take and give back, and descriptors by the same: what can be tested of a native method.
-use Rattle.std.specs.Prelude.{◌≡◌, Bool, true, false, List, [], ◌∷◌, ◌++◌, Option, Some, None, map, reverse, ◌==◌, if◌then◌else◌}
+use Rattle.std.specs.Prelude.{◌≡◌, Bool, true, false, List, [], ◌∷◌, ◌++◌, Option, Some, None, ◌==◌, if◌then◌else◌}
 use Rattle.descriptors.specs.declared.kind.ElementType.{ElementType}
 use Rattle.descriptors.specs.declared.kind.ElementType.TheVariants as elements
 use Rattle.descriptors.specs.declared.kind.Kind.{Kind as FieldType}
@@ -15,6 +15,7 @@ use Rattle.ref_model.specs.Kinds.{value_kind}
 use Rattle.ref_model.specs.State.{State}
 use Rattle.ref_model.specs.NativeRows.{Answer, native}
 use Rattle.ref_model.specs.Natives.{native_row}
+use Rattle.ref_model.specs.Operands.{argument_kinds}
 use Rattle.typed_frames.specs.NativeLaws.{native_result}
 
 -- ---- descriptors
@@ -31,10 +32,6 @@ has_kind t = if t.dimensions == 0 then has_element_kind t.element else true
 -- the verification type of such a type has the kind of its values
 abbrev pub TypesHaveKinds : Type 0
 TypesHaveKinds = (w : World) (t : FieldType) → has_kind t ≡ true → kind_of_type (type_of_kind w t) ≡ Some (value_kind t)
-
--- the kinds of the arguments, the topmost first
-abbrev pub argument_kinds : Signature → List Kind
-argument_kinds s = reverse (map value_kind s.args)
 
 -- ---- native methods
 

@@ -6,6 +6,7 @@ ghost use Rattle.typed_frames.specs.LocalLaws.{RowsGoOn, ConstantsGoOn, WideCons
 ghost use Rattle.typed_frames.specs.EventLaws.{StaticGetsKeep, StaticPutsKeep, FieldGetsKeep, FieldPutsKeep, ArrayLoadsKeep, ArrayStoresKeep, LengthsKeep, CastsKeep, JudgementsKeep, NewObjectsKeep, NewArraysKeep, NewArraysOfArraysKeep};
 ghost use Rattle.typed_frames.specs.CallLaws.{CalleesBegin, CallersWait};
 ghost use Rattle.typed_frames.specs.EnterLaws.{MethodsAreEntered, StaticsAreEntered};
+ghost use Rattle.typed_frames.specs.OperandLaws.{OperandsAreThere, ArgumentsAreThere, StaticArgumentsAreThere};
 ghost use Rattle.typed_frames.specs.NativeLaws.{NativesKeep, NativesGoOn};
 ghost use Rattle.typed_frames.specs.NativeKinds.{TypesHaveKinds, NativesTake};
 ghost use Rattle.typed_frames.specs.StepKinds.{EventsGoOn};
@@ -87,4 +88,16 @@ pub fn events_go_on()
 pub fn methods_are_entered()
     ensures of_objects { MethodsAreEntered }
     ensures of_classes { StaticsAreEntered }
+{}
+
+/// The operands of an instruction are there, each of its kind, where the frames keep to the typing (JVMS 2.6.2, 4.10.1, 6.5).
+pub fn operands_are_there()
+    ensures { OperandsAreThere }
+{}
+
+/// So are the arguments of a native method that runs, one of an object that was selected and a static one, and the receiver below them
+/// (JVMS 5.4.6, 6.5).
+pub fn arguments_are_there()
+    ensures of_objects { ArgumentsAreThere }
+    ensures of_classes { StaticArgumentsAreThere }
 {}

@@ -4,7 +4,8 @@ ghost use Rattle.std.specs.Prelude.{◌≡◌, ◌++◌, true, map, reverse, IfO
 ghost use Rattle.std.specs.Option.{option_map};
 ghost use Rattle.ref_model.specs.Kinds as spec;
 ghost use Rattle.typed_frames.specs.NativeLaws.{native_result};
-ghost use Rattle.typed_frames.specs.NativeKinds.{argument_kinds, native_takes, GivesKind, FitsNative};
+ghost use Rattle.ref_model.specs.Operands.{argument_kinds};
+ghost use Rattle.typed_frames.specs.NativeKinds.{native_takes, GivesKind, FitsNative};
 ghost use Rattle.typing_tests.specs.Receivers.{receiver_kinds};
 
 use crate::kinds::{has_kind, value_kind};
