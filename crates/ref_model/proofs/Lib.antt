@@ -5,4 +5,5 @@ pub mod ReplayLaws
 mod WorkedTexts
 mod WorkedWorld
 mod WorkedHeap
+mod WorkedOperands
 mod WorkedRuns

@@ -210,7 +210,8 @@ with_receiver w env i s after invocation index m world known receiver named e =
           (one_popped kinds.Reference k.rest k.receiver.1 k.receiver k.popped refl);
     }
 
-never_dynamic : (env : Environment) (i : Instruction) (s after : TypeState) (index : ℕ) → row_state env i.instr.pc i.naming (invoke dynamic index) s ≡ Ok after → ⊥
+never_dynamic : (env : Environment) (i : Instruction) (s after : TypeState) (index : ℕ)
+    → row_state env i.instr.pc i.naming (invoke dynamic index) s ≡ Ok after → ⊥
 never_dynamic env i s after index e =
     let m = ok_is (method_of env.world i.naming.site)
     (λ x. named_class i.naming then λ class. called env i.instr.pc dynamic x class s) after e in

@@ -90,13 +90,14 @@ pub fn methods_are_entered()
     ensures of_classes { StaticsAreEntered }
 {}
 
-/// The operands of an instruction are there, each of its kind, where the frames keep to the typing (JVMS 2.6.2, 4.10.1, 6.5).
+/// The operands of the instruction at hand are there, each of its kind, where frames keep to the
+/// typing (JVMS 2.6.2, 4.10.1, 6.5).
 pub fn operands_are_there()
     ensures { OperandsAreThere }
 {}
 
-/// So are the arguments of a native method that runs, one of an object that was selected and a static one, and the receiver below them
-/// (JVMS 5.4.6, 6.5).
+/// So are the arguments of a native method, and the receiver below them: one that was selected for an
+/// object, and a static one (JVMS 5.4.6, 6.5).
 pub fn arguments_are_there()
     ensures of_objects { ArgumentsAreThere }
     ensures of_classes { StaticArgumentsAreThere }
