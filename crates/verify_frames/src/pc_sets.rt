@@ -80,3 +80,14 @@ pub fn covers(outer: &[Span], spans: &[Span]) -> bool
     }
     true
 }
+
+/// Whether a range lies in one of others, which is found at once where they are in order.
+pub fn lies_in(span: Span, outer: &[Span]) -> bool
+    ensures { MatchBool result (Covers outer.now (span ∷ [])) (Unit {0}) }
+{
+    let behind = outer.partition_point(|other| other.from <= span.from);
+    match outer.get(behind.saturating_sub(1)) {
+        Some(found) if is_within(span, *found) => true,
+        _ => covers(outer, &[span]),
+    }
+}

@@ -10,7 +10,7 @@ ghost use Rattle.verify_frames.specs.Wanted.{HasPcs};
 
 use crate::entries::entry_at;
 use crate::frame_paths::Entry;
-use crate::pc_sets::{PcSet, Span, covers, meet, row_span};
+use crate::pc_sets::{PcSet, Span, covers, lies_in, meet, row_span};
 use crate::watch::is_same_type;
 use class_model::Row;
 use stack_maps::VType;
@@ -150,7 +150,7 @@ fn has_pcs(sets: &[PcSet], nodes: &[usize], entries: &[Entry], row: &Row) -> boo
     ensures { MatchBool result (HasPcs sets.now nodes.now entries.now row.now) (Unit {0}) }
 {
     match entry_at(entries, row.handler as u32) {
-        Some(entry) => covers(pcs_of(sets, nodes, entry.locals), &[row_span(row)]),
+        Some(entry) => lies_in(row_span(row), pcs_of(sets, nodes, entry.locals)),
         None => true,
     }
 }
