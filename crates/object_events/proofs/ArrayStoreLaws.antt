@@ -16,7 +16,8 @@ use Rattle.ref_model.specs.Kinds.{kept_in}
 use Rattle.ref_model.specs.declared.exception.Exception.TheVariants as exceptions
 use Rattle.ref_model.specs.Effects.{Effect, done, throws}
 use Rattle.ref_model.specs.Arrays.{on_array_of, on_place, place_in, may_hold, held_or_thrown, array_stored}
-use Rattle.object_events.specs.Operands.{IsPopped, width}
+use Rattle.ref_model.specs.Operands.{width}
+use Rattle.object_events.specs.Operands.{IsPopped}
 use Rattle.items.proofs.Binds.{bind_is}
 
 -- what a store does with the array and the place

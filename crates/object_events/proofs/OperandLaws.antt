@@ -1,73 +1,117 @@
 -- What lies at a depth of an operand stack, and what instructions make of it.
-use Rattle.std.proofs.Common.{ℕ, zero, suc, ◌≡◌, ◌+◌, List, [], ◌∷◌, Option, Some, None, drop, sym, subst, ap, ◌∙◌, arith, zero-add}
-use Rattle.std.specs.Prelude.{slice_index_or}
+use Rattle.std.proofs.Common.{ℕ, zero, suc, ◌≡◌, ◌+◌, ◌<◌, ◌≤◌, List, [], ◌∷◌, Option, Some, drop, length, replicate, slice_get, refl, sym, subst, ap, ◌∙◌, arith, zero-add}
+use Rattle.std.specs.Prelude.{IsSome}
+use Rattle.std.proofs.lemmas.List.{drop-drop, length-drop}
 use Rattle.items.specs.Options.{◌>>=◌}
-use Rattle.items.proofs.Binds.{bind_is}
+use Rattle.items.proofs.Binds.{bind_is, some_is}
+use Rattle.heap_objs.proofs.StretchLaws.{get_dropped}
 use Rattle.opcodes.specs.declared.op.Kind.{Kind}
 use Rattle.opcodes.specs.declared.op.Kind.TheVariants as kinds
 use Rattle.instruction_rows.specs.declared.value.Slot.{Slot}
-use Rattle.instruction_rows.specs.declared.value.Slot.TheVariants.{Second}
 use Rattle.instruction_rows.specs.declared.value.Value.{Value}
 use Rattle.instruction_rows.specs.Kinds.{Of, held, value}
 use Rattle.instruction_rows.specs.SlotEffect.{popped}
 use Rattle.world_model.specs.declared.members.FieldInfo.{FieldInfo}
 use Rattle.ref_model.specs.Kinds.{value_kind, kept}
 use Rattle.ref_model.specs.Fields.{stored}
-use Rattle.object_events.specs.Operands.{IsOperand, IsPopped, width}
+use Rattle.ref_model.specs.Operands.{HasOperand, HasOperands, width}
+use Rattle.object_events.specs.Operands.{IsOperand, IsPopped}
 
--- ---- operands of each kind
+-- ---- a value on top
 
-pub int_at_depth : (v : Of kinds.Int) (depth : ℕ) (stack : List Slot) → held kinds.Int (slice_index_or stack depth Second) ≡ Some v →
-    popped kinds.Int (drop depth stack) ≡ Some (v, drop (suc depth) stack)
-int_at_depth v zero [] h = cc
-int_at_depth v (suc depth) [] h = cc
-int_at_depth v zero (slot ∷ rest) h = ap (λ o. o >>= λ n. Some (n, rest)) h
-int_at_depth v (suc depth) (slot ∷ rest) h = int_at_depth v depth rest h
+-- which of its slots holds it: of a long the lower one
+abbrev pub place_of : Kind → ℕ
+place_of kinds.Int = 0
+place_of kinds.Long = 1
+place_of kinds.Reference = 0
 
-pub reference_at_depth : (v : Of kinds.Reference) (depth : ℕ) (stack : List Slot) → held kinds.Reference (slice_index_or stack depth Second) ≡ Some v →
-    popped kinds.Reference (drop depth stack) ≡ Some (v, drop (suc depth) stack)
-reference_at_depth v zero [] h = cc
-reference_at_depth v (suc depth) [] h = cc
-reference_at_depth v zero (slot ∷ rest) h = ap (λ o. o >>= λ n. Some (n, rest)) h
-reference_at_depth v (suc depth) (slot ∷ rest) h = reference_at_depth v depth rest h
+abbrev pub lying : (k : Kind) → List Slot → Of k → Option (Of k × List Slot)
+lying k rest v = Some (v, rest)
 
-pub long_at_depth : (v : Of kinds.Long) (depth : ℕ) (stack : List Slot) → held kinds.Long (slice_index_or stack (suc depth) Second) ≡ Some v →
-    popped kinds.Long (drop depth stack) ≡ Some (v, drop (suc (suc depth)) stack)
-long_at_depth v zero [] h = cc
-long_at_depth v (suc depth) [] h = cc
-long_at_depth v zero (upper ∷ []) h = cc
-long_at_depth v zero (upper ∷ slot ∷ rest) h = ap (λ o. o >>= λ n. Some (n, rest)) h
-long_at_depth v (suc depth) (upper ∷ rest) h = long_at_depth v depth rest h
+pub popped_held : (k : Kind) (stack : List Slot) (slot : Slot) → slice_get stack (place_of k) ≡ Some slot →
+    popped k stack ≡ (held k slot >>= lying k (drop (width k) stack))
+popped_held kinds.Int [] slot h = cc
+popped_held kinds.Int (top ∷ rest) slot h =
+    let e : top ≡ slot = cc in
+    ap (λ (x : Slot). held kinds.Int x >>= lying kinds.Int rest) e
+popped_held kinds.Reference [] slot h = cc
+popped_held kinds.Reference (top ∷ rest) slot h =
+    let e : top ≡ slot = cc in
+    ap (λ (x : Slot). held kinds.Reference x >>= lying kinds.Reference rest) e
+popped_held kinds.Long [] slot h = cc
+popped_held kinds.Long (upper ∷ []) slot h = cc
+popped_held kinds.Long (upper ∷ lower ∷ rest) slot h =
+    let e : lower ≡ slot = cc in
+    ap (λ (x : Slot). held kinds.Long x >>= lying kinds.Long rest) e
 
--- ---- what was read of a slot is what lies there
+pub width_within : (k : Kind) (stack : List Slot) (x : Of k × List Slot) → popped k stack ≡ Some x → width k ≤ length stack
+width_within kinds.Int [] x h = cc
+width_within kinds.Int (top ∷ rest) x h = omega arith
+width_within kinds.Reference [] x h = cc
+width_within kinds.Reference (top ∷ rest) x h = omega arith
+width_within kinds.Long [] x h = cc
+width_within kinds.Long (upper ∷ []) x h = cc
+width_within kinds.Long (upper ∷ lower ∷ rest) x h = omega arith
 
-pub int_operand_is : (found : Option (Of kinds.Int)) (depth place : ℕ) (stack : List Slot) (slot : Slot) → place ≡ depth →
-    slot ≡ slice_index_or stack place Second → found ≡ held kinds.Int slot → IsOperand kinds.Int found depth stack
-int_operand_is None depth place stack slot e is h = tt
-int_operand_is (Some v) depth place stack slot e is h =
-    let Q : ℕ → Type 0 = λ n. popped kinds.Int (drop depth stack) ≡ Some (v, drop n stack) in
-    let next : suc depth ≡ depth + 1 = omega arith in
-    subst Q next (int_at_depth v depth stack (ap (λ n. held kinds.Int (slice_index_or stack n Second)) (sym e) ∙ ap (held kinds.Int) (sym is) ∙ sym h))
+pub width_some : (k : Kind) → 0 < width k
+width_some kinds.Int = omega arith
+width_some kinds.Long = omega arith
+width_some kinds.Reference = omega arith
 
-pub reference_operand_is : (found : Option (Of kinds.Reference)) (depth place : ℕ) (stack : List Slot) (slot : Slot) → place ≡ depth →
-    slot ≡ slice_index_or stack place Second → found ≡ held kinds.Reference slot → IsOperand kinds.Reference found depth stack
-reference_operand_is None depth place stack slot e is h = tt
-reference_operand_is (Some v) depth place stack slot e is h =
-    let Q : ℕ → Type 0 = λ n. popped kinds.Reference (drop depth stack) ≡ Some (v, drop n stack) in
-    let next : suc depth ≡ depth + 1 = omega arith in
-    subst Q next (reference_at_depth v depth stack (ap (λ n. held kinds.Reference (slice_index_or stack n Second)) (sym e) ∙ ap (held kinds.Reference) (sym is) ∙ sym h))
+-- ---- at a depth
 
-pub long_operand_is : (found : Option (Of kinds.Long)) (depth place : ℕ) (stack : List Slot) (slot : Slot) → place ≡ suc depth →
-    slot ≡ slice_index_or stack place Second → found ≡ held kinds.Long slot → IsOperand kinds.Long found depth stack
-long_operand_is None depth place stack slot e is h = tt
-long_operand_is (Some v) depth place stack slot e is h =
-    let Q : ℕ → Type 0 = λ n. popped kinds.Long (drop depth stack) ≡ Some (v, drop n stack) in
-    let next : suc (suc depth) ≡ depth + 2 = omega arith in
-    subst Q next (long_at_depth v depth stack (ap (λ n. held kinds.Long (slice_index_or stack n Second)) (sym e) ∙ ap (held kinds.Long) (sym is) ∙ sym h))
+pub operand_within : (k : Kind) (depth : ℕ) (stack : List Slot) → HasOperand k depth stack → depth + width k ≤ length stack
+operand_within k depth stack x =
+    let some = width_some k in
+    let within = width_within k (drop depth stack) (x.operand, drop (depth + width k) stack) x.is in
+    let rest = length-drop depth stack in
+    omega arith
+
+pub operand_there : (k : Kind) (depth place : ℕ) (stack : List Slot) (slot : Slot) → place ≡ depth + place_of k → slice_get stack place ≡ Some slot →
+    popped k (drop depth stack) ≡ (held k slot >>= lying k (drop (depth + width k) stack))
+operand_there k depth place stack slot e h =
+    popped_held k (drop depth stack) slot (get_dropped depth stack (place_of k) place e ∙ h)
+    ∙ ap (λ rest. held k slot >>= lying k rest) (drop-drop (width k) depth stack)
+
+-- what is read of its slot is what lies there
+pub slot_holds : (k : Kind) (depth place : ℕ) (stack : List Slot) (slot : Slot) → place ≡ depth + place_of k → slice_get stack place ≡ Some slot →
+    HasOperand k depth stack → IsSome (held k slot)
+slot_holds k depth place stack slot e h x =
+    let rest = drop (depth + width k) stack in
+    let parts = some_is (held k slot) (lying k rest) (x.operand, rest) (sym (operand_there k depth place stack slot e h) ∙ x.is) in
+    subst (λ (o : Option (Of k)). IsSome o) (sym parts.1) refl
+
+pub operand_is : (k : Kind) (v : Of k) (depth place : ℕ) (stack : List Slot) (slot : Slot) → place ≡ depth + place_of k → slice_get stack place ≡ Some slot →
+    held k slot ≡ Some v → IsOperand k v depth stack
+operand_is k v depth place stack slot e h is =
+    operand_there k depth place stack slot e h ∙ ap (λ (o : Option (Of k)). o >>= lying k (drop (depth + width k) stack)) is
+
+pub has_at : (k : Kind) (from depth : ℕ) (stack : List Slot) → from ≡ depth → HasOperand k from stack → HasOperand k depth stack
+has_at k from depth stack e x = subst (λ n. HasOperand k n stack) e x
+
+-- ---- some ints on top
+
+pub int_among : (count depth index : ℕ) (stack : List Slot) → HasOperands (replicate count kinds.Int) depth stack → index < count →
+    HasOperand kinds.Int (depth + index) stack
+int_among zero depth index stack x lt = absurd (omega arith)
+int_among (suc count) depth zero stack x lt = has_at kinds.Int depth (depth + 0) stack (omega arith) x.0
+int_among (suc count) depth (suc index) stack x lt =
+    has_at kinds.Int (depth + 1 + index) (depth + suc index) stack (omega arith) (int_among count (depth + 1) index stack x.1 (omega arith))
+
+pub int_below : (count depth : ℕ) (stack : List Slot) → HasOperands (replicate count kinds.Int) 0 stack → depth < count → HasOperand kinds.Int depth stack
+int_below count depth stack x lt = has_at kinds.Int (0 + depth) depth stack (omega arith) (int_among count 0 depth stack x lt)
+
+pub ints_within : (count : ℕ) (stack : List Slot) → HasOperands (replicate count kinds.Int) 0 stack → count ≤ length stack
+ints_within zero stack x = omega arith
+ints_within (suc count) stack x =
+    let within = operand_within kinds.Int count stack (int_below (suc count) count stack x (omega arith)) in
+    omega arith
+
+-- ---- values
 
 -- an operand of a kind as a value
 pub operand_value : (k kind : Kind) (plain : Of kind) (v : Value) (depth : ℕ) (stack : List Slot) → k ≡ kind → v ≡ value kind plain →
-    popped kind (drop depth stack) ≡ Some (plain, drop (depth + width kind) stack) → IsPopped k v depth stack
+    IsOperand kind plain depth stack → IsPopped k v depth stack
 operand_value k kind plain v depth stack e is h =
     let P : Kind → Type 0 = λ j. IsPopped j v depth stack in
     subst P (sym e) (record { plain = plain; lies = h; is = sym is })

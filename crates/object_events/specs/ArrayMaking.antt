@@ -1,5 +1,5 @@
 -- Arrays of several dimensions, made one by one.
-use Rattle.std.specs.Prelude.{ℕ, ℤ, ◌≡◌, ◌+◌, ◌*◌, ◌<◌, ◌++◌, List, [], ◌∷◌, Option, Some, None, IfSome, drop, length, map}
+use Rattle.std.specs.Prelude.{ℕ, ℤ, ◌≡◌, ◌+◌, ◌*◌, ◌<◌, ◌++◌, List, [], ◌∷◌, Option, Some, None, drop, length, map}
 use Rattle.std.specs.List.{range_with_len}
 use Rattle.instruction_rows.specs.declared.value.Slot.{Slot}
 use Rattle.instruction_rows.specs.declared.value.Value.{Value}
@@ -9,9 +9,9 @@ use Rattle.state_model.specs.Objects.{Object, instance}
 use Rattle.heap_objs.specs.Heap.{Heap}
 use Rattle.ref_model.specs.Arrays.{array_count, arrays_from, cells_of_lengths, ints_popped}
 
--- what was found of so many ints on top, the lowest first
-abbrev pub AreInts : ℕ → Option (List ℤ) → List Slot → Type 0
-AreInts count found stack = IfSome found (λ ns. ints_popped count stack ≡ Some (ns, drop count stack))
+-- so many ints on top, the lowest first
+abbrev pub AreInts : ℕ → List ℤ → List Slot → Type 0
+AreInts count ns stack = ints_popped count stack ≡ Some (ns, drop count stack)
 
 -- A number, or that it is 4,294,967,296 at least.
 abbrev pub IsCounted : Option ℕ → ℕ → Type 0

@@ -1,10 +1,12 @@
 //! Arrays of several dimensions (JVMS 6.5: multianewarray): their lengths, and the arrays themselves, each outer one before those below it.
 
-ghost use Rattle.std.specs.Prelude.{◌≡◌, ◌+◌, ◌*◌, ◌-◌, ◌<◌, ◌≤◌, ℕ, [], ◌∷◌, IfOk, IfSome, OnOk, int_lt, length, map, nat_le, pos, unsigned_abs};
+ghost use Rattle.std.specs.Prelude.{◌≡◌, ◌+◌, ◌*◌, ◌-◌, ◌<◌, ◌≤◌, ℕ, [], ◌∷◌, IfOk, IfSome, OnOk, int_lt, length, map, nat_le, pos, replicate, unsigned_abs};
+ghost use Rattle.opcodes.specs.declared.op.Kind.TheVariants as kinds;
 ghost use Rattle.std.specs.List.{list_any};
 ghost use Rattle.ref_model.specs.Arrays as spec;
+ghost use Rattle.ref_model.specs.Operands.{HasOperands};
 ghost use Rattle.object_events.specs.ArrayMaking.{AreInts, AreMade, IsCounted, IsOuter, references};
-ghost use Rattle.object_events.specs.Operands.{HasTop, operands};
+ghost use Rattle.object_events.specs.Operands.{operands};
 
 use crate::kinds::element_zero;
 use crate::operands::int_operand;
@@ -15,25 +17,23 @@ use instruction_rows::Value;
 use items::{Items, NoMemory};
 use std::alloc::Global;
 
-/// So many ints on top of the operand stack, the lowest first. `None`: they aren't there.
+/// So many ints on top of the operand stack, the lowest first.
 pub(crate) fn ints_on_top(
     alloc: Global,
     mounted: &Mounted,
     count: u8,
-) -> Result<Option<Items<i32>>, NoMemory>
-    requires { HasTop mounted.now }
-    ensures { IfOk result (λ found. AreInts count found (operands mounted.now)) }
+) -> Result<Items<i32>, NoMemory>
+    requires { HasOperands (replicate count kinds.Int) 0 (operands mounted.now) }
+    ensures ints { IfOk result (λ ints. AreInts count ints (operands mounted.now)) }
+    ensures within { count ≤ length (operands mounted.now) }
 {
     let mut ints = Items::new(alloc);
     let mut left = u16::from(count);
     while left > 0 {
         left -= 1;
-        match int_operand(mounted, left) {
-            Some(n) => ints.push(n)?,
-            None => return Ok(None),
-        }
+        ints.push(int_operand(mounted, left))?;
     }
-    Ok(Some(ints))
+    Ok(ints)
 }
 
 pub(crate) fn is_any_negative(ints: &[i32]) -> bool

@@ -1,12 +1,15 @@
 //! Arrays (JVMS 6.5: arraylength, the loads, the stores, and new arrays). Tests come in this order: null, the kind of the elements, index
 //! or length, class of a stored object, room.
 
-ghost use Rattle.std.specs.Prelude.{◌≡◌, ◌<◌, ℕ, IfOk, IfSome, OnErr, length};
+ghost use Rattle.std.specs.Prelude.{◌≡◌, ◌<◌, ◌∷◌, [], ℕ, IfOk, IfSome, OnErr, length, replicate};
+ghost use Rattle.opcodes.specs.declared.op.Kind.TheVariants as kinds;
+ghost use Rattle.instruction_rows.specs.Kinds.{kind_of_element};
 ghost use Rattle.heap_objs.specs.Heap.{values_at};
 ghost use Rattle.ref_model.specs.Arrays as spec;
 ghost use Rattle.ref_model.specs.Heap.{Array};
+ghost use Rattle.ref_model.specs.Operands.{HasOperands};
 ghost use Rattle.object_events.specs.HeapReads.{IsElementTarget, IsHolding};
-ghost use Rattle.object_events.specs.Operands.{HasTop, ChangesOperands};
+ghost use Rattle.object_events.specs.Operands.{HasTop, ChangesOperands, operands};
 ghost use Rattle.object_events.specs.Outcomes.{Acts, KeptUnlessDone, with_heap};
 
 use crate::array_making::{have_room, ints_on_top, is_any_negative, magnitudes, make_arrays};
@@ -31,16 +34,14 @@ use world_model::{ArrayType, Naming};
 /// arraylength.
 #[inline(always)]
 pub fn array_length<W: EventWorld>(world: &W, heap: &Heap, mounted: &mut Mounted) -> Outcome
-    requires { HasTop mounted.old }
+    requires top { HasTop mounted.old }
+    requires operands { HasOperands (kinds.Reference ∷ []) 0 (operands mounted.old) }
     ensures effect { Acts (spec.length_gotten (W.world world.now))
         (with_heap heap.now) mounted.old (with_heap heap.now) mounted.new result }
     ensures kept { KeptUnlessDone result mounted.old mounted.new }
     ensures only { ChangesOperands mounted.old mounted.new }
 {
-    let Some(reference) = reference_operand(mounted, 0) else {
-        return Outcome::Undefined;
-    };
-    let Some(o) = reference else {
+    let Some(o) = reference_operand(mounted, 0) else {
         return Outcome::Throws(Exception::NullPointerException);
     };
     let Some(array) = array_at(world, heap, o) else {
@@ -111,19 +112,15 @@ pub fn array_load<W: EventWorld>(
     heap: &Heap,
     mounted: &mut Mounted,
 ) -> Outcome
-    requires { HasTop mounted.old }
+    requires top { HasTop mounted.old }
+    requires operands { HasOperands (kinds.Int ∷ kinds.Reference ∷ []) 0 (operands mounted.old) }
     ensures effect { Acts (spec.array_loaded (W.world world.now) element)
         (with_heap heap.now) mounted.old (with_heap heap.now) mounted.new result }
     ensures kept { KeptUnlessDone result mounted.old mounted.new }
     ensures only { ChangesOperands mounted.old mounted.new }
 {
-    let Some(index) = int_operand(mounted, 0) else {
-        return Outcome::Undefined;
-    };
-    let Some(reference) = reference_operand(mounted, 1) else {
-        return Outcome::Undefined;
-    };
-    let Some(o) = reference else {
+    let index = int_operand(mounted, 0);
+    let Some(o) = reference_operand(mounted, 1) else {
         return Outcome::Throws(Exception::NullPointerException);
     };
     let Some(array) = array_at(world, heap, o) else {
@@ -160,7 +157,9 @@ pub fn array_store<W: EventWorld>(
     heap: &mut Heap,
     mounted: &mut Mounted,
 ) -> Outcome
-    requires { HasTop mounted.old }
+    requires top { HasTop mounted.old }
+    requires operands { HasOperands
+        (kind_of_element element ∷ kinds.Int ∷ kinds.Reference ∷ []) 0 (operands mounted.old) }
     ensures effect { Acts (spec.array_stored (W.world world.now) element)
         (with_heap heap.old) mounted.old (with_heap heap.new) mounted.new result }
     ensures kept { KeptUnlessDone result mounted.old mounted.new }
@@ -169,15 +168,9 @@ pub fn array_store<W: EventWorld>(
 {
     let kind = element_kind(element);
     let width = width(kind);
-    let Some(value) = value_operand(mounted, kind, 0) else {
-        return Outcome::Undefined;
-    };
-    let Some(index) = int_operand(mounted, width) else {
-        return Outcome::Undefined;
-    };
-    let Some(reference) = reference_operand(mounted, width + 1) else {
-        return Outcome::Undefined;
-    };
+    let value = value_operand(mounted, kind, 0);
+    let index = int_operand(mounted, width);
+    let reference = reference_operand(mounted, width + 1);
     match element_target(world, element, heap, reference, index) {
         Ok(target) => match may_hold(world, heap, target.array.kind, value) {
             Some(true) => {
@@ -204,7 +197,8 @@ pub fn new_array<W: EventWorld>(
     heap: &mut Heap,
     mounted: &mut Mounted,
 ) -> Result<Outcome, NoMemory>
-    requires { HasTop mounted.old }
+    requires top { HasTop mounted.old }
+    requires operands { HasOperands (kinds.Int ∷ []) 0 (operands mounted.old) }
     ensures effect { IfOk result (λ o. Acts (spec.array_made (W.world world.now) naming.now)
         (with_heap heap.old) mounted.old (with_heap heap.new) mounted.new o) }
     ensures kept { IfOk result (λ o. KeptUnlessDone o mounted.old mounted.new) }
@@ -219,13 +213,7 @@ pub fn new_array<W: EventWorld>(
     let Some(array) = world.array_type(class) else {
         return Ok(Outcome::Undefined);
     };
-    if mounted.top().operands == 0 {
-        return Ok(Outcome::Undefined);
-    }
-    let Some(n) = int_operand(mounted, 0) else {
-        return Ok(Outcome::Undefined);
-    };
-    let Ok(len) = u32::try_from(n) else {
+    let Ok(len) = u32::try_from(int_operand(mounted, 0)) else {
         return Ok(Outcome::Throws(Exception::NegativeArraySizeException));
     };
     match make_array(heap, class, len, element_zero(array))? {
@@ -248,7 +236,8 @@ pub fn new_arrays<W: EventWorld>(
     heap: &mut Heap,
     mounted: &mut Mounted,
 ) -> Result<Outcome, NoMemory>
-    requires { HasTop mounted.old }
+    requires top { HasTop mounted.old }
+    requires operands { HasOperands (replicate dimensions kinds.Int) 0 (operands mounted.old) }
     ensures effect { IfOk result (λ o. Acts
         (spec.arrays_made (W.world world.now) dimensions naming.now)
         (with_heap heap.old) mounted.old (with_heap heap.new) mounted.new o) }
@@ -259,13 +248,10 @@ pub fn new_arrays<W: EventWorld>(
     let Some(class) = class_of(naming) else {
         return Ok(Outcome::Undefined);
     };
-    let count = u16::from(dimensions);
-    if count == 0 || mounted.top().operands < count {
+    if dimensions == 0 {
         return Ok(Outcome::Undefined);
     }
-    let Some(ints) = ints_on_top(alloc, mounted, dimensions)? else {
-        return Ok(Outcome::Undefined);
-    };
+    let ints = ints_on_top(alloc, mounted, dimensions)?;
     if is_any_negative(&ints) {
         return Ok(Outcome::Throws(Exception::NegativeArraySizeException));
     }
@@ -277,7 +263,7 @@ pub fn new_arrays<W: EventWorld>(
         return Err(NoMemory);
     };
     make_arrays(alloc, world, heap, class, &lengths)?;
-    drop_operands(mounted, count);
+    drop_operands(mounted, u16::from(dimensions));
     push_value(mounted, Value::Ref(number));
     Ok(Outcome::Done)
 }

@@ -2,9 +2,10 @@
 
 ghost use Rattle.std.specs.Prelude.{◌≡◌, IfOk};
 ghost use Rattle.instruction_rows.specs.Table.{row, simple_row, new_array_row};
+ghost use Rattle.ref_model.specs.Operands.{FindsOperands};
 ghost use Rattle.object_events.specs.Dispatch as spec;
 ghost use Rattle.object_events.specs.Dispatch.{IsHeapRun, IsRun};
-ghost use Rattle.object_events.specs.Operands.{HasTop};
+ghost use Rattle.object_events.specs.Operands.{HasTop, operands};
 
 use crate::arrays::{array_length, array_load, array_store, new_array, new_arrays};
 use crate::divisions::{divide_ints, divide_longs};
@@ -31,7 +32,9 @@ fn run_simple<W: EventWorld>(
     statics: &mut [Value],
     mounted: &mut Mounted,
 ) -> Outcome
-    requires { HasTop mounted.old }
+    requires top { HasTop mounted.old }
+    requires operands { FindsOperands (W.world world.now) naming.now (simple_row simple)
+        (operands mounted.old) }
     ensures { IsRun (W.world world.now) naming.now (simple_row simple)
         heap.old heap.new statics.old statics.new mounted.old mounted.new result }
 {
@@ -58,7 +61,9 @@ pub fn run_plain<W: EventWorld>(
     statics: &mut [Value],
     mounted: &mut Mounted,
 ) -> Outcome
-    requires { HasTop mounted.old }
+    requires top { HasTop mounted.old }
+    requires operands { FindsOperands (W.world world.now) naming.now (row op.now)
+        (operands mounted.old) }
     ensures { IsRun (W.world world.now) naming.now (row op.now)
         heap.old heap.new statics.old statics.new mounted.old mounted.new result }
 {
@@ -78,7 +83,9 @@ pub fn run_field<W: EventWorld>(
     statics: &mut [Value],
     mounted: &mut Mounted,
 ) -> Outcome
-    requires { HasTop mounted.old }
+    requires top { HasTop mounted.old }
+    requires operands { FindsOperands (W.world world.now) naming.now (row op.now)
+        (operands mounted.old) }
     ensures { IsRun (W.world world.now) naming.now (row op.now)
         heap.old heap.new statics.old statics.new mounted.old mounted.new result }
 {
@@ -106,7 +113,9 @@ fn new_primitive_array<W: EventWorld>(
     heap: &mut Heap,
     mounted: &mut Mounted,
 ) -> Result<Outcome, NoMemory>
-    requires { HasTop mounted.old }
+    requires top { HasTop mounted.old }
+    requires operands { FindsOperands (W.world world.now) naming.now (new_array_row primitive)
+        (operands mounted.old) }
     ensures { IfOk result (λ outcome. IsHeapRun (W.world world.now) naming.now
         (new_array_row primitive) heap.old heap.new mounted.old mounted.new outcome) }
 {
@@ -128,7 +137,9 @@ pub fn run_event<W: EventWorld>(
     statics: &mut [Value],
     mounted: &mut Mounted,
 ) -> Result<Outcome, NoMemory>
-    requires { HasTop mounted.old }
+    requires top { HasTop mounted.old }
+    requires operands { FindsOperands (W.world world.now) naming.now (row op.now)
+        (operands mounted.old) }
     ensures { IfOk result (λ outcome. IsRun (W.world world.now) naming.now (row op.now)
         heap.old heap.new statics.old statics.new mounted.old mounted.new outcome) }
 {

@@ -1,9 +1,13 @@
 //! Fields (JVMS 6.5: getstatic, putstatic, getfield, putfield). Null is tested first, and then the class of the object.
 
-ghost use Rattle.std.specs.Prelude.{◌≡◌};
+ghost use Rattle.std.specs.Prelude.{◌≡◌, ◌≤◌, ◌∷◌, [], length};
+ghost use Rattle.opcodes.specs.declared.op.Kind.TheVariants as kinds;
 ghost use Rattle.ref_model.specs.Effects as effects;
 ghost use Rattle.ref_model.specs.Fetch as fetch;
 ghost use Rattle.ref_model.specs.Fields as spec;
+ghost use Rattle.ref_model.specs.Kinds as model;
+ghost use Rattle.ref_model.specs.Operands as taken;
+ghost use Rattle.ref_model.specs.Operands.{HasOperand, HasOperands, stored_above};
 ghost use Rattle.object_events.specs.HeapReads.{IsPut, IsTarget};
 ghost use Rattle.object_events.specs.Operands.{HasTop, ChangesOperands, IsStored, operands};
 ghost use Rattle.object_events.specs.Outcomes.{Acts, KeptUnlessDone, with_heap, with_statics};
@@ -53,14 +57,18 @@ pub fn get_static<W: EventWorld>(
     }
 }
 
-// The value that a store into a field takes, as the field keeps it. `None`: no value of the field's kind lies on top.
+// The value that a store into a field takes, as the field keeps it.
 #[inline(always)]
-fn stored(field: &FieldInfo, mounted: &Mounted) -> Option<Value>
-    requires { HasTop mounted.now }
-    ensures { IsStored field.now result (operands mounted.now) }
+fn stored(field: &FieldInfo, mounted: &Mounted) -> Value
+    requires { HasOperand (model.value_kind field.now.kind) 0 (operands mounted.now) }
+    ensures stored { IsStored field.now result (operands mounted.now) }
+    ensures within { taken.width (model.value_kind field.now.kind)
+        ≤ length (operands mounted.now) }
 {
-    let value = value_operand(mounted, value_kind(&field.kind), 0)?;
-    Some(kept(&field.kind, value))
+    kept(
+        &field.kind,
+        value_operand(mounted, value_kind(&field.kind), 0),
+    )
 }
 
 // Sets the value at a place, where there is one: whether there is.
@@ -83,7 +91,9 @@ pub fn put_static<W: EventWorld>(
     statics: &mut [Value],
     mounted: &mut Mounted,
 ) -> Outcome
-    requires { HasTop mounted.old }
+    requires top { HasTop mounted.old }
+    requires operands { HasOperands (stored_above [] (W.world world.now) naming.now) 0
+        (operands mounted.old) }
     ensures effect { Acts (spec.static_put (W.world world.now) naming.now)
         (with_statics statics.old) mounted.old (with_statics statics.new) mounted.new result }
     ensures kept { KeptUnlessDone result mounted.old mounted.new }
@@ -96,9 +106,7 @@ pub fn put_static<W: EventWorld>(
     let Some(field) = world.field(n) else {
         return Outcome::Undefined;
     };
-    let Some(value) = stored(field, mounted) else {
-        return Outcome::Undefined;
-    };
+    let value = stored(field, mounted);
     if !set_static(statics, world.static_place(n), value) {
         return Outcome::Undefined;
     }
@@ -156,7 +164,8 @@ pub fn get_field<W: EventWorld>(
     heap: &Heap,
     mounted: &mut Mounted,
 ) -> Outcome
-    requires { HasTop mounted.old }
+    requires top { HasTop mounted.old }
+    requires operands { HasOperands (kinds.Reference ∷ []) 0 (operands mounted.old) }
     ensures effect { Acts (spec.field_gotten (W.world world.now) naming.now)
         (with_heap heap.now) mounted.old (with_heap heap.now) mounted.new result }
     ensures kept { KeptUnlessDone result mounted.old mounted.new }
@@ -165,10 +174,7 @@ pub fn get_field<W: EventWorld>(
     let Some(n) = field_of(naming) else {
         return Outcome::Undefined;
     };
-    let Some(reference) = reference_operand(mounted, 0) else {
-        return Outcome::Undefined;
-    };
-    let Some(o) = reference else {
+    let Some(o) = reference_operand(mounted, 0) else {
         return Outcome::Throws(Exception::NullPointerException);
     };
     let Some(class) = class_number(world, heap, o) else {
@@ -197,7 +203,10 @@ pub fn put_field<W: EventWorld>(
     heap: &mut Heap,
     mounted: &mut Mounted,
 ) -> Outcome
-    requires { HasTop mounted.old }
+    requires top { HasTop mounted.old }
+    requires operands { HasOperands
+        (stored_above (kinds.Reference ∷ []) (W.world world.now) naming.now) 0
+        (operands mounted.old) }
     ensures effect { Acts (spec.field_put (W.world world.now) naming.now)
         (with_heap heap.old) mounted.old (with_heap heap.new) mounted.new result }
     ensures kept { KeptUnlessDone result mounted.old mounted.new }
@@ -211,12 +220,8 @@ pub fn put_field<W: EventWorld>(
         return Outcome::Undefined;
     };
     let width = width(value_kind(&field.kind));
-    let Some(value) = stored(field, mounted) else {
-        return Outcome::Undefined;
-    };
-    let Some(reference) = reference_operand(mounted, width) else {
-        return Outcome::Undefined;
-    };
+    let value = stored(field, mounted);
+    let reference = reference_operand(mounted, width);
     let Some(target) = field_target(world, naming, heap, n, reference) else {
         return Outcome::Undefined;
     };

@@ -1,9 +1,11 @@
 //! Objects and their classes (JVMS 6.5: new, checkcast, instanceof, athrow).
 
-ghost use Rattle.std.specs.Prelude.{◌≡◌, IfOk, OnErr};
+ghost use Rattle.std.specs.Prelude.{◌≡◌, ◌∷◌, [], IfOk, OnErr};
+ghost use Rattle.opcodes.specs.declared.op.Kind.TheVariants as kinds;
 ghost use Rattle.ref_model.specs.Fetch as fetch;
 ghost use Rattle.ref_model.specs.Instances as spec;
-ghost use Rattle.object_events.specs.Operands.{HasTop, ChangesOperands};
+ghost use Rattle.ref_model.specs.Operands.{HasOperands};
+ghost use Rattle.object_events.specs.Operands.{HasTop, ChangesOperands, operands};
 ghost use Rattle.object_events.specs.Outcomes.{Acts, ActsAlone, KeptUnlessDone, with_heap};
 
 use crate::makers::make_object;
@@ -37,17 +39,14 @@ pub fn check_cast<W: EventWorld>(
     heap: &Heap,
     mounted: &Mounted,
 ) -> Outcome
-    requires { HasTop mounted.now }
+    requires { HasOperands (kinds.Reference ∷ []) 0 (operands mounted.now) }
     ensures { Acts (spec.object_cast (W.world world.now) naming.now)
         (with_heap heap.now) mounted.now (with_heap heap.now) mounted.now result }
 {
     let Some(class) = class_of(naming) else {
         return Outcome::Undefined;
     };
-    let Some(reference) = reference_operand(mounted, 0) else {
-        return Outcome::Undefined;
-    };
-    let Some(o) = reference else {
+    let Some(o) = reference_operand(mounted, 0) else {
         return Outcome::Done;
     };
     match class_number(world, heap, o) {
@@ -65,7 +64,8 @@ pub fn instance_of<W: EventWorld>(
     heap: &Heap,
     mounted: &mut Mounted,
 ) -> Outcome
-    requires { HasTop mounted.old }
+    requires top { HasTop mounted.old }
+    requires operands { HasOperands (kinds.Reference ∷ []) 0 (operands mounted.old) }
     ensures effect { Acts (spec.object_judged (W.world world.now) naming.now)
         (with_heap heap.now) mounted.old (with_heap heap.now) mounted.new result }
     ensures kept { KeptUnlessDone result mounted.old mounted.new }
@@ -74,10 +74,7 @@ pub fn instance_of<W: EventWorld>(
     let Some(class) = class_of(naming) else {
         return Outcome::Undefined;
     };
-    let Some(reference) = reference_operand(mounted, 0) else {
-        return Outcome::Undefined;
-    };
-    let Some(o) = reference else {
+    let Some(o) = reference_operand(mounted, 0) else {
         return give(mounted, 1, Value::Int(0));
     };
     match class_number(world, heap, o) {
@@ -89,13 +86,12 @@ pub fn instance_of<W: EventWorld>(
 /// athrow.
 #[inline(always)]
 pub fn throw_object(mounted: &Mounted) -> Outcome
-    requires { HasTop mounted.now }
+    requires { HasOperands (kinds.Reference ∷ []) 0 (operands mounted.now) }
     ensures { ActsAlone spec.object_thrown mounted.now result }
 {
     match reference_operand(mounted, 0) {
-        Some(Some(o)) => Outcome::ThrowsObject(o),
-        Some(None) => Outcome::Throws(Exception::NullPointerException),
-        None => Outcome::Undefined,
+        Some(o) => Outcome::ThrowsObject(o),
+        None => Outcome::Throws(Exception::NullPointerException),
     }
 }
 

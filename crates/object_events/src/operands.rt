@@ -1,13 +1,14 @@
 //! The operands of the top frame: read at a depth, dropped, and a result pushed in their place (JVMS 2.6.2).
 
-ghost use Rattle.std.specs.Prelude.{◌≡◌, ◌+◌, ◌<◌, ◌≤◌, List, drop, length, slice_index_or};
+ghost use Rattle.std.specs.Prelude.{◌≡◌, ◌+◌, ◌≤◌, IsSome, List, Some, drop, length};
 ghost use Rattle.opcodes.specs.declared.op.Kind.TheVariants as kinds;
 ghost use Rattle.instruction_rows.specs.declared.value.Slot.{Slot};
 ghost use Rattle.instruction_rows.specs.Kinds.{held, value};
 ghost use Rattle.instruction_rows.specs.SlotEffect.{pushed};
 ghost use Rattle.frames.specs.Frames.{top_room};
-ghost use Rattle.object_events.specs.Operands as spec;
-ghost use Rattle.object_events.specs.Operands.{operands, ChangesOperands, HasTop, IsOperand, IsValue};
+ghost use Rattle.ref_model.specs.Operands as spec;
+ghost use Rattle.ref_model.specs.Operands.{HasOperand};
+ghost use Rattle.object_events.specs.Operands.{operands, ChangesOperands, HasTop, IsOperand, IsPopped};
 ghost use Rattle.object_events.specs.Outcomes.{IsGiven, KeptUnlessDone};
 
 use crate::outcome::Outcome;
@@ -15,76 +16,70 @@ use continuation::Mounted;
 use instruction_rows::{Slot, Value};
 use opcodes::Kind;
 
-// The operand at a depth; an unset slot where there is none.
+// The int that a slot holds.
 #[inline(always)]
-fn operand(mounted: &Mounted, depth: u32) -> Slot
-    requires { HasTop mounted.now }
-    ensures { result ≡ slice_index_or (operands mounted.now) depth Slot.Second }
-{
-    if depth < u32::from(mounted.top().operands) {
-        mounted.operand(depth as u16)
-    } else {
-        Slot::Second
-    }
-}
-
-// What a slot holds of a kind. `None`: it holds no value of the kind.
-#[inline(always)]
-fn int_in(slot: Slot) -> Option<i32>
-    ensures { result ≡ held kinds.Int slot }
+fn int_in(slot: Slot) -> i32
+    requires { IsSome (held kinds.Int slot) }
+    ensures { held kinds.Int slot ≡ Some result }
 {
     match slot {
-        Slot::One(Value::Int(n)) => Some(n),
-        Slot::One(Value::Long(_) | Value::Null | Value::Ref(_)) | Slot::Second => None,
+        Slot::One(Value::Int(n)) => n,
+        Slot::One(Value::Long(_) | Value::Null | Value::Ref(_)) | Slot::Second => unreachable!(),
     }
 }
 
 #[inline(always)]
-fn long_in(slot: Slot) -> Option<i64>
-    ensures { result ≡ held kinds.Long slot }
+fn long_in(slot: Slot) -> i64
+    requires { IsSome (held kinds.Long slot) }
+    ensures { held kinds.Long slot ≡ Some result }
 {
     match slot {
-        Slot::One(Value::Long(n)) => Some(n),
-        Slot::One(Value::Int(_) | Value::Null | Value::Ref(_)) | Slot::Second => None,
+        Slot::One(Value::Long(n)) => n,
+        Slot::One(Value::Int(_) | Value::Null | Value::Ref(_)) | Slot::Second => unreachable!(),
     }
 }
 
 #[inline(always)]
-fn reference_in(slot: Slot) -> Option<Option<u32>>
-    ensures { result ≡ held kinds.Reference slot }
+fn reference_in(slot: Slot) -> Option<u32>
+    requires { IsSome (held kinds.Reference slot) }
+    ensures { held kinds.Reference slot ≡ Some result }
 {
     match slot {
-        Slot::One(Value::Ref(o)) => Some(Some(o)),
-        Slot::One(Value::Null) => Some(None),
-        Slot::One(Value::Int(_) | Value::Long(_)) | Slot::Second => None,
+        Slot::One(Value::Ref(o)) => Some(o),
+        Slot::One(Value::Null) => None,
+        Slot::One(Value::Int(_) | Value::Long(_)) | Slot::Second => unreachable!(),
     }
 }
 
-/// The int at a depth. `None`: no int lies there.
+/// The int at a depth.
 #[inline(always)]
-pub fn int_operand(mounted: &Mounted, depth: u16) -> Option<i32>
-    requires { HasTop mounted.now }
-    ensures { IsOperand kinds.Int result depth (operands mounted.now) }
+pub fn int_operand(mounted: &Mounted, depth: u16) -> i32
+    requires { HasOperand kinds.Int depth (operands mounted.now) }
+    ensures read { IsOperand kinds.Int result depth (operands mounted.now) }
+    ensures within { depth + 1 ≤ length (operands mounted.now) }
 {
-    int_in(operand(mounted, u32::from(depth)))
+    int_in(mounted.operand(depth))
 }
 
-/// The long at a depth, which is that of its upper slot. `None`: no long lies there.
+/// The long at a depth, which is that of its upper slot.
 #[inline(always)]
-pub fn long_operand(mounted: &Mounted, depth: u16) -> Option<i64>
-    requires { HasTop mounted.now }
-    ensures { IsOperand kinds.Long result depth (operands mounted.now) }
+pub fn long_operand(mounted: &Mounted, depth: u16) -> i64
+    requires { HasOperand kinds.Long depth (operands mounted.now) }
+    ensures read { IsOperand kinds.Long result depth (operands mounted.now) }
+    ensures within { depth + 2 ≤ length (operands mounted.now) }
 {
-    long_in(operand(mounted, u32::from(depth) + 1))
+    prove!(depth < mounted.top().operands);
+    long_in(mounted.operand(depth + 1))
 }
 
-/// The reference at a depth, `Some(None)` for null. `None`: no reference lies there.
+/// The reference at a depth, `None` for null.
 #[inline(always)]
-pub fn reference_operand(mounted: &Mounted, depth: u16) -> Option<Option<u32>>
-    requires { HasTop mounted.now }
-    ensures { IsOperand kinds.Reference result depth (operands mounted.now) }
+pub fn reference_operand(mounted: &Mounted, depth: u16) -> Option<u32>
+    requires { HasOperand kinds.Reference depth (operands mounted.now) }
+    ensures read { IsOperand kinds.Reference result depth (operands mounted.now) }
+    ensures within { depth + 1 ≤ length (operands mounted.now) }
 {
-    reference_in(operand(mounted, u32::from(depth)))
+    reference_in(mounted.operand(depth))
 }
 
 // A reference as a value.
@@ -98,27 +93,28 @@ fn reference_value(reference: Option<u32>) -> Value
     }
 }
 
-/// The value of a kind at a depth. `None`: no value of the kind lies there.
+/// The value of a kind at a depth.
 #[inline(always)]
-pub fn value_operand(mounted: &Mounted, kind: Kind, depth: u16) -> Option<Value>
-    requires { HasTop mounted.now }
-    ensures { IsValue kind result depth (operands mounted.now) }
+pub fn value_operand(mounted: &Mounted, kind: Kind, depth: u16) -> Value
+    requires { HasOperand kind depth (operands mounted.now) }
+    ensures read { IsPopped kind result depth (operands mounted.now) }
+    ensures within { depth + spec.width kind ≤ length (operands mounted.now) }
 {
     match kind {
-        Kind::Int => Some(Value::Int(int_operand(mounted, depth)?)),
-        Kind::Long => Some(Value::Long(long_operand(mounted, depth)?)),
-        Kind::Reference => Some(reference_value(reference_operand(mounted, depth)?)),
+        Kind::Int => Value::Int(int_operand(mounted, depth)),
+        Kind::Long => Value::Long(long_operand(mounted, depth)),
+        Kind::Reference => reference_value(reference_operand(mounted, depth)),
     }
 }
 
-/// Drops so many operands, or all where there are fewer.
+/// Drops so many operands.
 #[inline(always)]
 pub fn drop_operands(mounted: &mut Mounted, count: u16)
-    requires { HasTop mounted.old }
+    requires { count ≤ length (operands mounted.old) }
     ensures operands { operands mounted.new ≡ drop count (operands mounted.old) }
     ensures only { ChangesOperands mounted.old mounted.new }
 {
-    mounted.drop_operands(count.min(mounted.top().operands));
+    mounted.drop_operands(count);
 }
 
 /// Pushes a value, where it has room (JVMS 2.6.2).
@@ -147,18 +143,15 @@ pub fn slots_of(value: Value) -> u16
     }
 }
 
-/// Drops so many operands and pushes a value in their place. Where there are fewer, or the value has no room, it is undefined, and
-/// nothing changes.
+/// Drops so many operands and pushes a value in their place. Where the value has no room, it is undefined, and nothing changes.
 #[inline(always)]
 pub fn give(mounted: &mut Mounted, count: u16, value: Value) -> Outcome
-    requires { HasTop mounted.old }
+    requires top { HasTop mounted.old }
+    requires count { count ≤ length (operands mounted.old) }
     ensures given { IsGiven count value mounted.old mounted.new result }
     ensures kept { KeptUnlessDone result mounted.old mounted.new }
     ensures only { ChangesOperands mounted.old mounted.new }
 {
-    if count > mounted.top().operands {
-        return Outcome::Undefined;
-    }
     let room = u32::from(mounted.operand_room()) + u32::from(count);
     if room < u32::from(slots_of(value)) {
         return Outcome::Undefined;

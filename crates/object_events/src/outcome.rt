@@ -9,7 +9,7 @@ pub enum Outcome {
     Throws(Exception),
     /// It throws this object, and nothing has changed.
     ThrowsObject(u32),
-    /// The definitions have no effect here, or its result has no room: nothing is said, and nothing has changed. Frames that keep to the
-    /// typing never get there (own).
+    /// A look-up has nothing, the result has no room, or this isn't done here: nothing is said, and nothing has changed. Frames that keep to
+    /// the typing never get there (own).
     Undefined,
 }

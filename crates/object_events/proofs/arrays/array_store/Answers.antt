@@ -19,13 +19,13 @@ returns-in-Err-clause-effect g c = λ r.
     let q = with_heap c.args.heap.now r in
     let stack = operands c.args.mounted.now in
     let depth = c.width-width.result in
-    let v = c.in-Some.value in
-    let n = c.in-Some-int_operand.index in
+    let v = c.value_operand-value.result in
+    let n = c.int_operand-index.result in
     let fits : FitsSigned w32 n = search rules in
     let index = to_z w32 (of_z w32 n) in
-    let int : popped kinds.Int (drop depth stack) ≡ Some (index, drop (depth + 1) stack) = c.in-Some-int_operand.ensures ∙ ap (λ (z : ℤ). Some (z, drop (depth + 1) stack)) (sym (to_z-of_z fits)) in
-    array_stored_is w c.args.element q stack c.element_kind-kind.result v index c.in-Some-reference_operand.reference depth (Some (throws c.in-Err.e))
-    c.element_kind-kind.ensures c.width-width.ensures.width c.in-Some.ensures int c.in-Some-reference_operand.ensures
+    let int : popped kinds.Int (drop depth stack) ≡ Some (index, drop (depth + 1) stack) = c.int_operand-index.ensures.read ∙ ap (λ (z : ℤ). Some (z, drop (depth + 1) stack)) (sym (to_z-of_z fits)) in
+    array_stored_is w c.args.element q stack c.element_kind-kind.result v index c.reference_operand-reference.result depth (Some (throws c.in-Err.e))
+    c.element_kind-kind.ensures c.width-width.ensures.width c.value_operand-value.ensures.read int c.reference_operand-reference.ensures.read
     (c.in-Err.ensures.target r (store_at w q v (drop (depth + 1 + 1) stack)))
 
 pub returns-in-Some-false-clause-effect : goal.returns-in-Some-false-clause-effect
@@ -34,16 +34,16 @@ returns-in-Some-false-clause-effect g c = λ r.
     let q = with_heap c.args.heap.now r in
     let stack = operands c.args.mounted.now in
     let depth = c.width-width.result in
-    let v = c.in-Some.value in
-    let n = c.in-Some-int_operand.index in
+    let v = c.value_operand-value.result in
+    let n = c.int_operand-index.result in
     let fits : FitsSigned w32 n = search rules in
     let index = to_z w32 (of_z w32 n) in
-    let int : popped kinds.Int (drop depth stack) ≡ Some (index, drop (depth + 1) stack) = c.in-Some-int_operand.ensures ∙ ap (λ (z : ℤ). Some (z, drop (depth + 1) stack)) (sym (to_z-of_z fits)) in
+    let int : popped kinds.Int (drop depth stack) ≡ Some (index, drop (depth + 1) stack) = c.int_operand-index.ensures.read ∙ ap (λ (z : ℤ). Some (z, drop (depth + 1) stack)) (sym (to_z-of_z fits)) in
     let lowest = drop (depth + 1 + 1) stack in
     let o = c.in-Ok.target.object in
     let a = array_seen (values_at c.args.heap.now.objects o) c.in-Ok.target.array in
-    array_stored_is w c.args.element q stack c.element_kind-kind.result v index c.in-Some-reference_operand.reference depth (Some (throws exceptions.ArrayStoreException))
-    c.element_kind-kind.ensures c.width-width.ensures.width c.in-Some.ensures int c.in-Some-reference_operand.ensures
+    array_stored_is w c.args.element q stack c.element_kind-kind.result v index c.reference_operand-reference.result depth (Some (throws exceptions.ArrayStoreException))
+    c.element_kind-kind.ensures c.width-width.ensures.width c.value_operand-value.ensures.read int c.reference_operand-reference.ensures.read
     (c.in-Ok.ensures.target r (store_at w q v lowest)
     ∙ not_stored w q v lowest o a c.in-Ok.target.place (c.in-Some-false.ensures r a refl ∙ ap Some c.in-Some-false.field-0-test))
 
@@ -53,18 +53,18 @@ returns-in-Some-true-clause-effect g c = λ r.
     let q = with_heap c.args.heap.now r in
     let stack = operands c.args.mounted.now in
     let depth = c.width-width.result in
-    let v = c.in-Some.value in
-    let n = c.in-Some-int_operand.index in
+    let v = c.value_operand-value.result in
+    let n = c.int_operand-index.result in
     let fits : FitsSigned w32 n = search rules in
     let index = to_z w32 (of_z w32 n) in
-    let int : popped kinds.Int (drop depth stack) ≡ Some (index, drop (depth + 1) stack) = c.in-Some-int_operand.ensures ∙ ap (λ (z : ℤ). Some (z, drop (depth + 1) stack)) (sym (to_z-of_z fits)) in
+    let int : popped kinds.Int (drop depth stack) ≡ Some (index, drop (depth + 1) stack) = c.int_operand-index.ensures.read ∙ ap (λ (z : ℤ). Some (z, drop (depth + 1) stack)) (sym (to_z-of_z fits)) in
     let lowest = drop (depth + 1 + 1) stack in
     let o = c.in-Ok.target.object in
     let place = c.in-Ok.target.place in
     let a = array_seen (values_at c.args.heap.now.objects o) c.in-Ok.target.array in
     let after = with_heap c.set.new.self r in
-    array_stored_is w c.args.element q stack c.element_kind-kind.result v index c.in-Some-reference_operand.reference depth (Some (done after (operands c.drop_operands.new.mounted)))
-    c.element_kind-kind.ensures c.width-width.ensures.width c.in-Some.ensures int c.in-Some-reference_operand.ensures
+    array_stored_is w c.args.element q stack c.element_kind-kind.result v index c.reference_operand-reference.result depth (Some (done after (operands c.drop_operands.new.mounted)))
+    c.element_kind-kind.ensures c.width-width.ensures.width c.value_operand-value.ensures.read int c.reference_operand-reference.ensures.read
     (c.in-Ok.ensures.target r (store_at w q v lowest)
     ∙ stored_in w q after v c.kept_in.result lowest o a place (c.in-Some-true.ensures r a refl ∙ ap Some c.in-Some-true.field-0-test) c.kept_in.ensures
     (value_set_is r c.args.heap.now c.set.new.self o place c.kept_in.result c.in-Ok.ensures.inside c.set.ensures)

@@ -9,7 +9,8 @@ use Rattle.ref_model.specs.Members.{field_place}
 use Rattle.ref_model.specs.Kinds.{value_kind}
 use Rattle.object_events.specs.declared.fields.FieldTarget.{FieldTarget}
 use Rattle.object_events.specs.HeapReads.{TargetGives}
-use Rattle.object_events.specs.Operands.{operands, width}
+use Rattle.ref_model.specs.Operands.{width}
+use Rattle.object_events.specs.Operands.{operands}
 use Rattle.object_events.specs.Outcomes.{with_heap}
 use Rattle.object_events.proofs.FieldLaws.{field_put_is}
 use Rattle.object_events.proofs.fields.put_field.Goals as goal
@@ -20,14 +21,14 @@ returns-in-Err-clause-effect g c = λ r.
     let q = with_heap c.args.heap.now r in
     let stack = operands c.args.mounted.now in
     let depth = c.width-width.result in
-    let v = c.in-Some-stored.value in
+    let v = c.stored-value.result in
     let n = c.in-Some.n in
     let field = c.in-Some-field.field.now in
-    let reference = c.in-Some-reference_operand.reference in
+    let reference = c.reference_operand-reference.result in
     let act : ℕ → ℕ → Option Effect = λ o place. with_value q o place v >>= λ s. Some (done s (drop (depth + 1) stack)) in
     let T : Result FieldTarget Exception → Type 0 = TargetGives act (on_instance w c.args.naming.now q reference (λ o class. field_place w n >>= λ place. act o place)) in
     field_put_is w c.args.naming.now q stack n field v reference (width (value_kind field.kind)) depth (Some (throws c.in-Err.e))
-    c.in-Some.ensures c.in-Some-field.ensures (c.width-width.ensures.width ∙ ap width c.value_kind.ensures) c.in-Some-stored.ensures c.in-Some-reference_operand.ensures
+    c.in-Some.ensures c.in-Some-field.ensures (c.width-width.ensures.width ∙ ap width c.value_kind.ensures) c.stored-value.ensures.stored c.reference_operand-reference.ensures.read
     (subst T c.in-Err.is (c.in-Some-field_target.ensures r act))
 
 pub returns-else-not-set_value-clause-effect : goal.returns-else-not-set_value-clause-effect
@@ -36,15 +37,15 @@ returns-else-not-set_value-clause-effect g c = λ r.
     let q = with_heap c.args.heap.now r in
     let stack = operands c.args.mounted.now in
     let depth = c.width-width.result in
-    let v = c.in-Some-stored.value in
+    let v = c.stored-value.result in
     let n = c.in-Some.n in
     let field = c.in-Some-field.field.now in
-    let reference = c.in-Some-reference_operand.reference in
+    let reference = c.reference_operand-reference.result in
     let act : ℕ → ℕ → Option Effect = λ o place. with_value q o place v >>= λ s. Some (done s (drop (depth + 1) stack)) in
     let T : Result FieldTarget Exception → Type 0 = TargetGives act (on_instance w c.args.naming.now q reference (λ o class. field_place w n >>= λ place. act o place)) in
     let after = with_heap c.set_value.new.heap r in
     field_put_is w c.args.naming.now q stack n field v reference (width (value_kind field.kind)) depth (Some (done after (operands c.drop_operands.new.mounted)))
-    c.in-Some.ensures c.in-Some-field.ensures (c.width-width.ensures.width ∙ ap width c.value_kind.ensures) c.in-Some-stored.ensures c.in-Some-reference_operand.ensures
+    c.in-Some.ensures c.in-Some-field.ensures (c.width-width.ensures.width ∙ ap width c.value_kind.ensures) c.stored-value.ensures.stored c.reference_operand-reference.ensures.read
     (subst T c.in-Ok.is (c.in-Some-field_target.ensures r act)
     ∙ ap (λ (x : Option State). x >>= λ s. Some (done s (drop (depth + 1) stack))) (c.if-not-set_value.ensures r)
     ∙ ap (λ rest. Some (done after rest)) (sym c.drop_operands.ensures.operands))

@@ -7,19 +7,19 @@ use Rattle.object_events.proofs.OperandLaws.{operand_value}
 use Rattle.object_events.specs.Operands.{operands}
 use Rattle.object_events.proofs.operands.value_operand.Goals as goal
 
-pub returns-in_ok-int_operand-in-Int : goal.returns-in_ok-int_operand-in-Int
-returns-in_ok-int_operand-in-Int c =
-    let n = c.in_ok-int_operand-in-Int.field-0 in
+pub returns-in-Int-clause-read : goal.returns-in-Int-clause-read
+returns-in-Int-clause-read c =
+    let n = c.int_operand.result in
     let fits : FitsSigned w32 n = search rules in
-    operand_value c.args.kind kinds.Int n (values.Int (to_z w32 (of_z w32 n))) c.args.depth (operands c.args.mounted.now) c.in-Int.is (ap values.Int (to_z-of_z fits)) c.in_ok-int_operand-in-Int.ensures
+    operand_value c.args.kind kinds.Int n (values.Int (to_z w32 (of_z w32 n))) c.args.depth (operands c.args.mounted.now) c.in-Int.is (ap values.Int (to_z-of_z fits)) c.int_operand.ensures.read
 
-pub returns-in_ok-long_operand-in-Long : goal.returns-in_ok-long_operand-in-Long
-returns-in_ok-long_operand-in-Long c =
-    let n = c.in_ok-long_operand-in-Long.field-0 in
+pub returns-in-Long-clause-read : goal.returns-in-Long-clause-read
+returns-in-Long-clause-read c =
+    let n = c.long_operand.result in
     let fits : FitsSigned w64 n = search rules in
-    operand_value c.args.kind kinds.Long n (values.Long (to_z w64 (of_z w64 n))) c.args.depth (operands c.args.mounted.now) c.in-Long.is (ap values.Long (to_z-of_z fits)) c.in_ok-long_operand-in-Long.ensures
+    operand_value c.args.kind kinds.Long n (values.Long (to_z w64 (of_z w64 n))) c.args.depth (operands c.args.mounted.now) c.in-Long.is (ap values.Long (to_z-of_z fits)) c.long_operand.ensures.read
 
-pub returns-in_ok-reference_operand-in-Reference : goal.returns-in_ok-reference_operand-in-Reference
-returns-in_ok-reference_operand-in-Reference c =
-    operand_value c.args.kind kinds.Reference c.in_ok-reference_operand-in-Reference.field-0 c.reference_value.result c.args.depth (operands c.args.mounted.now) c.in-Reference.is c.reference_value.ensures
-    c.in_ok-reference_operand-in-Reference.ensures
+pub returns-in-Reference-clause-read : goal.returns-in-Reference-clause-read
+returns-in-Reference-clause-read c =
+    operand_value c.args.kind kinds.Reference c.reference_operand.result c.reference_value.result c.args.depth (operands c.args.mounted.now) c.in-Reference.is c.reference_value.ensures
+    c.reference_operand.ensures.read
