@@ -27,10 +27,10 @@ pub on_string : (otherwise : List ℕ) (q : State) (text : Option ℕ) (o : ℕ)
 on_string otherwise q text o units act is found =
     ap (λ (x : Option (List ℕ)). Some (on_units x act)) found ∙ ap (λ (t : Option ℕ). Some (on_text_or otherwise q t act)) (sym is)
 
--- ---- exceptions
-
-abbrev any_state : State
+abbrev pub any_state : State
 any_state = record { heap = []; room = 0; statics = []; threads = []; now = 0; out = []; err = []; main_threw = false; exited = None }
+
+-- ---- exceptions
 
 pub stays : (count : ℕ) (answer : Answer) (m n : Continuation) (outcome : Outcome) (old new : NativeState) → IsAnswered count answer m n outcome →
     KeptIfThrown answer old new → StaysIfThrown outcome old new

@@ -1,5 +1,5 @@
 -- What a native method does on an operand stack whose topmost operands are known.
-use Rattle.std.proofs.Common.{◌≡◌, List, [], ◌∷◌, Option, Some, None, ap, ◌∙◌}
+use Rattle.std.proofs.Common.{◌≡◌, List, [], ◌∷◌, Option, Some, None, ap, refl, subst, ◌∙◌}
 use Rattle.items.specs.Options.{◌>>=◌}
 use Rattle.opcodes.specs.declared.op.Kind.{Kind}
 use Rattle.opcodes.specs.declared.op.Kind.TheVariants as kinds
@@ -13,10 +13,25 @@ use Rattle.ref_model.specs.Effects.{Effect}
 use Rattle.ref_model.specs.NativeRows as rows
 use Rattle.ref_model.specs.NativeRows.{NativeRow, native, native_acted, answered}
 use Rattle.ref_model.specs.Natives.{native_row}
-use Rattle.native_methods.specs.Arguments.{answer_to, answer_to_two, native_effect, row_answer, with_argument}
+use Rattle.ref_model.specs.Operands.{FindsArguments, HasOperands}
+use Rattle.native_methods.specs.Arguments.{answer_to, answer_to_two, kinds_of, native_effect, row_answer, row_kinds, with_argument}
 use Rattle.native_methods.specs.NativeStates.{IsAnswer, IsAnswerEffect}
+use Rattle.native_methods.proofs.AnswerLaws.{any_state}
+use Rattle.native_methods.specs.declared.run.Arguments.{Arguments}
 use Rattle.native_methods.specs.declared.answer.Answer.{Answer}
 use Rattle.native_methods.specs.declared.answer.Answer.TheVariants as answers
+
+-- the operands of a native method, where the kinds that it takes are known
+row_found : (o : Option NativeRow) (ks : List Kind) (stack : List Slot) → row_kinds o ≡ Some ks →
+    ((takes : List Kind) (act : Function takes rows.Answer) → o ≡ Some (native takes act) → HasOperands takes 0 stack) → HasOperands ks 0 stack
+row_found None ks stack e x = cc
+row_found (Some (native takes act)) ks stack e x =
+    let is : takes ≡ ks = cc in
+    subst (λ js. HasOperands js 0 stack) is (x takes act refl)
+
+pub arguments_found : (w : World) (n : Native) (a b : Arguments) (stack : List Slot) → row_kinds (native_row w any_state n) ≡ Some (kinds_of a) → a ≡ b →
+    FindsArguments w n stack → HasOperands (kinds_of b) 0 stack
+arguments_found w n a b stack e is x = row_found (native_row w any_state n) (kinds_of b) stack (e ∙ ap (λ y. Some (kinds_of y)) is) (x any_state)
 
 -- what a row does on a stack, if there is a row
 abbrev on : Option NativeRow → List Slot → Option Effect

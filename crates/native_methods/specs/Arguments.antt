@@ -11,6 +11,21 @@ use Rattle.ref_model.specs.State.{State}
 use Rattle.ref_model.specs.Effects.{Effect}
 use Rattle.ref_model.specs.NativeRows.{Answer, NativeRow, native, native_acted}
 use Rattle.ref_model.specs.Natives.{native_row}
+use Rattle.native_methods.specs.declared.run.Arguments.{Arguments}
+use Rattle.native_methods.specs.declared.run.Arguments.TheVariants as arguments
+
+-- the kinds that a row takes, and those of what native methods take in the code
+abbrev pub row_kinds : Option NativeRow → Option (List Kind)
+row_kinds None = None
+row_kinds (Some (native takes act)) = Some takes
+
+abbrev pub kinds_of : Arguments → List Kind
+kinds_of arguments.Reference = kinds.Reference ∷ []
+kinds_of arguments.TwoReferences = kinds.Reference ∷ kinds.Reference ∷ []
+kinds_of arguments.IntAndReference = kinds.Int ∷ kinds.Reference ∷ []
+kinds_of arguments.LongAndReference = kinds.Long ∷ kinds.Reference ∷ []
+kinds_of arguments.Int = kinds.Int ∷ []
+kinds_of arguments.Long = kinds.Long ∷ []
 
 -- a row with its first argument, the topmost operand; None where it takes no argument of the kind
 abbrev pub with_argument : (k : Kind) → Of k → Option NativeRow → Option NativeRow

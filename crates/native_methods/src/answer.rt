@@ -1,4 +1,5 @@
-ghost use Rattle.object_events.specs.Operands.{ChangesOperands, HasTop};
+ghost use Rattle.std.specs.Prelude.{◌≤◌, length};
+ghost use Rattle.object_events.specs.Operands.{ChangesOperands, HasTop, operands};
 ghost use Rattle.object_events.specs.Outcomes.{KeptUnlessDone};
 ghost use Rattle.native_methods.specs.NativeStates.{IsAnswered};
 
@@ -22,7 +23,8 @@ pub(crate) enum Answer {
 
 /// The outcome of an answer, which takes the place of so many operands.
 pub(crate) fn outcome_of(mounted: &mut Mounted, count: u16, answer: Answer) -> Outcome
-    requires { HasTop mounted.old }
+    requires top { HasTop mounted.old }
+    requires count { count ≤ length (operands mounted.old) }
     ensures answered { IsAnswered count answer mounted.old mounted.new result }
     ensures kept { KeptUnlessDone result mounted.old mounted.new }
     ensures only { ChangesOperands mounted.old mounted.new }

@@ -1,8 +1,15 @@
 //! Native methods on a thread: the arguments are read, and the answer takes their place.
 
-ghost use Rattle.std.specs.Prelude.{◌≡◌, IfOk};
-ghost use Rattle.object_events.specs.Operands.{ChangesOperands, HasTop};
+ghost use Rattle.std.specs.Prelude.{◌≡◌, ◌∷◌, [], IfOk};
+ghost use Rattle.std.specs.Option.{option_map};
+ghost use Rattle.opcodes.specs.declared.op.Kind.TheVariants as kinds;
+ghost use Rattle.world_model.specs.World.{World};
+ghost use Rattle.ref_model.specs.Natives.{native_row};
+ghost use Rattle.ref_model.specs.Operands.{FindsArguments, HasOperands};
+ghost use Rattle.ref_model.specs.State.{State};
+ghost use Rattle.object_events.specs.Operands.{ChangesOperands, HasTop, operands};
 ghost use Rattle.object_events.specs.Outcomes.{Acts, KeptUnlessDone};
+ghost use Rattle.native_methods.specs.Arguments as spec;
 ghost use Rattle.native_methods.specs.Arguments.{native_effect};
 ghost use Rattle.native_methods.specs.NativeStates.{StaysIfThrown, with_natives};
 
@@ -29,15 +36,28 @@ enum Arguments {
     Long,
 }
 
-// What a native method takes. Those that have no row are taken to take a reference, and answer nothing to it.
-fn takes(native: Native) -> Arguments {
+// What a native method takes. `None`: it isn't done here.
+fn takes(native: Native) -> Option<Arguments>
+    ensures { (w : World) (r : State) → spec.row_kinds (native_row w r native)
+        ≡ option_map spec.kinds_of result }
+{
     match native {
+        Native::ObjectInit
+        | Native::ObjectHashCode
+        | Native::StringLength
+        | Native::StringIsEmpty
+        | Native::StringHashCode
+        | Native::StringToString
+        | Native::StringBuilderInit
+        | Native::StringBuilderLength
+        | Native::StringBuilderToString
+        | Native::PrintStreamPrintln => Some(Arguments::Reference),
         Native::ObjectEquals
         | Native::StringEquals
         | Native::StringConcat
         | Native::StringBuilderAppendString
         | Native::PrintStreamPrintlnString
-        | Native::PrintStreamPrintString => Arguments::TwoReferences,
+        | Native::PrintStreamPrintString => Some(Arguments::TwoReferences),
         Native::ObjectToString
         | Native::StringCharAt
         | Native::StringBuilderAppendInt
@@ -48,16 +68,16 @@ fn takes(native: Native) -> Arguments {
         | Native::PrintStreamPrintlnBoolean
         | Native::PrintStreamPrintInt
         | Native::PrintStreamPrintChar
-        | Native::PrintStreamPrintBoolean => Arguments::IntAndReference,
+        | Native::PrintStreamPrintBoolean => Some(Arguments::IntAndReference),
         Native::StringBuilderAppendLong
         | Native::PrintStreamPrintlnLong
-        | Native::PrintStreamPrintLong => Arguments::LongAndReference,
+        | Native::PrintStreamPrintLong => Some(Arguments::LongAndReference),
         Native::StringValueOfInt
         | Native::StringValueOfChar
         | Native::StringValueOfBoolean
-        | Native::SystemExit => Arguments::Int,
-        Native::StringValueOfLong => Arguments::Long,
-        _ => Arguments::Reference,
+        | Native::SystemExit => Some(Arguments::Int),
+        Native::StringValueOfLong => Some(Arguments::Long),
+        _ => None,
     }
 }
 
@@ -68,16 +88,15 @@ fn run_on_reference<W: NativeWorld>(
     state: &mut NativeState,
     mounted: &mut Mounted,
 ) -> Result<Outcome, NoMemory>
-    requires { HasTop mounted.old }
+    requires top { HasTop mounted.old }
+    requires operands { HasOperands (kinds.Reference ∷ []) 0 (operands mounted.old) }
     ensures effect { IfOk result (λ o. Acts (native_effect (W.world world.now) native)
         (with_natives state.old) mounted.old (with_natives state.new) mounted.new o) }
     ensures kept { IfOk result (λ o. KeptUnlessDone o mounted.old mounted.new) }
     ensures kept_state { IfOk result (λ o. StaysIfThrown o state.old state.new) }
     ensures only { ChangesOperands mounted.old mounted.new }
 {
-    let Some(this) = reference_operand(mounted, 0) else {
-        return Ok(Outcome::Undefined);
-    };
+    let this = reference_operand(mounted, 0);
     let answer = on_reference(alloc, world, native, state, this)?;
     Ok(outcome_of(mounted, 1, answer))
 }
@@ -89,19 +108,17 @@ fn run_on_two_references<W: NativeWorld>(
     state: &mut NativeState,
     mounted: &mut Mounted,
 ) -> Result<Outcome, NoMemory>
-    requires { HasTop mounted.old }
+    requires top { HasTop mounted.old }
+    requires operands { HasOperands (kinds.Reference ∷ kinds.Reference ∷ []) 0
+        (operands mounted.old) }
     ensures effect { IfOk result (λ o. Acts (native_effect (W.world world.now) native)
         (with_natives state.old) mounted.old (with_natives state.new) mounted.new o) }
     ensures kept { IfOk result (λ o. KeptUnlessDone o mounted.old mounted.new) }
     ensures kept_state { IfOk result (λ o. StaysIfThrown o state.old state.new) }
     ensures only { ChangesOperands mounted.old mounted.new }
 {
-    let Some(other) = reference_operand(mounted, 0) else {
-        return Ok(Outcome::Undefined);
-    };
-    let Some(this) = reference_operand(mounted, 1) else {
-        return Ok(Outcome::Undefined);
-    };
+    let other = reference_operand(mounted, 0);
+    let this = reference_operand(mounted, 1);
     let answer = on_two_references(alloc, world, native, state, this, other)?;
     Ok(outcome_of(mounted, 2, answer))
 }
@@ -113,19 +130,16 @@ fn run_on_int_and_reference<W: NativeWorld>(
     state: &mut NativeState,
     mounted: &mut Mounted,
 ) -> Result<Outcome, NoMemory>
-    requires { HasTop mounted.old }
+    requires top { HasTop mounted.old }
+    requires operands { HasOperands (kinds.Int ∷ kinds.Reference ∷ []) 0 (operands mounted.old) }
     ensures effect { IfOk result (λ o. Acts (native_effect (W.world world.now) native)
         (with_natives state.old) mounted.old (with_natives state.new) mounted.new o) }
     ensures kept { IfOk result (λ o. KeptUnlessDone o mounted.old mounted.new) }
     ensures kept_state { IfOk result (λ o. StaysIfThrown o state.old state.new) }
     ensures only { ChangesOperands mounted.old mounted.new }
 {
-    let Some(n) = int_operand(mounted, 0) else {
-        return Ok(Outcome::Undefined);
-    };
-    let Some(this) = reference_operand(mounted, 1) else {
-        return Ok(Outcome::Undefined);
-    };
+    let n = int_operand(mounted, 0);
+    let this = reference_operand(mounted, 1);
     let answer = on_int_and_reference(alloc, world, native, state, this, n)?;
     Ok(outcome_of(mounted, 2, answer))
 }
@@ -137,19 +151,16 @@ fn run_on_long_and_reference<W: NativeWorld>(
     state: &mut NativeState,
     mounted: &mut Mounted,
 ) -> Result<Outcome, NoMemory>
-    requires { HasTop mounted.old }
+    requires top { HasTop mounted.old }
+    requires operands { HasOperands (kinds.Long ∷ kinds.Reference ∷ []) 0 (operands mounted.old) }
     ensures effect { IfOk result (λ o. Acts (native_effect (W.world world.now) native)
         (with_natives state.old) mounted.old (with_natives state.new) mounted.new o) }
     ensures kept { IfOk result (λ o. KeptUnlessDone o mounted.old mounted.new) }
     ensures kept_state { IfOk result (λ o. StaysIfThrown o state.old state.new) }
     ensures only { ChangesOperands mounted.old mounted.new }
 {
-    let Some(n) = long_operand(mounted, 0) else {
-        return Ok(Outcome::Undefined);
-    };
-    let Some(this) = reference_operand(mounted, 2) else {
-        return Ok(Outcome::Undefined);
-    };
+    let n = long_operand(mounted, 0);
+    let this = reference_operand(mounted, 2);
     let answer = on_long_and_reference(alloc, world, native, state, this, n)?;
     Ok(outcome_of(mounted, 3, answer))
 }
@@ -161,16 +172,15 @@ fn run_on_int<W: NativeWorld>(
     state: &mut NativeState,
     mounted: &mut Mounted,
 ) -> Result<Outcome, NoMemory>
-    requires { HasTop mounted.old }
+    requires top { HasTop mounted.old }
+    requires operands { HasOperands (kinds.Int ∷ []) 0 (operands mounted.old) }
     ensures effect { IfOk result (λ o. Acts (native_effect (W.world world.now) native)
         (with_natives state.old) mounted.old (with_natives state.new) mounted.new o) }
     ensures kept { IfOk result (λ o. KeptUnlessDone o mounted.old mounted.new) }
     ensures kept_state { IfOk result (λ o. StaysIfThrown o state.old state.new) }
     ensures only { ChangesOperands mounted.old mounted.new }
 {
-    let Some(n) = int_operand(mounted, 0) else {
-        return Ok(Outcome::Undefined);
-    };
+    let n = int_operand(mounted, 0);
     let answer = on_int(alloc, world, native, state, n)?;
     Ok(outcome_of(mounted, 1, answer))
 }
@@ -182,16 +192,15 @@ fn run_on_long<W: NativeWorld>(
     state: &mut NativeState,
     mounted: &mut Mounted,
 ) -> Result<Outcome, NoMemory>
-    requires { HasTop mounted.old }
+    requires top { HasTop mounted.old }
+    requires operands { HasOperands (kinds.Long ∷ []) 0 (operands mounted.old) }
     ensures effect { IfOk result (λ o. Acts (native_effect (W.world world.now) native)
         (with_natives state.old) mounted.old (with_natives state.new) mounted.new o) }
     ensures kept { IfOk result (λ o. KeptUnlessDone o mounted.old mounted.new) }
     ensures kept_state { IfOk result (λ o. StaysIfThrown o state.old state.new) }
     ensures only { ChangesOperands mounted.old mounted.new }
 {
-    let Some(n) = long_operand(mounted, 0) else {
-        return Ok(Outcome::Undefined);
-    };
+    let n = long_operand(mounted, 0);
     let answer = on_long(alloc, world, native, state, n)?;
     Ok(outcome_of(mounted, 2, answer))
 }
@@ -204,14 +213,18 @@ pub fn run_native<W: NativeWorld>(
     state: &mut NativeState,
     mounted: &mut Mounted,
 ) -> Result<Outcome, NoMemory>
-    requires { HasTop mounted.old }
+    requires top { HasTop mounted.old }
+    requires arguments { FindsArguments (W.world world.now) native (operands mounted.old) }
     ensures effect { IfOk result (λ o. Acts (native_effect (W.world world.now) native)
         (with_natives state.old) mounted.old (with_natives state.new) mounted.new o) }
     ensures kept { IfOk result (λ o. KeptUnlessDone o mounted.old mounted.new) }
     ensures kept_state { IfOk result (λ o. StaysIfThrown o state.old state.new) }
     ensures only { ChangesOperands mounted.old mounted.new }
 {
-    match takes(native) {
+    let Some(arguments) = takes(native) else {
+        return Ok(Outcome::Undefined);
+    };
+    match arguments {
         Arguments::Reference => run_on_reference(alloc, world, native, state, mounted),
         Arguments::TwoReferences => run_on_two_references(alloc, world, native, state, mounted),
         Arguments::IntAndReference => run_on_int_and_reference(

@@ -15,11 +15,11 @@ returns-clause-effect g c = λ r.
     let stack = operands c.args.mounted.now in
     let old = with_natives c.args.state.now r in
     let new = with_natives c.on_int_and_reference.new.state r in
-    let fits : FitsSigned w32 c.in-Some.n = search rules in
-    let P : ℤ → Type 0 = λ n. IsAnswer c.in_ok-answer.answer (answer_to_two w old c.args.native kinds.Int n c.in-Some-reference_operand.this) new in
+    let fits : FitsSigned w32 c.int_operand-n.result = search rules in
+    let P : ℤ → Type 0 = λ n. IsAnswer c.in_ok-answer.answer (answer_to_two w old c.args.native kinds.Int n c.reference_operand-this.result) new in
     c.outcome_of.ensures.answered new (native_effect w c.args.native old stack)
-    (two_answered c.in_ok-answer.answer w old new c.args.native kinds.Int c.in-Some.n c.in-Some-reference_operand.this stack (drop 1 stack) (drop 2 stack)
-    c.in-Some.ensures c.in-Some-reference_operand.ensures (subst P (to_z-of_z fits) (c.in_ok-answer.ensures.answer r)))
+    (two_answered c.in_ok-answer.answer w old new c.args.native kinds.Int c.int_operand-n.result c.reference_operand-this.result stack (drop 1 stack) (drop 2 stack)
+    c.int_operand-n.ensures.read c.reference_operand-this.ensures.read (subst P (to_z-of_z fits) (c.in_ok-answer.ensures.answer r)))
 
 pub returns-clause-kept_state : goal.returns-clause-kept_state
 returns-clause-kept_state g c =

@@ -14,7 +14,7 @@ returns-clause-effect g c = λ r.
     let old = with_natives c.args.state.now r in
     let new = with_natives c.on_reference.new.state r in
     c.outcome_of.ensures.answered new (native_effect w c.args.native old stack)
-    (one_answered c.in_ok-answer.answer w old new c.args.native kinds.Reference c.in-Some.this stack (drop 1 stack) c.in-Some.ensures (c.in_ok-answer.ensures.answer r))
+    (one_answered c.in_ok-answer.answer w old new c.args.native kinds.Reference c.reference_operand-this.result stack (drop 1 stack) c.reference_operand-this.ensures.read (c.in_ok-answer.ensures.answer r))
 
 pub returns-clause-kept_state : goal.returns-clause-kept_state
 returns-clause-kept_state g c =

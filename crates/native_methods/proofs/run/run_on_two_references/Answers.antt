@@ -14,8 +14,8 @@ returns-clause-effect g c = λ r.
     let old = with_natives c.args.state.now r in
     let new = with_natives c.on_two_references.new.state r in
     c.outcome_of.ensures.answered new (native_effect w c.args.native old stack)
-    (two_answered c.in_ok-answer.answer w old new c.args.native kinds.Reference c.in-Some.other c.in-Some-reference_operand.this stack (drop 1 stack) (drop 2 stack)
-    c.in-Some.ensures c.in-Some-reference_operand.ensures (c.in_ok-answer.ensures.answer r))
+    (two_answered c.in_ok-answer.answer w old new c.args.native kinds.Reference c.reference_operand-other.result c.reference_operand-this.result stack (drop 1 stack) (drop 2 stack)
+    c.reference_operand-other.ensures.read c.reference_operand-this.ensures.read (c.in_ok-answer.ensures.answer r))
 
 pub returns-clause-kept_state : goal.returns-clause-kept_state
 returns-clause-kept_state g c =
