@@ -1,2 +1,3 @@
 pub mod InvocationLaws
+pub mod ReceiverLaws
 pub mod SelectionLaws

@@ -58,6 +58,11 @@ IsLeft w kind old new leaving.Returned =
 IsLeft w kind old new leaving.Root = (top_is_root w old.stack.frames ≡ true) × (new ≡ old)
 IsLeft w kind old new leaving.Undefined = Unit {0}
 
+-- the kinds of what a return takes
+abbrev pub returned_kinds : Option Kind → List Kind
+returned_kinds None = []
+returned_kinds (Some k) = k ∷ []
+
 -- what comes back: nothing, or a value
 abbrev pub pushed_back : Option Value → List Slot → List Slot
 pushed_back None stack = stack

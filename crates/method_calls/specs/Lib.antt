@@ -1,4 +1,5 @@
 pub mod Places
+pub mod Arguments
 pub mod Targets
 pub mod Receivers
 pub mod Selections

@@ -3,6 +3,7 @@
 ghost use Rattle.std.specs.Prelude.{◌≡◌, ◌<◌, ◌≤◌, IfNone, IfSome, sum_by};
 ghost use Rattle.descriptors.specs.Descriptors as descriptors;
 ghost use Rattle.ref_model.specs.Kinds as spec;
+ghost use Rattle.method_calls.specs.Arguments as taken;
 
 use descriptors::{ElementType, Kind, Signature};
 
@@ -41,6 +42,19 @@ fn slots_of(kinds: &[Kind]) -> Option<u16>
         }
     }
     Some(slots)
+}
+
+fn is_double(kind: &Kind) -> bool
+    ensures { result ≡ taken.is_double kind.now }
+{
+    kind.dimensions == 0 && matches!(kind.element, ElementType::Double)
+}
+
+/// Whether one of a method's arguments is a double, as in no program that runs (own).
+pub(crate) fn takes_double(signature: &Signature) -> bool
+    ensures { result ≡ taken.takes_double signature.now }
+{
+    signature.args.as_slice().iter().any(|kind| is_double(kind))
 }
 
 /// The slots of a method's arguments, without the receiver. `None`: they are more than 255, as in no class file.

@@ -2,16 +2,18 @@
 //! class of the receiver, selection.
 
 ghost use Rattle.std.specs.Prelude.{◌≡◌, ◌≤◌, IfOk, IfSome, None, Some, slice_get, suc};
+ghost use Rattle.opcodes.specs.declared.op.Kind.TheVariants as kinds;
 ghost use Rattle.instruction_rows.specs.Table.{row};
 ghost use Rattle.world_model.specs.Decoded.{code_at};
 ghost use Rattle.ref_model.specs.Fetch as fetch;
 ghost use Rattle.ref_model.specs.Members as members;
 ghost use Rattle.ref_model.specs.Members.{native_at};
+ghost use Rattle.ref_model.specs.Operands.{FindsOperands, HasOperand};
 ghost use Rattle.method_calls.specs.Targets.{IsInvoked, IsLocalCode, IsNumbered, IsReceived, IsSelected, IsSpecial, IsStaticCallee, IsVirtual};
 ghost use Rattle.method_calls.specs.Selections.{AreSelected, IsNamed};
-ghost use Rattle.object_events.specs.Operands.{HasTop};
+ghost use Rattle.object_events.specs.Operands.{operands};
 
-use crate::arguments::argument_slots;
+use crate::arguments::{argument_slots, takes_double};
 use crate::receivers::{Receiver, receiver_of};
 use crate::selections::{NamedMethod, Selection, Selections};
 use crate::target::{Callee, Target};
@@ -87,12 +89,15 @@ fn numbered<W: CallWorld>(world: &W, n: u32, slots: u16) -> Target
     }
 }
 
-// The method that an instruction names by this number. `None`: it is undefined.
+// The method that an instruction names by this number. `None`: there is none, or no program that runs has it.
 fn named_anew<W: CallWorld>(world: &W, n: u32) -> Option<NamedMethod>
     ensures number { IfSome result (λ m. m.number ≡ n) }
     ensures named { IfSome result (IsNamed (W.world world.now)) }
 {
     let method = world.method(n)?;
+    if takes_double(&method.signature) {
+        return None;
+    }
     let slots = argument_slots(&method.signature)?;
     Some(NamedMethod {
         number: n,
@@ -208,7 +213,7 @@ fn invoke_virtual<W: CallWorld>(
     heap: &Heap,
     mounted: &Mounted,
 ) -> Result<Target, NoMemory>
-    requires top { HasTop mounted.now }
+    requires receiver { HasOperand kinds.Reference method.slots (operands mounted.now) }
     requires few { method.slots ≤ 255 }
     requires selected { AreSelected (W.world world.now) selections.old }
     ensures target { IfOk result (IsVirtual (W.world world.now) naming.now method.number
@@ -236,7 +241,7 @@ fn invoke_special<W: CallWorld>(
     heap: &Heap,
     mounted: &Mounted,
 ) -> Target
-    requires top { HasTop mounted.now }
+    requires receiver { HasOperand kinds.Reference method.slots (operands mounted.now) }
     requires named { IsNamed (W.world world.now) method }
     ensures { IsSpecial (W.world world.now) naming.now method.number method.slots
         heap.now mounted.now result }
@@ -286,7 +291,8 @@ pub fn invoke<W: CallWorld>(
     heap: &Heap,
     mounted: &Mounted,
 ) -> Result<Target, NoMemory>
-    requires top { HasTop mounted.now }
+    requires operands { FindsOperands (W.world world.now) naming.now (row op.now)
+        (operands mounted.now) }
     requires selected { AreSelected (W.world world.now) selections.old }
     ensures target { IfOk result (λ target.
         IsInvoked (W.world world.now) naming.now (row op.now) heap.now mounted.now target) }

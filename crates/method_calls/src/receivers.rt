@@ -1,7 +1,9 @@
 //! The receivers of invocations: the objects on which they are.
 
+ghost use Rattle.opcodes.specs.declared.op.Kind.TheVariants as kinds;
+ghost use Rattle.ref_model.specs.Operands.{HasOperand};
 ghost use Rattle.method_calls.specs.Receivers.{IsReceiver};
-ghost use Rattle.object_events.specs.Operands.{HasTop};
+ghost use Rattle.object_events.specs.Operands.{operands};
 
 use crate::world::CallWorld;
 use continuation::Mounted;
@@ -17,7 +19,7 @@ pub(crate) struct Receiver {
     pub(crate) named: u32,
 }
 
-/// The receiver of an invocation, which lies below so many slots, or what is thrown. `None`: that is undefined.
+/// The receiver of an invocation, which lies below so many slots, or what is thrown. `None`: a look-up has nothing.
 #[inline(always)]
 pub(crate) fn receiver_of<W: CallWorld>(
     world: &W,
@@ -26,11 +28,10 @@ pub(crate) fn receiver_of<W: CallWorld>(
     heap: &Heap,
     mounted: &Mounted,
 ) -> Option<Result<Receiver, Exception>>
-    requires { HasTop mounted.now }
+    requires { HasOperand kinds.Reference slots (operands mounted.now) }
     ensures { IsReceiver (W.world world.now) naming.now slots heap.now mounted.now result }
 {
-    let reference = reference_operand(mounted, slots)?;
-    let Some(o) = reference else {
+    let Some(o) = reference_operand(mounted, slots) else {
         return Some(Err(Exception::NullPointerException));
     };
     let class = class_number(world, heap, o)?;

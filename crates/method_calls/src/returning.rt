@@ -1,8 +1,9 @@
 //! Methods that end (JVMS 2.6.4).
 
 ghost use Rattle.std.specs.Prelude.{◌≡◌, ◌<◌, length};
-ghost use Rattle.method_calls.specs.FrameSteps.{HasPushed, IsBack, IsBehind, IsLeft, top_is_root};
-ghost use Rattle.object_events.specs.Operands.{HasTop, operands};
+ghost use Rattle.ref_model.specs.Operands.{HasOperands};
+ghost use Rattle.method_calls.specs.FrameSteps.{HasPushed, IsBack, IsBehind, IsLeft, returned_kinds, top_is_root};
+ghost use Rattle.object_events.specs.Operands.{operands};
 
 use crate::world::CallWorld;
 use continuation::Mounted;
@@ -18,7 +19,7 @@ pub enum Left {
     Returned,
     /// It is from a root frame, and nothing has changed.
     Root,
-    /// The definitions have no such step.
+    /// A look-up has nothing, or what comes back has no room: nothing is said.
     Undefined,
 }
 
@@ -31,20 +32,20 @@ pub fn is_root<W: CallWorld>(world: &W, mounted: &Mounted) -> bool
     mounted.depth() == 1 || world.is_initializer(mounted.top().method)
 }
 
-// What a method gives back, as its result keeps it. `None`: no value of the kind lies on top, or the method gives nothing back.
+// What a method gives back, as its result keeps it. `None`: the method gives nothing back.
 #[inline(always)]
 fn returned_value(
     kind: Option<Kind>,
     method: &MethodInfo,
     mounted: &Mounted,
 ) -> Option<Option<Value>>
-    requires { HasTop mounted.now }
+    requires { HasOperands (returned_kinds kind) 0 (operands mounted.now) }
     ensures { IsBack kind method.now (operands mounted.now) result }
 {
     let Some(kind) = kind else {
         return Some(None);
     };
-    let value = value_operand(mounted, kind, 0)?;
+    let value = value_operand(mounted, kind, 0);
     let result = method.signature.result.as_ref()?;
     Some(Some(kept(result, value)))
 }
@@ -90,14 +91,14 @@ fn go_on<W: CallWorld>(world: &W, back: Option<Value>, mounted: &mut Mounted) ->
 // Leaves the top frame, as `leave` does.
 #[inline(always)]
 fn leave_with<W: CallWorld>(world: &W, kind: Option<Kind>, mounted: &mut Mounted) -> Left
-    requires { 0 < length mounted.old.stack.frames }
+    requires frame { 0 < length mounted.old.stack.frames }
+    requires operands { HasOperands (returned_kinds kind) 0 (operands mounted.old) }
     ensures left { IsLeft (W.world world.now) kind mounted.old mounted.new result }
     ensures thread { mounted.new.thread ≡ mounted.old.thread }
 {
     if is_root(world, mounted) {
         return Left::Root;
     }
-    mounted.operands_fit();
     let Some(method) = world.method(mounted.top().method) else {
         return Left::Undefined;
     };
@@ -115,7 +116,8 @@ fn leave_with<W: CallWorld>(world: &W, kind: Option<Kind>, mounted: &mut Mounted
 /// looks at no kind again.
 #[inline(always)]
 pub fn leave<W: CallWorld>(world: &W, kind: Option<Kind>, mounted: &mut Mounted) -> Left
-    requires { 0 < length mounted.old.stack.frames }
+    requires frame { 0 < length mounted.old.stack.frames }
+    requires operands { HasOperands (returned_kinds kind) 0 (operands mounted.old) }
     ensures left { IsLeft (W.world world.now) kind mounted.old mounted.new result }
     ensures thread { mounted.new.thread ≡ mounted.old.thread }
 {

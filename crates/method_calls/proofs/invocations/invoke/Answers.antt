@@ -1,11 +1,13 @@
-use Rattle.std.proofs.Common.{◌≡◌, Some, ap, ◌∙◌}
+use Rattle.std.proofs.Common.{◌≡◌, Some, ap, refl, ◌∙◌}
 use Rattle.opcodes.specs.declared.op.Op.{Op}
+use Rattle.instruction_rows.specs.Rows.{virtual, special, interface}
 use Rattle.instruction_rows.specs.Table.{row}
 use Rattle.ref_model.specs.Fetch.{method_of}
 use Rattle.object_events.specs.Operands.{operands}
 use Rattle.object_events.specs.Outcomes.{with_heap}
 use Rattle.method_calls.specs.Targets.{IsInvoked, IsVirtual, numbered_effect, row_invoked, special_effect, virtual_effect}
 use Rattle.method_calls.proofs.InvocationLaws.{gives_along, if_ok_mapped, interface_is, special_is, static_is, virtual_is}
+use Rattle.method_calls.proofs.ReceiverLaws.{receiver_found}
 use Rattle.method_calls.proofs.invocations.invoke.Goals as goal
 
 pub returns-in-InvokeStatic-clause-target : goal.returns-in-InvokeStatic-clause-target
@@ -63,3 +65,27 @@ returns-in-InvokeInterface-clause-target g c =
     gives_along w q depth stack (row_invoked w naming (row c.args.op.now) q depth stack) (virtual_effect w naming m.number m.slots q depth stack) target
     (ap (λ (o : Op). row_invoked w naming (row o) q depth stack) c.in-InvokeInterface.is
     ∙ interface_is w naming c.in-InvokeInterface.field-1 q depth stack m.number m.slots is.method site is.is is.slots) (h r depth)) c.invoke_virtual-in-InvokeInterface.ensures.target
+
+pub invoke_virtual-requires-clause-receiver : goal.invoke_virtual-requires-clause-receiver
+invoke_virtual-requires-clause-receiver g c =
+    let w = g.W.EventWorld.world c.args.world.now in
+    let m = c.in-Some-named.method in
+    let site : Some m.number ≡ method_of c.args.naming.now.site = ap Some c.in-Some-named.ensures.number ∙ c.in-Some.ensures in
+    receiver_found w c.args.naming.now (row c.args.op.now) virtual c.in-InvokeVirtual.field-0 m (operands c.args.mounted.now) (λ s. refl) (ap row c.in-InvokeVirtual.is) site
+    c.in-Some-named.ensures.named c.requires.operands
+
+pub invoke_virtual-requires-in-InvokeInterface-clause-receiver : goal.invoke_virtual-requires-in-InvokeInterface-clause-receiver
+invoke_virtual-requires-in-InvokeInterface-clause-receiver g c =
+    let w = g.W.EventWorld.world c.args.world.now in
+    let m = c.in-Some-named.method in
+    let site : Some m.number ≡ method_of c.args.naming.now.site = ap Some c.in-Some-named.ensures.number ∙ c.in-Some.ensures in
+    receiver_found w c.args.naming.now (row c.args.op.now) (interface c.in-InvokeInterface.field-1) c.in-InvokeInterface.field-0 m (operands c.args.mounted.now) (λ s. refl) (ap row c.in-InvokeInterface.is) site
+    c.in-Some-named.ensures.named c.requires.operands
+
+pub invoke_special-requires-clause-receiver : goal.invoke_special-requires-clause-receiver
+invoke_special-requires-clause-receiver g c =
+    let w = g.W.EventWorld.world c.args.world.now in
+    let m = c.in-Some-named.method in
+    let site : Some m.number ≡ method_of c.args.naming.now.site = ap Some c.in-Some-named.ensures.number ∙ c.in-Some.ensures in
+    receiver_found w c.args.naming.now (row c.args.op.now) special c.in-InvokeSpecial.field-0 m (operands c.args.mounted.now) (λ s. refl) (ap row c.in-InvokeSpecial.is) site
+    c.in-Some-named.ensures.named c.requires.operands

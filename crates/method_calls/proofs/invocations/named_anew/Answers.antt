@@ -1,4 +1,4 @@
-use Rattle.std.proofs.Common.{suc, ◌≡◌, ◌+◌, subst, arith}
+use Rattle.std.proofs.Common.{suc, ◌≡◌, ◌+◌, sym, subst, ◌∙◌, arith}
 use Rattle.method_calls.specs.Targets.{IsNumbered}
 use Rattle.method_calls.proofs.invocations.named_anew.Goals as goal
 
@@ -11,6 +11,7 @@ returns-clause-named g c =
       method = c.in_ok-method.method.now;
       is = c.in_ok-method.ensures;
       slots = c.in_ok-slots.ensures.slots;
+      plain = sym c.takes_double.ensures ∙ c.if-takes_double.false;
       few = c.in_ok-slots.ensures.few;
       unbound = c.numbered.ensures.numbered;
       bound = subst (λ s. IsNumbered w c.args.n s c.numbered-2.result) next c.numbered-2.ensures.numbered;

@@ -1,0 +1,81 @@
+-- Where the receiver of an invocation lies: below the arguments, as many slots as they take.
+use Rattle.std.proofs.Common.{ℕ, ◌≡◌, ◌+◌, Bool, true, false, List, [], ◌∷◌, ◌++◌, Option, Some, map, reverse, refl, sym, subst, ap, ◌∙◌, arith}
+use Rattle.std.specs.Prelude.{sum_by, ◌==◌, ◌||◌, if◌then◌else◌}
+use Rattle.std.specs.List.{list_any}
+use Rattle.std.specs.Option.{option_map_or}
+use Rattle.std.proofs.lemmas.List.Sums.{sum_by-cons}
+use Rattle.std.proofs.lemmas.List.Sorted.{sum_by-IsPermutation, IsPermutation-reverse}
+use Rattle.descriptors.specs.declared.kind.ElementType.{ElementType}
+use Rattle.descriptors.specs.declared.kind.ElementType.TheVariants as elements
+use Rattle.descriptors.specs.declared.kind.Kind.{Kind as FieldType}
+use Rattle.descriptors.specs.declared.kind.Signature.{Signature}
+use Rattle.descriptors.specs.Descriptors.{element_slots, slots}
+use Rattle.opcodes.specs.declared.op.Kind.{Kind}
+use Rattle.opcodes.specs.declared.op.Kind.TheVariants as kinds
+use Rattle.instruction_rows.specs.declared.value.Slot.{Slot}
+use Rattle.instruction_rows.specs.Rows.{Invocation, Row, invoke}
+use Rattle.world_model.specs.declared.sites.Naming.{Naming}
+use Rattle.world_model.specs.World.{World}
+use Rattle.ref_model.specs.Fetch.{Named, method_of}
+use Rattle.ref_model.specs.Kinds.{kind_of_element_type, value_kind}
+use Rattle.ref_model.specs.Operands.{FindsOperands, HasOperand, HasOperands, argument_kinds, called_takes, width}
+use Rattle.object_events.proofs.OperandLaws.{has_at}
+use Rattle.method_calls.specs.declared.selections.NamedMethod.{NamedMethod}
+use Rattle.method_calls.specs.Arguments.{is_double, is_double_element, takes_double}
+use Rattle.method_calls.specs.Selections.{IsNamed}
+use Rattle.method_calls.proofs.InvocationLaws.{named_is}
+
+-- ---- how many slots arguments take
+
+element_width : (b : Bool) (x : ElementType) → (if b then is_double_element x else false) ≡ false →
+    width (if b then kind_of_element_type x else kinds.Reference) ≡ (if b then element_slots x else 1)
+element_width false x plain = refl
+element_width true elements.Byte plain = refl
+element_width true elements.Char plain = refl
+element_width true elements.Double plain = cc
+element_width true elements.Float plain = refl
+element_width true elements.Int plain = refl
+element_width true elements.Long plain = refl
+element_width true elements.Short plain = refl
+element_width true elements.Bool plain = refl
+element_width true (elements.Class name) plain = refl
+
+neither : (a b : Bool) → (a || b) ≡ false → (a ≡ false) × (b ≡ false)
+neither false b e = (refl, e)
+neither true b e = cc
+
+widths_are_slots : (ts : List FieldType) → list_any is_double ts ≡ false → sum_by width (map value_kind ts) ≡ sum_by slots ts
+widths_are_slots [] plain = refl
+widths_are_slots (t ∷ ts) plain =
+    let both = neither (is_double t) (list_any is_double ts) plain in
+    let first : width (value_kind t) ≡ slots t = element_width (t.dimensions == 0) t.element both.0 in
+    let rest = widths_are_slots ts both.1 in
+    sum_by-cons width (value_kind t) (map value_kind ts) ∙ ap (λ n. n + sum_by width (map value_kind ts)) first ∙ ap (λ n. slots t + n) rest
+    ∙ sym (sum_by-cons slots t ts)
+
+-- ---- what lies below them
+
+below : (ks : List Kind) (depth : ℕ) (stack : List Slot) → HasOperands (ks ++ kinds.Reference ∷ []) depth stack →
+    HasOperand kinds.Reference (depth + sum_by width ks) stack
+below [] depth stack x = has_at kinds.Reference depth (depth + 0) stack (omega arith) x.0
+below (k ∷ ks) depth stack x =
+    let all = sum_by-cons width k ks in
+    has_at kinds.Reference (depth + width k + sum_by width ks) (depth + sum_by width (k ∷ ks)) stack (omega arith) (below ks (depth + width k) stack x.1)
+
+receiver_below : (s : Signature) (count : ℕ) (stack : List Slot) → takes_double s ≡ false → count ≡ sum_by slots s.args →
+    HasOperands (argument_kinds s ++ kinds.Reference ∷ []) 0 stack → HasOperand kinds.Reference count stack
+receiver_below s count stack plain is x =
+    let ks = map value_kind s.args in
+    let all : sum_by width (reverse ks) ≡ count = sum_by-IsPermutation width ks (reverse ks) (IsPermutation-reverse ks) ∙ widths_are_slots s.args plain ∙ sym is in
+    has_at kinds.Reference (0 + sum_by width (reverse ks)) count stack (omega arith) (below (reverse ks) 0 stack x)
+
+-- the receiver of an invocation that takes one, where the method that is named is known
+pub receiver_found : (w : World) (naming : Naming) (r : Row) (invocation : Invocation) (index : ℕ) (m : NamedMethod) (stack : List Slot) →
+    ((s : Signature) → called_takes invocation s ≡ argument_kinds s ++ kinds.Reference ∷ []) → r ≡ invoke invocation index →
+    Some m.number ≡ method_of naming.site → IsNamed w m → FindsOperands w naming r stack → HasOperand kinds.Reference m.slots stack
+receiver_found w naming r invocation index m stack takes row site is x =
+    let P : List Kind → Type 0 = λ ks. HasOperands ks 0 stack in
+    let by : Option Named → List Kind = λ o. option_map_or (λ (n : Named). called_takes invocation n.method.signature) o [] in
+    let here : FindsOperands w naming (invoke invocation index) stack = subst (λ (y : Row). FindsOperands w naming y stack) row x in
+    receiver_below is.method.signature m.slots stack is.plain is.slots
+    (subst P (ap by (named_is w naming m.number is.method site is.is) ∙ takes is.method.signature) here)
