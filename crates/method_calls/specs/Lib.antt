@@ -2,5 +2,6 @@ pub mod Places
 pub mod Arguments
 pub mod Targets
 pub mod Receivers
+pub mod Natives
 pub mod Selections
 pub mod FrameSteps

@@ -9,6 +9,7 @@ ghost use Rattle.ref_model.specs.Fetch as fetch;
 ghost use Rattle.ref_model.specs.Members as members;
 ghost use Rattle.ref_model.specs.Members.{native_at};
 ghost use Rattle.ref_model.specs.Operands.{FindsOperands, HasOperand};
+ghost use Rattle.method_calls.specs.Natives.{IfNative, IsNative, IsNativeInvoked, IsSpecialNative, IsVirtualNative, ReceivesNative, SelectsNative};
 ghost use Rattle.method_calls.specs.Targets.{IsInvoked, IsLocalCode, IsNumbered, IsReceived, IsSelected, IsSpecial, IsStaticCallee, IsVirtual};
 ghost use Rattle.method_calls.specs.Selections.{AreSelected, IsNamed};
 ghost use Rattle.object_events.specs.Operands.{operands};
@@ -60,6 +61,7 @@ fn coded<W: CallWorld>(
     requires plain { native_at (W.world world.now) n ≡ None }
     ensures numbered { IsNumbered (W.world world.now) n slots result }
     ensures local { IsLocalCode (W.world world.now) n slots result }
+    ensures native { IfNative result (IsNative (W.world world.now) n) }
 {
     if is_synchronized(method) || world.is_hold(method) {
         return Target::Undefined;
@@ -76,6 +78,7 @@ fn coded<W: CallWorld>(
 fn numbered<W: CallWorld>(world: &W, n: u32, slots: u16) -> Target
     ensures numbered { IsNumbered (W.world world.now) n slots result }
     ensures local { IsLocalCode (W.world world.now) n slots result }
+    ensures native { IfNative result (IsNative (W.world world.now) n) }
 {
     let Some(method) = world.method(n) else {
         return Target::Undefined;
@@ -140,7 +143,10 @@ fn selected_anew<W: CallWorld>(
     n: u32,
     slots: u16,
 ) -> Result<Target, NoMemory>
-    ensures { IfOk result (λ target. IsSelected (W.world world.now) class n slots target) }
+    ensures selected { IfOk result
+        (λ target. IsSelected (W.world world.now) class n slots target) }
+    ensures native { IfOk result
+        (λ target. IfNative target (SelectsNative (W.world world.now) class n)) }
 {
     let Some(choice) = world.choice(alloc, class, n)? else {
         return Ok(Target::Undefined);
@@ -167,6 +173,8 @@ fn received_anew<W: CallWorld>(
 ) -> Result<Target, NoMemory>
     requires { AreSelected (W.world world.now) selections.old }
     ensures target { IfOk result (IsReceived (W.world world.now) receiver n slots) }
+    ensures native { IfOk result
+        (λ target. IfNative target (ReceivesNative (W.world world.now) receiver n)) }
     ensures selections { AreSelected (W.world world.now) selections.new }
 {
     if !world.is_sub(receiver.class, receiver.named) {
@@ -194,6 +202,8 @@ fn received<W: CallWorld>(
 ) -> Result<Target, NoMemory>
     requires { AreSelected (W.world world.now) selections.old }
     ensures target { IfOk result (IsReceived (W.world world.now) receiver n slots) }
+    ensures native { IfOk result
+        (λ target. IfNative target (ReceivesNative (W.world world.now) receiver n)) }
     ensures selections { AreSelected (W.world world.now) selections.new }
 {
     if let Some(target) = selections.find(receiver, n, slots) {
@@ -218,6 +228,8 @@ fn invoke_virtual<W: CallWorld>(
     requires selected { AreSelected (W.world world.now) selections.old }
     ensures target { IfOk result (IsVirtual (W.world world.now) naming.now method.number
         method.slots heap.now mounted.now) }
+    ensures native { IfOk result (λ target. IfNative target (IsVirtualNative
+        (W.world world.now) naming.now method.number method.slots heap.now mounted.now)) }
     ensures selections { AreSelected (W.world world.now) selections.new }
 {
     let Some(receiver) = receiver_of(world, naming, method.slots, heap, mounted) else {
@@ -243,8 +255,10 @@ fn invoke_special<W: CallWorld>(
 ) -> Target
     requires receiver { HasOperand kinds.Reference method.slots (operands mounted.now) }
     requires named { IsNamed (W.world world.now) method }
-    ensures { IsSpecial (W.world world.now) naming.now method.number method.slots
+    ensures target { IsSpecial (W.world world.now) naming.now method.number method.slots
         heap.now mounted.now result }
+    ensures native { IfNative result (IsSpecialNative (W.world world.now) naming.now
+        method.number method.slots heap.now mounted.now) }
 {
     let Some(receiver) = receiver_of(world, naming, method.slots, heap, mounted) else {
         return Target::Undefined;
@@ -296,6 +310,8 @@ pub fn invoke<W: CallWorld>(
     requires selected { AreSelected (W.world world.now) selections.old }
     ensures target { IfOk result (λ target.
         IsInvoked (W.world world.now) naming.now (row op.now) heap.now mounted.now target) }
+    ensures native { IfOk result (λ target. IfNative target (IsNativeInvoked
+        (W.world world.now) naming.now (row op.now) heap.now mounted.now)) }
     ensures selections { AreSelected (W.world world.now) selections.new }
 {
     let Some(n) = method_of(naming) else {

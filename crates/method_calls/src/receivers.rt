@@ -1,7 +1,9 @@
 //! The receivers of invocations: the objects on which they are.
 
+ghost use Rattle.std.specs.Prelude.{IfOk, IfSome};
 ghost use Rattle.opcodes.specs.declared.op.Kind.TheVariants as kinds;
 ghost use Rattle.ref_model.specs.Operands.{HasOperand};
+ghost use Rattle.method_calls.specs.Natives.{HasReceiver};
 ghost use Rattle.method_calls.specs.Receivers.{IsReceiver};
 ghost use Rattle.object_events.specs.Operands.{operands};
 
@@ -29,7 +31,9 @@ pub(crate) fn receiver_of<W: CallWorld>(
     mounted: &Mounted,
 ) -> Option<Result<Receiver, Exception>>
     requires { HasOperand kinds.Reference slots (operands mounted.now) }
-    ensures { IsReceiver (W.world world.now) naming.now slots heap.now mounted.now result }
+    ensures receiver { IsReceiver (W.world world.now) naming.now slots heap.now mounted.now result }
+    ensures has { IfSome result (λ found. IfOk found
+        (HasReceiver (W.world world.now) naming.now slots heap.now mounted.now)) }
 {
     let Some(o) = reference_operand(mounted, slots) else {
         return Some(Err(Exception::NullPointerException));

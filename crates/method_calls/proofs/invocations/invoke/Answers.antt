@@ -34,7 +34,7 @@ returns-in-InvokeSpecial-clause-target g c = λ r depth.
     let site : Some m.number ≡ method_of naming.site = ap Some c.in-Some-named.ensures.number ∙ c.in-Some.ensures in
     gives_along w q depth stack (row_invoked w naming (row c.args.op.now) q depth stack) (special_effect w naming m.number m.slots q depth stack) c.invoke_special.result
     (ap (λ (o : Op). row_invoked w naming (row o) q depth stack) c.in-InvokeSpecial.is
-    ∙ special_is w naming q depth stack m.number m.slots is.method site is.is is.slots) (c.invoke_special.ensures r depth)
+    ∙ special_is w naming q depth stack m.number m.slots is.method site is.is is.slots) (c.invoke_special.ensures.target r depth)
 
 pub returns-in-InvokeVirtual-clause-target : goal.returns-in-InvokeVirtual-clause-target
 returns-in-InvokeVirtual-clause-target g c =

@@ -23,7 +23,7 @@ returns-in-Ok-clause-target g c =
     let act : ℕ → Option Effect = λ class. selected_effect w q depth class c.args.method.number (suc c.args.method.slots) stack in
     let T : Result Receiver Exception → Type 0 = ReceiverGives w act effect in
     let slots : ℕ → Option Effect = λ s. received_effect w q depth receiver c.args.method.number s stack in
-    gives_along w q depth stack effect (slots (c.args.method.slots + 1)) target (subst T c.in-Ok.is (c.in-Some.ensures r act) ∙ ap slots next) (h q depth stack))
+    gives_along w q depth stack effect (slots (c.args.method.slots + 1)) target (subst T c.in-Ok.is (c.in-Some.ensures.receiver r act) ∙ ap slots next) (h q depth stack))
     c.received.ensures.target
 
 pub returns-in-Err-clause-target : goal.returns-in-Err-clause-target
@@ -33,4 +33,4 @@ returns-in-Err-clause-target g c = λ r depth.
     let stack = operands c.args.mounted.now in
     let act : ℕ → Option Effect = λ class. selected_effect w q depth class c.args.method.number (suc c.args.method.slots) stack in
     let T : Result Receiver Exception → Type 0 = ReceiverGives w act (virtual_effect w c.args.naming.now c.args.method.number c.args.method.slots q depth stack) in
-    subst T c.in-Err.is (c.in-Some.ensures r act)
+    subst T c.in-Err.is (c.in-Some.ensures.receiver r act)

@@ -16,4 +16,6 @@ returns-clause-named g c =
       unbound = c.numbered.ensures.numbered;
       bound = subst (λ s. IsNumbered w c.args.n s c.numbered-2.result) next c.numbered-2.ensures.numbered;
       local = c.numbered.ensures.local;
+      native = c.numbered.ensures.native;
+      native_bound = c.numbered-2.ensures.native;
     }

@@ -6,8 +6,8 @@ use Rattle.ref_model.specs.Calls.{chosen}
 use Rattle.method_calls.specs.Targets.{Gives, numbered_effect}
 use Rattle.method_calls.proofs.invocations.selected_anew.Goals as goal
 
-pub returns-in-Some-method_number : goal.returns-in-Some-method_number
-returns-in-Some-method_number g c = λ r depth stack.
+pub returns-in-Some-method_number-clause-selected : goal.returns-in-Some-method_number-clause-selected
+returns-in-Some-method_number-clause-selected g c = λ r depth stack.
     let w = g.W.EventWorld.world c.args.world.now in
     let act : ℕ → Option Effect = λ k. numbered_effect w r depth k c.args.slots stack in
     let P : Option Effect → Type 0 = λ x. Gives w r depth stack x c.numbered.result in
