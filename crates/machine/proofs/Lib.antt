@@ -1,5 +1,6 @@
 pub mod RunLaws
 pub mod LocalLaws
+pub mod OperandLaws
 pub mod BackLaws
 pub mod StaticLaws
 pub mod GroupLaws

@@ -5,5 +5,6 @@ pub mod Steps
 pub mod LocalRuns
 pub mod States
 pub mod Concluding
+pub mod Operands
 pub mod Returning
 pub mod Ready

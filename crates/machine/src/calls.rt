@@ -1,10 +1,14 @@
 //! Invocations and returns, as steps of a thread.
 
 ghost use Rattle.std.specs.Prelude.{◌<◌, ℕ, length, OnOk};
+ghost use Rattle.instruction_rows.specs.Table.{row};
+ghost use Rattle.ref_model.specs.Operands.{FindsArguments, FindsOperands};
+ghost use Rattle.object_events.specs.Operands.{operands};
 ghost use Rattle.native_methods.specs.Arguments.{native_effect};
 ghost use Rattle.method_calls.specs.Selections.{AreSelected};
 ghost use Rattle.method_calls.specs.Targets.{begins};
 ghost use Rattle.machine.specs.Concluding.{EffectSteps, Steps};
+ghost use Rattle.machine.specs.Operands.{FindsNatives};
 
 use crate::concluding::{conclude, raise};
 use crate::parts::Parts;
@@ -28,7 +32,8 @@ fn native_step<W: MachineWorld>(
     next: u32,
     native: Native,
 ) -> Result<(), NoMemory>
-    requires { 0 < length mounted.old.stack.frames }
+    requires frame { 0 < length mounted.old.stack.frames }
+    requires arguments { FindsArguments (W.world world.now) native (operands mounted.old) }
     ensures { OnOk result (EffectSteps (W.world world.now) next
         (λ r depth stack. native_effect (W.world world.now) native r stack)
         parts.old mounted.old.stack.frames parts.new mounted.new.stack.frames) }
@@ -71,6 +76,10 @@ pub(crate) fn invocation_step<W: MachineWorld>(
     naming: &Naming,
 ) -> Result<(), NoMemory>
     requires frame { 0 < length mounted.old.stack.frames }
+    requires operands { FindsOperands (W.world world.now) naming.now (row instr.now.op)
+        (operands mounted.old) }
+    requires natives { FindsNatives (W.world world.now) naming.now (row instr.now.op)
+        parts.old.natives.heap mounted.old }
     requires selected { AreSelected (W.world world.now) selections.old }
     ensures steps { OnOk result (Steps (W.world world.now)
         (record { instr = instr.now; naming = naming.now })

@@ -1,6 +1,9 @@
 //! The instructions on fields, arrays and objects, and divisions by 0, as steps of a thread.
 
 ghost use Rattle.std.specs.Prelude.{◌<◌, length, OnOk};
+ghost use Rattle.instruction_rows.specs.Table.{row};
+ghost use Rattle.ref_model.specs.Operands.{FindsOperands};
+ghost use Rattle.object_events.specs.Operands.{operands};
 ghost use Rattle.machine.specs.Concluding.{Steps};
 
 use crate::concluding::conclude;
@@ -22,7 +25,9 @@ fn field_step<W: MachineWorld>(
     instr: &Instr,
     naming: &Naming,
 ) -> Result<(), NoMemory>
-    requires { 0 < length mounted.old.stack.frames }
+    requires frame { 0 < length mounted.old.stack.frames }
+    requires operands { FindsOperands (W.world world.now) naming.now (row instr.now.op)
+        (operands mounted.old) }
     ensures { OnOk result (Steps (W.world world.now)
         (record { instr = instr.now; naming = naming.now }) parts.old mounted.old.stack.frames
         parts.new mounted.new.stack.frames) }
@@ -49,7 +54,9 @@ fn plain_step<W: MachineWorld>(
     instr: &Instr,
     naming: &Naming,
 ) -> Result<(), NoMemory>
-    requires { 0 < length mounted.old.stack.frames }
+    requires frame { 0 < length mounted.old.stack.frames }
+    requires operands { FindsOperands (W.world world.now) naming.now (row instr.now.op)
+        (operands mounted.old) }
     ensures { OnOk result (Steps (W.world world.now)
         (record { instr = instr.now; naming = naming.now }) parts.old mounted.old.stack.frames
         parts.new mounted.new.stack.frames) }
@@ -77,7 +84,9 @@ fn other_step<W: MachineWorld>(
     instr: &Instr,
     naming: &Naming,
 ) -> Result<(), NoMemory>
-    requires { 0 < length mounted.old.stack.frames }
+    requires frame { 0 < length mounted.old.stack.frames }
+    requires operands { FindsOperands (W.world world.now) naming.now (row instr.now.op)
+        (operands mounted.old) }
     ensures { OnOk result (Steps (W.world world.now)
         (record { instr = instr.now; naming = naming.now }) parts.old mounted.old.stack.frames
         parts.new mounted.new.stack.frames) }
@@ -107,7 +116,9 @@ pub(crate) fn event_step<W: MachineWorld>(
     instr: &Instr,
     naming: &Naming,
 ) -> Result<(), NoMemory>
-    requires { 0 < length mounted.old.stack.frames }
+    requires frame { 0 < length mounted.old.stack.frames }
+    requires operands { FindsOperands (W.world world.now) naming.now (row instr.now.op)
+        (operands mounted.old) }
     ensures { OnOk result (Steps (W.world world.now)
         (record { instr = instr.now; naming = naming.now }) parts.old mounted.old.stack.frames
         parts.new mounted.new.stack.frames) }

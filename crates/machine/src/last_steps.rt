@@ -1,13 +1,17 @@
 //! The last step of an entry, after its local instructions.
 
 ghost use Rattle.std.specs.Prelude.{◌≡◌, ◌<◌, Some, None, length, OnOk};
+ghost use Rattle.instruction_rows.specs.Table.{row};
 ghost use Rattle.ref_model.specs.Ending.{ending};
+ghost use Rattle.ref_model.specs.Operands.{FindsOperands};
 ghost use Rattle.typed_frames.specs.TypedStates.{IsTypedState};
 ghost use Rattle.vthread_state.specs.declared.phase.Phase.TheVariants.{Run, Throwing};
 ghost use Rattle.vthread_state.specs.declared.thread.Status.TheVariants.{Live};
+ghost use Rattle.object_events.specs.Operands.{operands};
 ghost use Rattle.method_calls.specs.Selections.{AreSelected};
 ghost use Rattle.machine.specs.Concluding.{Steps};
 ghost use Rattle.interp_local.specs.Fetched.{IsTopAt};
+ghost use Rattle.machine.specs.Operands.{FindsNatives};
 ghost use Rattle.machine.specs.Ready.{IsReady};
 ghost use Rattle.machine.specs.States.{state_of};
 ghost use Rattle.machine.specs.Steps.{IsKept};
@@ -40,6 +44,10 @@ fn instruction_step<W: MachineWorld>(
     naming: &Naming,
 ) -> Result<(), NoMemory>
     requires frame { 0 < length mounted.old.stack.frames }
+    requires operands { FindsOperands (W.world world.now) naming.now (row instr.now.op)
+        (operands mounted.old) }
+    requires natives { FindsNatives (W.world world.now) naming.now (row instr.now.op)
+        parts.old.natives.heap mounted.old }
     requires selected { AreSelected (W.world world.now) selections.old }
     ensures steps { OnOk result (Steps (W.world world.now)
         (record { instr = instr.now; naming = naming.now })

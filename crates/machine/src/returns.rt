@@ -1,6 +1,9 @@
 //! Returns, as steps of a thread.
 
 ghost use Rattle.std.specs.Prelude.{◌≡◌, ◌<◌, length, OnOk};
+ghost use Rattle.ref_model.specs.Operands.{HasOperands};
+ghost use Rattle.object_events.specs.Operands.{operands};
+ghost use Rattle.method_calls.specs.FrameSteps.{returned_kinds};
 ghost use Rattle.machine.specs.Returning.{LeavesRoot, ReturnSteps, status_left};
 
 use crate::parts::Parts;
@@ -35,7 +38,8 @@ pub(crate) fn return_step<W: MachineWorld>(
     mounted: &mut Mounted,
     kind: Option<Kind>,
 ) -> Result<(), NoMemory>
-    requires { 0 < length mounted.old.stack.frames }
+    requires frame { 0 < length mounted.old.stack.frames }
+    requires operands { HasOperands (returned_kinds kind) 0 (operands mounted.old) }
     ensures { OnOk result (ReturnSteps (W.world world.now) kind
         parts.old mounted.old.stack.frames parts.new mounted.new.stack.frames) }
 {

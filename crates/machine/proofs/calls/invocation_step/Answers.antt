@@ -1,5 +1,8 @@
 use Rattle.std.proofs.Common.{subst}
+use Rattle.instruction_rows.specs.Table.{row}
 use Rattle.verify_types.specs.Environment.{Instruction}
+use Rattle.method_calls.specs.declared.target.Target.{Target}
+use Rattle.method_calls.specs.Natives.{IfNative, IsNativeInvoked}
 use Rattle.machine.proofs.ThrowLaws.{on_ok}
 use Rattle.machine.proofs.CallLaws.{ComesTo, native_stepped, code_stepped, throws_stepped}
 use Rattle.machine.proofs.calls.invocation_step.Goals as goal
@@ -27,3 +30,9 @@ returns-in-Throws-clause-steps g c =
     on_ok c.raise.result c.raise.ensures
     (throws_stepped w i c.args.parts.now c.raise.new.parts c.args.mounted.now c.in-Throws.exception
     (subst (ComesTo w i c.args.parts.now c.args.mounted.now) c.in-Throws.is c.in_ok-target.ensures.target))
+
+pub native_step-requires-clause-arguments : goal.native_step-requires-clause-arguments
+native_step-requires-clause-arguments g c =
+    let w = g.W.EventWorld.world c.args.world.now in
+    let here : Target → Type 0 = λ target. IfNative target (IsNativeInvoked w c.args.naming.now (row c.args.instr.now.op) c.args.parts.now.natives.heap c.args.mounted.now) in
+    c.requires.natives c.in-Native.native (subst here c.in-Native.is c.in_ok-target.ensures.native)
