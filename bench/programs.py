@@ -336,6 +336,17 @@ def handlers_between(c):
     c.method(store + step * 12990 + store + RETURN + (RETURN + b"\xbf" + RETURN) * 2000 + b"\xbf", frames + [last], rows, locals=3)
 
 
+def objects_in_turn(c):
+    """`handlers-apart`, where each object that is stored takes the place of an int, and the other way round."""
+    throwable = u1(7) + u2(c.pool.of_class(b"java/lang/Throwable"))
+    step = b"\xbb" + u2(c.pool.of_class(b"java/lang/Object")) + b"\x4b" + ICONST_0 + ISTORE_0
+    first = 6 * 8000 + 1
+    append = [u1(252) + u2(0 if i else first) + u1(TOP) for i in range(2000)]
+    frames = [frame for i in range(2000) for frame in (append[i], u1(64) + throwable, u1(250) + u2(0))]
+    rows = [(0, first - 1, first + 3 * i + 1, 0) for i in range(2000)]
+    c.method(step * 8000 + RETURN + (RETURN + b"\xbf" + RETURN) * 2000, frames, rows, locals=3)
+
+
 def deep_handlers(c):
     """2,000 stores of ever new types, under 300 rows to handlers whose frames have 20,000 local variables and are near one another."""
     throwable = u1(7) + u2(c.pool.of_class(b"java/lang/Throwable"))
@@ -512,6 +523,7 @@ KINDS = {
     "constructor-frames": lambda: methods_of(constructor_frames, 1),
     "handlers-apart": lambda: methods_of(handlers_apart, 1),
     "handlers-between": lambda: methods_of(handlers_between, 1),
+    "objects-in-turn": lambda: methods_of(objects_in_turn, 1),
     "deep-handlers": lambda: methods_of(deep_handlers, 1),
     "rows-apart": lambda: methods_of(rows_apart, 1),
     "stores-before": lambda: methods_of(stores_before, 1),
