@@ -40,7 +40,7 @@ pub record IsStatic (act : Row) : Type 0 where
   pub index : ℕ
   pub is : act ≡ invoke static index
 
-static_row : (act : Row) → is_static_call act ≡ true → IsStatic act
+pub static_row : (act : Row) → is_static_call act ≡ true → IsStatic act
 static_row (invoke static index) e = record { index = index; is = refl }
 static_row (invoke virtual index) e = absurd cc
 static_row (invoke special index) e = absurd cc

@@ -1,6 +1,6 @@
 //! Invocations and returns, as steps of a thread.
 
-ghost use Rattle.std.specs.Prelude.{◌<◌, ℕ, length, OnOk};
+ghost use Rattle.std.specs.Prelude.{◌<◌, ◌≤◌, ℕ, length, OnOk};
 ghost use Rattle.instruction_rows.specs.Table.{row};
 ghost use Rattle.ref_model.specs.Operands.{FindsArguments, FindsOperands};
 ghost use Rattle.object_events.specs.Operands.{operands};
@@ -52,7 +52,8 @@ fn code_step<W: MachineWorld>(
     mounted: &mut Mounted,
     callee: Callee,
 ) -> Result<(), NoMemory>
-    requires { 0 < length mounted.old.stack.frames }
+    requires frame { 0 < length mounted.old.stack.frames }
+    requires given { callee.slots ≤ length (operands mounted.old) }
     ensures { OnOk result ((next : ℕ) → EffectSteps (W.world world.now) next
         (λ r depth stack. begins depth callee stack)
         parts.old mounted.old.stack.frames parts.new mounted.new.stack.frames) }

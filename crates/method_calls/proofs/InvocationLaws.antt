@@ -26,6 +26,7 @@ use Rattle.method_calls.specs.declared.receivers.Receiver.{Receiver}
 use Rattle.method_calls.specs.declared.selections.NamedMethod.{NamedMethod}
 use Rattle.method_calls.specs.declared.target.Callee.{Callee}
 use Rattle.method_calls.specs.declared.target.Target.TheVariants as targets
+use Rattle.method_calls.specs.Arguments.{takes_double}
 use Rattle.method_calls.specs.Receivers.{tested}
 use Rattle.method_calls.specs.Selections.{FitsReceiver, IsNamed}
 use Rattle.method_calls.specs.Targets.{Gives, IsLocalCallee, IsLocalCode, IsReceived, IsStaticCallee, begins, numbered_effect, received_effect, selected_effect, special_effect, virtual_effect}
@@ -128,4 +129,5 @@ static_named w naming n m c site number named is =
       slots = m.slots;
       callee = local;
       takes = named.slots ∙ ap (λ (x : MethodInfo). argument_slots x.signature) same;
+      plain = ap (λ (x : MethodInfo). takes_double x.signature) (sym same) ∙ named.plain;
     }

@@ -1,6 +1,6 @@
--- Where the receiver of an invocation lies: below the arguments, as many slots as they take.
-use Rattle.std.proofs.Common.{ℕ, ◌≡◌, ◌+◌, Bool, true, false, List, [], ◌∷◌, ◌++◌, Option, Some, map, reverse, refl, sym, subst, ap, ◌∙◌, arith}
-use Rattle.std.specs.Prelude.{sum_by, ◌==◌, ◌||◌, if◌then◌else◌}
+-- Where the receiver of an invocation lies: below the arguments, as many slots as they take. They and it are there.
+use Rattle.std.proofs.Common.{ℕ, ◌≡◌, ◌+◌, ◌≤◌, Bool, true, false, List, [], ◌∷◌, ◌++◌, Option, Some, length, map, reverse, refl, sym, subst, ap, ◌∙◌, arith}
+use Rattle.std.specs.Prelude.{slice_get, sum_by, ◌==◌, ◌||◌, if◌then◌else◌}
 use Rattle.std.specs.List.{list_any}
 use Rattle.std.specs.Option.{option_map_or}
 use Rattle.std.proofs.lemmas.List.Sums.{sum_by-cons}
@@ -13,16 +13,21 @@ use Rattle.descriptors.specs.Descriptors.{element_slots, slots}
 use Rattle.opcodes.specs.declared.op.Kind.{Kind}
 use Rattle.opcodes.specs.declared.op.Kind.TheVariants as kinds
 use Rattle.instruction_rows.specs.declared.value.Slot.{Slot}
-use Rattle.instruction_rows.specs.Rows.{Invocation, Row, invoke}
+use Rattle.instruction_rows.specs.Rows.{Invocation, static, Row, invoke}
+use Rattle.world_model.specs.declared.members.MethodInfo.{MethodInfo}
 use Rattle.world_model.specs.declared.sites.Naming.{Naming}
 use Rattle.world_model.specs.World.{World}
 use Rattle.ref_model.specs.Fetch.{Named, method_of}
-use Rattle.ref_model.specs.Kinds.{kind_of_element_type, value_kind}
+use Rattle.ref_model.specs.Kinds.{argument_slots, kind_of_element_type, value_kind}
 use Rattle.ref_model.specs.Operands.{FindsOperands, HasOperand, HasOperands, argument_kinds, called_takes, width}
-use Rattle.object_events.proofs.OperandLaws.{has_at}
+use Rattle.object_events.proofs.OperandLaws.{has_at, operand_within}
 use Rattle.method_calls.specs.declared.selections.NamedMethod.{NamedMethod}
+use Rattle.method_calls.specs.declared.target.Callee.{Callee}
+use Rattle.method_calls.specs.declared.target.Target.{Target}
+use Rattle.method_calls.specs.declared.target.Target.TheVariants as targets
 use Rattle.method_calls.specs.Arguments.{is_double, is_double_element, takes_double}
 use Rattle.method_calls.specs.Selections.{IsNamed}
+use Rattle.method_calls.specs.Targets.{IfCode, IsStaticCallee}
 use Rattle.method_calls.proofs.InvocationLaws.{named_is}
 
 -- ---- how many slots arguments take
@@ -62,20 +67,66 @@ below (k ∷ ks) depth stack x =
     let all = sum_by-cons width k ks in
     has_at kinds.Reference (depth + width k + sum_by width ks) (depth + sum_by width (k ∷ ks)) stack (omega arith) (below ks (depth + width k) stack x.1)
 
-receiver_below : (s : Signature) (count : ℕ) (stack : List Slot) → takes_double s ≡ false → count ≡ sum_by slots s.args →
+-- what the arguments of a method take
+argument_widths : (s : Signature) (count : ℕ) → takes_double s ≡ false → count ≡ argument_slots s → sum_by width (argument_kinds s) ≡ count
+argument_widths s count plain is =
+    let ks = map value_kind s.args in
+    sum_by-IsPermutation width ks (reverse ks) (IsPermutation-reverse ks) ∙ widths_are_slots s.args plain ∙ sym is
+
+receiver_below : (s : Signature) (count : ℕ) (stack : List Slot) → takes_double s ≡ false → count ≡ argument_slots s →
     HasOperands (argument_kinds s ++ kinds.Reference ∷ []) 0 stack → HasOperand kinds.Reference count stack
 receiver_below s count stack plain is x =
-    let ks = map value_kind s.args in
-    let all : sum_by width (reverse ks) ≡ count = sum_by-IsPermutation width ks (reverse ks) (IsPermutation-reverse ks) ∙ widths_are_slots s.args plain ∙ sym is in
-    has_at kinds.Reference (0 + sum_by width (reverse ks)) count stack (omega arith) (below (reverse ks) 0 stack x)
+    let all = argument_widths s count plain is in
+    has_at kinds.Reference (0 + sum_by width (argument_kinds s)) count stack (omega arith) (below (argument_kinds s) 0 stack x)
 
--- the receiver of an invocation that takes one, where the method that is named is known
+-- ---- an invocation of a method that is known
+
+taken : (w : World) (naming : Naming) (r : Row) (invocation : Invocation) (index n : ℕ) (m : MethodInfo) (stack : List Slot) → r ≡ invoke invocation index →
+    Some n ≡ method_of naming.site → Some m ≡ slice_get w.methods n → FindsOperands w naming r stack → HasOperands (called_takes invocation m.signature) 0 stack
+taken w naming r invocation index n m stack row site is x =
+    let P : List Kind → Type 0 = λ ks. HasOperands ks 0 stack in
+    let by : Option Named → List Kind = λ o. option_map_or (λ (named : Named). called_takes invocation named.method.signature) o [] in
+    let here : FindsOperands w naming (invoke invocation index) stack = subst (λ (y : Row). FindsOperands w naming y stack) row x in
+    subst P (ap by (named_is w naming n m site is)) here
+
+-- the receiver of one that takes it
 pub receiver_found : (w : World) (naming : Naming) (r : Row) (invocation : Invocation) (index : ℕ) (m : NamedMethod) (stack : List Slot) →
     ((s : Signature) → called_takes invocation s ≡ argument_kinds s ++ kinds.Reference ∷ []) → r ≡ invoke invocation index →
     Some m.number ≡ method_of naming.site → IsNamed w m → FindsOperands w naming r stack → HasOperand kinds.Reference m.slots stack
 receiver_found w naming r invocation index m stack takes row site is x =
     let P : List Kind → Type 0 = λ ks. HasOperands ks 0 stack in
-    let by : Option Named → List Kind = λ o. option_map_or (λ (n : Named). called_takes invocation n.method.signature) o [] in
-    let here : FindsOperands w naming (invoke invocation index) stack = subst (λ (y : Row). FindsOperands w naming y stack) row x in
     receiver_below is.method.signature m.slots stack is.plain is.slots
-    (subst P (ap by (named_is w naming m.number is.method site is.is) ∙ takes is.method.signature) here)
+    (subst P (takes is.method.signature) (taken w naming r invocation index m.number is.method stack row site is.is x))
+
+-- ---- how many slots there are
+
+all_within : (ks : List Kind) (depth : ℕ) (stack : List Slot) → depth ≤ length stack → HasOperands ks depth stack → depth + sum_by width ks ≤ length stack
+all_within [] depth stack within x = omega arith
+all_within (k ∷ ks) depth stack within x =
+    let all = sum_by-cons width k ks in
+    let rest = all_within ks (depth + width k) stack (operand_within k depth stack x.0) x.1 in
+    omega arith
+
+-- the arguments of an invokestatic
+pub arguments_given : (w : World) (naming : Naming) (r : Row) (index n slots : ℕ) (m : MethodInfo) (stack : List Slot) → r ≡ invoke static index →
+    Some n ≡ method_of naming.site → Some m ≡ slice_get w.methods n → takes_double m.signature ≡ false → slots ≡ argument_slots m.signature →
+    FindsOperands w naming r stack → slots ≤ length stack
+arguments_given w naming r index n slots m stack row site at plain is x =
+    let all = argument_widths m.signature slots plain is in
+    let within = all_within (argument_kinds m.signature) 0 stack (omega arith) (taken w naming r static index n m stack row site at x) in
+    omega arith
+
+-- and of the method that it begins as a local instruction
+pub callee_given : (w : World) (naming : Naming) (r : Row) (index : ℕ) (c : Callee) (stack : List Slot) → r ≡ invoke static index → IsStaticCallee w naming c →
+    FindsOperands w naming r stack → c.slots ≤ length stack
+callee_given w naming r index c stack row x there =
+    let same = ap (λ (y : Callee). y.slots) x.callee.is in
+    let given = arguments_given w naming r index x.number x.slots x.callee.method stack row (sym x.named) (sym x.callee.at) x.plain x.takes there in
+    omega arith
+
+pub code_given : (target : Target) (slots : ℕ) (stack : List Slot) → IfCode target (λ callee. callee.slots ≡ slots) → slots ≤ length stack →
+    IfCode target (λ callee. callee.slots ≤ length stack)
+code_given (targets.Code callee) slots stack is given = omega arith
+code_given (targets.Native native) slots stack is given = tt
+code_given (targets.Throws e) slots stack is given = tt
+code_given targets.Undefined slots stack is given = tt

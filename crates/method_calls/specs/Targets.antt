@@ -1,5 +1,5 @@
 -- What an invocation comes to.
-use Rattle.std.specs.Prelude.{ℕ, suc, ◌≡◌, ◌-◌, ◌++◌, true, List, [], Option, Some, None, drop, length, nat_le, nat_lt, replicate, reverse, slice_get, take, if◌then◌else◌}
+use Rattle.std.specs.Prelude.{ℕ, suc, ◌≡◌, ◌-◌, ◌++◌, true, false, List, [], Option, Some, None, drop, length, nat_le, nat_lt, replicate, reverse, slice_get, take, if◌then◌else◌}
 use Rattle.items.specs.Options.{◌>>=◌}
 use Rattle.lib_table.specs.declared.native.Native.{Native}
 use Rattle.instruction_rows.specs.declared.value.Slot.{Slot}
@@ -24,6 +24,7 @@ use Rattle.ref_model.specs.Natives.{native_row}
 use Rattle.ref_model.specs.Calls.{choice_of, chosen, entered, invoked, method_numbered}
 use Rattle.object_events.specs.Operands.{operands}
 use Rattle.object_events.specs.Outcomes.{with_heap}
+use Rattle.method_calls.specs.Arguments.{takes_double}
 use Rattle.method_calls.specs.declared.receivers.Receiver.{Receiver}
 use Rattle.method_calls.specs.Receivers.{on_receiver, tested}
 use Rattle.method_calls.specs.declared.target.Callee.{Callee}
@@ -58,6 +59,11 @@ begins depth c stack =
     then (callee_frame c stack >>= λ g. Some (invokes g (drop c.slots stack)))
     else Some (throws exceptions.StackOverflowError)
 
+-- what holds of the method with code that a target is, where it is one
+abbrev pub IfCode : Target → (Callee → Type 0) → Type 0
+IfCode (targets.Code callee) holds = holds callee
+IfCode target holds = Unit {0}
+
 -- Unless it is undefined, a target is that of this effect.
 abbrev pub Gives : World → State → ℕ → List Slot → Option Effect → Target → Type 0
 Gives w r depth stack effect (targets.Native native) = effect ≡ native_effect w r native stack
@@ -85,13 +91,14 @@ abbrev pub IsLocalCode : World → ℕ → ℕ → Target → Type 0
 IsLocalCode w n slots (targets.Code c) = IsLocalCallee w n slots c
 IsLocalCode w n slots target = Unit {0}
 
--- an invokestatic that names it, with its arguments
+-- an invokestatic that names it, with its arguments, of which none is a double
 pub record IsStaticCallee (w : World) (naming : Naming) (c : Callee) : Type 0 where
   pub number : ℕ
   pub named : method_of naming.site ≡ Some number
   pub slots : ℕ
   pub callee : IsLocalCallee w number slots c
   pub takes : slots ≡ argument_slots callee.method.signature
+  pub plain : takes_double callee.method.signature ≡ false
 
 -- that which is selected for a receiver of this class runs
 abbrev pub selected_effect : World → State → ℕ → ℕ → ℕ → ℕ → List Slot → Option Effect

@@ -4,6 +4,7 @@ ghost use Rattle.std.specs.Prelude.{◌≡◌, ◌↔◌, ◌<◌, ◌≤◌, Er
 ghost use Rattle.frames.specs.Frames.{entered, top_stack};
 ghost use Rattle.frames.specs.declared.error.StackError.TheVariants as errors;
 ghost use Rattle.method_calls.specs.FrameSteps.{IsEntered};
+ghost use Rattle.object_events.specs.Operands.{operands};
 
 use crate::target::Callee;
 use continuation::Mounted;
@@ -18,7 +19,8 @@ pub enum Entered {
     Begun,
     /// It throws a new exception, and the frames are as before: there are 2,048 (own).
     Throws(Exception),
-    /// The definitions have no effect here, and the frames are as before.
+    /// The definitions have no effect here, and the frames are as before: its local variables are
+    /// fewer than the slots that it takes.
     Undefined,
 }
 
@@ -47,10 +49,11 @@ fn push_callee(
     mounted.push_frame(n, locals, operands, slots, false)
 }
 
-/// Begins a method.
+/// Begins a method. The slots that it takes lie on the operand stack.
 #[inline(always)]
 pub fn enter(callee: Callee, mounted: &mut Mounted) -> Result<Entered, NoMemory>
-    requires { 0 < length mounted.old.stack.frames }
+    requires frame { 0 < length mounted.old.stack.frames }
+    requires given { callee.slots ≤ length (operands mounted.old) }
     ensures entered { IfOk result (IsEntered callee mounted.old mounted.new) }
     ensures thread { mounted.new.thread ≡ mounted.old.thread }
     ensures pinned { mounted.new.pinned ≡ mounted.old.pinned }
@@ -61,7 +64,7 @@ pub fn enter(callee: Callee, mounted: &mut Mounted) -> Result<Entered, NoMemory>
         locals,
         operands,
     } = callee;
-    if slots > mounted.top().operands || slots > locals {
+    if slots > locals {
         return Ok(Entered::Undefined);
     }
     match push_callee(mounted, method, u32::from(locals), operands, slots) {

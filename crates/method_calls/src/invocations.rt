@@ -1,7 +1,7 @@
 //! What invocations come to (JVMS 6.5: invokevirtual, invokespecial, invokestatic, invokeinterface). Tests come in this order: null, the
 //! class of the receiver, selection.
 
-ghost use Rattle.std.specs.Prelude.{◌≡◌, ◌≤◌, IfOk, IfSome, None, Some, slice_get, suc};
+ghost use Rattle.std.specs.Prelude.{◌≡◌, ◌≤◌, IfOk, IfSome, None, Some, length, slice_get, suc};
 ghost use Rattle.opcodes.specs.declared.op.Kind.TheVariants as kinds;
 ghost use Rattle.instruction_rows.specs.Table.{row};
 ghost use Rattle.world_model.specs.Decoded.{code_at};
@@ -10,7 +10,7 @@ ghost use Rattle.ref_model.specs.Members as members;
 ghost use Rattle.ref_model.specs.Members.{native_at};
 ghost use Rattle.ref_model.specs.Operands.{FindsOperands, HasOperand};
 ghost use Rattle.method_calls.specs.Natives.{IfNative, IsNative, IsNativeInvoked, IsSpecialNative, IsVirtualNative, ReceivesNative, SelectsNative};
-ghost use Rattle.method_calls.specs.Targets.{IsInvoked, IsLocalCode, IsNumbered, IsReceived, IsSelected, IsSpecial, IsStaticCallee, IsVirtual};
+ghost use Rattle.method_calls.specs.Targets.{IfCode, IsInvoked, IsLocalCode, IsNumbered, IsReceived, IsSelected, IsSpecial, IsStaticCallee, IsVirtual};
 ghost use Rattle.method_calls.specs.Selections.{AreSelected, IsNamed};
 ghost use Rattle.object_events.specs.Operands.{operands};
 
@@ -61,6 +61,7 @@ fn coded<W: CallWorld>(
     requires plain { native_at (W.world world.now) n ≡ None }
     ensures numbered { IsNumbered (W.world world.now) n slots result }
     ensures local { IsLocalCode (W.world world.now) n slots result }
+    ensures takes { IfCode result (λ callee. callee.slots ≡ slots) }
     ensures native { IfNative result (IsNative (W.world world.now) n) }
 {
     if is_synchronized(method) || world.is_hold(method) {
@@ -78,6 +79,7 @@ fn coded<W: CallWorld>(
 fn numbered<W: CallWorld>(world: &W, n: u32, slots: u16) -> Target
     ensures numbered { IsNumbered (W.world world.now) n slots result }
     ensures local { IsLocalCode (W.world world.now) n slots result }
+    ensures takes { IfCode result (λ callee. callee.slots ≡ slots) }
     ensures native { IfNative result (IsNative (W.world world.now) n) }
 {
     let Some(method) = world.method(n) else {
@@ -145,6 +147,7 @@ fn selected_anew<W: CallWorld>(
 ) -> Result<Target, NoMemory>
     ensures selected { IfOk result
         (λ target. IsSelected (W.world world.now) class n slots target) }
+    ensures takes { IfOk result (λ target. IfCode target (λ callee. callee.slots ≡ slots)) }
     ensures native { IfOk result
         (λ target. IfNative target (SelectsNative (W.world world.now) class n)) }
 {
@@ -173,6 +176,7 @@ fn received_anew<W: CallWorld>(
 ) -> Result<Target, NoMemory>
     requires { AreSelected (W.world world.now) selections.old }
     ensures target { IfOk result (IsReceived (W.world world.now) receiver n slots) }
+    ensures takes { IfOk result (λ target. IfCode target (λ callee. callee.slots ≡ slots)) }
     ensures native { IfOk result
         (λ target. IfNative target (ReceivesNative (W.world world.now) receiver n)) }
     ensures selections { AreSelected (W.world world.now) selections.new }
@@ -202,6 +206,7 @@ fn received<W: CallWorld>(
 ) -> Result<Target, NoMemory>
     requires { AreSelected (W.world world.now) selections.old }
     ensures target { IfOk result (IsReceived (W.world world.now) receiver n slots) }
+    ensures takes { IfOk result (λ target. IfCode target (λ callee. callee.slots ≡ slots)) }
     ensures native { IfOk result
         (λ target. IfNative target (ReceivesNative (W.world world.now) receiver n)) }
     ensures selections { AreSelected (W.world world.now) selections.new }
@@ -228,6 +233,8 @@ fn invoke_virtual<W: CallWorld>(
     requires selected { AreSelected (W.world world.now) selections.old }
     ensures target { IfOk result (IsVirtual (W.world world.now) naming.now method.number
         method.slots heap.now mounted.now) }
+    ensures given { IfOk result (λ target. IfCode target (λ callee.
+        callee.slots ≤ length (operands mounted.now))) }
     ensures native { IfOk result (λ target. IfNative target (IsVirtualNative
         (W.world world.now) naming.now method.number method.slots heap.now mounted.now)) }
     ensures selections { AreSelected (W.world world.now) selections.new }
@@ -257,6 +264,7 @@ fn invoke_special<W: CallWorld>(
     requires named { IsNamed (W.world world.now) method }
     ensures target { IsSpecial (W.world world.now) naming.now method.number method.slots
         heap.now mounted.now result }
+    ensures given { IfCode result (λ callee. callee.slots ≤ length (operands mounted.now)) }
     ensures native { IfNative result (IsSpecialNative (W.world world.now) naming.now
         method.number method.slots heap.now mounted.now) }
 {
@@ -310,6 +318,8 @@ pub fn invoke<W: CallWorld>(
     requires selected { AreSelected (W.world world.now) selections.old }
     ensures target { IfOk result (λ target.
         IsInvoked (W.world world.now) naming.now (row op.now) heap.now mounted.now target) }
+    ensures given { IfOk result (λ target. IfCode target (λ callee.
+        callee.slots ≤ length (operands mounted.now))) }
     ensures native { IfOk result (λ target. IfNative target (IsNativeInvoked
         (W.world world.now) naming.now (row op.now) heap.now mounted.now)) }
     ensures selections { AreSelected (W.world world.now) selections.new }

@@ -7,7 +7,7 @@ use Rattle.object_events.specs.Operands.{operands}
 use Rattle.object_events.specs.Outcomes.{with_heap}
 use Rattle.method_calls.specs.Targets.{IsInvoked, IsVirtual, numbered_effect, row_invoked, special_effect, virtual_effect}
 use Rattle.method_calls.proofs.InvocationLaws.{gives_along, if_ok_mapped, interface_is, special_is, static_is, virtual_is}
-use Rattle.method_calls.proofs.ReceiverLaws.{receiver_found}
+use Rattle.method_calls.proofs.ReceiverLaws.{arguments_given, code_given, receiver_found}
 use Rattle.method_calls.proofs.invocations.invoke.Goals as goal
 
 pub returns-in-InvokeStatic-clause-target : goal.returns-in-InvokeStatic-clause-target
@@ -89,3 +89,14 @@ invoke_special-requires-clause-receiver g c =
     let site : Some m.number ≡ method_of c.args.naming.now.site = ap Some c.in-Some-named.ensures.number ∙ c.in-Some.ensures in
     receiver_found w c.args.naming.now (row c.args.op.now) special c.in-InvokeSpecial.field-0 m (operands c.args.mounted.now) (λ s. refl) (ap row c.in-InvokeSpecial.is) site
     c.in-Some-named.ensures.named c.requires.operands
+
+pub returns-in-InvokeStatic-clause-given : goal.returns-in-InvokeStatic-clause-given
+returns-in-InvokeStatic-clause-given g c =
+    let w = g.W.EventWorld.world c.args.world.now in
+    let naming = c.args.naming.now in
+    let m = c.in-Some-named.method in
+    let is = c.in-Some-named.ensures.named in
+    let stack = operands c.args.mounted.now in
+    let site : Some m.number ≡ method_of naming.site = ap Some c.in-Some-named.ensures.number ∙ c.in-Some.ensures in
+    code_given m.unbound m.slots stack is.takes
+    (arguments_given w naming (row c.args.op.now) c.in-InvokeStatic.field-0 m.number m.slots is.method stack (ap row c.in-InvokeStatic.is) site is.is is.plain is.slots c.requires.operands)

@@ -1,5 +1,5 @@
 use Rattle.std.proofs.Common.{suc, ◌≡◌, ◌+◌, sym, subst, ◌∙◌, arith}
-use Rattle.method_calls.specs.Targets.{IsNumbered}
+use Rattle.method_calls.specs.Targets.{IfCode, IsNumbered}
 use Rattle.method_calls.proofs.invocations.named_anew.Goals as goal
 
 pub returns-clause-named : goal.returns-clause-named
@@ -16,6 +16,8 @@ returns-clause-named g c =
       unbound = c.numbered.ensures.numbered;
       bound = subst (λ s. IsNumbered w c.args.n s c.numbered-2.result) next c.numbered-2.ensures.numbered;
       local = c.numbered.ensures.local;
+      takes = c.numbered.ensures.takes;
+      takes_bound = subst (λ s. IfCode c.numbered-2.result (λ callee. callee.slots ≡ s)) next c.numbered-2.ensures.takes;
       native = c.numbered.ensures.native;
       native_bound = c.numbered-2.ensures.native;
     }
