@@ -1,6 +1,6 @@
 //! The types of local variables (JVMS 4.10.1.4), and which of them may be those of unfinished objects.
 
-ghost use Rattle.std.specs.Prelude.{◌≡◌, ◌++◌, ◌∷◌, [], IfOk, List, MatchOption, OnErr, OnOk, length, slice_set};
+ghost use Rattle.std.specs.Prelude.{◌≡◌, ◌++◌, ◌∷◌, [], true, IfOk, List, MatchBool, MatchOption, OnErr, OnOk, length, slice_set};
 ghost use Rattle.std.specs.List.{list_any};
 ghost use Rattle.stack_maps.specs.declared.types.VType.{VType as OneType};
 ghost use Rattle.verify_types.specs.TypeStates.{replaced};
@@ -11,6 +11,9 @@ use crate::state::{Uninitialized, is_object};
 use stack_maps::VType;
 use std::alloc::{AllocError, Global};
 use std::marker::Model;
+
+// A slot that is written is looked for among so many that are listed already.
+const MOST: usize = 64;
 
 /// The types of local variables, slot by slot. An object that isn't initialized is found without a look at all of them.
 #[derive(Drop)]
@@ -49,6 +52,14 @@ fn list(slots: &mut Vec<usize>, slot: usize, was: VType, t: VType) -> Result<(),
         slots.push(slot)?;
     }
     Ok(())
+}
+
+// Whether a slot is among the first that are listed.
+fn is_among_first(slots: &[usize], slot: usize) -> bool
+    ensures { MatchBool result (spec.is_listed slots.now slot ≡ true) (Unit {0}) }
+{
+    let first = slots.split_at(slots.len().min(MOST)).0;
+    first.iter().any(|other| *other == slot)
 }
 
 // The slots of unfinished objects.
@@ -178,7 +189,9 @@ impl Locals {
         if n >= self.types.len() {
             return Ok(());
         }
-        list(&mut self.unfinished, n, self.types[n], t)?;
+        if !is_among_first(&self.unfinished, n) {
+            list(&mut self.unfinished, n, self.types[n], t)?;
+        }
         self.types[n] = t;
         Ok(())
     }
