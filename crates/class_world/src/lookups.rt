@@ -4,7 +4,7 @@ ghost use Rattle.world_model.specs.Worlds.{world_of};
 
 use crate::World;
 use stack_maps::VType;
-use world_model::{FieldInfo, Lookups, MethodCode, MethodInfo, Naming};
+use world_model::{FieldInfo, Lookups, MethodCode, MethodInfo, Namings};
 
 impl Lookups for World {
     ghost world = { world_of };
@@ -69,7 +69,8 @@ impl Lookups for World {
         self.tables().code(method)
     }
 
-    fn namings(&self, method: u32) -> &[Naming] {
+    #[inline(always)]
+    fn namings(&self, method: u32) -> Namings<'_> {
         self.tables().namings(method)
     }
 

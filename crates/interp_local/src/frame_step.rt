@@ -1,6 +1,7 @@
 //! One step in a frame, from the instruction with one index to that with another.
 
 ghost use Rattle.std.specs.Prelude.{ℕ, ◌≡◌, ◌+◌, ◌<◌, ◌≤◌, IfSome, Some, length, slice_get, true};
+ghost use Rattle.world_model.specs.Namings.{meanings};
 ghost use Rattle.instruction_rows.specs.Pcs.{pc_after};
 ghost use Rattle.verify_types.specs.Typing.{AreTyped};
 ghost use Rattle.interp_local.specs.FrameRows.{way_to};
@@ -11,7 +12,7 @@ ghost use Rattle.interp_local.specs.Runs.{HasPc, IsAt, IsStep, Leads, StaysAt, s
 
 use crate::execution::execute;
 use crate::fetched::Fetched;
-use crate::places::{naming_at, place};
+use crate::places::place;
 use crate::prepared::Prepared;
 use crate::prepared_code::PreparedCode;
 use crate::quick_code::quick_at;
@@ -78,11 +79,11 @@ pub(crate) fn pc_at(code: &[Instr], at: usize) -> u32
 pub(crate) fn fetch_at<'a>(code: &PreparedCode<'a>, at: usize) -> Fetched<'a>
     requires { at < length code.now.instrs.now }
     ensures instr { slice_get code.now.instrs.now at ≡ Some result.instr.now }
-    ensures naming { result.naming.now ≡ places.naming_at code.now.namings.now at }
+    ensures naming { result.naming.now ≡ places.naming_at (meanings code.now.namings) at }
 {
     Fetched {
         instr: instr_at(code.instrs, at),
-        naming: naming_at(code.namings, at),
+        naming: code.namings.at(at),
     }
 }
 
@@ -137,7 +138,7 @@ pub(crate) fn execute_at<L: Lookups>(
         row.new result.used result.index 1 }
 {
     let instr = instr_at(code.instrs, at);
-    let naming = naming_at(code.namings, at);
+    let naming = code.namings.at(at);
     let left = execute(&instr.op, naming, row, frame.locals, used);
     let pc = next_pc(instr.next, left.target);
     Position {

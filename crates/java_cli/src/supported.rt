@@ -2,6 +2,7 @@
 //! come later.
 
 ghost use Rattle.std.specs.Prelude.{◌≡◌};
+ghost use Rattle.world_model.specs.Namings.{meanings};
 ghost use Rattle.std.specs.List.{list_any};
 ghost use Rattle.java_cli.specs.Supported as spec;
 
@@ -9,7 +10,7 @@ use class_grammar::is_same;
 use class_model::ACC_SYNCHRONIZED;
 use class_resolution::{has_flag, own_name};
 use opcodes::{Instr, Op, Simple};
-use world_model::{MethodInfo, Naming, Site};
+use world_model::{MethodInfo, Naming, Namings, Site};
 use world_tables::Tables;
 
 // Whether no method of the class of this name runs yet.
@@ -85,10 +86,15 @@ fn names_late(world: &Tables, naming: Naming) -> bool
     }
 }
 
-fn name_late(world: &Tables, namings: &[Naming]) -> bool
-    ensures { result ≡ list_any (spec.names_late world.now) namings.now }
+fn name_late(world: &Tables, namings: &Namings<'_>) -> bool
+    ensures { result ≡ list_any (spec.names_late world.now) (meanings namings.now) }
 {
-    namings.iter().any(|naming| names_late(world, *naming))
+    for index in 0..namings.len() {
+        if names_late(world, *namings.at(index)) {
+            return true;
+        }
+    }
+    false
 }
 
 fn is_monitor_op(op: &Op) -> bool
@@ -120,7 +126,7 @@ fn is_unsupported(world: &Tables, n: u32, method: &MethodInfo) -> bool
     is_from_file(world, method)
         && (has_flag(method.flags, ACC_SYNCHRONIZED)
             || code_has_monitor(world, n)
-            || name_late(world, world.namings(n)))
+            || name_late(world, &world.namings(n)))
 }
 
 fn is_unsupported_at(world: &Tables, n: u32) -> bool

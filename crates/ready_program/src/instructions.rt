@@ -1,44 +1,29 @@
 //! The instruction at a pc of a method.
 
-ghost use Rattle.std.specs.Prelude.{◌≡◌, get_or};
+ghost use Rattle.std.specs.Prelude.{◌≡◌};
 ghost use Rattle.std.specs.Option.{option_map};
-ghost use Rattle.world_model.specs.Sites.{plain};
+ghost use Rattle.world_model.specs.Namings.{meanings};
 ghost use Rattle.interp_local.specs.Fetched.{instruction_of, instruction_at as instruction_found};
 ghost use Rattle.ready_program.specs.Instructions.{instruction_by};
 
 use interp_local::Fetched;
 use opcodes::Instr;
-use world_model::{Naming, Site};
+use world_model::Namings;
 use world_tables::Tables;
-
-// What the constant means of an instruction that has none.
-static NO_CONSTANT: Naming = Naming {
-    site: Site::Plain,
-    class: None,
-};
-
-#[inline(always)]
-fn naming_at(namings: &[Naming], i: u32) -> &Naming
-    ensures { result.now ≡ get_or namings.now i plain }
-{
-    match namings.get(i as usize) {
-        Some(naming) => naming,
-        None => &NO_CONSTANT,
-    }
-}
 
 // The instruction at an index, where there is one.
 #[inline(always)]
 fn instruction_at<'a>(
     instrs: &'a [Instr],
-    namings: &'a [Naming],
+    namings: Namings<'a>,
     index: Option<u32>,
 ) -> Option<Fetched<'a>>
-    ensures { option_map instruction_of result ≡ instruction_by instrs.now namings.now index }
+    ensures { option_map instruction_of result
+        ≡ instruction_by instrs.now (meanings namings.entry) index }
 {
     let i = index?;
     let instr = instrs.get(i as usize)?;
-    let naming = naming_at(namings, i);
+    let naming = namings.at(i as usize);
     Some(Fetched { instr, naming })
 }
 

@@ -28,7 +28,7 @@ use verify_frames::{
     Fitted, Frame, Judged, KnownState, Like, StateAfter, holds_at, known_after, like_behind,
     watched,
 };
-use verify_instructions::{State, Stop, behind_first, first_naming, goes_on};
+use verify_instructions::{State, Stop, goes_on};
 use verify_types::{PcFault, VerifyWhy};
 use world_model::{Lookups, Naming};
 
@@ -418,14 +418,14 @@ impl<'a, L: Lookups> Environment<'a, L> {
         let mut namings = self.method.namings;
         while let Some((i, behind)) = rest.split_first() {
             let is_last = behind.is_empty();
-            let naming = first_naming(namings);
+            let naming = *namings.at(0);
             match self.step(alloc, before, is_entry, i, naming, is_last, &mut stores)? {
                 Step::Fault(fault) => return Ok(Some(fault)),
                 Step::On(after) => before = after,
             }
             is_entry = false;
             rest = behind;
-            namings = behind_first(namings);
+            namings = namings.behind_first();
         }
         Ok(None)
     }

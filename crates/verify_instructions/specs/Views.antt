@@ -1,5 +1,6 @@
 -- The types that a frame has as it is verified, and the state that they are part of.
 use Rattle.std.specs.Prelude.{Bool}
+use Rattle.world_model.specs.Namings.{meanings}
 use Rattle.stack_maps.specs.declared.types.VType.{VType}
 use Rattle.instruction_rows.specs.Contents.{Contents}
 use Rattle.world_model.specs.World.{World}
@@ -24,4 +25,4 @@ is_object (objects.New pc) t = is_new pc t
 
 -- the environment that a method has in a world
 abbrev pub environment_in : World → Method → Environment
-environment_in w m = environment_of w m.info.now m.code.now m.namings.now m.catches.now
+environment_in w m = environment_of w m.info.now m.code.now (meanings m.namings) m.catches.now

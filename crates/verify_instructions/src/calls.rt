@@ -2,6 +2,7 @@
 
 ghost use Rattle.std.specs.Prelude.{◌≡◌, Err, OnOk, OnErr, map, reverse};
 ghost use Rattle.class_grammar.specs.Names as names;
+ghost use Rattle.world_model.specs.Namings.{meanings};
 ghost use Rattle.verify_types.specs.ClassTypes as types;
 ghost use Rattle.verify_types.specs.Environment as environment;
 ghost use Rattle.verify_types.specs.Operands.{all_wanted};
@@ -95,7 +96,7 @@ impl Types {
 // Whether there is a `new` of this class at the pc.
 fn is_new_of(m: &Method<'_>, pc: u16, class: u32) -> bool
     ensures { result ≡ is_number
-        (new_at pc (environment.with_namings m.now.code.now.code m.now.namings.now)) class }
+        (new_at pc (environment.with_namings m.now.code.now.code (meanings m.now.namings))) class }
 {
     match new_class(m, pc) {
         Some(made) => made == class,

@@ -16,7 +16,7 @@ mod stop;
 mod types;
 
 pub use calls::is_constructor;
-pub use method::{Method, behind_first, first_naming};
+pub use method::Method;
 pub use rules::goes_on;
 pub use state::{State, Uninitialized};
 pub use stop::Stop;

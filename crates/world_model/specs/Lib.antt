@@ -5,6 +5,7 @@ pub mod Infos
 pub mod Numbering
 pub mod Strings
 pub mod Sites
+pub mod Namings
 pub mod Worlds
 pub mod Decoded
 pub mod LookUps

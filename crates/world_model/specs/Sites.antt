@@ -1,6 +1,6 @@
 -- What the constant of an instruction means, by numbers (JVMS 5.4.3, 6.5), and which classes the rows of an exception table catch.
 use Rattle.std.specs.Prelude.{ℕ, Bool, true, false, List, [], Option, Some, None, map, slice_get, ◌==◌, if◌then◌else◌}
-use Rattle.std.specs.Option.{option_map, option_map_or, option_and_then}
+use Rattle.std.specs.Option.{option_map, option_map_or}
 use Rattle.std.specs.List.{flat_map, enumerate_from}
 use Rattle.class_model.specs.declared.constant.Const.{Const}
 use Rattle.class_model.specs.declared.constant.Const.TheVariants.{Integer, Long, Text, Fieldref, Methodref, InterfaceMethodref}

@@ -4,8 +4,10 @@
 
 mod lookups;
 mod members;
+mod namings;
 mod sites;
 
 pub use lookups::Lookups;
 pub use members::{FieldInfo, MethodCode, MethodInfo};
+pub use namings::Namings;
 pub use sites::{ArrayType, Naming, Site};

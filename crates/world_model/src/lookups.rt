@@ -6,9 +6,10 @@ ghost use Rattle.linkage.specs.Hierarchy as hierarchy;
 ghost use Rattle.world_model.specs.World as spec;
 ghost use Rattle.world_model.specs.World.{World};
 ghost use Rattle.world_model.specs.Decoded.{IsDecoded, code_at};
+ghost use Rattle.world_model.specs.Namings.{meanings};
 ghost use Rattle.world_model.specs.Pools as pools;
 
-use crate::{FieldInfo, MethodCode, MethodInfo, Naming};
+use crate::{FieldInfo, MethodCode, MethodInfo, Namings};
 use stack_maps::VType;
 
 /// What typing asks of a linked world. Each call takes constant time, but `name_number`, which looks a name up.
@@ -78,8 +79,8 @@ pub trait Lookups {
         ensures decoded { IfSome result (λ c. IsDecoded c.now) };
 
     /// What the constants of a method's instructions mean, by instruction.
-    fn namings(&self, method: u32) -> &[Naming]
-        ensures { result.now ≡ get_or (world self.now).namings method [] };
+    fn namings(&self, method: u32) -> Namings<'_>
+        ensures { meanings result ≡ get_or (world self.now).namings method [] };
 
     /// What the rows of a method's exception table catch, `None` for every throwable (JVMS 4.7.3).
     fn catches(&self, method: u32) -> &[Option<u32>]

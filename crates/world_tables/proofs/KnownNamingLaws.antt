@@ -1,10 +1,47 @@
--- What constants are known to mean, when one more is noted.
-use Rattle.std.proofs.Common.{◌≡◌, ℕ, List, Option, Some, slice_set}
+-- What constants are known to mean, when the table grows and when one more is noted.
+use Rattle.std.proofs.Common.{◌≡◌, ℕ, Bool, true, false, List, Option, Some, slice_get, subst, sym}
+use Rattle.std.specs.Prelude.{not}
 use Rattle.class_model.specs.declared.constant.Const.{Const}
 use Rattle.class_resolution.proofs.EntryLaws.{all_set}
+use Rattle.world_model.specs.declared.sites.Naming.{Naming}
 use Rattle.world_model.specs.Sites.{Linking}
+use Rattle.world_tables.specs.declared.known_namings.Use.{Use}
 use Rattle.world_tables.specs.declared.known_namings.KnownNaming.{KnownNaming}
-use Rattle.world_tables.specs.KnownNamings.{AreKnown, use_naming}
+use Rattle.world_tables.specs.declared.known_namings.KnownNamings.{KnownNamings}
+use Rattle.world_tables.specs.KnownNamings.{AreKnown, Knows, is_derived, known_for, noted, use_naming}
+use Rattle.world_tables.specs.NamingTables.{Begins, IsKept}
 
-pub noted : (l : Linking) (c : ℕ) (pool : List Const) (known : List (Option KnownNaming)) (x : KnownNaming) (i : ℕ) → AreKnown l c pool known → x.naming ≡ use_naming l c pool x.used i → AreKnown l c pool (slice_set known i (Some x))
-noted l c pool known x i old e = all_set (λ j k. k.naming ≡ use_naming l c pool k.used j) known i x e old
+pub begins_kept : (l : Linking) (old new : List Naming) → IsKept old new → Begins l old → Begins l new
+begins_kept l old new kept b = record { plain_first = kept 0 _ b.plain_first; arrays = λ p. kept _ _ (b.arrays p) }
+
+-- what is known stays known while the table grows
+pub knows_kept : (l : Linking) (c : ℕ) (pool : List Const) (old new : List Naming) (known : KnownNamings) → IsKept old new → Knows l c pool old known → Knows l c pool new known
+knows_kept l c pool old new known kept k = record {
+  begins = begins_kept l old new kept k.begins;
+  direct = λ i x e. kept _ _ (k.direct i x e);
+  derived = λ i x e. kept _ _ (k.derived i x e);
+}
+
+-- each number of what is known of a use
+pub known_there : (l : Linking) (c : ℕ) (pool : List Const) (table : List Naming) (known : KnownNamings) (derived : Bool) → Knows l c pool table known → AreKnown l c pool table (known_for derived known)
+known_there l c pool table known true k = k.derived
+known_there l c pool table known false k = k.direct
+
+set_one : (l : Linking) (c : ℕ) (pool : List Const) (table : List Naming) (known : List (Option KnownNaming)) (belongs : Bool) (i : ℕ) (x : KnownNaming)
+    → slice_get table x.number ≡ Some (use_naming l c pool x.used i) → AreKnown l c pool table known → AreKnown l c pool table (noted belongs known i x)
+set_one l c pool table known true i x e old = all_set (λ j k. slice_get table k.number ≡ Some (use_naming l c pool k.used j)) known i x e old
+set_one l c pool table known false i x e old = old
+
+-- one more is noted
+pub knows_noted : (l : Linking) (c : ℕ) (pool : List Const) (table : List Naming) (old new : KnownNamings) (used : Use) (n i : ℕ)
+    → slice_get table n ≡ Some (use_naming l c pool used i)
+    → new.direct.items ≡ noted (not (is_derived used)) old.direct.items i (record { used = used; number = n })
+    → new.derived.items ≡ noted (is_derived used) old.derived.items i (record { used = used; number = n })
+    → Knows l c pool table old → Knows l c pool table new
+knows_noted l c pool table old new used n i e direct derived k =
+    let x : KnownNaming = record { used = used; number = n } in
+    record {
+      begins = k.begins;
+      direct = subst (λ (t : List (Option KnownNaming)). AreKnown l c pool table t) (sym direct) (set_one l c pool table old.direct.items (not (is_derived used)) i x e k.direct);
+      derived = subst (λ (t : List (Option KnownNaming)). AreKnown l c pool table t) (sym derived) (set_one l c pool table old.derived.items (is_derived used) i x e k.derived);
+    }

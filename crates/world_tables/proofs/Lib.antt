@@ -1,4 +1,5 @@
 pub mod NamingLaws
+pub mod NumberLaws
 pub mod PcLaws
 pub mod InstanceLaws
 pub mod PlaceLaws

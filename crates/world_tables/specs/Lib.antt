@@ -4,4 +4,5 @@ pub mod Tables
 pub mod PcTables
 pub mod Places
 pub mod Parts
+pub mod NamingTables
 pub mod KnownNamings

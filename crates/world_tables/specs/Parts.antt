@@ -8,6 +8,7 @@ use Rattle.world_model.specs.Numbering.{arrays_of, numbering_of}
 use Rattle.world_model.specs.Sites.{namings_of, catches_of}
 use Rattle.world_model.specs.Worlds.{linking_of}
 use Rattle.world_numbers.specs.KnownClasses.{known_in}
+use Rattle.world_tables.specs.NamingTables.{AreListsOf}
 use Rattle.world_tables.specs.PcTables.{AreByPc}
 use Rattle.world_tables.specs.Places.{place_by}
 use Rattle.world_tables.specs.declared.number_tables.NumberTables.{NumberTables}
@@ -31,5 +32,5 @@ pub record AreMembers (p : Program) (t : MemberTables) : Type 0 where
 -- the tables are those of the program's code
 pub record AreOfCodes (p : Program) (t : CodeTables) : Type 0 where
   pub by_pc : AreByPc (codes_of p) t.by_pc.items
-  pub namings : t.namings.items ≡ namings_of (linking_of p)
+  pub namings : AreListsOf t.namings.table.items t.namings.numbers.items (namings_of (linking_of p))
   pub catches : t.catches.items ≡ catches_of (linking_of p)

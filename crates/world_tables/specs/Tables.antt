@@ -1,9 +1,10 @@
 -- The world that tables are.
-use Rattle.std.specs.Prelude.{◌≡◌, ℕ, ◌<◌, ◌^◌, None, get_or, length}
+use Rattle.std.specs.Prelude.{◌≡◌, ℕ, ◌<◌, ◌^◌, None, get_or, length, map}
 use Rattle.class_resolution.specs.Tables.{tabulate}
 use Rattle.world_model.specs.World.{World}
 use Rattle.world_model.specs.InstanceFields.{instance_fields}
 use Rattle.world_model.specs.Infos.{fields_of}
+use Rattle.world_model.specs.Namings.{numbered}
 use Rattle.world_model.specs.Numbering.{numbering_of}
 use Rattle.world_tables.specs.PcTables.{AreByPc}
 use Rattle.world_tables.specs.Places.{place_by}
@@ -28,6 +29,6 @@ world_in a = record {
   fields = a.fields.items;
   methods = a.methods.items;
   codes = a.codes;
-  namings = a.namings.items;
+  namings = map (map (numbered a.namings.table.items)) a.namings.numbers.items;
   catches = a.catches.items;
 }

@@ -5,19 +5,19 @@ ghost use Rattle.world_model.specs.Infos.{codes_of};
 ghost use Rattle.world_model.specs.Numbering.{numbering_of};
 ghost use Rattle.world_tables.specs.Parts.{AreOfCodes};
 
-use crate::namings::{all_catches, all_namings};
+use crate::namings::{NumberedNamings, all_catches, all_namings};
 use crate::pc_tables::all_by_pc;
 use crate::sites::Linker;
 use items::{Items, NoMemory};
 use std::alloc::Global;
-use world_model::{MethodCode, Naming};
+use world_model::MethodCode;
 use world_numbers::{ArrayNumbers, MemberNumbers, all_strings};
 
 /// The tables of the instructions and exception tables of each method.
 #[derive(Drop)]
 pub(crate) struct CodeTables {
     pub(crate) by_pc: Vec<Items<u16>>,
-    pub(crate) namings: Vec<Items<Naming>>,
+    pub(crate) namings: NumberedNamings,
     pub(crate) catches: Vec<Items<Option<u32>>>,
 }
 

@@ -7,6 +7,7 @@ mod instance_fields;
 mod known_namings;
 mod main_method;
 mod member_tables;
+mod naming_table;
 mod namings;
 mod number_tables;
 mod pc_tables;

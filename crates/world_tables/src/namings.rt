@@ -1,14 +1,17 @@
 //! What the constants of all instructions mean, by method.
 
-ghost use Rattle.std.specs.Prelude.{◌≡◌, ◌++◌, map, OnOk, IfOk};
+ghost use Rattle.std.specs.Prelude.{◌≡◌, ◌++◌, List, map, OnOk, IfOk};
+ghost use Rattle.world_model.specs.declared.sites.Naming.{Naming as Meaning};
 ghost use Rattle.world_model.specs.Infos.{codes_in, codes_of};
 ghost use Rattle.world_model.specs.Sites as spec;
-ghost use Rattle.world_tables.specs.KnownNamings.{AreKnown};
+ghost use Rattle.world_tables.specs.KnownNamings.{Knows};
 ghost use Rattle.world_tables.specs.Namings.{namings_in};
+ghost use Rattle.world_tables.specs.NamingTables.{AreListsOf, AreNumbersOf, Begins, IsKept};
 ghost use Rattle.world_tables.specs.Linkings.{linking_in};
 
-use crate::known_namings::{KnownNaming, no_namings};
-use crate::sites::{Linker, catch_of, naming_of};
+use crate::known_namings::KnownNamings;
+use crate::naming_table::first_namings;
+use crate::sites::{Linker, catch_of, number_of};
 use class_model::{ClassFile, Const, Member, Row};
 use items::{Items, NoMemory};
 use opcodes::Instr;
@@ -16,78 +19,102 @@ use std::alloc::Global;
 use world_model::{MethodCode, Naming};
 use world_numbers::{body_of, instrs_in};
 
-fn instr_namings(
-    alloc: Global,
-    l: Linker,
-    class: u32,
-    pool: &[Const],
-    known: &mut [Option<KnownNaming>],
-    instrs: &[Instr],
-) -> Result<Items<Naming>, NoMemory>
-    requires { AreKnown (linking_in l) class pool.now known.old }
-    ensures namings { IfOk result (λ v. v ≡
-        map (spec.instr_naming (linking_in l.entry) class pool.now) instrs.now) }
-    ensures known { AreKnown (linking_in l.entry) class pool.now known.new }
-{
-    let mut namings = Vec::with_capacity(alloc, instrs.len())?;
-    for instr in instrs {
-        namings.push(naming_of(alloc, l, class, pool, known, &instr.op)?)?;
-    }
-    Ok(Items::from(namings))
+/// What the constants of instructions mean: by method and instruction, the number of the meaning in a table.
+#[derive(Drop)]
+pub(crate) struct NumberedNamings {
+    pub(crate) numbers: Vec<Items<u32>>,
+    pub(crate) table: Vec<Naming>,
 }
 
-fn code_namings(
+// The numbers of what instructions name.
+fn instr_numbers(
     alloc: Global,
     l: Linker,
     class: u32,
     pool: &[Const],
-    known: &mut [Option<KnownNaming>],
+    known: &mut KnownNamings,
+    table: &mut Vec<Naming>,
+    instrs: &[Instr],
+) -> Result<Items<u32>, NoMemory>
+    requires { Knows (linking_in l) class pool.now table.old.items known.old }
+    ensures numbers { IfOk result (λ ns. AreNumbersOf table.new.items ns
+        (map (spec.instr_naming (linking_in l.entry) class pool.now) instrs.now)) }
+    ensures kept { OnOk result (IsKept table.old.items table.new.items) }
+    ensures known { OnOk result
+        (Knows (linking_in l.entry) class pool.now table.new.items known.new) }
+{
+    let mut numbers = Vec::with_capacity(alloc, instrs.len())?;
+    for instr in instrs {
+        numbers.push(number_of(alloc, l, class, pool, known, table, &instr.op)?)?;
+    }
+    Ok(Items::from(numbers))
+}
+
+fn code_numbers(
+    alloc: Global,
+    l: Linker,
+    class: u32,
+    pool: &[Const],
+    known: &mut KnownNamings,
     codes: &[Option<MethodCode>],
-    namings: &mut Vec<Items<Naming>>,
+    namings: &mut NumberedNamings,
 ) -> Result<(), NoMemory>
-    requires { AreKnown (linking_in l) class pool.now known.old }
-    ensures { OnOk result (namings.new.items ≡ namings.old.items
-        ++ map (namings_in (linking_in l.entry) class pool.now) codes.now) }
+    requires { Knows (linking_in l) class pool.now namings.old.table.items known.old }
+    ensures lists { OnOk result ((xss : List (List Meaning))
+        → AreListsOf namings.old.table.items namings.old.numbers.items xss
+        → AreListsOf namings.new.table.items namings.new.numbers.items
+        (xss ++ map (namings_in (linking_in l.entry) class pool.now) codes.now)) }
+    ensures begins { OnOk result (Begins (linking_in l.entry) namings.new.table.items) }
 {
     for code in codes {
-        namings.push(instr_namings(alloc, l, class, pool, known, instrs_in(code))?)?;
+        let instrs = instrs_in(code);
+        let numbers = instr_numbers(alloc, l, class, pool, known, &mut namings.table, instrs)?;
+        namings.numbers.push(numbers)?;
     }
     Ok(())
 }
 
-// What the methods of a file name, which have these codes.
-fn add_namings(
+// Adds what the methods of a file name, which have these codes.
+fn add_numbers(
     alloc: Global,
     l: Linker,
     class: u32,
     file: &ClassFile,
     codes: &[Option<MethodCode>],
-    namings: &mut Vec<Items<Naming>>,
+    namings: &mut NumberedNamings,
 ) -> Result<(), NoMemory>
-    requires { codes.now ≡ codes_in file.now }
-    ensures { OnOk result (namings.new.items ≡
-        namings.old.items ++ spec.namings_in (linking_in l.entry) (class, file.now)) }
+    requires codes { codes.now ≡ codes_in file.now }
+    requires begins { Begins (linking_in l) namings.old.table.items }
+    ensures lists { OnOk result ((xss : List (List Meaning))
+        → AreListsOf namings.old.table.items namings.old.numbers.items xss
+        → AreListsOf namings.new.table.items namings.new.numbers.items
+        (xss ++ spec.namings_in (linking_in l.entry) (class, file.now))) }
+    ensures begins { OnOk result (Begins (linking_in l.entry) namings.new.table.items) }
 {
-    let mut known = no_namings(alloc, file.pool.len())?;
-    code_namings(alloc, l, class, &file.pool, &mut known, codes, namings)?;
+    let mut known = KnownNamings::new(alloc, file.pool.len())?;
+    code_numbers(alloc, l, class, &file.pool, &mut known, codes, namings)?;
     Ok(())
 }
 
 /// What the constants of instructions mean, by the method's number. The methods have these codes.
-pub fn all_namings(
+pub(crate) fn all_namings(
     alloc: Global,
     l: Linker,
     codes: &[Option<MethodCode>],
-) -> Result<Vec<Items<Naming>>, NoMemory>
+) -> Result<NumberedNamings, NoMemory>
     requires { codes.now ≡ codes_of (linking_in l).program }
-    ensures { IfOk result (λ v. v.items ≡ spec.namings_of (linking_in l.entry)) }
+    ensures { IfOk result (λ v. AreListsOf v.table.items v.numbers.items
+        (spec.namings_of (linking_in l.entry))) }
 {
-    let mut namings = Vec::with_capacity(alloc, codes.len())?;
+    let mut namings = NumberedNamings {
+        numbers: Vec::with_capacity(alloc, codes.len())?,
+        table: first_namings(alloc, l)?,
+    };
     let files = l.members.hierarchy().classes().files();
     let mut rest = codes;
     for (class, file) in files.iter().enumerate() {
         let (here, behind) = rest.split_at(file.methods.len());
-        add_namings(alloc, l, class as u32, file, here, &mut namings)?;
+        add_numbers(alloc, l, class as u32, file, here, &mut namings)?;
         rest = behind;
     }
     Ok(namings)

@@ -1,13 +1,15 @@
 //! What the constant of an instruction means, by numbers (JVMS 5.4.3, 6.5), and which class a row of an exception table catches.
 
-ghost use Rattle.std.specs.Prelude.{◌≡◌, Some, map, IfOk};
+ghost use Rattle.std.specs.Prelude.{◌≡◌, Some, map, IfOk, OnOk, slice_get};
 ghost use Rattle.std.specs.Option.{option_map};
 ghost use Rattle.world_model.specs.Sites as spec;
 ghost use Rattle.class_resolution.specs.Keys.{key_of};
-ghost use Rattle.world_tables.specs.KnownNamings.{AreKnown};
+ghost use Rattle.world_tables.specs.KnownNamings.{Knows};
 ghost use Rattle.world_tables.specs.Linkings.{linking_in};
+ghost use Rattle.world_tables.specs.NamingTables.{IsKept};
 
-use crate::known_namings::{KnownNaming, Use, known_naming};
+use crate::known_namings::{KnownNamings, Use, known_number};
+use crate::naming_table::{PLAIN_NUMBER, primitive_number};
 use class_grammar::text_at;
 use class_model::{Const, Row};
 use class_resolution::{MemberKey, home_of, key_at, name_at, select_special};
@@ -32,7 +34,7 @@ pub struct Linker<'a> {
 }
 
 /// The naming of an instruction that names no constant.
-const PLAIN: Naming = Naming {
+pub(crate) const PLAIN: Naming = Naming {
     site: Site::Plain,
     class: None,
 };
@@ -92,7 +94,8 @@ fn push_naming(l: Linker, pool: &[Const], constant: &Const) -> Result<Naming, No
     }
 }
 
-fn push_at(l: Linker, pool: &[Const], index: u16) -> Result<Naming, NoMemory>
+/// The value that the constant at an index is (JVMS 6.5, ldc, ldc_w, ldc2_w).
+pub fn push_at(l: Linker, pool: &[Const], index: u16) -> Result<Naming, NoMemory>
     ensures { IfOk result (λ n. n ≡ spec.naming_at pool.now index
         (spec.push_naming (linking_in l.entry) pool.now)) }
 {
@@ -278,7 +281,8 @@ pub fn method_at(
     }
 }
 
-fn class_naming(number: Option<u32>) -> Naming
+/// A class, where there is one.
+pub(crate) fn class_naming(number: Option<u32>) -> Naming
     ensures { result ≡ spec.class_naming number }
 {
     match number {
@@ -311,38 +315,37 @@ pub fn array_of_named(
     Ok(class_naming(l.numbers.array_number(&kind)))
 }
 
-/// What the constant of an instruction means in the code of a class with this pool. What it means is noted.
-pub fn naming_of(
+/// The number of what the constant of an instruction means in the code of a class with this pool. What isn't known yet is added to the
+/// table.
+pub fn number_of(
     alloc: Global,
     l: Linker,
     class: u32,
     pool: &[Const],
-    known: &mut [Option<KnownNaming>],
+    known: &mut KnownNamings,
+    table: &mut Vec<Naming>,
     op: &Op,
-) -> Result<Naming, NoMemory>
-    requires { AreKnown (linking_in l) class pool.now known.old }
-    ensures naming { IfOk result (λ n. n ≡
-        spec.naming_of (linking_in l.entry) class pool.now op.now) }
-    ensures known { AreKnown (linking_in l.entry) class pool.now known.new }
+) -> Result<u32, NoMemory>
+    requires { Knows (linking_in l) class pool.now table.old.items known.old }
+    ensures number { IfOk result (λ n. slice_get table.new.items n ≡
+        Some (spec.naming_of (linking_in l.entry) class pool.now op.now)) }
+    ensures kept { OnOk result (IsKept table.old.items table.new.items) }
+    ensures known { OnOk result
+        (Knows (linking_in l.entry) class pool.now table.new.items known.new) }
 {
-    match op {
-        Op::PushConstant(i) | Op::PushWideConstant(i) => push_at(l, pool, *i),
-        Op::GetStatic(i) | Op::PutStatic(i) | Op::GetField(i) | Op::PutField(i) => {
-            known_naming(alloc, l, class, pool, known, Use::Field, *i)
-        }
-        Op::InvokeVirtual(i) | Op::InvokeStatic(i) | Op::InvokeInterface(i, _) => {
-            known_naming(alloc, l, class, pool, known, Use::Method, *i)
-        }
-        Op::InvokeSpecial(i) => known_naming(alloc, l, class, pool, known, Use::Special, *i),
+    let (used, index) = match op {
+        Op::PushConstant(i) | Op::PushWideConstant(i) => (Use::Value, *i),
+        Op::GetStatic(i) | Op::PutStatic(i) | Op::GetField(i) | Op::PutField(i) => (Use::Field, *i),
+        Op::InvokeVirtual(i) | Op::InvokeStatic(i) | Op::InvokeInterface(i, _) => (Use::Method, *i),
+        Op::InvokeSpecial(i) => (Use::Special, *i),
         Op::New(i) | Op::CheckCast(i) | Op::InstanceOf(i) | Op::MultiANewArray(i, _) => {
-            known_naming(alloc, l, class, pool, known, Use::Class, *i)
+            (Use::Class, *i)
         }
-        Op::ANewArray(i) => known_naming(alloc, l, class, pool, known, Use::Elements, *i),
-        Op::NewArray(primitive) => {
-            Ok(class_naming(l.numbers.array_number(&array_of_primitive(*primitive))))
-        }
-        _ => Ok(PLAIN),
-    }
+        Op::ANewArray(i) => (Use::Elements, *i),
+        Op::NewArray(primitive) => return Ok(primitive_number(*primitive)),
+        _ => return Ok(PLAIN_NUMBER),
+    };
+    known_number(alloc, l, class, pool, known, table, used, index)
 }
 
 /// The class that a row of an exception table catches. `None`: it catches every throwable (JVMS 4.7.3).

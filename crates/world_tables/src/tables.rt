@@ -7,6 +7,7 @@ ghost use Rattle.linkage.specs.Members as members;
 ghost use Rattle.world_model.specs.World as spec;
 ghost use Rattle.world_model.specs.LookUps as asked;
 ghost use Rattle.world_model.specs.MainMethod.{main_of};
+ghost use Rattle.world_model.specs.Namings.{meanings};
 ghost use Rattle.world_model.specs.Fields.{instance_fields, place};
 ghost use Rattle.world_model.specs.Pools as pools;
 ghost use Rattle.world_model.specs.Worlds.{world_of};
@@ -18,6 +19,7 @@ use crate::code_tables::{CodeTables, code_tables};
 use crate::instance_fields::row_at;
 use crate::main_method::main_among;
 use crate::member_tables::{MemberTables, member_tables};
+use crate::namings::NumberedNamings;
 use crate::number_tables::{NumberTables, number_tables};
 use crate::pc_tables::index_by;
 use crate::places::place_at;
@@ -29,7 +31,7 @@ use linkage::Place;
 use stack_maps::{Base, VType};
 use std::alloc::Global;
 use std::marker::Model;
-use world_model::{ArrayType, FieldInfo, MethodCode, MethodInfo, Naming, Site};
+use world_model::{ArrayType, FieldInfo, MethodCode, MethodInfo, Namings, Site};
 use world_numbers::{ArrayNumbers, Codes, KnownClasses, MemberNumbers, all_codes};
 
 /// A program and its tables.
@@ -44,7 +46,7 @@ pub struct Tables {
     by_pc: Vec<Items<u16>>,
     instance_fields: Vec<Items<u32>>,
     places: Vec<Option<u32>>,
-    namings: Vec<Items<Naming>>,
+    namings: NumberedNamings,
     catches: Vec<Items<Option<u32>>>,
     known: KnownClasses,
 }
@@ -257,12 +259,13 @@ impl Tables {
     }
 
     /// What the constants of a method's instructions mean, by instruction.
-    pub fn namings(&self, method: u32) -> &[Naming]
-        ensures { result.now ≡ get_or self.now.namings method [] }
+    #[inline(always)]
+    pub fn namings(&self, method: u32) -> Namings<'_>
+        ensures { meanings result ≡ get_or self.now.namings method [] }
     {
-        match self.namings.get(method as usize) {
-            Some(namings) => namings,
-            None => &[],
+        Namings {
+            numbers: row_at(&self.namings.numbers, method),
+            table: &self.namings.table,
         }
     }
 
@@ -290,10 +293,7 @@ impl Tables {
         let Some(index) = self.index_at(method, pc) else {
             return Site::Plain;
         };
-        match self.namings(method).get(index as usize) {
-            Some(naming) => naming.site,
-            None => Site::Plain,
-        }
+        self.namings(method).at(index as usize).site
     }
 
     /// The number of the class of an array's elements, in constant time. `None`: the class is no array class, or its elements are

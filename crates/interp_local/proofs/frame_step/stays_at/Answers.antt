@@ -1,4 +1,5 @@
 use Rattle.std.proofs.Common.{◌∙◌, refl, sym, arith}
+use Rattle.world_model.specs.Namings.{meanings}
 use Rattle.verify_types.specs.Environment.{Instruction}
 use Rattle.interp_local.specs.Places.{naming_at}
 use Rattle.interp_local.specs.Runs.{frame_of}
@@ -16,7 +17,7 @@ does_stay-requires g c =
     let f = c.args.frame.now in
     let row = c.args.row.now in
     let here = c.requires.at in
-    let i : Instruction = record { instr = c.instr_at-instr.result.now; naming = naming_at code.namings.now c.args.at } in
+    let i : Instruction = record { instr = c.instr_at-instr.result.now; naming = naming_at (meanings code.namings) c.args.at } in
     let e = fetched_at w code f row c.args.used c.args.at i.instr i.naming c.requires.code here c.instr_at-instr.ensures refl in
     record {
       fits = omega (arith, used_at w code.instrs.now f row c.args.used c.args.at c.requires.typed here);
@@ -27,6 +28,6 @@ pub returns : goal.returns
 returns g c = λ here.
     let w = c.args.p.now in
     let code = c.args.code.now in
-    let i : Instruction = record { instr = c.instr_at-instr.result.now; naming = naming_at code.namings.now c.args.at } in
+    let i : Instruction = record { instr = c.instr_at-instr.result.now; naming = naming_at (meanings code.namings) c.args.at } in
     let e = fetched_at w code c.args.frame.now c.args.row.now c.args.used c.args.at i.instr i.naming c.requires.code here c.instr_at-instr.ensures refl in
     stays_there w (frame_of c.args.frame.now here.pc c.args.row.now c.args.used) i e ∙ sym c.does_stay.ensures

@@ -1,5 +1,6 @@
 use Rattle.std.proofs.Common.{ℕ, List, [], Option, get_or, sym, ap, ◌∙◌}
 use Rattle.std.specs.Option.{option_copied}
+use Rattle.world_model.specs.Namings.{meanings}
 use Rattle.opcodes.specs.declared.op.Instr.{Instr}
 use Rattle.world_model.specs.declared.sites.Naming.{Naming}
 use Rattle.ready_program.specs.Instructions.{instruction_by}
@@ -10,7 +11,7 @@ pub returns-in-Some : goal.returns-in-Some
 returns-in-Some c =
     let code = c.in-Some.code.now in
     c.instruction_at.ensures
-    ∙ ap (λ (instrs : List Instr). instruction_by instrs c.namings.result.now c.index_at.result) c.deref.ensures
+    ∙ ap (λ (instrs : List Instr). instruction_by instrs (meanings c.namings.result) c.index_at.result) c.deref.ensures
     ∙ ap (λ (namings : List Naming). instruction_by code.code namings c.index_at.result) c.namings.ensures
     ∙ ap (λ (index : Option ℕ). instruction_by code.code (get_or c.args.tables.now.namings c.args.method []) index) c.index_at.ensures
     ∙ instruction_is c.args.tables.now c.args.method c.args.pc code (sym c.code.ensures.code ∙ ap option_copied c.in-Some.is)
