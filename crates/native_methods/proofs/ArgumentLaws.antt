@@ -1,5 +1,6 @@
 -- What a native method does on an operand stack whose topmost operands are known.
-use Rattle.std.proofs.Common.{◌≡◌, List, [], ◌∷◌, Option, Some, None, ap, refl, subst, ◌∙◌}
+use Rattle.std.proofs.Common.{◌≡◌, ℕ, drop, List, [], ◌∷◌, Option, Some, None, ap, refl, subst, sym, ◌∙◌}
+use Rattle.std.specs.Prelude.{Result, Ok, Err, IfOk}
 use Rattle.items.specs.Options.{◌>>=◌}
 use Rattle.opcodes.specs.declared.op.Kind.{Kind}
 use Rattle.opcodes.specs.declared.op.Kind.TheVariants as kinds
@@ -11,13 +12,16 @@ use Rattle.world_model.specs.World.{World}
 use Rattle.ref_model.specs.State.{State}
 use Rattle.ref_model.specs.Effects.{Effect}
 use Rattle.ref_model.specs.NativeRows as rows
-use Rattle.ref_model.specs.NativeRows.{NativeRow, native, native_acted, answered}
-use Rattle.ref_model.specs.Natives.{native_row}
+use Rattle.ref_model.specs.NativeRows.{NativeRow, native, native_acted, answered, row_kinds}
+use Rattle.ref_model.specs.Natives.{native_row, native_takes}
+use Rattle.ref_model.proofs.NativeLaws.{rows_take}
 use Rattle.ref_model.specs.Operands.{FindsArguments, HasOperands}
-use Rattle.native_methods.specs.Arguments.{answer_to, answer_to_two, kinds_of, native_effect, row_answer, row_kinds, with_argument}
-use Rattle.native_methods.specs.NativeStates.{IsAnswer, IsAnswerEffect}
+use Rattle.native_methods.specs.Arguments.{answer_to, answer_to_two, kinds_of, native_effect, row_answer, with_argument}
+use Rattle.native_methods.specs.NativeStates.{Answers, AnswersOn, IsAnswer, IsAnswerEffect, with_natives}
+use Rattle.native_methods.specs.declared.state.NativeState.{NativeState}
+use Rattle.items.specs.declared.no_memory.NoMemory.{NoMemory}
 use Rattle.native_methods.proofs.AnswerLaws.{any_state}
-use Rattle.native_methods.specs.declared.run.Arguments.{Arguments}
+use Rattle.native_methods.specs.declared.arguments.Arguments.{Arguments}
 use Rattle.native_methods.specs.declared.answer.Answer.{Answer}
 use Rattle.native_methods.specs.declared.answer.Answer.TheVariants as answers
 
@@ -29,9 +33,8 @@ row_found (Some (native takes act)) ks stack e x =
     let is : takes ≡ ks = cc in
     subst (λ js. HasOperands js 0 stack) is (x takes act refl)
 
-pub arguments_found : (w : World) (n : Native) (a b : Arguments) (stack : List Slot) → row_kinds (native_row w any_state n) ≡ Some (kinds_of a) → a ≡ b →
-    FindsArguments w n stack → HasOperands (kinds_of b) 0 stack
-arguments_found w n a b stack e is x = row_found (native_row w any_state n) (kinds_of b) stack (e ∙ ap (λ y. Some (kinds_of y)) is) (x any_state)
+pub arguments_found : (w : World) (n : Native) (a : Arguments) (stack : List Slot) → Some (kinds_of a) ≡ native_takes n → FindsArguments w n stack → HasOperands (kinds_of a) 0 stack
+arguments_found w n a stack e x = row_found (native_row w any_state n) (kinds_of a) stack (rows_take w any_state n ∙ sym e) (x any_state)
 
 -- what a row does on a stack, if there is a row
 abbrev on : Option NativeRow → List Slot → Option Effect
@@ -93,3 +96,16 @@ two_answered answer w r q n k x this stack middle rest p p2 h =
     (λ a e. argument_is k x row stack middle (answered rest a) p
     (argument_is kinds.Reference this (with_argument k x row) middle rest (answered rest a) p2
     (answered_is (with_argument kinds.Reference this (with_argument k x row)) rest a e))) h
+
+-- The same, unless memory ran out.
+pub one_along : (w : World) (n : Native) (k : Kind) (x : Of k) (stack : List Slot) (count : ℕ) (old new : NativeState) (result : Result Answer NoMemory) →
+    popped k stack ≡ Some (x, drop count stack) → IfOk result (λ a. Answers (λ r. answer_to w r n k x) old new a) → IfOk result (AnswersOn w n stack count old new)
+one_along w n k x stack count old new (Err e) p h = tt
+one_along w n k x stack count old new (Ok a) p h = λ r. one_answered a w (with_natives old r) (with_natives new r) n k x stack (drop count stack) p (h r)
+
+pub two_along : (w : World) (n : Native) (k : Kind) (x : Of k) (this : Of kinds.Reference) (stack : List Slot) (first count : ℕ) (old new : NativeState) (result : Result Answer NoMemory) →
+    popped k stack ≡ Some (x, drop first stack) → popped kinds.Reference (drop first stack) ≡ Some (this, drop count stack) →
+    IfOk result (λ a. Answers (λ r. answer_to_two w r n k x this) old new a) → IfOk result (AnswersOn w n stack count old new)
+two_along w n k x this stack first count old new (Err e) p q h = tt
+two_along w n k x this stack first count old new (Ok a) p q h = λ r.
+    two_answered a w (with_natives old r) (with_natives new r) n k x this stack (drop first stack) (drop count stack) p q (h r)

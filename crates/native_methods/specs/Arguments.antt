@@ -1,5 +1,5 @@
 -- The row of a native method with its arguments given one by one.
-use Rattle.std.specs.Prelude.{[], ◌∷◌, List, Option, Some, None}
+use Rattle.std.specs.Prelude.{ℕ, [], ◌∷◌, List, Option, Some, None}
 use Rattle.items.specs.Options.{◌>>=◌}
 use Rattle.opcodes.specs.declared.op.Kind.{Kind}
 use Rattle.opcodes.specs.declared.op.Kind.TheVariants as kinds
@@ -11,14 +11,10 @@ use Rattle.ref_model.specs.State.{State}
 use Rattle.ref_model.specs.Effects.{Effect}
 use Rattle.ref_model.specs.NativeRows.{Answer, NativeRow, native, native_acted}
 use Rattle.ref_model.specs.Natives.{native_row}
-use Rattle.native_methods.specs.declared.run.Arguments.{Arguments}
-use Rattle.native_methods.specs.declared.run.Arguments.TheVariants as arguments
+use Rattle.native_methods.specs.declared.arguments.Arguments.{Arguments}
+use Rattle.native_methods.specs.declared.arguments.Arguments.TheVariants as arguments
 
--- the kinds that a row takes, and those of what native methods take in the code
-abbrev pub row_kinds : Option NativeRow → Option (List Kind)
-row_kinds None = None
-row_kinds (Some (native takes act)) = Some takes
-
+-- the kinds of what native methods take in the code
 abbrev pub kinds_of : Arguments → List Kind
 kinds_of arguments.Reference = kinds.Reference ∷ []
 kinds_of arguments.TwoReferences = kinds.Reference ∷ kinds.Reference ∷ []
@@ -26,6 +22,15 @@ kinds_of arguments.IntAndReference = kinds.Int ∷ kinds.Reference ∷ []
 kinds_of arguments.LongAndReference = kinds.Long ∷ kinds.Reference ∷ []
 kinds_of arguments.Int = kinds.Int ∷ []
 kinds_of arguments.Long = kinds.Long ∷ []
+
+-- and how many slots they take
+abbrev pub slots_of : Arguments → ℕ
+slots_of arguments.Reference = 1
+slots_of arguments.TwoReferences = 2
+slots_of arguments.IntAndReference = 2
+slots_of arguments.LongAndReference = 3
+slots_of arguments.Int = 1
+slots_of arguments.Long = 2
 
 -- a row with its first argument, the topmost operand; None where it takes no argument of the kind
 abbrev pub with_argument : (k : Kind) → Of k → Option NativeRow → Option NativeRow

@@ -5,6 +5,8 @@ use Rattle.instruction_rows.specs.declared.value.Slot.{Slot}
 use Rattle.instruction_rows.specs.declared.value.Value.{Value}
 use Rattle.instruction_rows.specs.declared.value.Value.TheVariants as values
 use Rattle.continuation.specs.Continuation.{Continuation}
+use Rattle.lib_table.specs.declared.native.Native.{Native}
+use Rattle.world_model.specs.World.{World}
 use Rattle.ref_model.specs.State.{State}
 use Rattle.ref_model.specs.Effects.{Effect, done, gives, throws}
 use Rattle.ref_model.specs.Heap.{units_of, values_of, with_value}
@@ -15,6 +17,7 @@ use Rattle.object_events.specs.Operands.{operands}
 use Rattle.object_events.specs.Outcomes.{IsEffect, with_heap}
 use Rattle.object_events.specs.declared.outcome.Outcome.{Outcome}
 use Rattle.object_events.specs.declared.outcome.Outcome.TheVariants as outcomes
+use Rattle.native_methods.specs.Arguments.{native_effect}
 use Rattle.native_methods.specs.declared.state.NativeState.{NativeState}
 use Rattle.native_methods.specs.declared.answer.Answer.{Answer}
 use Rattle.native_methods.specs.declared.answer.Answer.TheVariants as answers
@@ -58,6 +61,11 @@ IsAnswerEffect answers.Returns effect q rest = effect ≡ Some (done q rest)
 IsAnswerEffect (answers.Gives v) effect q rest = effect ≡ Some (gives q v rest)
 IsAnswerEffect (answers.Throws e) effect q rest = effect ≡ Some (throws e)
 IsAnswerEffect answers.Undefined effect q rest = Unit {0}
+
+-- With its arguments topmost on an operand stack, a native method answered this, and the answer takes the place of so many slots.
+abbrev pub AnswersOn : World → Native → List Slot → ℕ → NativeState → NativeState → Answer → Type 0
+AnswersOn w n stack count old new answer = (r : State) →
+    IsAnswerEffect answer (native_effect w n (with_natives old r) stack) (with_natives new r) (drop count stack)
 
 -- Whichever effect an answer is of that takes the place of so many operands, the outcome is of that effect.
 abbrev pub IsAnswered : ℕ → Answer → Continuation → Continuation → Outcome → Type 0

@@ -4,6 +4,7 @@
 
 mod answer;
 mod answers;
+mod arguments;
 mod builder_natives;
 mod class_names;
 mod object_natives;
@@ -15,6 +16,7 @@ mod texts;
 mod utf8;
 mod world;
 
+pub use arguments::{Arguments, takes};
 pub use run::run_native;
 pub use state::NativeState;
 pub use texts::{hex_text, int_text, long_text, text_hash};

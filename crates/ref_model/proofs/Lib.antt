@@ -1,3 +1,4 @@
+pub mod NativeLaws
 pub mod StateLaws
 mod RowLaws
 pub mod StepLaws

@@ -24,6 +24,11 @@ pub data Answer : Type 0 where
 pub data NativeRow : Type 0 where
   native : (takes : List Kind) → Function takes Answer → NativeRow
 
+-- the kinds that a row takes
+abbrev pub row_kinds : Option NativeRow → Option (List Kind)
+row_kinds None = None
+row_kinds (Some (native takes act)) = Some takes
+
 -- what an answer does to what is left of the operand stack
 abbrev pub answered : List Slot → Answer → Effect
 answered rest (returns r) = done r rest

@@ -1,6 +1,8 @@
 -- The native methods of one thread, by their names in the table of built-in classes. Those of threads, monitors and the clock have no row
 -- yet, and linking refuses what names them.
-use Rattle.std.specs.Prelude.{Option, Some, None}
+use Rattle.std.specs.Prelude.{List, [], ◌∷◌, Option, Some, None}
+use Rattle.opcodes.specs.declared.op.Kind.{Kind}
+use Rattle.opcodes.specs.declared.op.Kind.TheVariants as kinds
 use Rattle.lib_table.specs.declared.native.Native.{Native}
 use Rattle.lib_table.specs.declared.native.Native.TheVariants as natives
 use Rattle.world_model.specs.World.{World}
@@ -52,3 +54,42 @@ native_row w r natives.PrintStreamPrintChar = Some (print_char r)
 native_row w r natives.PrintStreamPrintBoolean = Some (print_boolean r)
 native_row w r natives.PrintStreamPrintString = Some (print_string r)
 native_row w r native = None
+
+-- the kinds that a native method takes, the topmost first, and a reference to the receiver below them; of one that has no row, None
+abbrev pub native_takes : Native → Option (List Kind)
+native_takes natives.ObjectInit = Some (kinds.Reference ∷ [])
+native_takes natives.ObjectEquals = Some (kinds.Reference ∷ kinds.Reference ∷ [])
+native_takes natives.ObjectHashCode = Some (kinds.Reference ∷ [])
+native_takes natives.ObjectToString = Some (kinds.Int ∷ kinds.Reference ∷ [])
+native_takes natives.StringLength = Some (kinds.Reference ∷ [])
+native_takes natives.StringCharAt = Some (kinds.Int ∷ kinds.Reference ∷ [])
+native_takes natives.StringIsEmpty = Some (kinds.Reference ∷ [])
+native_takes natives.StringEquals = Some (kinds.Reference ∷ kinds.Reference ∷ [])
+native_takes natives.StringHashCode = Some (kinds.Reference ∷ [])
+native_takes natives.StringConcat = Some (kinds.Reference ∷ kinds.Reference ∷ [])
+native_takes natives.StringToString = Some (kinds.Reference ∷ [])
+native_takes natives.StringValueOfInt = Some (kinds.Int ∷ [])
+native_takes natives.StringValueOfLong = Some (kinds.Long ∷ [])
+native_takes natives.StringValueOfChar = Some (kinds.Int ∷ [])
+native_takes natives.StringValueOfBoolean = Some (kinds.Int ∷ [])
+native_takes natives.StringBuilderInit = Some (kinds.Reference ∷ [])
+native_takes natives.StringBuilderAppendInt = Some (kinds.Int ∷ kinds.Reference ∷ [])
+native_takes natives.StringBuilderAppendLong = Some (kinds.Long ∷ kinds.Reference ∷ [])
+native_takes natives.StringBuilderAppendChar = Some (kinds.Int ∷ kinds.Reference ∷ [])
+native_takes natives.StringBuilderAppendBoolean = Some (kinds.Int ∷ kinds.Reference ∷ [])
+native_takes natives.StringBuilderAppendString = Some (kinds.Reference ∷ kinds.Reference ∷ [])
+native_takes natives.StringBuilderLength = Some (kinds.Reference ∷ [])
+native_takes natives.StringBuilderToString = Some (kinds.Reference ∷ [])
+native_takes natives.SystemExit = Some (kinds.Int ∷ [])
+native_takes natives.PrintStreamPrintln = Some (kinds.Reference ∷ [])
+native_takes natives.PrintStreamPrintlnInt = Some (kinds.Int ∷ kinds.Reference ∷ [])
+native_takes natives.PrintStreamPrintlnLong = Some (kinds.Long ∷ kinds.Reference ∷ [])
+native_takes natives.PrintStreamPrintlnChar = Some (kinds.Int ∷ kinds.Reference ∷ [])
+native_takes natives.PrintStreamPrintlnBoolean = Some (kinds.Int ∷ kinds.Reference ∷ [])
+native_takes natives.PrintStreamPrintlnString = Some (kinds.Reference ∷ kinds.Reference ∷ [])
+native_takes natives.PrintStreamPrintInt = Some (kinds.Int ∷ kinds.Reference ∷ [])
+native_takes natives.PrintStreamPrintLong = Some (kinds.Long ∷ kinds.Reference ∷ [])
+native_takes natives.PrintStreamPrintChar = Some (kinds.Int ∷ kinds.Reference ∷ [])
+native_takes natives.PrintStreamPrintBoolean = Some (kinds.Int ∷ kinds.Reference ∷ [])
+native_takes natives.PrintStreamPrintString = Some (kinds.Reference ∷ kinds.Reference ∷ [])
+native_takes n = None

@@ -31,12 +31,12 @@ use Rattle.ref_model.specs.Frames.{callee, caller}
 use Rattle.ref_model.specs.LocalRows.{most_frames}
 use Rattle.ref_model.specs.Effects.{Effect, invokes, throws}
 use Rattle.ref_model.specs.NativeRows.{native_acted}
-use Rattle.ref_model.specs.Natives.{native_row}
+use Rattle.ref_model.specs.Natives.{native_row, native_takes}
 use Rattle.ref_model.specs.Calls.{code_entered, native_entered, entered}
 use Rattle.typed_frames.specs.Typed.{Waits, IsUnder, AreUnder, Typed, back_of, initializes}
 use Rattle.typed_frames.specs.TypedStates.{IsTypedState}
 use Rattle.typed_frames.specs.CallLaws.{CallerWaits, takes_receiver}
-use Rattle.typed_frames.specs.NativeKinds.{native_takes, FitsNative}
+use Rattle.typed_frames.specs.NativeKinds.{FitsNative}
 use Rattle.typed_frames.specs.EnterLaws.{IsOfClass, IsChosen, IsCallResult}
 use Rattle.typed_frames.proofs.FetchLaws.{parts, fine}
 use Rattle.typed_frames.proofs.CallLaws.{Called, called_types, static_begins}

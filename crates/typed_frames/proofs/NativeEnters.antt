@@ -24,13 +24,13 @@ use Rattle.ref_model.specs.State.{State}
 use Rattle.ref_model.specs.Fetch.{Named}
 use Rattle.ref_model.specs.Effects.{Effect, done, invokes, throws, throws_object}
 use Rattle.ref_model.specs.NativeRows.{Answer, NativeRow, native, answered, native_acted}
-use Rattle.ref_model.specs.Natives.{native_row}
+use Rattle.ref_model.specs.Natives.{native_row, native_takes}
 use Rattle.ref_model.specs.Operands.{argument_kinds}
 use Rattle.typed_frames.specs.Typed.{Typed, given_back, result_type}
 use Rattle.typed_frames.specs.TypedStates.{IsTypedState}
 use Rattle.typed_frames.specs.EventLaws.{IsKept}
 use Rattle.typed_frames.specs.NativeLaws.{native_result, IsAnswer}
-use Rattle.typed_frames.specs.NativeKinds.{native_takes, GivesKind, IsNativeOf, FitsNative}
+use Rattle.typed_frames.specs.NativeKinds.{GivesKind, IsNativeOf, FitsNative}
 use Rattle.typed_frames.specs.EnterLaws.{IsCallResult}
 use Rattle.typed_frames.proofs.FetchLaws.{fine}
 use Rattle.typed_frames.proofs.Arrivals.{arrived, on_frames}

@@ -8,7 +8,6 @@ use Rattle.descriptors.specs.declared.kind.ElementType.TheVariants as elements
 use Rattle.descriptors.specs.declared.kind.Kind.{Kind as FieldType}
 use Rattle.descriptors.specs.declared.kind.Signature.{Signature}
 use Rattle.lib_table.specs.declared.native.Native.{Native}
-use Rattle.lib_table.specs.declared.native.Native.TheVariants as natives
 use Rattle.opcodes.specs.declared.op.Kind.{Kind}
 use Rattle.opcodes.specs.declared.op.Kind.TheVariants as kinds
 use Rattle.stack_maps.specs.declared.types.VType.{VType}
@@ -25,11 +24,12 @@ use Rattle.verify_types.specs.Operands.{only_if, popped_as, wanted, all_wanted}
 use Rattle.verify_types.specs.Calls.{argument_types}
 use Rattle.ref_model.specs.Kinds.{kind_of_element_type, value_kind}
 use Rattle.ref_model.specs.State.{State}
-use Rattle.ref_model.specs.NativeRows.{Answer, NativeRow, native}
-use Rattle.ref_model.specs.Natives.{native_row}
+use Rattle.ref_model.specs.NativeRows.{Answer, native, row_kinds}
+use Rattle.ref_model.specs.Natives.{native_row, native_takes}
 use Rattle.ref_model.specs.Operands.{argument_kinds}
 use Rattle.typed_frames.specs.NativeLaws.{IsBack}
-use Rattle.typed_frames.specs.NativeKinds.{has_element_kind, has_kind, native_takes, GivesKind}
+use Rattle.ref_model.proofs.NativeLaws.{rows_take}
+use Rattle.typed_frames.specs.NativeKinds.{has_element_kind, has_kind, GivesKind}
 use Rattle.typed_frames.proofs.ValueLaws.{wanted_is}
 
 -- ---- the kinds of types
@@ -142,51 +142,7 @@ back_kind w (Some t) (Some k) gives = type_kind w t gives.0 ∙ sym gives.1
 
 -- ---- the table
 
-abbrev takes_of : NativeRow → List Kind
-takes_of (native takes act) = takes
-
-inside : (a b : NativeRow) → ◌≡◌ {A = Option NativeRow} (Some a) (Some b) → a ≡ b
-inside a b e = cc
-
-taken_is : (known : NativeRow) (takes : List Kind) (act : Function takes Answer) → ◌≡◌ {A = Option NativeRow} (Some known) (Some (native takes act))
-    → takes_of known ≡ takes
-taken_is known takes act e = ap takes_of (inside known (native takes act) e)
-
+-- the kinds that a row takes are those that are said of its native method
 pub natives_take : (w : World) (r : State) (n : Native) (takes : List Kind) (act : Function takes Answer)
     → native_row w r n ≡ Some (native takes act) → native_takes n ≡ Some takes
-natives_take w r natives.ObjectInit takes act e = ap Some (taken_is _ takes act e)
-natives_take w r natives.ObjectEquals takes act e = ap Some (taken_is _ takes act e)
-natives_take w r natives.ObjectHashCode takes act e = ap Some (taken_is _ takes act e)
-natives_take w r natives.ObjectToString takes act e = ap Some (taken_is _ takes act e)
-natives_take w r natives.StringLength takes act e = ap Some (taken_is _ takes act e)
-natives_take w r natives.StringCharAt takes act e = ap Some (taken_is _ takes act e)
-natives_take w r natives.StringIsEmpty takes act e = ap Some (taken_is _ takes act e)
-natives_take w r natives.StringEquals takes act e = ap Some (taken_is _ takes act e)
-natives_take w r natives.StringHashCode takes act e = ap Some (taken_is _ takes act e)
-natives_take w r natives.StringConcat takes act e = ap Some (taken_is _ takes act e)
-natives_take w r natives.StringToString takes act e = ap Some (taken_is _ takes act e)
-natives_take w r natives.StringValueOfInt takes act e = ap Some (taken_is _ takes act e)
-natives_take w r natives.StringValueOfLong takes act e = ap Some (taken_is _ takes act e)
-natives_take w r natives.StringValueOfChar takes act e = ap Some (taken_is _ takes act e)
-natives_take w r natives.StringValueOfBoolean takes act e = ap Some (taken_is _ takes act e)
-natives_take w r natives.StringBuilderInit takes act e = ap Some (taken_is _ takes act e)
-natives_take w r natives.StringBuilderAppendInt takes act e = ap Some (taken_is _ takes act e)
-natives_take w r natives.StringBuilderAppendLong takes act e = ap Some (taken_is _ takes act e)
-natives_take w r natives.StringBuilderAppendChar takes act e = ap Some (taken_is _ takes act e)
-natives_take w r natives.StringBuilderAppendBoolean takes act e = ap Some (taken_is _ takes act e)
-natives_take w r natives.StringBuilderAppendString takes act e = ap Some (taken_is _ takes act e)
-natives_take w r natives.StringBuilderLength takes act e = ap Some (taken_is _ takes act e)
-natives_take w r natives.StringBuilderToString takes act e = ap Some (taken_is _ takes act e)
-natives_take w r natives.SystemExit takes act e = ap Some (taken_is _ takes act e)
-natives_take w r natives.PrintStreamPrintln takes act e = ap Some (taken_is _ takes act e)
-natives_take w r natives.PrintStreamPrintlnInt takes act e = ap Some (taken_is _ takes act e)
-natives_take w r natives.PrintStreamPrintlnLong takes act e = ap Some (taken_is _ takes act e)
-natives_take w r natives.PrintStreamPrintlnChar takes act e = ap Some (taken_is _ takes act e)
-natives_take w r natives.PrintStreamPrintlnBoolean takes act e = ap Some (taken_is _ takes act e)
-natives_take w r natives.PrintStreamPrintlnString takes act e = ap Some (taken_is _ takes act e)
-natives_take w r natives.PrintStreamPrintInt takes act e = ap Some (taken_is _ takes act e)
-natives_take w r natives.PrintStreamPrintLong takes act e = ap Some (taken_is _ takes act e)
-natives_take w r natives.PrintStreamPrintChar takes act e = ap Some (taken_is _ takes act e)
-natives_take w r natives.PrintStreamPrintBoolean takes act e = ap Some (taken_is _ takes act e)
-natives_take w r natives.PrintStreamPrintString takes act e = ap Some (taken_is _ takes act e)
-natives_take w r n takes act e = absurd cc
+natives_take w r n takes act e = sym (rows_take w r n) ∙ ap row_kinds e

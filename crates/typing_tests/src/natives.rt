@@ -1,63 +1,19 @@
 //! The kinds of what native methods take and give back, and whether they fit their descriptors.
 
 ghost use Rattle.std.specs.Prelude.{◌≡◌, ◌++◌, true, map, reverse, IfOk};
-ghost use Rattle.std.specs.Option.{option_map};
 ghost use Rattle.ref_model.specs.Kinds as spec;
 ghost use Rattle.typed_frames.specs.NativeLaws.{native_result};
 ghost use Rattle.ref_model.specs.Operands.{argument_kinds};
-ghost use Rattle.typed_frames.specs.NativeKinds.{native_takes, GivesKind, FitsNative};
+ghost use Rattle.typed_frames.specs.NativeKinds.{GivesKind, FitsNative};
 ghost use Rattle.typing_tests.specs.Receivers.{receiver_kinds};
 
 use crate::kinds::{has_kind, value_kind};
 use descriptors::{Kind as FieldType, Signature};
 use items::NoMemory;
 use lib_table::Native;
+use native_methods::takes;
 use opcodes::Kind;
 use std::alloc::Global;
-
-/// The kinds of what a native method takes, the topmost first, with the receiver below. `None`: the machine does nothing in its place yet.
-pub fn takes(native: Native) -> Option<&'static [Kind]>
-    ensures { option_map (λ kinds. kinds.now) result ≡ native_takes native }
-{
-    match native {
-        Native::ObjectInit
-        | Native::ObjectHashCode
-        | Native::StringLength
-        | Native::StringIsEmpty
-        | Native::StringHashCode
-        | Native::StringToString
-        | Native::StringBuilderInit
-        | Native::StringBuilderLength
-        | Native::StringBuilderToString
-        | Native::PrintStreamPrintln => Some(&[Kind::Reference]),
-        Native::ObjectEquals
-        | Native::StringEquals
-        | Native::StringConcat
-        | Native::StringBuilderAppendString
-        | Native::PrintStreamPrintlnString
-        | Native::PrintStreamPrintString => Some(&[Kind::Reference, Kind::Reference]),
-        Native::ObjectToString
-        | Native::StringCharAt
-        | Native::StringBuilderAppendInt
-        | Native::StringBuilderAppendChar
-        | Native::StringBuilderAppendBoolean
-        | Native::PrintStreamPrintlnInt
-        | Native::PrintStreamPrintlnChar
-        | Native::PrintStreamPrintlnBoolean
-        | Native::PrintStreamPrintInt
-        | Native::PrintStreamPrintChar
-        | Native::PrintStreamPrintBoolean => Some(&[Kind::Int, Kind::Reference]),
-        Native::StringBuilderAppendLong
-        | Native::PrintStreamPrintlnLong
-        | Native::PrintStreamPrintLong => Some(&[Kind::Long, Kind::Reference]),
-        Native::StringValueOfInt
-        | Native::StringValueOfChar
-        | Native::StringValueOfBoolean
-        | Native::SystemExit => Some(&[Kind::Int]),
-        Native::StringValueOfLong => Some(&[Kind::Long]),
-        _ => None,
-    }
-}
 
 /// The kind of what a native method gives back. `None`: it gives nothing back, or the machine does nothing in its place yet.
 pub fn gives(native: Native) -> Option<Kind>
@@ -150,8 +106,8 @@ pub fn fits_native(
 {
     match takes(native) {
         None => Ok(true),
-        Some(kinds) => Ok(
-            takes_kinds(alloc, signature, receiver, kinds)?
+        Some(arguments) => Ok(
+            takes_kinds(alloc, signature, receiver, arguments.kinds())?
                 && gives_kind(&signature.result, gives(native)),
         ),
     }

@@ -1,5 +1,6 @@
+use Rattle.ref_model.proofs.NativeLaws.{rows_take}
 use Rattle.typed_frames.proofs.NativeCalls.{natives_go_on}
-use Rattle.typed_frames.proofs.NativeKinds.{type_kind, natives_take}
+use Rattle.typed_frames.proofs.NativeKinds.{type_kind}
 use Rattle.typed_frames.proofs.NativeLaws.{natives_keep}
 use Rattle.typed_frames.proofs.natives_keep_kinds.Goals as goal
 
@@ -11,7 +12,7 @@ returns-clause-operands c = λ w r n takes act back ts rest xs effect fits row t
     natives_go_on w r n takes act back ts rest xs effect fits row types of fit made
 
 pub returns-clause-takes : goal.returns-clause-takes
-returns-clause-takes c = λ w r n takes act row. natives_take w r n takes act row
+returns-clause-takes c = λ w r n. rows_take w r n
 
 pub returns-clause-types : goal.returns-clause-types
 returns-clause-types c = λ w t has. type_kind w t has
