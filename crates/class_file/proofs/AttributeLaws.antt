@@ -173,8 +173,8 @@ named_by : (test : List ℕ → Bool) (o : Option (List ℕ)) → option_map_or 
 named_by test None e = absurd cc
 named_by test (Some name) e = (name, refl, e)
 
-naming : (test : List ℕ → Bool) (o : Option (List ℕ)) (name : List ℕ) → o ≡ Some name → test name ≡ true → option_map_or test o false ≡ true
-naming test o name e h = ap (λ (x : Option (List ℕ)). option_map_or test x false) e ∙ h
+resolution : (test : List ℕ → Bool) (o : Option (List ℕ)) (name : List ℕ) → o ≡ Some name → test name ≡ true → option_map_or test o false ≡ true
+resolution test o name e h = ap (λ (x : Option (List ℕ)). option_map_or test x false) e ∙ h
 
 not_so : (b : Bool) → not b ≡ true → b ≡ false
 not_so true e = absurd cc
@@ -205,7 +205,7 @@ extra_reads pool seen more = record {
       let whole = Takes-then bytes (u2 a.0.0.index) a.0.1 (length_and_bytes (code_extra p.0.body)) p.1 one.0 two.takes in
       let text : text_at pool p.0.name ≡ Some a.0.0.text = ap (text_at pool) two.named ∙ one.1.text in (
         subst (λ (n : ℕ). Takes bytes (u2 n ++ length_and_bytes (code_extra p.0.body)) p.1) (sym two.named) whole,
-        ((record { name = subst IsU2 (sym two.named) one.1.index; contents = two.fits }, naming (has_extra_name p.0.body) (text_at pool p.0.name) a.0.0.text text two.extra), two.once),
+        ((record { name = subst IsU2 (sym two.named) one.1.index; contents = two.fits }, resolution (has_extra_name p.0.body) (text_at pool p.0.name) a.0.0.text text two.extra), two.once),
       );
   again = λ a rest h. extra_again pool seen a.name a.body rest h.0 h.1;
 }
@@ -397,7 +397,7 @@ attribute_reads pool holder seen more = record {
         (
           (
             record { name = subst IsU2 (sym two.named) one.1.index; contents = two.contents; size = two.size },
-            record { named = naming (has_body_name holder p.0.body) (text_at pool p.0.name) a.0.0.text text two.has; inside = two.inside },
+            record { named = resolution (has_body_name holder p.0.body) (text_at pool p.0.name) a.0.0.text text two.has; inside = two.inside },
           ),
           two.once,
         ),

@@ -1,8 +1,8 @@
 -- What is kept of a linked world.
 use Rattle.std.specs.Prelude.{◌≡◌}
-use Rattle.linkage.specs.Program.{Program}
-use Rattle.linkage.specs.Faults.{Links}
-use Rattle.world_model.specs.Worlds.{world_of}
+use Rattle.link_rules.specs.Program.{Program}
+use Rattle.link_rules.specs.Faults.{Links}
+use Rattle.link_model.specs.Worlds.{world_of}
 use Rattle.class_world.specs.declared.world.World.TheInside.{Inside}
 
 abbrev pub program_of : Inside → Program

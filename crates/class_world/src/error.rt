@@ -1,7 +1,7 @@
 ghost use Rattle.std.specs.Prelude.{◌≡◌};
 
 use items::{Items, NoMemory};
-use linkage::LinkWhy;
+use link_rules::LinkWhy;
 use thiserror::Error;
 
 /// Why classes were not linked.

@@ -1,10 +1,10 @@
 //! What typing asks of a linked world, from its tables.
 
-ghost use Rattle.world_model.specs.Worlds.{world_of};
+ghost use Rattle.link_model.specs.Worlds.{world_of};
 
 use crate::World;
+use link_model::{FieldInfo, Lookups, MethodCode, MethodInfo, Resolutions};
 use stack_maps::VType;
-use world_model::{FieldInfo, Lookups, MethodCode, MethodInfo, Namings};
 
 impl Lookups for World {
     ghost world = { world_of };
@@ -70,8 +70,8 @@ impl Lookups for World {
     }
 
     #[inline(always)]
-    fn namings(&self, method: u32) -> Namings<'_> {
-        self.tables().namings(method)
+    fn resolutions(&self, method: u32) -> Resolutions<'_> {
+        self.tables().resolutions(method)
     }
 
     fn catches(&self, method: u32) -> &[Option<u32>] {

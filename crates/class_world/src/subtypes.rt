@@ -1,11 +1,11 @@
 //! Which classes and array classes are below others (JVMS 6.5: checkcast, instanceof, aastore).
 
 ghost use Rattle.std.specs.Prelude.{◌≡◌};
-ghost use Rattle.world_model.specs.Subtypes as spec;
+ghost use Rattle.link_model.specs.Subtypes as spec;
 
+use link_model::ArrayType;
+use link_tables::Tables;
 use stack_maps::Base;
-use world_model::ArrayType;
-use world_tables::Tables;
 
 // Whether the number that was found, if any, is this one.
 fn is_number(found: Option<u32>, class: u32) -> bool

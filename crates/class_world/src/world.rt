@@ -1,32 +1,32 @@
 ghost use Rattle.std.specs.Prelude.{◌≡◌, ◌++◌, ℕ, List, Some, IfOk, OnOk, drop, slice_get, vec_len};
 ghost use Rattle.std.specs.Option.{option_copied};
 ghost use Rattle.items.specs.Memory.{OkUnless};
-ghost use Rattle.linkage.specs.declared.why.LinkWhy.{LinkWhy};
-ghost use Rattle.linkage.specs.Program as spec;
-ghost use Rattle.linkage.specs.Faults.{Links, link_fault};
-ghost use Rattle.linkage.specs.Hierarchy as hierarchy;
-ghost use Rattle.linkage.specs.Members as members;
-ghost use Rattle.linkage.specs.Selection as selection;
-ghost use Rattle.class_resolution.specs.Keys.{key_of};
-ghost use Rattle.world_model.specs.World.{array_type};
-ghost use Rattle.world_model.specs.Worlds.{world_of};
-ghost use Rattle.world_model.specs.LookUps as asked;
-ghost use Rattle.world_model.specs.MainMethod.{main_of};
-ghost use Rattle.world_model.specs.Fields.{instance_fields, place};
-ghost use Rattle.world_model.specs.Subtypes.{is_sub, type_below, type_of};
+ghost use Rattle.link_rules.specs.declared.why.LinkWhy.{LinkWhy};
+ghost use Rattle.link_rules.specs.Program as spec;
+ghost use Rattle.link_rules.specs.Faults.{Links, link_fault};
+ghost use Rattle.link_rules.specs.Hierarchy as hierarchy;
+ghost use Rattle.link_rules.specs.Members as members;
+ghost use Rattle.link_rules.specs.Selection as selection;
+ghost use Rattle.link_resolution.specs.Keys.{key_of};
+ghost use Rattle.link_model.specs.World.{array_type};
+ghost use Rattle.link_model.specs.Worlds.{world_of};
+ghost use Rattle.link_model.specs.LookUps as asked;
+ghost use Rattle.link_model.specs.MainMethod.{main_of};
+ghost use Rattle.link_model.specs.Fields.{instance_fields, place};
+ghost use Rattle.link_model.specs.Subtypes.{is_sub, type_below, type_of};
 
 use crate::error::LinkError;
 use crate::subtypes;
 use class_model::ClassFile;
-use class_resolution::{Classes, Hierarchy, MemberKey, select};
 use descriptors::Kind;
 use items::NoMemory;
 use link_checks::link_fault;
-use linkage::{Choice, LinkFault, Place};
+use link_model::{ArrayType, Site};
+use link_resolution::{Classes, Hierarchy, MemberKey, select};
+use link_rules::{Choice, LinkFault, MemberPlace};
+use link_tables::Tables;
 use std::alloc::Global;
 use std::marker::Model;
-use world_model::{ArrayType, Site};
-use world_tables::Tables;
 
 /// The classes of a program that links, each by its number, which is its place in the list.
 #[derive(Drop)]
@@ -35,7 +35,7 @@ pub struct World {
 }
 
 impl Model for World {
-    ghost use Rattle.linkage.specs.Program.{Program};
+    ghost use Rattle.link_rules.specs.Program.{Program};
 
     ghost Value = { Program };
 
@@ -133,14 +133,14 @@ impl World {
     }
 
     /// The method of this key that the class itself declares. `None`: it declares none.
-    pub fn method_named(&self, class: u32, key: MemberKey) -> Option<Place>
+    pub fn method_named(&self, class: u32, key: MemberKey) -> Option<MemberPlace>
         ensures { result ≡ members.declared_method self.now (key_of key.entry) class }
     {
         self.tables.hierarchy().declared_method(key, class)
     }
 
     /// What invokevirtual or invokeinterface of a method selects on an object of a class (JVMS 5.4.6).
-    pub fn select(&self, alloc: Global, class: u32, method: Place) -> Result<Choice, NoMemory>
+    pub fn select(&self, alloc: Global, class: u32, method: MemberPlace) -> Result<Choice, NoMemory>
         ensures { IfOk result (λ choice. choice ≡ selection.select self.now class method) }
     {
         select(alloc, self.tables.hierarchy(), class, method)

@@ -1,7 +1,9 @@
 //! Code arrays as instructions (JVMS 6.5).
 
 use jvm_words::{IntOp, LongOp, Narrow, ShiftOp};
-use opcodes::{CodeError, CodeWhy, Kind, NO_INSTR, Op, Primitive, Simple, decode, index_by_pc};
+use opcodes::{
+    CodeError, CodeWhy, NO_INSTR, Op, Primitive, Simple, ValueKind, decode, index_by_pc,
+};
 use std::alloc::Global;
 use std::test::Fail;
 
@@ -95,7 +97,7 @@ fn operands_have_their_signs_and_their_widths(rt: HostRuntime) {
     assert!(rt;
         matches!(
             last_of(alloc, &[0xc4, 0x3a, 1, 2]),
-            Some(Op::Store(Kind::Reference, 258))
+            Some(Op::Store(ValueKind::Reference, 258))
         )
     );
     assert!(rt;

@@ -4,7 +4,7 @@ use crate::ascii::{is_text, units_of};
 use crate::class_sketch::{PRINTS_42, class_files};
 use class_world::{LinkError, World, link};
 use items::{Items, NoMemory};
-use linkage::LinkWhy;
+use link_rules::LinkWhy;
 use std::alloc::Global;
 use std::test::Fail;
 

@@ -1,19 +1,19 @@
 //! Runs, entry by entry.
 
 ghost use Rattle.std.specs.Prelude.{◌≡◌, false, IfOk, IfSome, OnOk};
-ghost use Rattle.world_model.specs.Worlds.{world_of};
-ghost use Rattle.typed_steps.specs.OpeningLaws.{IsMain};
+ghost use Rattle.link_model.specs.Worlds.{world_of};
+ghost use Rattle.step_soundness.specs.OpeningLaws.{IsMain};
 
 use crate::ascii::units_of;
 use crate::class_sketch::{PRINTS_42, class_files};
 use class_world::{World, link};
 use jvm_edges::OpenGate;
 use machine::Machine;
-use ready_program::ReadyProgram;
 use ref_model::{Ending, Limits};
+use runtime_program::ReadyProgram;
 use std::alloc::Global;
 use std::test::Fail;
-use typed_steps::linked_worlds_open;
+use step_soundness::linked_worlds_open;
 use verify_code::accept;
 
 // A program, and the number of its main method.

@@ -5,11 +5,11 @@ use crate::ascii::{is_text, units_of};
 use crate::class_sketch::{PRINTS_42, class_files};
 use class_world::{World, link};
 use items::NoMemory;
+use link_model::Lookups;
 use std::alloc::Global;
 use std::test::Fail;
 use verify_code::{VerifyError, accept};
 use verify_types::{VerifyFault, VerifyWhy};
-use world_model::Lookups;
 
 // What stands for the built-in classes.
 const BUILT_IN: &str =

@@ -8,7 +8,7 @@ use Rattle.opcodes.specs.declared.op.Op.{Op}
 use Rattle.opcodes.specs.declared.op.Op.TheVariants as ops
 use Rattle.opcodes.specs.declared.op.Simple.{Simple}
 use Rattle.opcodes.specs.declared.op.Simple.TheVariants as simples
-use Rattle.opcodes.specs.declared.op.Kind.TheVariants as kinds
+use Rattle.opcodes.specs.declared.op.ValueKind.TheVariants as kinds
 use Rattle.jvm_words.specs.declared.operation.IntOp.{IntOp}
 use Rattle.jvm_words.specs.declared.operation.IntOp.TheVariants as ints
 use Rattle.jvm_words.specs.declared.operation.LongOp.{LongOp}

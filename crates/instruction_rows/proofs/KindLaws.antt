@@ -1,8 +1,8 @@
 -- Kinds of types, of slots and of values.
 use Rattle.std.proofs.Common.{◌≡◌, true, false, List, Option, Some, None, Ok, refl, subst, sym, inl, inr, [], ◌∷◌}
 use Rattle.std.specs.List.{AllZip}
-use Rattle.opcodes.specs.declared.op.Kind.{Kind}
-use Rattle.opcodes.specs.declared.op.Kind.TheVariants as kinds
+use Rattle.opcodes.specs.declared.op.ValueKind.{ValueKind}
+use Rattle.opcodes.specs.declared.op.ValueKind.TheVariants as kinds
 use Rattle.stack_maps.specs.declared.types.VType.{VType}
 use Rattle.stack_maps.specs.declared.types.VType.TheVariants as types
 use Rattle.instruction_rows.specs.declared.value.Value.{Value}
@@ -16,23 +16,23 @@ use Rattle.instruction_rows.specs.TypeEffect.{only_of, type_pushed}
 use Rattle.instruction_rows.specs.Soundness.{Holds, IsOfKind, IsOf, AreOf, KeepsKind}
 use Rattle.instruction_rows.proofs.Steps.{passed}
 
-pub kind_is : (k : Kind) (o : Option Kind) → is_kind k o ≡ true → o ≡ Some k
+pub kind_is : (k : ValueKind) (o : Option ValueKind) → is_kind k o ≡ true → o ≡ Some k
 kind_is kinds.Int (Some kinds.Int) e = refl
 kind_is kinds.Long (Some kinds.Long) e = refl
 kind_is kinds.Reference (Some kinds.Reference) e = refl
 kind_is k o e = absurd cc
 
-pub only_is : {A : Type 0} (k : Kind) (t : VType) (x y : A) → only_of k t x ≡ Ok y → (kind_of_type t ≡ Some k) × (x ≡ y)
+pub only_is : {A : Type 0} (k : ValueKind) (t : VType) (x y : A) → only_of k t x ≡ Ok y → (kind_of_type t ≡ Some k) × (x ≡ y)
 only_is k t x y e = let both = passed (is_kind k (kind_of_type t)) x y _ e in (kind_is k (kind_of_type t) both.0, both.1)
 
 -- a slot of a type of this kind holds a value of it, and the other way round
-pub holds : (k : Kind) (t : VType) (slot : Slot) → kind_of_type t ≡ Some k → IsOf t slot → Holds k slot
-holds k t slot e of = subst (λ (o : Option Kind). IsOfKind o slot) e of
+pub holds : (k : ValueKind) (t : VType) (slot : Slot) → kind_of_type t ≡ Some k → IsOf t slot → Holds k slot
+holds k t slot e of = subst (λ (o : Option ValueKind). IsOfKind o slot) e of
 
-pub is_of : (k : Kind) (t : VType) (slot : Slot) → kind_of_type t ≡ Some k → Holds k slot → IsOf t slot
-is_of k t slot e h = subst (λ (o : Option Kind). IsOfKind o slot) (sym e) h
+pub is_of : (k : ValueKind) (t : VType) (slot : Slot) → kind_of_type t ≡ Some k → Holds k slot → IsOf t slot
+is_of k t slot e h = subst (λ (o : Option ValueKind). IsOfKind o slot) (sym e) h
 
-pub kind_of_value : (k : Kind) (x : Of k) → kind_of (value k x) ≡ k
+pub kind_of_value : (k : ValueKind) (x : Of k) → kind_of (value k x) ≡ k
 kind_of_value kinds.Int n = refl
 kind_of_value kinds.Long n = refl
 kind_of_value kinds.Reference None = refl
@@ -70,7 +70,7 @@ slots_kinds t (values.Ref object) e = rw (reference_narrow t e) (is_of kinds.Ref
 -- slots of types are slots of types that keep their kinds
 pub is_of_kept : (a b : VType) (slot : Slot) → KeepsKind a b → IsOf a slot → IsOf b slot
 is_of_kept a b slot (inl none) of = rw none tt
-is_of_kept a b slot (inr same) of = subst (λ (o : Option Kind). IsOfKind o slot) same of
+is_of_kept a b slot (inr same) of = subst (λ (o : Option ValueKind). IsOfKind o slot) same of
 
 pub are_of_kept : (ts us : List VType) (xs : List Slot) → AllZip KeepsKind ts us → AreOf ts xs → AreOf us xs
 are_of_kept [] [] xs keeps of = of

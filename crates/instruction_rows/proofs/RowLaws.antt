@@ -3,8 +3,8 @@ use Rattle.std.proofs.Common.{◌≡◌, ℕ, ℤ, ◌+ℤ◌, Bool, true, false
 use Rattle.std.specs.List.{IsAmong, slice_get, slice_set}
 use Rattle.std.specs.Option.{is_none, ok_or}
 use Rattle.std.specs.Int.{w32, int_wrap}
-use Rattle.opcodes.specs.declared.op.Kind.{Kind}
-use Rattle.opcodes.specs.declared.op.Kind.TheVariants as kinds
+use Rattle.opcodes.specs.declared.op.ValueKind.{ValueKind}
+use Rattle.opcodes.specs.declared.op.ValueKind.TheVariants as kinds
 use Rattle.stack_maps.specs.declared.types.VType.{VType}
 use Rattle.stack_maps.specs.declared.types.VType.TheVariants as types
 use Rattle.instruction_rows.specs.declared.value.Value.{Value}
@@ -41,7 +41,7 @@ has_result None e = absurd cc
 has_result (Some n) e = (n, refl)
 
 -- a row that pushes what a function gives of the operands
-pushes_with : (r : LocalRow) (takes : List Kind) (f : Function takes (Option ℤ)) (t : VType) (number : ℤ → Value) (before after : Contents VType) (c : Contents Slot) → goes_on r ≡ true
+pushes_with : (r : LocalRow) (takes : List ValueKind) (f : Function takes (Option ℤ)) (t : VType) (number : ℤ → Value) (before after : Contents VType) (c : Contents Slot) → goes_on r ≡ true
     → ((n : ℤ) → kind_of_type t ≡ Some (kind_of (number n))) → (types_popped takes before.stack then λ stack. types_on before.locals (type_pushed t stack)) ≡ Ok after
     → HasKinds before c → has_no_result (applied (Option ℤ) takes f c.stack) ≡ false
     → Keeps r after (applied (Option ℤ) takes f c.stack >>= λ x. x.0 >>= λ n. moved_on c.locals (pushed (number n) x.1))
@@ -65,13 +65,13 @@ moves_with widths order before after c e h =
     (step_is (items_of widths c.stack) (λ x. moved_on c.locals (items_on x.0 order x.1)) (top.items, top.left) top.is)
 
 -- the value in a local variable of this type
-pub record LocalValue (k : Kind) (n : ℕ) (t : VType) (ts : List VType) (xs : List Slot) : Type 0 where
+pub record LocalValue (k : ValueKind) (n : ℕ) (t : VType) (ts : List VType) (xs : List Slot) : Type 0 where
   pub value : Of k
   pub is : local_value k n xs ≡ Some value
   pub kind : kind_of_type t ≡ Some k
   pub there : slice_get ts n ≡ Some t
 
-pub local_value_of : (k : Kind) (n : ℕ) (t : VType) (ts : List VType) (xs : List Slot) → local_type k n ts ≡ Ok t → AreOf ts xs → LocalValue k n t ts xs
+pub local_value_of : (k : ValueKind) (n : ℕ) (t : VType) (ts : List VType) (xs : List Slot) → local_type k n ts ≡ Ok t → AreOf ts xs → LocalValue k n t ts xs
 local_value_of k n t ts xs e of =
     let first = ok_is (ok_or (slice_get ts n) _) (λ u. only_of k u u) t e in
     let only = only_is k first.0 first.0 t first.2 in
@@ -81,7 +81,7 @@ local_value_of k n t ts xs e of =
     subst (λ (u : VType). LocalValue k n u ts xs) only.1
     (record { value = hold.value; is = step_is (slice_get xs n) (held k) at.slot at.is ∙ hold.is; kind = only.0; there = there })
 
-load_with : (k : Kind) (n : ℕ) (before after : Contents VType) (c : Contents Slot) → typed (load k n) before ≡ Ok after → HasKinds before c → Keeps (load k n) after (acted (load k n) c)
+load_with : (k : ValueKind) (n : ℕ) (before after : Contents VType) (c : Contents Slot) → typed (load k n) before ≡ Ok after → HasKinds before c → Keeps (load k n) after (acted (load k n) c)
 load_with k n before after c e h =
     let first = ok_is (local_type k n before.locals) (λ t. types_on before.locals (type_pushed t before.stack)) after e in
     let at = local_value_of k n first.0 before.locals c.locals first.1 h.locals in
@@ -90,11 +90,11 @@ load_with k n before after c e h =
     goes_with (load k n) after before.locals (type_pushed first.0 before.stack) _ c.locals (pushed v c.stack) refl first.2 h.locals (pushed_kinds first.0 v before.stack c.stack kind h.stack)
     (step_is (local_value k n c.locals) (λ x. moved_on c.locals (pushed (value k x) c.stack)) at.value at.is)
 
-store_acts : (k : Kind) (n : ℕ) (c : Contents Slot) (x : Of k × List Slot) (locals : List Slot) → popped k c.stack ≡ Some x → with_items n (slots_of (value k x.0)) c.locals ≡ Some locals
+store_acts : (k : ValueKind) (n : ℕ) (c : Contents Slot) (x : Of k × List Slot) (locals : List Slot) → popped k c.stack ≡ Some x → with_items n (slots_of (value k x.0)) c.locals ≡ Some locals
     → acted (store k n) c ≡ moved_on locals x.1
 store_acts k n c x locals pops writes = rw (pops, writes) refl
 
-store_with : (k : Kind) (n : ℕ) (before after : Contents VType) (c : Contents Slot) → typed (store k n) before ≡ Ok after → HasKinds before c → Keeps (store k n) after (acted (store k n) c)
+store_with : (k : ValueKind) (n : ℕ) (before after : Contents VType) (c : Contents Slot) → typed (store k n) before ≡ Ok after → HasKinds before c → Keeps (store k n) after (acted (store k n) c)
 store_with k n before after c e h =
     let first = ok_is (type_popped k before.stack) (λ x. with_type x.0 n before.locals then λ locals. types_on locals x.1) after e in
     let second = ok_is (with_type first.0.0 n before.locals) (λ locals. types_on locals first.0.1) after first.2 in
@@ -120,7 +120,7 @@ increment_with n amount before after c e h =
 first_among : (x : ℤ) (xs : List ℤ) → IsAmong (x ∷ xs) x
 first_among x xs = (0, (omega arith, refl))
 
-branch_with : (takes : List Kind) (test : Function takes Bool) (target : ℤ) (before after : Contents VType) (c : Contents Slot) → typed (branch takes test target) before ≡ Ok after → HasKinds before c
+branch_with : (takes : List ValueKind) (test : Function takes Bool) (target : ℤ) (before after : Contents VType) (c : Contents Slot) → typed (branch takes test target) before ≡ Ok after → HasKinds before c
     → Keeps (branch takes test target) after (acted (branch takes test target) c)
 branch_with takes test target before after c e h =
     let first = ok_is (types_popped takes before.stack) (λ stack. types_on before.locals stack) after e in

@@ -1,7 +1,7 @@
 -- Operands are there where the typing takes them.
 use Rattle.std.proofs.Common.{◌≡◌, List, [], ◌∷◌, Some, Ok, refl, subst, ap, sym}
-use Rattle.opcodes.specs.declared.op.Kind.{Kind}
-use Rattle.opcodes.specs.declared.op.Kind.TheVariants as kinds
+use Rattle.opcodes.specs.declared.op.ValueKind.{ValueKind}
+use Rattle.opcodes.specs.declared.op.ValueKind.TheVariants as kinds
 use Rattle.stack_maps.specs.declared.types.VType.{VType}
 use Rattle.stack_maps.specs.declared.types.VType.TheVariants as types
 use Rattle.instruction_rows.specs.declared.value.Slot.{Slot}
@@ -13,7 +13,7 @@ use Rattle.instruction_rows.proofs.Steps.{bind_is, ok_is}
 use Rattle.instruction_rows.proofs.KindLaws.{only_is, holds}
 
 -- a value taken from the top of slots, where a type is taken from the top of types
-pub record Popped (k : Kind) (x : VType × List VType) (xs : List Slot) : Type 0 where
+pub record Popped (k : ValueKind) (x : VType × List VType) (xs : List Slot) : Type 0 where
   pub value : Of k
   pub left : List Slot
   pub is : popped k xs ≡ Some (value, left)
@@ -31,7 +31,7 @@ long_type (types.Top ∷ types.Long ∷ rest) x e = let same : (types.Long, rest
 long_type ts x e = absurd cc
 
 -- the value in the topmost slot
-top_popped : (k : Kind) (t : VType) (rest : List VType) (x : VType × List VType) (slot : Slot) (left : List Slot)
+top_popped : (k : ValueKind) (t : VType) (rest : List VType) (x : VType × List VType) (slot : Slot) (left : List Slot)
     → ((h : Holds k slot) → popped k (slot ∷ left) ≡ Some (h.value, left)) → only_of k t (t, rest) ≡ Ok x → IsOf t slot → AreOf rest left → Popped k x (slot ∷ left)
 top_popped k t rest x slot left pops e here of =
     let only = only_is k t (t, rest) x e in
@@ -44,7 +44,7 @@ top_popped k t rest x slot left pops e here of =
       of = subst (λ (y : VType × List VType). AreOf y.1 left) only.1 of;
     }
 
-pub popped_of : (k : Kind) (ts : List VType) (x : VType × List VType) (xs : List Slot) → type_popped k ts ≡ Ok x → AreOf ts xs → Popped k x xs
+pub popped_of : (k : ValueKind) (ts : List VType) (x : VType × List VType) (xs : List Slot) → type_popped k ts ≡ Ok x → AreOf ts xs → Popped k x xs
 popped_of k [] x xs e of = absurd cc
 popped_of k (t ∷ ts) x [] e of = absurd of
 popped_of kinds.Int (t ∷ ts) x (slot ∷ xs) e of = top_popped kinds.Int t ts x slot xs (λ h. rw h.is refl) e of.0 of.1
@@ -57,13 +57,13 @@ popped_of kinds.Long (t ∷ ts) x (slot ∷ xs) e of = long_of x (slot ∷ xs) (
     long_of x (upper ∷ slot ∷ left) is of = record { value = of.1.0.value; left = left; is = rw (of.1.0.is) refl; kind = rw is refl; of = of.1.1 }
 
 -- a function applied to the slots on top, where its types are on top
-pub record Applied (R : Type 0) (takes : List Kind) (f : Function takes R) (xs : List Slot) (rest : List VType) : Type 0 where
+pub record Applied (R : Type 0) (takes : List ValueKind) (f : Function takes R) (xs : List Slot) (rest : List VType) : Type 0 where
   pub result : R
   pub left : List Slot
   pub is : applied R takes f xs ≡ Some (result, left)
   pub of : AreOf rest left
 
-pub applied_of : (R : Type 0) (takes : List Kind) (f : Function takes R) (ts rest : List VType) (xs : List Slot) → types_popped takes ts ≡ Ok rest → AreOf ts xs → Applied R takes f xs rest
+pub applied_of : (R : Type 0) (takes : List ValueKind) (f : Function takes R) (ts rest : List VType) (xs : List Slot) → types_popped takes ts ≡ Ok rest → AreOf ts xs → Applied R takes f xs rest
 applied_of R [] f ts rest xs e of = let same : ts ≡ rest = cc in record { result = f; left = xs; is = refl; of = subst (λ (us : List VType). AreOf us xs) same of }
 applied_of R (k ∷ ks) f ts rest xs e of =
     let first = ok_is (type_popped k ts) (λ x. types_popped ks x.1) rest e in

@@ -7,7 +7,7 @@ use Rattle.opcodes.specs.declared.op.Op.{Op}
 use Rattle.opcodes.specs.declared.op.Op.TheVariants as ops
 use Rattle.opcodes.specs.declared.op.Simple.{Simple}
 use Rattle.opcodes.specs.declared.op.Simple.TheVariants as simples
-use Rattle.opcodes.specs.declared.op.Kind.{Kind}
+use Rattle.opcodes.specs.declared.op.ValueKind.{ValueKind}
 use Rattle.opcodes.specs.declared.op.Primitive.{Primitive}
 use Rattle.opcodes.specs.declared.op.Primitive.TheVariants as primitives
 use Rattle.opcodes.specs.declared.switch.TableSwitch.{TableSwitch}
@@ -76,21 +76,21 @@ sound op = tt
 -- ---- marks
 
 -- a function that never divides by 0
-abbrev pub Total : (takes : List Kind) → Function takes (Option ℤ) → Type 0
+abbrev pub Total : (takes : List ValueKind) → Function takes (Option ℤ) → Type 0
 Total [] o = is_none o ≡ false
 Total (k ∷ ks) f = (x : Of k) → Total ks (f x)
 
-pub total_result : (takes : List Kind) (f : Function takes (Option ℤ)) (stack : List Slot) → Total takes f → has_no_result (applied (Option ℤ) takes f stack) ≡ false
+pub total_result : (takes : List ValueKind) (f : Function takes (Option ℤ)) (stack : List Slot) → Total takes f → has_no_result (applied (Option ℤ) takes f stack) ≡ false
 total_result [] f stack total = total
 total_result (k ∷ ks) f stack total = elim (popped k stack) as (λ o. has_no_result (o >>= λ x. applied (Option ℤ) ks (f x.0) x.1) ≡ false) [ None ↦ refl | Some x ↦ total_result ks (f x.0) x.1 (total x.0) ]
 
 always_local : (r : LocalRow) → ((c : Contents Slot) → divides_by_zero r c ≡ false) → IsAlwaysLocal (local r)
 always_local r defined = record { act = r; is = refl; defined = defined }
 
-int_local : (takes : List Kind) (f : Function takes (Option ℤ)) → Total takes f → IsAlwaysLocal (local (int takes f))
+int_local : (takes : List ValueKind) (f : Function takes (Option ℤ)) → Total takes f → IsAlwaysLocal (local (int takes f))
 int_local takes f total = always_local (int takes f) (λ c. total_result takes f c.stack total)
 
-long_local : (takes : List Kind) (f : Function takes (Option ℤ)) → Total takes f → IsAlwaysLocal (local (long takes f))
+long_local : (takes : List ValueKind) (f : Function takes (Option ℤ)) → Total takes f → IsAlwaysLocal (local (long takes f))
 long_local takes f total = always_local (long takes f) (λ c. total_result takes f c.stack total)
 
 int_marked : (op : IntOp) → HasMark (int_mark op) (simple_row (simples.IntBinary op))

@@ -7,7 +7,7 @@ use Rattle.jvm_words.specs.declared.operation.ShiftOp.TheVariants as shifts
 use Rattle.opcodes.specs.declared.op.Op.{Op}
 use Rattle.opcodes.specs.declared.op.Op.TheVariants as ops
 use Rattle.opcodes.specs.declared.op.Simple.TheVariants as simples
-use Rattle.opcodes.specs.declared.op.Kind.TheVariants as kinds
+use Rattle.opcodes.specs.declared.op.ValueKind.TheVariants as kinds
 use Rattle.opcodes.specs.declared.op.Comparison.TheVariants as orders
 use Rattle.opcodes.specs.declared.op.Sameness.TheVariants as samenesses
 use Rattle.stack_maps.specs.declared.types.VType.{VType}

@@ -1,7 +1,7 @@
 -- What it means that slots have the kinds of types, and that a local row keeps that.
 use Rattle.std.specs.Prelude.{◌≡◌, ◌⊎◌, ℤ, true, false, List, Option, Some, None, Ok}
 use Rattle.std.specs.List.{AllZip, IsAmong}
-use Rattle.opcodes.specs.declared.op.Kind.{Kind}
+use Rattle.opcodes.specs.declared.op.ValueKind.{ValueKind}
 use Rattle.opcodes.specs.declared.op.Op.{Op}
 use Rattle.stack_maps.specs.declared.types.VType.{VType}
 use Rattle.instruction_rows.specs.declared.value.Slot.{Slot}
@@ -13,11 +13,11 @@ use Rattle.instruction_rows.specs.SlotEffect.{Way, on, to, Moved, acted, divides
 use Rattle.instruction_rows.specs.TypeEffect.{typed}
 
 -- a slot holds a value of this kind
-pub record Holds (k : Kind) (slot : Slot) : Type 0 where
+pub record Holds (k : ValueKind) (slot : Slot) : Type 0 where
   pub value : Of k
   pub is : held k slot ≡ Some value
 
-abbrev pub IsOfKind : Option Kind → Slot → Type 0
+abbrev pub IsOfKind : Option ValueKind → Slot → Type 0
 IsOfKind None slot = Unit {0}
 IsOfKind (Some k) slot = Holds k slot
 

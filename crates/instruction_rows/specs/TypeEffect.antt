@@ -1,7 +1,7 @@
 -- What a local row does to the types of a frame (JVMS 4.10.1.9), or why it doesn't fit them.
 use Rattle.std.specs.Prelude.{ℕ, zero, suc, List, [], ◌∷◌, get_or, slice_get, slice_set, Result, Ok, Err, ok_or, if◌then◌else◌}
-use Rattle.opcodes.specs.declared.op.Kind.{Kind}
-use Rattle.opcodes.specs.declared.op.Kind.TheVariants as kinds
+use Rattle.opcodes.specs.declared.op.ValueKind.{ValueKind}
+use Rattle.opcodes.specs.declared.op.ValueKind.TheVariants as kinds
 use Rattle.stack_maps.specs.declared.types.VType.{VType}
 use Rattle.stack_maps.specs.declared.types.VType.TheVariants as types
 use Rattle.instruction_rows.specs.declared.row_why.RowWhy.{RowWhy}
@@ -13,18 +13,18 @@ use Rattle.instruction_rows.specs.StackItems.{Width, one, two, items_on}
 use Rattle.instruction_rows.specs.Rows.{LocalRow, push, int, long, moves, load, store, increment, branch, jump, select}
 
 -- this, where the type is of the kind
-abbrev pub only_of : {A : Type 0} → Kind → VType → A → Result A RowWhy
+abbrev pub only_of : {A : Type 0} → ValueKind → VType → A → Result A RowWhy
 only_of k t x = if is_kind k (kind_of_type t) then Ok x else Err whys.Kind
 
 -- the type of the value of this kind on top, and what lies below it
-abbrev pub type_popped : Kind → List VType → Result (VType × List VType) RowWhy
+abbrev pub type_popped : ValueKind → List VType → Result (VType × List VType) RowWhy
 type_popped k [] = Err whys.Depth
 type_popped kinds.Long (types.Top ∷ types.Long ∷ rest) = Ok (types.Long, rest)
 type_popped kinds.Long stack = Err whys.Kind
 type_popped k (t ∷ rest) = only_of k t (t, rest)
 
 -- what lies below the values of these kinds, the topmost first
-abbrev pub types_popped : List Kind → List VType → Result (List VType) RowWhy
+abbrev pub types_popped : List ValueKind → List VType → Result (List VType) RowWhy
 types_popped [] stack = Ok stack
 types_popped (k ∷ ks) stack = type_popped k stack then λ x. types_popped ks x.1
 
@@ -53,7 +53,7 @@ items_popped (width ∷ widths) stack =
 -- ---- local variables
 
 -- the type of a local variable, where it is of this kind
-abbrev pub local_type : Kind → ℕ → List VType → Result VType RowWhy
+abbrev pub local_type : ValueKind → ℕ → List VType → Result VType RowWhy
 local_type k n locals = ok_or (slice_get locals n) whys.Locals then λ t. only_of k t t
 
 -- a value in two slots loses its type where a store writes its second slot, at this index (JVMS 4.10.1.7)

@@ -2,23 +2,23 @@ ghost use Rattle.std.specs.Prelude.{◌≡◌};
 ghost use Rattle.instruction_rows.specs.Kinds.{kind_of_type};
 ghost use Rattle.instruction_rows.specs.Contents.{is_wide, is_narrow};
 
-use opcodes::Kind;
+use opcodes::ValueKind;
 use stack_maps::VType;
 
 /// The kind of the values that a verification type stands for (JVMS 2.11.1, 4.10.1.2). `None` for Top, float and
 /// double.
-pub fn kind_of_type(t: VType) -> Option<Kind>
+pub fn kind_of_type(t: VType) -> Option<ValueKind>
     ensures { result ≡ kind_of_type t }
 {
     match t {
         VType::Top | VType::Float | VType::Double => None,
-        VType::Int => Some(Kind::Int),
-        VType::Long => Some(Kind::Long),
+        VType::Int => Some(ValueKind::Int),
+        VType::Long => Some(ValueKind::Long),
         VType::Null
         | VType::UninitThis
         | VType::Object(_)
         | VType::Uninit(_)
-        | VType::Named(_, _) => Some(Kind::Reference),
+        | VType::Named(_, _) => Some(ValueKind::Reference),
     }
 }
 

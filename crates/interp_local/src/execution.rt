@@ -2,19 +2,19 @@
 
 ghost use Rattle.std.specs.Prelude.{◌+◌, ◌-◌, ◌≤◌, length, if◌then◌else◌, Some, None, ◌≡◌};
 ghost use Rattle.instruction_rows.specs.Table as table;
-ghost use Rattle.cell_rows.specs.CellRows.{contents_at};
-ghost use Rattle.quick_rows.specs.FrameSlots.{Fits, Leaves};
+ghost use Rattle.frame_instructions.specs.CellRows.{contents_at};
+ghost use Rattle.superinstructions.specs.FrameSlots.{Fits, Leaves};
 ghost use Rattle.interp_local.specs.FrameRows.{frame_row, way_to};
 
 use crate::constants::constant;
-use cell_rows::{
+use frame_instructions::{
     if_ints, if_null, if_references, if_zero, increase, lookup_switch, push_int, push_long,
     table_switch,
 };
+use link_model::Resolution;
 use opcodes::Op;
-use quick_rows::{load, make_simple, store};
 use slot_block::Cell;
-use world_model::Naming;
+use superinstructions::{load, make_simple, store};
 
 /// How many operands an instruction leaves, and the pc of its target where it goes to one.
 #[derive(Clone, Copy)]
@@ -44,23 +44,23 @@ fn branch(taken: bool, target: i64, used: usize) -> Left
 #[inline(never)]
 pub(crate) fn execute(
     op: &Op,
-    naming: &Naming,
+    resolution: &Resolution,
     row: &mut [Cell],
     locals: usize,
     used: usize,
 ) -> Left
     requires fits { locals + used ≤ length row.old }
-    requires made { Fits (frame_row (table.row op.now) naming.now (contents_at row.old locals used))
+    requires made { Fits (frame_row (table.row op.now) resolution.now (contents_at row.old locals used))
         locals row.old }
-    ensures { Leaves (frame_row (table.row op.now) naming.now (contents_at row.old locals used))
+    ensures { Leaves (frame_row (table.row op.now) resolution.now (contents_at row.old locals used))
         row.new locals result.used (way_to result.target) }
 {
     match op {
         Op::Simple(simple) => on(make_simple(*simple, row, locals, used)),
         Op::PushInt(n) => on(push_int(row, locals, used, i32::from(*n))),
         Op::PushLong(n) => on(push_long(row, locals, used, i64::from(*n))),
-        Op::PushConstant(_) => on(constant(*naming, row, locals, used)),
-        Op::PushWideConstant(_) => on(constant(*naming, row, locals, used)),
+        Op::PushConstant(_) => on(constant(*resolution, row, locals, used)),
+        Op::PushWideConstant(_) => on(constant(*resolution, row, locals, used)),
         Op::Load(kind, n) => on(load(*kind, *n, row, locals, used)),
         Op::Store(kind, n) => on(store(*kind, *n, row, locals, used)),
         Op::Increment(n, amount) => {

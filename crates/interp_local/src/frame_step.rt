@@ -1,7 +1,7 @@
 //! One step in a frame, from the instruction with one index to that with another.
 
 ghost use Rattle.std.specs.Prelude.{ℕ, ◌≡◌, ◌+◌, ◌<◌, ◌≤◌, IfSome, Some, length, slice_get, true};
-ghost use Rattle.world_model.specs.Namings.{meanings};
+ghost use Rattle.link_model.specs.Resolutions.{meanings};
 ghost use Rattle.instruction_rows.specs.Pcs.{pc_after};
 ghost use Rattle.verify_types.specs.Typing.{AreTyped};
 ghost use Rattle.interp_local.specs.FrameRows.{way_to};
@@ -18,10 +18,10 @@ use crate::prepared_code::PreparedCode;
 use crate::quick_code::quick_at;
 use crate::staying::does_stay;
 use crate::switching::switch_target;
+use link_model::Lookups;
 use opcodes::Instr;
-use quick_rows::{Turn, is_left, make_quick};
 use slot_block::Cell;
-use world_model::Lookups;
+use superinstructions::{Turn, is_left, make_quick};
 
 /// What stays the same in a frame: its method, the number of its local variables, and how many operands it may have.
 #[derive(Clone, Copy)]
@@ -79,11 +79,11 @@ pub(crate) fn pc_at(code: &[Instr], at: usize) -> u32
 pub(crate) fn fetch_at<'a>(code: &PreparedCode<'a>, at: usize) -> Fetched<'a>
     requires { at < length code.now.instrs.now }
     ensures instr { slice_get code.now.instrs.now at ≡ Some result.instr.now }
-    ensures naming { result.naming.now ≡ places.naming_at (meanings code.now.namings) at }
+    ensures resolution { result.resolution.now ≡ places.resolution_at (meanings code.now.resolutions) at }
 {
     Fetched {
         instr: instr_at(code.instrs, at),
-        naming: code.namings.at(at),
+        resolution: code.resolutions.at(at),
     }
 }
 
@@ -138,8 +138,8 @@ pub(crate) fn execute_at<L: Lookups>(
         row.new result.used result.index 1 }
 {
     let instr = instr_at(code.instrs, at);
-    let naming = code.namings.at(at);
-    let left = execute(&instr.op, naming, row, frame.locals, used);
+    let resolution = code.resolutions.at(at);
+    let left = execute(&instr.op, resolution, row, frame.locals, used);
     let pc = next_pc(instr.next, left.target);
     Position {
         index: place(code.instrs, code.places, pc),

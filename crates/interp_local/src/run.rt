@@ -2,7 +2,7 @@
 
 ghost use Rattle.std.specs.Prelude.{◌≡◌, ◌≤◌, Some, IsTrue};
 ghost use Rattle.ref_model.specs.LocalRows.{rows};
-ghost use Rattle.typed_frames.specs.Typed.{Typed};
+ghost use Rattle.frame_soundness.specs.Typed.{Typed};
 ghost use Rattle.interp_local.specs.Fetched.{IsTopAt};
 ghost use Rattle.interp_local.specs.Runs.{stays_on};
 ghost use Rattle.interp_local.specs.Stops.{is_slice, steps_of};
@@ -13,7 +13,7 @@ use crate::frame_run::{Stop, run_frame};
 use crate::frame_step::FrameLayout;
 use crate::prepared::Prepared;
 use continuation::Mounted;
-use world_model::Lookups;
+use link_model::Lookups;
 
 /// Where a run of local instructions stopped, after how many.
 #[derive(Clone, Copy, Debug, PartialEq, Eq)]

@@ -5,7 +5,7 @@ ghost use Rattle.opcodes.specs.declared.op.Op.TheVariants as ops;
 ghost use Rattle.opcodes.specs.declared.op.Simple.TheVariants as simples;
 ghost use Rattle.instruction_rows.specs.Marks.{has_zero_divisor, is_zero_int_on, is_zero_long_on};
 ghost use Rattle.frames.specs.Rows.{descending};
-ghost use Rattle.cell_rows.specs.CellRows.{CanAct};
+ghost use Rattle.frame_instructions.specs.CellRows.{CanAct};
 ghost use Rattle.interp_local.specs.FrameRows as spec;
 ghost use Rattle.interp_local.specs.FrameRows.{HasOperands, adds_ints, adds_longs};
 

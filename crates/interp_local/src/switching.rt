@@ -3,7 +3,7 @@
 ghost use Rattle.std.specs.Prelude.{◌+◌, ◌≤◌, IfSome, length};
 ghost use Rattle.interp_local.specs.FrameRows.{CanSwitch, SwitchesTo};
 
-use cell_rows::{lookup_switch, table_switch};
+use frame_instructions::{lookup_switch, table_switch};
 use opcodes::Op;
 use slot_block::Cell;
 

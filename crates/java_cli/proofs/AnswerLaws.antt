@@ -11,10 +11,10 @@ use Rattle.jvm_edges.specs.Files as store
 use Rattle.ref_model.specs.Setting.{Setting}
 use Rattle.java_cli.specs.declared.errors.LoadError.{LoadError}
 use Rattle.java_cli.specs.declared.errors.LoadError.TheVariants as load
-use Rattle.linkage.specs.declared.fault.LinkFault as faults
-use Rattle.linkage.specs.Faults.{Links}
-use Rattle.linkage.specs.declared.why.LinkWhy.{LinkWhy}
-use Rattle.linkage.specs.declared.why.LinkWhy.TheVariants.{Unsupported}
+use Rattle.link_rules.specs.declared.fault.LinkFault as faults
+use Rattle.link_rules.specs.Faults.{Links}
+use Rattle.link_rules.specs.declared.why.LinkWhy.{LinkWhy}
+use Rattle.link_rules.specs.declared.why.LinkWhy.TheVariants.{Unsupported}
 use Rattle.verify_types.specs.declared.why.VerifyWhy.{VerifyWhy}
 use Rattle.verify_types.specs.declared.fault.VerifyFault as typing
 use Rattle.java_cli.specs.declared.errors.AcceptError.{AcceptError}

@@ -6,10 +6,10 @@ use Rattle.class_model.specs.declared.class_file.ClassFile.{ClassFile}
 use Rattle.class_grammar.specs.declared.class_why.ClassWhy.{ClassWhy}
 use Rattle.class_file.specs.File.{first_bad}
 use Rattle.class_file.proofs.OutcomeLaws.{one_value, none_bad, some_spelled}
-use Rattle.linkage.specs.declared.fault.LinkFault as faults
-use Rattle.linkage.specs.declared.why.LinkWhy.TheVariants.{Unsupported}
-use Rattle.linkage.specs.Faults.{Links, link_fault}
-use Rattle.world_model.specs.Worlds.{world_of}
+use Rattle.link_rules.specs.declared.fault.LinkFault as faults
+use Rattle.link_rules.specs.declared.why.LinkWhy.TheVariants.{Unsupported}
+use Rattle.link_rules.specs.Faults.{Links, link_fault}
+use Rattle.link_model.specs.Worlds.{world_of}
 use Rattle.verify_types.specs.declared.fault.VerifyFault as typing
 use Rattle.verify_types.specs.Faults.{first_fault}
 use Rattle.java_cli.specs.Limits.{run_limits}

@@ -5,11 +5,11 @@ use Rattle.std.proofs.Math.Seq.{drop-append_seam}
 use Rattle.class_model.specs.declared.class_file.ClassFile.{ClassFile}
 use Rattle.class_world.specs.declared.error.LinkError.{LinkError}
 use Rattle.class_world.specs.declared.error.LinkError.TheVariants.{Fault, NoMemory}
-use Rattle.linkage.specs.declared.why.LinkWhy.{LinkWhy}
-use Rattle.linkage.specs.Program.{Program, program}
-use Rattle.linkage.specs.Faults.{Links, link_fault}
-use Rattle.world_model.specs.World.{World}
-use Rattle.world_model.specs.Worlds.{world_of}
+use Rattle.link_rules.specs.declared.why.LinkWhy.{LinkWhy}
+use Rattle.link_rules.specs.Program.{Program, program}
+use Rattle.link_rules.specs.Faults.{Links, link_fault}
+use Rattle.link_model.specs.World.{World}
+use Rattle.link_model.specs.Worlds.{world_of}
 use Rattle.verify_types.specs.Faults.{IsWellTyped}
 use Rattle.java_cli.specs.declared.errors.AcceptError.{AcceptError}
 use Rattle.java_cli.specs.declared.errors.AcceptError.TheVariants as accept

@@ -2,11 +2,11 @@
 use Rattle.std.proofs.Common.{◌≡◌, ℕ, true, List, Option, Some, None, sym, ap, ◌∙◌}
 use Rattle.std.specs.Prelude.{IfSome}
 use Rattle.class_model.specs.declared.class_file.ClassFile.{ClassFile}
-use Rattle.linkage.specs.Program.{Program}
-use Rattle.world_model.specs.World.{World}
-use Rattle.world_model.specs.Worlds.{world_of}
-use Rattle.world_model.specs.MainMethod.{main_of}
-use Rattle.typed_steps.specs.OpeningLaws.{IsMain, MainIsFound}
+use Rattle.link_rules.specs.Program.{Program}
+use Rattle.link_model.specs.World.{World}
+use Rattle.link_model.specs.Worlds.{world_of}
+use Rattle.link_model.specs.MainMethod.{main_of}
+use Rattle.step_soundness.specs.OpeningLaws.{IsMain, MainIsFound}
 use Rattle.java_cli.specs.MainClass.{has_main}
 use Rattle.java_cli.specs.Programs.{runnable_main}
 

@@ -7,8 +7,8 @@ use Rattle.std.specs.Char.Utf16.{utf16_chars}
 use Rattle.jvm_words.specs.Words.{low_bits}
 use Rattle.class_grammar.specs.declared.class_why.ClassWhy.{ClassWhy}
 use Rattle.class_grammar.specs.declared.class_why.ClassWhy.TheVariants as class_whys
-use Rattle.linkage.specs.declared.why.LinkWhy.{LinkWhy}
-use Rattle.linkage.specs.declared.why.LinkWhy.TheVariants as link_whys
+use Rattle.link_rules.specs.declared.why.LinkWhy.{LinkWhy}
+use Rattle.link_rules.specs.declared.why.LinkWhy.TheVariants as link_whys
 use Rattle.verify_types.specs.declared.why.VerifyWhy.{VerifyWhy}
 use Rattle.verify_types.specs.declared.why.VerifyWhy.TheVariants as verify_whys
 use Rattle.java_cli.specs.declared.report.Which.{Which}

@@ -10,7 +10,7 @@ use Rattle.class_grammar.specs.declared.class_why.ClassWhy.{ClassWhy}
 use Rattle.class_grammar.specs.Pool.{class_name_at}
 use Rattle.class_grammar.specs.Grammar.{Spells}
 use Rattle.class_file.specs.File.{first_bad}
-use Rattle.linkage.specs.declared.why.LinkWhy.TheVariants.{Unsupported}
+use Rattle.link_rules.specs.declared.why.LinkWhy.TheVariants.{Unsupported}
 use Rattle.ref_model.specs.Setting.{Setting}
 use Rattle.java_cli.specs.declared.errors.LoadError.{LoadError}
 use Rattle.java_cli.specs.declared.errors.LoadError.TheVariants as load

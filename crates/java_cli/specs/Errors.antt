@@ -4,7 +4,7 @@ use Rattle.java_cli.specs.declared.errors.LoadError.{LoadError}
 use Rattle.java_cli.specs.declared.errors.LoadError.TheVariants as load
 use Rattle.class_world.specs.declared.error.LinkError.{LinkError}
 use Rattle.class_world.specs.declared.error.LinkError.TheVariants as link
-use Rattle.linkage.specs.declared.why.LinkWhy.TheVariants.{Unsupported}
+use Rattle.link_rules.specs.declared.why.LinkWhy.TheVariants.{Unsupported}
 use Rattle.java_cli.specs.declared.errors.AcceptError.{AcceptError}
 use Rattle.java_cli.specs.declared.errors.AcceptError.TheVariants as accept
 use Rattle.java_cli.specs.declared.errors.StartError.{StartError}
@@ -13,7 +13,7 @@ use Rattle.java_cli.specs.declared.report.Which.TheVariants.{FileSize}
 use Rattle.java_cli.specs.declared.report.Why.{Why}
 use Rattle.java_cli.specs.declared.report.Why.TheVariants.{Ended, Limit, Missing, SourceFault, BadClass, NoMain, LinkFault, VerifyFault, NoMemory}
 use Rattle.java_cli.specs.Limits.{most_bytes}
-use Rattle.linkage.specs.Program.{Program}
+use Rattle.link_rules.specs.Program.{Program}
 use Rattle.verify_types.specs.declared.fault.VerifyFault as faults
 use Rattle.java_cli.specs.Linking.{class_text, method_text}
 

@@ -2,7 +2,7 @@
 use Rattle.std.specs.Prelude.{◌≡◌, ℕ, List, [], ◌∷◌, false, unwrap_or}
 use Rattle.class_model.specs.declared.class_file.ClassFile.{ClassFile}
 use Rattle.class_grammar.specs.Pool.{class_name_at}
-use Rattle.linkage.specs.Program.{Program}
+use Rattle.link_rules.specs.Program.{Program}
 use Rattle.java_cli.specs.declared.errors.AcceptError.{AcceptError}
 use Rattle.java_cli.specs.declared.errors.AcceptError.TheVariants as accept
 use Rattle.java_cli.specs.declared.errors.StartError.{StartError}

@@ -6,10 +6,10 @@ use Rattle.class_model.specs.declared.member.Member.{Member}
 use Rattle.class_model.specs.declared.class_file.ClassFile.{ClassFile}
 use Rattle.class_grammar.specs.Pool.{text_at}
 use Rattle.lib_table.specs.Library.{library}
-use Rattle.linkage.specs.declared.why.LinkWhy.{LinkWhy}
-use Rattle.linkage.specs.Program.{Program, program, own_name, class_at}
-use Rattle.linkage.specs.Faults.{Links, link_fault}
-use Rattle.world_model.specs.Worlds.{world_of}
+use Rattle.link_rules.specs.declared.why.LinkWhy.{LinkWhy}
+use Rattle.link_rules.specs.Program.{Program, program, own_name, class_at}
+use Rattle.link_rules.specs.Faults.{Links, link_fault}
+use Rattle.link_model.specs.Worlds.{world_of}
 use Rattle.verify_types.specs.declared.why.VerifyWhy.{VerifyWhy}
 use Rattle.verify_types.specs.declared.fault.VerifyFault.{VerifyFault}
 use Rattle.verify_types.specs.Faults.{IsWellTyped, first_fault}

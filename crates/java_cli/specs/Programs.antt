@@ -2,9 +2,9 @@
 use Rattle.std.specs.Prelude.{◌≡◌, ℕ, true, List, Option, Some, None, if◌then◌else◌}
 use Rattle.class_grammar.specs.Grammar.{Spells}
 use Rattle.class_model.specs.declared.class_file.ClassFile.{ClassFile}
-use Rattle.world_model.specs.World.{World}
-use Rattle.world_model.specs.Worlds.{world_of}
-use Rattle.world_model.specs.MainMethod.{main_of}
+use Rattle.link_model.specs.World.{World}
+use Rattle.link_model.specs.Worlds.{world_of}
+use Rattle.link_model.specs.MainMethod.{main_of}
 use Rattle.ref_model.specs.Setting.{Setting}
 use Rattle.java_cli.specs.Linking.{program_of, AreAccepted}
 use Rattle.java_cli.specs.MainClass.{has_main}

@@ -7,14 +7,14 @@ use Rattle.opcodes.specs.declared.op.Op.{Op}
 use Rattle.opcodes.specs.declared.op.Op.TheVariants as ops
 use Rattle.opcodes.specs.declared.op.Simple.TheVariants as simples
 use Rattle.opcodes.specs.declared.op.Instr.{Instr}
-use Rattle.linkage.specs.Program.{own_name, class_at}
-use Rattle.world_model.specs.declared.members.MethodInfo.{MethodInfo}
-use Rattle.world_model.specs.declared.members.MethodCode.{MethodCode}
-use Rattle.world_model.specs.declared.sites.Naming.{Naming}
-use Rattle.world_model.specs.declared.sites.Site.{Site}
-use Rattle.world_model.specs.declared.sites.Site.TheVariants as sites
-use Rattle.world_model.specs.World.{World}
-use Rattle.world_model.specs.Decoded.{code_at}
+use Rattle.link_rules.specs.Program.{own_name, class_at}
+use Rattle.link_model.specs.declared.members.MethodInfo.{MethodInfo}
+use Rattle.link_model.specs.declared.members.MethodCode.{MethodCode}
+use Rattle.link_model.specs.declared.sites.Resolution.{Resolution}
+use Rattle.link_model.specs.declared.sites.Site.{Site}
+use Rattle.link_model.specs.declared.sites.Site.TheVariants as sites
+use Rattle.link_model.specs.World.{World}
+use Rattle.link_model.specs.Decoded.{code_at}
 use Rattle.ref_model.specs.Members.{is_synchronized}
 
 -- whether no method of the class of this name runs yet
@@ -57,8 +57,8 @@ abbrev pub site_is_late : World → Site → Bool
 site_is_late w (sites.Method n) = method_is_late w n
 site_is_late w site = false
 
-abbrev pub names_late : World → Naming → Bool
-names_late w naming = site_is_late w naming.site
+abbrev pub names_late : World → Resolution → Bool
+names_late w resolution = site_is_late w resolution.site
 
 -- whether it is monitorenter or monitorexit
 abbrev pub is_monitor_op : Op → Bool
@@ -75,7 +75,7 @@ code_has_monitor w n = option_map_or (λ (c : MethodCode). has_monitor c.code) (
 -- whether a method of the files doesn't run yet, by its number
 abbrev pub is_unsupported : World → ℕ → MethodInfo → Bool
 is_unsupported w n m =
-    is_from_file w m && (is_synchronized m || code_has_monitor w n || list_any (names_late w) (get_or w.namings n []))
+    is_from_file w m && (is_synchronized m || code_has_monitor w n || list_any (names_late w) (get_or w.resolutions n []))
 
 abbrev pub unsupported_at : World → ℕ → Bool
 unsupported_at w n = option_map_or (is_unsupported w n) (slice_get w.methods n) false

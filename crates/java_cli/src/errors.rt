@@ -7,7 +7,7 @@ use crate::report::{Which, Why};
 use class_file::ClassWhy;
 use class_world::LinkError;
 use items::{Items, NoMemory};
-use linkage::LinkWhy;
+use link_rules::LinkWhy;
 use std::alloc::{AllocError, AllocFailed};
 use verify_types::VerifyWhy;
 

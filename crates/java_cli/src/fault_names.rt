@@ -6,8 +6,8 @@ ghost use Rattle.java_cli.specs.Linking as spec;
 
 use class_grammar::text_at;
 use class_model::{ClassFile, Member};
-use class_resolution::own_name;
 use class_world::World;
+use link_resolution::own_name;
 use std::alloc::{AllocError, Global};
 
 /// The name of the class with this number.

@@ -8,7 +8,7 @@ use crate::utf8::utf8;
 use crate::words::Command;
 use class_file::ClassWhy;
 use itoa::Buffer;
-use linkage::LinkWhy;
+use link_rules::LinkWhy;
 use std::alloc::{AllocError, Global};
 use verify_types::VerifyWhy;
 

@@ -3,8 +3,8 @@
 ghost use Rattle.std.specs.Prelude.{◌≡◌, List, IfOk, IfErr, IfSome};
 ghost use Rattle.std.specs.List.{AllByRecursion};
 ghost use Rattle.class_model.specs.declared.class_file.ClassFile as class_files;
-ghost use Rattle.world_model.specs.Worlds.{world_of};
-ghost use Rattle.typed_steps.specs.OpeningLaws.{IsMain};
+ghost use Rattle.link_model.specs.Worlds.{world_of};
+ghost use Rattle.step_soundness.specs.OpeningLaws.{IsMain};
 ghost use Rattle.verify_types.specs.Faults.{IsWellTyped};
 ghost use Rattle.java_cli.specs.Linking.{built_in, program_of, AreAccepted};
 ghost use Rattle.java_cli.specs.Errors.{verify_fault};
@@ -24,7 +24,7 @@ use class_world::{World, link};
 use items::{Items, NoMemory};
 use lib_table::classes;
 use std::alloc::{AllocError, Global};
-use typed_steps::linked_worlds_open;
+use step_soundness::linked_worlds_open;
 use verify_code::{Checked, VerifyError, accept};
 use verify_types::VerifyFault;
 

@@ -4,7 +4,7 @@ ghost use Rattle.jvm_words.specs.Words.{low_bits};
 use class_file::ClassWhy;
 use history::Entry;
 use items::{Items, NoMemory};
-use linkage::LinkWhy;
+use link_rules::LinkWhy;
 use std::alloc::AllocError;
 use verify_types::VerifyWhy;
 

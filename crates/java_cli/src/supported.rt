@@ -2,16 +2,16 @@
 //! come later.
 
 ghost use Rattle.std.specs.Prelude.{◌≡◌};
-ghost use Rattle.world_model.specs.Namings.{meanings};
+ghost use Rattle.link_model.specs.Resolutions.{meanings};
 ghost use Rattle.std.specs.List.{list_any};
 ghost use Rattle.java_cli.specs.Supported as spec;
 
 use class_grammar::is_same;
 use class_model::ACC_SYNCHRONIZED;
-use class_resolution::{has_flag, own_name};
+use link_model::{MethodInfo, Resolution, Resolutions, Site};
+use link_resolution::{has_flag, own_name};
+use link_tables::Tables;
 use opcodes::{Instr, Op, Simple};
-use world_model::{MethodInfo, Naming, Namings, Site};
-use world_tables::Tables;
 
 // Whether no method of the class of this name runs yet.
 fn is_late_class(class: &[u16]) -> bool
@@ -74,10 +74,10 @@ fn is_late(world: &Tables, method: &MethodInfo) -> bool
 }
 
 // Whether an instruction names a method that doesn't run yet.
-fn names_late(world: &Tables, naming: Naming) -> bool
-    ensures { result ≡ spec.names_late world.now naming }
+fn names_late(world: &Tables, resolution: Resolution) -> bool
+    ensures { result ≡ spec.names_late world.now resolution }
 {
-    match naming.site {
+    match resolution.site {
         Site::Method(n) => match world.method(n) {
             Some(method) => is_late(world, method),
             None => false,
@@ -86,11 +86,11 @@ fn names_late(world: &Tables, naming: Naming) -> bool
     }
 }
 
-fn name_late(world: &Tables, namings: &Namings<'_>) -> bool
-    ensures { result ≡ list_any (spec.names_late world.now) (meanings namings.now) }
+fn name_late(world: &Tables, resolutions: &Resolutions<'_>) -> bool
+    ensures { result ≡ list_any (spec.names_late world.now) (meanings resolutions.now) }
 {
-    for index in 0..namings.len() {
-        if names_late(world, *namings.at(index)) {
+    for index in 0..resolutions.len() {
+        if names_late(world, *resolutions.at(index)) {
             return true;
         }
     }
@@ -126,7 +126,7 @@ fn is_unsupported(world: &Tables, n: u32, method: &MethodInfo) -> bool
     is_from_file(world, method)
         && (has_flag(method.flags, ACC_SYNCHRONIZED)
             || code_has_monitor(world, n)
-            || name_late(world, &world.namings(n)))
+            || name_late(world, &world.resolutions(n)))
 }
 
 fn is_unsupported_at(world: &Tables, n: u32) -> bool

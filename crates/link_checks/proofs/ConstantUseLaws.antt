@@ -2,9 +2,9 @@
 use Rattle.std.proofs.Common.{◌≡◌, ℕ, List, Option, Some, None, sym}
 use Rattle.items.specs.First.{first_some}
 use Rattle.class_model.specs.declared.constant.Const.{Const}
-use Rattle.linkage.specs.declared.why.LinkWhy.{LinkWhy}
-use Rattle.linkage.specs.Program.{Program}
-use Rattle.class_resolution.proofs.EntryLaws.{all_set}
+use Rattle.link_rules.specs.declared.why.LinkWhy.{LinkWhy}
+use Rattle.link_rules.specs.Program.{Program}
+use Rattle.link_resolution.proofs.EntryLaws.{all_set}
 use Rattle.link_checks.specs.declared.constant_uses.Use.{Use}
 use Rattle.link_checks.specs.ConstantUses.{AreFine, use_faults, with_use}
 

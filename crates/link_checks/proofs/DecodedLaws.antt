@@ -10,7 +10,7 @@ use Rattle.opcodes.specs.Operands.{op_at}
 use Rattle.opcodes.specs.Code.{BeginsWith, BeginsWithAll, IsCode, IsFirstBad}
 use Rattle.opcodes.proofs.RowLaws.{op_exact}
 use Rattle.opcodes.proofs.CodeLaws.{some_bytes}
-use Rattle.linkage.specs.Faults.{Decoded, decoded, decoded_from, read_at, with_first}
+use Rattle.link_rules.specs.Faults.{Decoded, decoded, decoded_from, read_at, with_first}
 
 begins_read : (pc : ℕ) (code : List ℕ) (i : Instr) (rest : List ℕ) → BeginsWith pc code i rest → op_at pc code ≡ Ok (i.op, rest)
 begins_read pc code i rest b = ap (op_at pc) b.parts ∙ (op_exact pc).again b.bytes i.op rest b.encoding

@@ -7,12 +7,12 @@ use Rattle.items.proofs.FirstLaws.{first_append, first_flat, first_map}
 use Rattle.class_model.specs.declared.constant.Const.{Const}
 use Rattle.class_model.specs.declared.attribute.CodeBody.{CodeBody}
 use Rattle.class_model.specs.declared.class_file.ClassFile.{ClassFile}
-use Rattle.linkage.specs.declared.fault.LinkFault.{LinkFault}
-use Rattle.linkage.specs.declared.why.LinkWhy.{LinkWhy}
-use Rattle.linkage.specs.declared.why.LinkWhy.TheVariants.{BadCode}
-use Rattle.linkage.specs.Program.{Program}
-use Rattle.linkage.specs.Instructions.{Faults}
-use Rattle.linkage.specs.Faults.{Decoded, decoded, instr_faults_in, row_faults, code_faults, name_faults, parent_faults, interface_faults_at, field_faults_at, method_faults_at, method_code_faults, class_faults_at, fault_in, numbered_faults, link_fault}
+use Rattle.link_rules.specs.declared.fault.LinkFault.{LinkFault}
+use Rattle.link_rules.specs.declared.why.LinkWhy.{LinkWhy}
+use Rattle.link_rules.specs.declared.why.LinkWhy.TheVariants.{BadCode}
+use Rattle.link_rules.specs.Program.{Program}
+use Rattle.link_rules.specs.Instructions.{Faults}
+use Rattle.link_rules.specs.Faults.{Decoded, decoded, instr_faults_in, row_faults, code_faults, name_faults, parent_faults, interface_faults_at, field_faults_at, method_faults_at, method_code_faults, class_faults_at, fault_in, numbered_faults, link_fault}
 use Rattle.link_checks.specs.Firsts.{instr_why, row_why, interface_why, field_why, method_why, code_why, class_why, fault_of_class}
 
 abbrev pub bad_why : Bool → Option LinkWhy

@@ -2,9 +2,9 @@
 use Rattle.std.specs.Prelude.{◌≡◌, ℕ, true, false, List, Option, Some, None, slice_get, slice_set}
 use Rattle.items.specs.First.{first_some}
 use Rattle.class_model.specs.declared.constant.Const.{Const}
-use Rattle.linkage.specs.declared.why.LinkWhy.{LinkWhy}
-use Rattle.linkage.specs.Program.{Program}
-use Rattle.linkage.specs.Instructions.{Faults, const_faults, field_const_faults, method_const_faults, class_const_faults}
+use Rattle.link_rules.specs.declared.why.LinkWhy.{LinkWhy}
+use Rattle.link_rules.specs.Program.{Program}
+use Rattle.link_rules.specs.Instructions.{Faults, const_faults, field_const_faults, method_const_faults, class_const_faults}
 use Rattle.link_checks.specs.declared.constant_uses.Use.{Use}
 use Rattle.link_checks.specs.declared.constant_uses.Use.TheVariants as uses
 

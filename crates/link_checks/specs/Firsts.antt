@@ -8,10 +8,10 @@ use Rattle.class_model.specs.declared.attribute.Row.{Row}
 use Rattle.class_model.specs.declared.member.Member.{Member}
 use Rattle.class_model.specs.declared.class_file.ClassFile.{ClassFile}
 use Rattle.opcodes.specs.declared.op.Instr.{Instr}
-use Rattle.linkage.specs.declared.fault.LinkFault.{LinkFault}
-use Rattle.linkage.specs.declared.why.LinkWhy.{LinkWhy}
-use Rattle.linkage.specs.Program.{Program}
-use Rattle.linkage.specs.Faults.{instr_faults_in, row_faults, attribute_faults, interface_faults_at, field_faults_at, method_faults_at, method_code_faults, class_faults_at, fault_in}
+use Rattle.link_rules.specs.declared.fault.LinkFault.{LinkFault}
+use Rattle.link_rules.specs.declared.why.LinkWhy.{LinkWhy}
+use Rattle.link_rules.specs.Program.{Program}
+use Rattle.link_rules.specs.Faults.{instr_faults_in, row_faults, attribute_faults, interface_faults_at, field_faults_at, method_faults_at, method_code_faults, class_faults_at, fault_in}
 
 abbrev pub instr_why : Program → ℕ → List Const → Instr → Option LinkWhy
 instr_why p c pool i = first_some (instr_faults_in p c pool i)

@@ -1,11 +1,11 @@
 //! The name of a class in code, and the class that it means, which is looked for once.
 
 ghost use Rattle.std.specs.Prelude.{◌≡◌};
-ghost use Rattle.linkage.specs.Constants as constants;
-ghost use Rattle.linkage.specs.Instructions as spec;
+ghost use Rattle.link_rules.specs.Constants as constants;
+ghost use Rattle.link_rules.specs.Instructions as spec;
 ghost use Rattle.link_checks.specs.ClassNames.{Means};
 
-use class_resolution::{Hierarchy, base_class, base_name, is_array_name};
+use link_resolution::{Hierarchy, base_class, base_name, is_array_name};
 
 /// The name of a class or of an array class, and the number of that class, or of the class that its last elements are.
 #[derive(Clone, Copy)]

@@ -3,19 +3,19 @@
 ghost use Rattle.std.specs.Prelude.{◌≡◌, Some, drop, slice_get};
 ghost use Rattle.std.specs.List.{list_any};
 ghost use Rattle.items.specs.First.{first_some};
-ghost use Rattle.linkage.specs.Hierarchy.{superclasses};
-ghost use Rattle.linkage.specs.Faults as spec;
+ghost use Rattle.link_rules.specs.Hierarchy.{superclasses};
+ghost use Rattle.link_rules.specs.Faults as spec;
 ghost use Rattle.class_grammar.specs.Names.{is_initializer as is_initializer_name};
-ghost use Rattle.class_resolution.specs.Keys.{key_of};
+ghost use Rattle.link_resolution.specs.Keys.{key_of};
 
 use crate::rules::{first_why, unless};
 use class_grammar::{class_name_at, is_same};
 use class_model::{ClassFile, Member};
-use class_resolution::{
+use link_resolution::{
     Hierarchy, MemberKey, is_abstract, is_array_name, is_final, is_floating, is_known, is_native,
     is_open, is_static, key_in, names_internal, own_name,
 };
-use linkage::LinkWhy;
+use link_rules::LinkWhy;
 
 /// What is wrong with the name of a class.
 pub fn name_fault(world: &Hierarchy, class: u32, file: &ClassFile) -> Option<LinkWhy>

@@ -4,7 +4,7 @@ ghost use Rattle.std.specs.Prelude.{◌≡◌, ◌<◌, ◌^◌, false, length, 
 ghost use Rattle.opcodes.specs.Code.{IsCode, IsFirstBad};
 ghost use Rattle.opcodes.specs.declared.error.CodeWhy.{CodeWhy};
 ghost use Rattle.items.specs.First.{first_in, first_some};
-ghost use Rattle.linkage.specs.Faults as spec;
+ghost use Rattle.link_rules.specs.Faults as spec;
 ghost use Rattle.link_checks.specs.ConstantUses.{AreFine};
 ghost use Rattle.link_checks.specs.Firsts.{attribute_why, code_why, instr_why, row_why};
 
@@ -12,9 +12,9 @@ use crate::constant_uses::Use;
 use crate::instructions::{Namer, class_fault, instr_fault};
 use crate::rules::unless;
 use class_model::{Attribute, Body, CodeBody, Member, Row};
-use class_resolution::name_at;
 use items::NoMemory;
-use linkage::{LinkWhy, Purpose};
+use link_resolution::name_at;
+use link_rules::{LinkWhy, Purpose};
 use opcodes::{CodeError, Instr, decode};
 use std::alloc::Global;
 

@@ -6,7 +6,7 @@ ghost use Rattle.link_checks.specs.ConstantUses.{AreFine, use_faults, with_use};
 
 use crate::instructions::{Namer, class_fault_at, field_fault_at, method_fault_at};
 use items::NoMemory;
-use linkage::{Invocation, LinkWhy, Purpose};
+use link_rules::{Invocation, LinkWhy, Purpose};
 use std::alloc::Global;
 
 /// What an instruction asks of a constant: a field, static or of an object, a method that is invoked so, or a class for a purpose.

@@ -2,8 +2,8 @@
 
 ghost use Rattle.std.specs.Prelude.{◌≡◌, IfOk};
 ghost use Rattle.items.specs.First.{first_some};
-ghost use Rattle.linkage.specs.Instructions as spec;
-ghost use Rattle.class_resolution.specs.Keys.{key_of};
+ghost use Rattle.link_rules.specs.Instructions as spec;
+ghost use Rattle.link_resolution.specs.Keys.{key_of};
 ghost use Rattle.link_checks.specs.ClassNames.{Means};
 ghost use Rattle.link_checks.specs.ConstantUses.{AreFine};
 
@@ -13,12 +13,12 @@ use crate::class_name::{
 use crate::constant_uses::{Use, known_fault};
 use crate::rules::{first_why, unless};
 use class_model::Const;
-use class_resolution::{
+use items::NoMemory;
+use link_resolution::{
     Hierarchy, MemberKey, argument_slots, class_method, dimensions_of, field_of, home_of,
     interface_method, is_floating, is_floating_array, key_at, name_at,
 };
-use items::NoMemory;
-use linkage::{Invocation, LinkWhy, Place, Purpose};
+use link_rules::{Invocation, LinkWhy, MemberPlace, Purpose};
 use opcodes::{Op, Primitive};
 use std::alloc::Global;
 
@@ -45,13 +45,13 @@ fn is_left_out(name: &[u16], key: MemberKey) -> bool
 }
 
 /// The field that a name and a key mean (JVMS 5.4.3.2).
-pub fn resolved_field(world: &Hierarchy, name: &[u16], key: MemberKey) -> Option<Place>
+pub fn resolved_field(world: &Hierarchy, name: &[u16], key: MemberKey) -> Option<MemberPlace>
     ensures { result ≡ spec.resolved_field world.now name.now (key_of key.entry) }
 {
     field_of(world, home_of(world.classes(), name)?, key)
 }
 
-fn is_field_kind(world: &Hierarchy, wanted: bool, found: Option<Place>) -> bool
+fn is_field_kind(world: &Hierarchy, wanted: bool, found: Option<MemberPlace>) -> bool
     ensures { result ≡ spec.is_field_kind world.now wanted found }
 {
     match found {
@@ -60,7 +60,7 @@ fn is_field_kind(world: &Hierarchy, wanted: bool, found: Option<Place>) -> bool
     }
 }
 
-fn is_reserved_field(world: &Hierarchy, found: Option<Place>) -> bool
+fn is_reserved_field(world: &Hierarchy, found: Option<MemberPlace>) -> bool
     ensures { result ≡ spec.is_reserved_field world.now found }
 {
     match found {
@@ -70,7 +70,7 @@ fn is_reserved_field(world: &Hierarchy, found: Option<Place>) -> bool
 }
 
 // The same in the class that a name means.
-fn field_in(world: &Hierarchy, named: ClassName, key: MemberKey) -> Option<Place>
+fn field_in(world: &Hierarchy, named: ClassName, key: MemberKey) -> Option<MemberPlace>
     requires { Means world.now named }
     ensures { result ≡ spec.resolved_field world.now named.entry.name.now (key_of key.entry) }
 {
@@ -136,7 +136,7 @@ pub fn resolved_method(
     by_interface: bool,
     name: &[u16],
     key: MemberKey,
-) -> Result<Option<Place>, NoMemory>
+) -> Result<Option<MemberPlace>, NoMemory>
     ensures { IfOk result (λ o. o ≡
         spec.resolved_method world.now by_interface name.now (key_of key.entry)) }
 {
@@ -157,7 +157,7 @@ fn method_in(
     by_interface: bool,
     named: ClassName,
     key: MemberKey,
-) -> Result<Option<Place>, NoMemory>
+) -> Result<Option<MemberPlace>, NoMemory>
     requires { Means world.now named }
     ensures { IfOk result (λ o. o ≡
         spec.resolved_method world.now by_interface named.entry.name.now (key_of key.entry)) }
@@ -172,7 +172,7 @@ fn method_in(
     }
 }
 
-fn is_method_kind(world: &Hierarchy, wanted: bool, found: Option<Place>) -> bool
+fn is_method_kind(world: &Hierarchy, wanted: bool, found: Option<MemberPlace>) -> bool
     ensures { result ≡ spec.is_method_kind world.now wanted found }
 {
     match found {
@@ -181,7 +181,7 @@ fn is_method_kind(world: &Hierarchy, wanted: bool, found: Option<Place>) -> bool
     }
 }
 
-fn is_reserved_method(world: &Hierarchy, found: Option<Place>) -> bool
+fn is_reserved_method(world: &Hierarchy, found: Option<MemberPlace>) -> bool
     ensures { result ≡ spec.is_reserved_method world.now found }
 {
     match found {

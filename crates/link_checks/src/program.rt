@@ -3,7 +3,7 @@
 ghost use Rattle.std.specs.Prelude.{◌≡◌, IfOk, Some, slice_get};
 ghost use Rattle.std.specs.List.{enumerate_from};
 ghost use Rattle.items.specs.First.{first_in};
-ghost use Rattle.linkage.specs.Faults as spec;
+ghost use Rattle.link_rules.specs.Faults as spec;
 ghost use Rattle.link_checks.specs.ConstantUses.{AreFine};
 ghost use Rattle.link_checks.specs.Firsts as firsts;
 ghost use Rattle.link_checks.specs.Firsts.{class_why, code_why, field_why, interface_why, method_why};
@@ -13,9 +13,9 @@ use crate::code::method_code_fault;
 use crate::constant_uses::{Use, no_uses};
 use crate::instructions::Namer;
 use class_model::{ClassFile, Member};
-use class_resolution::{Hierarchy, name_at, own_name};
 use items::{Items, NoMemory};
-use linkage::{LinkFault, LinkWhy};
+use link_resolution::{Hierarchy, name_at, own_name};
+use link_rules::{LinkFault, LinkWhy};
 use std::alloc::Global;
 
 fn interfaces_fault(world: &Hierarchy, class: u32, file: &ClassFile) -> Option<LinkWhy>

@@ -3,7 +3,7 @@
 ghost use Rattle.std.specs.Prelude.{◌≡◌};
 ghost use Rattle.items.specs.First as spec;
 
-use linkage::LinkWhy;
+use link_rules::LinkWhy;
 
 /// What is wrong, unless a test has passed.
 pub fn unless(passed: bool, why: LinkWhy) -> Option<LinkWhy>

@@ -2,20 +2,20 @@
 use Rattle.std.proofs.Common.{◌≡◌, ℕ, ◌+◌, ◌-◌, Bool, true, false, List, [], ◌∷◌, Option, Some, None, refl, ap, sym, subst, ◌∙◌, ◌≤◌, arith}
 use Rattle.std.specs.Prelude.{IsTrue}
 use Rattle.items.proofs.Binds.{bind_is}
-use Rattle.opcodes.specs.declared.op.Kind.{Kind}
+use Rattle.opcodes.specs.declared.op.ValueKind.{ValueKind}
 use Rattle.instruction_rows.specs.Rows.{Row, returns, invoke, static}
 use Rattle.instruction_rows.specs.Table.{row as row_of}
-use Rattle.world_model.specs.World.{World}
+use Rattle.link_model.specs.World.{World}
 use Rattle.verify_types.specs.Environment.{Instruction}
 use Rattle.verify_types.specs.Typing.{AreTyped}
 use Rattle.state_model.specs.Frames.{Frame}
 use Rattle.ref_model.specs.Fetch.{fetched}
 use Rattle.ref_model.specs.LocalRows.{row, rows, local_act}
-use Rattle.typed_frames.specs.LocalLaws.{NamesStatic}
-use Rattle.typed_frames.specs.Typed.{Typed}
-use Rattle.typed_frames.proofs.KeepLaws.{row_keeps}
+use Rattle.frame_soundness.specs.LocalLaws.{NamesStatic}
+use Rattle.frame_soundness.specs.Typed.{Typed}
+use Rattle.frame_soundness.proofs.KeepLaws.{row_keeps}
 use Rattle.interp_local.specs.Runs.{stays_on}
-use Rattle.method_calls.specs.FrameSteps.{top_is_root, top_returned}
+use Rattle.invocation.specs.FrameSteps.{top_is_root, top_returned}
 use Rattle.interp_local.specs.declared.fetched.Fetched.{Fetched}
 use Rattle.interp_local.specs.Fetched.{IsTopAt, instruction_of}
 use Rattle.machine.specs.LocalRuns.{GoesOver, IsLongRun, returned_kind}
@@ -24,16 +24,16 @@ use Rattle.machine.proofs.LocalLaws.{kind_row, not_back, root_ends, rows_join, r
 inside : {A : Type 0} (a b : A) → ◌≡◌ {A = Option A} (Some a) (Some b) → a ≡ b
 inside a b e = cc
 
-no_call : (a : Row) (kind : Option Kind) (index : ℕ) → a ≡ returns kind → a ≡ invoke static index → ⊥
+no_call : (a : Row) (kind : Option ValueKind) (index : ℕ) → a ≡ returns kind → a ≡ invoke static index → ⊥
 no_call a kind index x y = let e = sym x ∙ y in cc
 
 -- a return names no method
-names_none : (w : World) (f : Frame) (i : Instruction) (kind : Option Kind) → fetched w f ≡ Some i → row_of i.instr.op ≡ returns kind → NamesStatic w f
+names_none : (w : World) (f : Frame) (i : Instruction) (kind : Option ValueKind) → fetched w f ≡ Some i → row_of i.instr.op ≡ returns kind → NamesStatic w f
 names_none w f i kind at is = λ j index m found called named.
     absurd (no_call (row_of i.instr.op) kind index is (ap (λ (x : Instruction). row_of x.instr.op) (inside i j (sym at ∙ found)) ∙ called))
 
 -- the return to the caller was made
-pub back_made : (w : World) (frames after : List Frame) (f : Fetched) (kind : Option Kind) → AreTyped w → Typed w frames → IsTopAt w frames f
+pub back_made : (w : World) (frames after : List Frame) (f : Fetched) (kind : Option ValueKind) → AreTyped w → Typed w frames → IsTopAt w frames f
     → returned_kind (row_of f.instr.now.op) ≡ Some kind → top_returned w kind frames ≡ Some after → GoesOver w frames after true
 back_made w [] after f kind typed fits top is made = absurd fits
 back_made w (g ∷ below) after f kind typed fits top is made =
@@ -45,7 +45,7 @@ back_made w (g ∷ below) after f kind typed fits top is made =
     (step, row_keeps w g below after typed (names_none w g i kind top.at act) fits step)
 
 -- the return is from a root frame
-pub root_back : (w : World) (frames after : List Frame) (f : Fetched) (kind : Option Kind) → Typed w frames → IsTopAt w frames f
+pub root_back : (w : World) (frames after : List Frame) (f : Fetched) (kind : Option ValueKind) → Typed w frames → IsTopAt w frames f
     → returned_kind (row_of f.instr.now.op) ≡ Some kind → top_is_root w frames ≡ true → after ≡ frames → GoesOver w frames after false
 root_back w [] after f kind fits top is root same = absurd fits
 root_back w (g ∷ below) after f kind fits top is root same =

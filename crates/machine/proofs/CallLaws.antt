@@ -7,9 +7,9 @@ use Rattle.lib_table.specs.declared.native.Native.{Native}
 use Rattle.instruction_rows.specs.declared.value.Slot.{Slot}
 use Rattle.instruction_rows.specs.Rows.{Row, Invocation, local, constant, wide_constant, returns, invoke, event, refused, virtual, special, static, interface, dynamic}
 use Rattle.instruction_rows.specs.Table.{row as row_of}
-use Rattle.world_model.specs.declared.members.MethodCode.{MethodCode}
-use Rattle.world_model.specs.World.{World}
-use Rattle.world_model.specs.Decoded.{code_at}
+use Rattle.link_model.specs.declared.members.MethodCode.{MethodCode}
+use Rattle.link_model.specs.World.{World}
+use Rattle.link_model.specs.Decoded.{code_at}
 use Rattle.verify_types.specs.Environment.{Instruction}
 use Rattle.state_model.specs.Frames.{Frame}
 use Rattle.ref_model.specs.State.{State, with_frames}
@@ -23,21 +23,21 @@ use Rattle.ref_model.specs.declared.exception.Exception.TheVariants as exception
 use Rattle.ref_model.specs.Throwing.{raised}
 use Rattle.continuation.specs.Continuation.{Continuation}
 use Rattle.frames.specs.Frames.{with_stack, top_stack, top_room}
-use Rattle.object_events.specs.declared.outcome.Outcome.{Outcome}
-use Rattle.object_events.specs.declared.outcome.Outcome.TheVariants.{Done, Throws, ThrowsObject, Undefined}
-use Rattle.object_events.specs.Operands.{operands, ChangesOperands}
-use Rattle.object_events.specs.Outcomes.{Acts, IsEffect, KeptUnlessDone, with_heap}
+use Rattle.heap_instructions.specs.declared.outcome.Outcome.{Outcome}
+use Rattle.heap_instructions.specs.declared.outcome.Outcome.TheVariants.{Done, Throws, ThrowsObject, Undefined}
+use Rattle.heap_instructions.specs.Operands.{operands, ChangesOperands}
+use Rattle.heap_instructions.specs.Outcomes.{Acts, IsEffect, KeptUnlessDone, with_heap}
 use Rattle.native_methods.specs.declared.state.NativeState.{NativeState}
 use Rattle.native_methods.specs.Arguments.{native_effect}
 use Rattle.native_methods.specs.NativeStates.{with_natives, StaysIfThrown}
-use Rattle.method_calls.specs.FrameSteps.{HasBegun}
-use Rattle.method_calls.specs.declared.target.Callee.{Callee}
-use Rattle.method_calls.specs.declared.target.Target.{Target}
-use Rattle.method_calls.specs.declared.target.Target.TheVariants as targets
+use Rattle.invocation.specs.FrameSteps.{HasBegun}
+use Rattle.invocation.specs.declared.target.Callee.{Callee}
+use Rattle.invocation.specs.declared.target.Target.{Target}
+use Rattle.invocation.specs.declared.target.Target.TheVariants as targets
 use Rattle.ref_model.specs.Calls.{invoked, native_entered, code_entered, method_entered}
 use Rattle.ref_model.specs.LocalRows.{row, local_act, has_local_call, static_called, frames_called, most_frames}
 use Rattle.ref_model.specs.Step.{after_effect, row_or_event}
-use Rattle.method_calls.specs.Targets.{row_invoked, begins, IsInvoked}
+use Rattle.invocation.specs.Targets.{row_invoked, begins, IsInvoked}
 use Rattle.machine.specs.declared.parts.Parts.{Parts}
 use Rattle.machine.specs.States.{state_of, IsRunStep}
 use Rattle.machine.specs.Concluding.{Concludes, EffectSteps, Leads, Steps}
@@ -89,18 +89,18 @@ entered_so w r m f below fs e =
 
 -- what an invocation leads to, where it is a local instruction
 row_agrees : (w : World) (i : Instruction) (invocation : Invocation) (index : ℕ) (r : State) (t : ℕ) (f : Frame) (below fs : List Frame) (x : Effect) → local_act w i (invoke invocation index) f below ≡ Some fs
-    → invoked w i.naming invocation r (suc (length below)) f.stack ≡ Some x → after_effect w r t i.instr.next f below x ≡ Some (with_frames r t fs)
+    → invoked w i.resolution invocation r (suc (length below)) f.stack ≡ Some x → after_effect w r t i.instr.next f below x ≡ Some (with_frames r t fs)
 row_agrees w i virtual index r t f below fs x made effect = absurd cc
 row_agrees w i special index r t f below fs x made effect = absurd cc
 row_agrees w i (interface count) index r t f below fs x made effect = absurd cc
 row_agrees w i dynamic index r t f below fs x made effect = absurd cc
 row_agrees w i static index r t f below fs x made effect =
-    let m = some_is (named_method w i.naming) (λ m. static_called w m f below) fs made in
+    let m = some_is (named_method w i.resolution) (λ m. static_called w m f below) fs made in
     let so = entered_so w r m.0 f below fs m.2 in
     let slots = argument_slots m.0.method.signature in
     let begins : Option Effect = Some (invokes so.0 (drop slots f.stack)) in
-    let called : invoked w i.naming static r (suc (length below)) f.stack ≡ begins =
-    bind_is (named_method w i.naming) (λ n. native_entered w r (suc (length below)) n (native_at w n.number) (argument_slots n.method.signature) f.stack) m.0 begins m.1 so.2 in
+    let called : invoked w i.resolution static r (suc (length below)) f.stack ≡ begins =
+    bind_is (named_method w i.resolution) (λ n. native_entered w r (suc (length below)) n (native_at w n.number) (argument_slots n.method.signature) f.stack) m.0 begins m.1 so.2 in
     let same : invokes so.0 (drop slots f.stack) ≡ x = let e = sym called ∙ effect in cc in
     let after : Option State = Some (with_frames r t fs) in
     ap (after_effect w r t i.instr.next f below) (sym same) ∙ ap (λ (gs : List Frame). Some (with_frames r t gs)) (sym so.1)
@@ -108,7 +108,7 @@ row_agrees w i static index r t f below fs x made effect =
 -- ---- the step of an invocation
 
 invocation_run : (w : World) (i : Instruction) (invocation : Invocation) (index : ℕ) (a b : Parts) (f : Frame) (below after : List Frame) → fetched w f ≡ Some i → row_of i.instr.op ≡ invoke invocation index
-    → Leads w a b f below after i.instr.next (invoked w i.naming invocation (state_of a (f ∷ below)) (suc (length below)) f.stack) → IsRunStep w (state_of a (f ∷ below)) (f ∷ below) (state_of b after)
+    → Leads w a b f below after i.instr.next (invoked w i.resolution invocation (state_of a (f ∷ below)) (suc (length below)) f.stack) → IsRunStep w (state_of a (f ∷ below)) (f ∷ below) (state_of b after)
 invocation_run w i invocation index a b f below after at is x = by (row w (f ∷ below)) refl
   where
     r : State
@@ -123,10 +123,10 @@ invocation_run w i invocation index a b f below after at is x = by (row w (f ∷
         ap (row_or_event w r 0 (f ∷ below)) e ∙ sym (row_agrees w i invocation index r 0 f below fs x.effect_is (sym by_row ∙ e) x.is) ∙ x.leads
 
 pub invoked_stepped : (w : World) (i : Instruction) (a b : Parts) (f : Frame) (below after : List Frame) → fetched w f ≡ Some i
-    → Leads w a b f below after i.instr.next (row_invoked w i.naming (row_of i.instr.op) (state_of a (f ∷ below)) (suc (length below)) f.stack) → IsRunStep w (state_of a (f ∷ below)) (f ∷ below) (state_of b after)
+    → Leads w a b f below after i.instr.next (row_invoked w i.resolution (row_of i.instr.op) (state_of a (f ∷ below)) (suc (length below)) f.stack) → IsRunStep w (state_of a (f ∷ below)) (f ∷ below) (state_of b after)
 invoked_stepped w i a b f below after at x = by (row_of i.instr.op) refl x
   where
-    by : (act : Row) → row_of i.instr.op ≡ act → Leads w a b f below after i.instr.next (row_invoked w i.naming act (state_of a (f ∷ below)) (suc (length below)) f.stack) → IsRunStep w (state_of a (f ∷ below)) (f ∷ below) (state_of b after)
+    by : (act : Row) → row_of i.instr.op ≡ act → Leads w a b f below after i.instr.next (row_invoked w i.resolution act (state_of a (f ∷ below)) (suc (length below)) f.stack) → IsRunStep w (state_of a (f ∷ below)) (f ∷ below) (state_of b after)
     by (invoke invocation index) is x = invocation_run w i invocation index a b f below after at is x
     by (local act) is x = absurd (let e = x.is in cc)
     by (constant index) is x = absurd (let e = x.is in cc)
@@ -181,18 +181,18 @@ native_leads w a b s native next m new after o acts kept stays only held ends f 
 -- ---- the step by what the invocation comes to
 
 gives_stepped : (w : World) (i : Instruction) (a b : Parts) (m : Continuation) (after : List Frame) (other : State → ℕ → List Slot → Option Effect)
-    → ((r : State) (depth : ℕ) → row_invoked w i.naming (row_of i.instr.op) (with_heap a.natives.heap r) depth (operands m) ≡ other (with_heap a.natives.heap r) depth (operands m))
+    → ((r : State) (depth : ℕ) → row_invoked w i.resolution (row_of i.instr.op) (with_heap a.natives.heap r) depth (operands m) ≡ other (with_heap a.natives.heap r) depth (operands m))
     → EffectSteps w i.instr.next other a m.stack.frames b after → Steps w i a m.stack.frames b after
 gives_stepped w i a b m after other given effects f below top at =
     let r : State = state_of a (f ∷ below) in
-    let same : row_invoked w i.naming (row_of i.instr.op) r (suc (length below)) f.stack ≡ other r (suc (length below)) f.stack =
-    subst (λ (fs : List Frame). row_invoked w i.naming (row_of i.instr.op) r (suc (length below)) (top_stack fs) ≡ other r (suc (length below)) (top_stack fs)) top (given r (suc (length below))) in
+    let same : row_invoked w i.resolution (row_of i.instr.op) r (suc (length below)) f.stack ≡ other r (suc (length below)) f.stack =
+    subst (λ (fs : List Frame). row_invoked w i.resolution (row_of i.instr.op) r (suc (length below)) (top_stack fs) ≡ other r (suc (length below)) (top_stack fs)) top (given r (suc (length below))) in
     let step = invoked_stepped w i a b f below after at (leads_too w a b f below after i.instr.next _ _ same (effects f below top)) in
     subst (λ (fs : List Frame). IsRunStep w (state_of a fs) fs (state_of b after)) (sym top) step
 
 -- it comes to this target
 abbrev pub ComesTo : World → Instruction → Parts → Continuation → Target → Type 0
-ComesTo w i a m target = IsInvoked w i.naming (row_of i.instr.op) a.natives.heap m target
+ComesTo w i a m target = IsInvoked w i.resolution (row_of i.instr.op) a.natives.heap m target
 
 pub native_stepped : (w : World) (i : Instruction) (a b : Parts) (m : Continuation) (after : List Frame) (native : Native) → ComesTo w i a m (targets.Native native)
     → EffectSteps w i.instr.next (λ r depth stack. native_effect w native r stack) a m.stack.frames b after → Steps w i a m.stack.frames b after

@@ -9,7 +9,7 @@ use Rattle.instruction_rows.specs.Rows.{Row, LocalRow, int, long, local, constan
 use Rattle.instruction_rows.specs.SlotEffect.{divides_by_zero}
 use Rattle.instruction_rows.specs.Table.{row as row_of}
 use Rattle.instruction_rows.proofs.DivisionLaws.{undefined_by_zero}
-use Rattle.world_model.specs.World.{World}
+use Rattle.link_model.specs.World.{World}
 use Rattle.verify_types.specs.Environment.{Instruction}
 use Rattle.state_model.specs.Frames.{Frame}
 use Rattle.std.specs.Vec.{with_items}
@@ -26,11 +26,11 @@ use Rattle.ref_model.specs.declared.exception.Exception.TheVariants as exception
 use Rattle.ref_model.specs.Effects.{Effect, done, throws, throws_object}
 use Rattle.ref_model.specs.Throwing.{raised, throwing}
 use Rattle.ref_model.specs.Step.{after_effect, division_effect}
-use Rattle.object_events.specs.declared.outcome.Outcome.{Outcome}
-use Rattle.object_events.specs.declared.outcome.Outcome.TheVariants.{Done, Throws, ThrowsObject, Undefined}
-use Rattle.object_events.specs.Outcomes.{IsEffect, KeptUnlessDone, with_heap, with_statics}
-use Rattle.object_events.specs.Operands.{operands}
-use Rattle.object_events.specs.Dispatch as events
+use Rattle.heap_instructions.specs.declared.outcome.Outcome.{Outcome}
+use Rattle.heap_instructions.specs.declared.outcome.Outcome.TheVariants.{Done, Throws, ThrowsObject, Undefined}
+use Rattle.heap_instructions.specs.Outcomes.{IsEffect, KeptUnlessDone, with_heap, with_statics}
+use Rattle.heap_instructions.specs.Operands.{operands}
+use Rattle.heap_instructions.specs.Dispatch as events
 use Rattle.machine.specs.declared.parts.Parts.{Parts}
 use Rattle.machine.specs.States.{state_of, IsRunStep}
 use Rattle.machine.specs.Concluding.{Concludes, EndsOtherwise, Leads, Steps}
@@ -97,11 +97,11 @@ division_stepped w i act a b f below after at row x =
     (effect_step w i (local act) (state_of a (f ∷ below)) (state_of b after) 0 f below x.effect_is at row tt effect x.leads)
 
 pub event_stepped : (w : World) (i : Instruction) (a mid b : Parts) (f : Frame) (below left after : List Frame) (stack : List Slot) (o : Outcome) → fetched w f ≡ Some i
-    → IsEffect o (events.row_effect w i.naming (row_of i.instr.op) (state_of a (f ∷ below)) f.stack) (state_of mid (f ∷ below)) stack → length stack ≤ f.room → left ≡ with_stack stack (f ∷ below)
+    → IsEffect o (events.row_effect w i.resolution (row_of i.instr.op) (state_of a (f ∷ below)) f.stack) (state_of mid (f ∷ below)) stack → length stack ≤ f.room → left ≡ with_stack stack (f ∷ below)
     → KeptUnlessDone o (state_of a (f ∷ below)) (state_of mid (f ∷ below)) → KeptUnlessDone o (f ∷ below) left → Concludes w i.instr.next o mid left b after → IsRunStep w (state_of a (f ∷ below)) (f ∷ below) (state_of b after)
 event_stepped w i a mid b f below left after stack o at is held frames kept same ends = by (row_of i.instr.op) refl (concluded w a mid b f below left after stack i.instr.next o _ is held frames kept same ends)
   where
-    by : (act : Row) → row_of i.instr.op ≡ act → Leads w a b f below after i.instr.next (events.row_effect w i.naming act (state_of a (f ∷ below)) f.stack) → IsRunStep w (state_of a (f ∷ below)) (f ∷ below) (state_of b after)
+    by : (act : Row) → row_of i.instr.op ≡ act → Leads w a b f below after i.instr.next (events.row_effect w i.resolution act (state_of a (f ∷ below)) f.stack) → IsRunStep w (state_of a (f ∷ below)) (f ∷ below) (state_of b after)
     by (event e) row x =
         event_is_run w (state_of a (f ∷ below)) (state_of b after) 0 (f ∷ below) (no_row w i (event e) f below at row refl)
         (effect_step w i (event e) (state_of a (f ∷ below)) (state_of b after) 0 f below x.effect_is at row tt x.is x.leads)
@@ -150,15 +150,15 @@ frames_kept m next frames o top kept = by o kept
     by Undefined x = same x
 
 pub event_done : (w : World) (i : Instruction) (a b : Parts) (h : Heap) (given statics : List Value) (m next : Continuation) (after : List Frame) (o : Outcome) → length statics ≡ a.statics.len → given ≡ a.statics.items
-    → events.IsRun w i.naming (row_of i.instr.op) a.natives.heap h given statics m next o → length (top_stack next.stack.frames) ≤ top_room next.stack.frames
+    → events.IsRun w i.resolution (row_of i.instr.op) a.natives.heap h given statics m next o → length (top_stack next.stack.frames) ≤ top_room next.stack.frames
     → Concludes w i.instr.next o (with_values a h statics) next.stack.frames b after → Steps w i a m.stack.frames b after
 event_done w i a b h given statics m next after o size same ran held ends f below top at =
     let frames : next.stack.frames ≡ with_stack (operands next) (f ∷ below) = ran.only.frames ∙ ap (with_stack (operands next)) top in
     let room : top_room next.stack.frames ≡ f.room = ap top_room frames in
     let left = valued a h statics (f ∷ below) size in
-    let effect = subst (λ (q : State). IsEffect o (events.row_effect w i.naming (row_of i.instr.op) (with_heap a.natives.heap (with_statics given (state_of a (f ∷ below)))) (operands m)) q (operands next)) (sym left) (ran.effect (state_of a (f ∷ below))) in
-    let first : events.row_effect w i.naming (row_of i.instr.op) (with_heap a.natives.heap (with_statics given (state_of a (f ∷ below)))) (operands m) ≡ events.row_effect w i.naming (row_of i.instr.op) (state_of a (f ∷ below)) f.stack =
-    ap (λ (s : List Value). events.row_effect w i.naming (row_of i.instr.op) (with_statics s (state_of a (f ∷ below))) (operands m)) same ∙ ap (λ (fs : List Frame). events.row_effect w i.naming (row_of i.instr.op) (state_of a (f ∷ below)) (top_stack fs)) top in
+    let effect = subst (λ (q : State). IsEffect o (events.row_effect w i.resolution (row_of i.instr.op) (with_heap a.natives.heap (with_statics given (state_of a (f ∷ below)))) (operands m)) q (operands next)) (sym left) (ran.effect (state_of a (f ∷ below))) in
+    let first : events.row_effect w i.resolution (row_of i.instr.op) (with_heap a.natives.heap (with_statics given (state_of a (f ∷ below)))) (operands m) ≡ events.row_effect w i.resolution (row_of i.instr.op) (state_of a (f ∷ below)) f.stack =
+    ap (λ (s : List Value). events.row_effect w i.resolution (row_of i.instr.op) (with_statics s (state_of a (f ∷ below))) (operands m)) same ∙ ap (λ (fs : List Frame). events.row_effect w i.resolution (row_of i.instr.op) (state_of a (f ∷ below)) (top_stack fs)) top in
     let kept_statics = subst (λ (s : List Value). KeptUnlessDone o s statics) same ran.kept_statics in
     let step : IsRunStep w (state_of a (f ∷ below)) (f ∷ below) (state_of b after) =
     event_stepped w i a (with_values a h statics) b f below next.stack.frames after (operands next) o at

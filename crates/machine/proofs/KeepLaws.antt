@@ -3,7 +3,7 @@ use Rattle.std.proofs.Common.{◌≡◌, ℕ, ◌<◌, ◌≤◌, List, [], ◌�
 use Rattle.items.proofs.Binds.{some_is}
 use Rattle.vthread_state.specs.declared.phase.Phase.TheVariants.{Run, Throwing}
 use Rattle.vthread_state.specs.declared.thread.Status.TheVariants.{Live}
-use Rattle.world_model.specs.World.{World}
+use Rattle.link_model.specs.World.{World}
 use Rattle.verify_types.specs.Environment.{Instruction}
 use Rattle.state_model.specs.Frames.{Frame}
 use Rattle.ref_model.specs.Setting.{Setting}
@@ -14,12 +14,12 @@ use Rattle.ref_model.specs.Fetch.{fetched}
 use Rattle.ref_model.specs.LocalRows.{row, rows}
 use Rattle.ref_model.specs.Step.{step, row_or_event}
 use Rattle.ref_model.specs.Throwing.{throwing_step}
-use Rattle.typed_frames.specs.Typed.{Typed}
-use Rattle.typed_frames.specs.TypedStates.{IsTypedState}
-use Rattle.typed_frames.proofs.KeepLaws.{rows_keep}
-use Rattle.typed_frames.proofs.ThreadLaws.{frames_keep}
-use Rattle.typed_steps.specs.Namings.{IsStepNaming}
-use Rattle.typed_steps.proofs.Steps.{step_keeps, running_is_typed}
+use Rattle.frame_soundness.specs.Typed.{Typed}
+use Rattle.frame_soundness.specs.TypedStates.{IsTypedState}
+use Rattle.frame_soundness.proofs.KeepLaws.{rows_keep}
+use Rattle.frame_soundness.proofs.ThreadLaws.{frames_keep}
+use Rattle.step_soundness.specs.Resolutions.{IsStepResolution}
+use Rattle.step_soundness.proofs.Steps.{step_keeps, running_is_typed}
 use Rattle.frames.specs.Frames.{top_method, top_pc}
 use Rattle.interp_local.specs.Fetched.{instruction_at}
 use Rattle.machine.specs.Concluding.{Steps}
@@ -50,7 +50,7 @@ abbrev any_setting : World → Setting
 any_setting w = record { world = w; main = 0; limits = record { heap_cells = 0; threads = 0; events = 0 } }
 
 -- a step whose constant names what linking gives
-kept : (w : World) (r q : State) → IsReady w → IsTypedState w r → IsStepNaming w r 0 → ((p : Setting) → p.world ≡ w → step p r 0 None ≡ Some q) → IsKept w r q
+kept : (w : World) (r q : State) → IsReady w → IsTypedState w r → IsStepResolution w r 0 → ((p : Setting) → p.world ≡ w → step p r 0 None ≡ Some q) → IsKept w r q
 kept w r q ready typed names goes = record { step = goes; typed = step_keeps (any_setting w) r q 0 ready.linked typed names (goes (any_setting w) refl) }
 
 inside : {A : Type 0} (a b : A) → ◌≡◌ {A = Option A} (Some a) (Some b) → a ≡ b
@@ -61,7 +61,7 @@ top_of f g below others e = cc
 
 -- ---- a step of a thread that runs
 
-run_names : (w : World) (a : Parts) (f : Frame) (below : List Frame) → IsReady w → a.status ≡ Live Run → IsStepNaming w (state_of a (f ∷ below)) 0
+run_names : (w : World) (a : Parts) (f : Frame) (below : List Frame) → IsReady w → a.status ≡ Live Run → IsStepResolution w (state_of a (f ∷ below)) 0
 run_names w a f below ready running = record { top = λ g others e. ready.named (state_of a (f ∷ below)) g }
 
 run_goes : (w : World) (a b : Parts) (frames after : List Frame) → a.status ≡ Live Run → ending (state_of a frames) ≡ None → IsRunStep w (state_of a frames) frames (state_of b after) → IsStep w (state_of a frames) (state_of b after)
@@ -88,7 +88,7 @@ local_kept w a frames after typed running goes made fits =
 
 -- ---- a step of a thread that throws
 
-throw_names : (w : World) (a : Parts) (o : ℕ) (frames : List Frame) → a.status ≡ Live (Throwing o) → IsStepNaming w (state_of a frames) 0
+throw_names : (w : World) (a : Parts) (o : ℕ) (frames : List Frame) → a.status ≡ Live (Throwing o) → IsStepResolution w (state_of a frames) 0
 throw_names w a o frames throws = record { top = λ g others e. absurd (none (sym (ap (running_frames frames) throws) ∙ e)) }
   where
     none : {A : Type 0} {x : A} → ◌≡◌ {A = Option A} None (Some x) → ⊥

@@ -8,7 +8,7 @@ use Rattle.items.specs.Options.{◌>>=◌}
 use Rattle.items.proofs.Binds.{bind_is}
 use Rattle.history.specs.declared.entry.Entry.{Entry}
 use Rattle.history.specs.Java.{java}
-use Rattle.world_model.specs.World.{World}
+use Rattle.link_model.specs.World.{World}
 use Rattle.state_model.specs.Frames.{Frame}
 use Rattle.ref_model.specs.declared.ending.Ending.{Ending}
 use Rattle.ref_model.specs.declared.ending.Ending.TheVariants.{Limit}
@@ -20,9 +20,9 @@ use Rattle.ref_model.specs.Ending.{ending}
 use Rattle.ref_model.specs.Entries.{are_grouped_from}
 use Rattle.ref_model.specs.Opening.{opening}
 use Rattle.ref_model.specs.Run.{run, replay, first_outcome}
-use Rattle.opening.specs.Openings as openings
-use Rattle.typed_frames.specs.TypedStates.{IsTypedState}
-use Rattle.method_calls.specs.Selections.{AreSelected, Kept}
+use Rattle.startup.specs.Openings as openings
+use Rattle.frame_soundness.specs.TypedStates.{IsTypedState}
+use Rattle.invocation.specs.InvocationCache.{AreSelected, Kept}
 use Rattle.machine.specs.declared.parts.Parts.{Parts}
 use Rattle.machine.specs.Insides.{AreParts, IsKept}
 use Rattle.machine.specs.Machines.{HasGrown, IsLegal, Known, ending_within, errors, output, run_ending, state_after}

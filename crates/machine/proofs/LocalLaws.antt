@@ -5,12 +5,12 @@ use Rattle.std.specs.Option.{option_map_or}
 use Rattle.std.proofs.lemmas.Bool.{le-leb}
 use Rattle.items.specs.Options.{◌>>=◌}
 use Rattle.items.proofs.Binds.{some_is, bind_is}
-use Rattle.opcodes.specs.declared.op.Kind.{Kind}
+use Rattle.opcodes.specs.declared.op.ValueKind.{ValueKind}
 use Rattle.instruction_rows.specs.Marks.{has_zero_divisor}
 use Rattle.instruction_rows.specs.Rows.{Row, LocalRow, local, constant, wide_constant, returns, invoke, event, refused, virtual, special, static, interface, dynamic}
 use Rattle.instruction_rows.specs.Table.{row as row_of}
 use Rattle.instruction_rows.proofs.DivisionLaws.{undefined_by_zero, zero_divisors}
-use Rattle.world_model.specs.World.{World}
+use Rattle.link_model.specs.World.{World}
 use Rattle.verify_types.specs.Environment.{Instruction}
 use Rattle.state_model.specs.Frames.{Frame}
 use Rattle.ref_model.specs.State.{State}
@@ -123,14 +123,14 @@ not_back w f below i at leaves none = by (row_of i.instr.op) refl none
     by refused is none = fetched_row w f below i refused at is refl
 
 -- A return from a root frame ends a run.
-pub root_ends : (w : World) (f : Frame) (below : List Frame) (i : Instruction) (kind : Option Kind) → fetched w f ≡ Some i
+pub root_ends : (w : World) (f : Frame) (below : List Frame) (i : Instruction) (kind : Option ValueKind) → fetched w f ≡ Some i
     → row_of i.instr.op ≡ returns kind → is_root w f below ≡ true → ends_run w (f ∷ below) ≡ true
 root_ends w f below i kind at is root =
     fetched_row w f below i (returns kind) at is
     (ap (λ (b : Bool). if b then None else returned w kind f below) root)
 
 -- the row of a return, by what it gives back
-pub kind_row : (act : Row) (kind : Option Kind) → returned_kind act ≡ Some kind → act ≡ returns kind
+pub kind_row : (act : Row) (kind : Option ValueKind) → returned_kind act ≡ Some kind → act ≡ returns kind
 kind_row (returns k) kind e = let same : k ≡ kind = cc in ap returns same
 kind_row (local r) kind e = absurd cc
 kind_row (constant index) kind e = absurd cc

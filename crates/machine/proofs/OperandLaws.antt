@@ -3,16 +3,16 @@ use Rattle.std.proofs.Common.{◌≡◌, ℕ, true, List, [], ◌∷◌, drop, O
 use Rattle.items.specs.Options.{◌>>=◌}
 use Rattle.items.proofs.Binds.{bind_is}
 use Rattle.lib_table.specs.declared.native.Native.{Native}
-use Rattle.opcodes.specs.declared.op.Kind.{Kind}
-use Rattle.opcodes.specs.declared.op.Kind.TheVariants as kinds
+use Rattle.opcodes.specs.declared.op.ValueKind.{ValueKind}
+use Rattle.opcodes.specs.declared.op.ValueKind.TheVariants as kinds
 use Rattle.instruction_rows.specs.declared.value.Slot.{Slot}
 use Rattle.instruction_rows.specs.Kinds.{Of}
 use Rattle.instruction_rows.specs.Rows.{Row, Invocation, returns, invoke, virtual, special, static, interface, dynamic}
 use Rattle.instruction_rows.specs.SlotEffect.{popped}
 use Rattle.instruction_rows.specs.Table.{row as row_of}
-use Rattle.world_model.specs.declared.members.MethodInfo.{MethodInfo}
-use Rattle.world_model.specs.declared.sites.Naming.{Naming}
-use Rattle.world_model.specs.World.{World}
+use Rattle.link_model.specs.declared.members.MethodInfo.{MethodInfo}
+use Rattle.link_model.specs.declared.sites.Resolution.{Resolution}
+use Rattle.link_model.specs.World.{World}
 use Rattle.verify_types.specs.Environment.{Instruction}
 use Rattle.state_model.specs.Frames.{Frame}
 use Rattle.frames.specs.Frames.{top_method, top_pc, top_stack}
@@ -24,18 +24,18 @@ use Rattle.ref_model.specs.Classes.{is_sub}
 use Rattle.ref_model.specs.Fetch.{fetched, Named, named_method}
 use Rattle.ref_model.specs.Kinds.{argument_slots}
 use Rattle.ref_model.specs.Operands.{FindsArguments, FindsOperands, HasOperands}
-use Rattle.typed_frames.specs.Typed.{Typed}
-use Rattle.typed_frames.specs.CallLaws.{takes_receiver}
-use Rattle.typed_frames.specs.EnterLaws.{IsChosen}
-use Rattle.typed_frames.specs.EventLaws.{OfReceiver}
-use Rattle.typed_frames.proofs.FetchLaws.{fetched_is}
-use Rattle.typed_frames.proofs.OperandProofs.{arguments_are_there, operands_are_there, static_arguments_are_there}
-use Rattle.typed_steps.specs.Namings.{IsRowNaming, IsSelected, chosen_method, method_run, receiver}
+use Rattle.frame_soundness.specs.Typed.{Typed}
+use Rattle.frame_soundness.specs.CallLaws.{takes_receiver}
+use Rattle.frame_soundness.specs.EnterLaws.{IsChosen}
+use Rattle.frame_soundness.specs.EventLaws.{OfReceiver}
+use Rattle.frame_soundness.proofs.FetchLaws.{fetched_is}
+use Rattle.frame_soundness.proofs.OperandProofs.{arguments_are_there, operands_are_there, static_arguments_are_there}
+use Rattle.step_soundness.specs.Resolutions.{IsRowResolution, IsSelected, chosen_method, method_run, receiver}
 use Rattle.interp_local.specs.Fetched.{instruction_at}
-use Rattle.object_events.specs.Operands.{operands}
-use Rattle.method_calls.specs.declared.receivers.Receiver.{Receiver}
-use Rattle.method_calls.specs.FrameSteps.{returned_kinds}
-use Rattle.method_calls.specs.Natives.{HasReceiver, InvokesNative, IsNative, IsNativeInvoked, IsVirtualNative}
+use Rattle.heap_instructions.specs.Operands.{operands}
+use Rattle.invocation.specs.declared.receivers.Receiver.{Receiver}
+use Rattle.invocation.specs.FrameSteps.{returned_kinds}
+use Rattle.invocation.specs.Natives.{HasReceiver, InvokesNative, IsNative, IsNativeInvoked, IsVirtualNative}
 use Rattle.machine.specs.declared.parts.Parts.{Parts}
 use Rattle.machine.specs.LocalRuns.{returned_kind}
 use Rattle.machine.specs.Operands.{FindsNatives}
@@ -51,17 +51,17 @@ placed_is : (w : World) (f : Frame) (below : List Frame) (t : Typed w (f ∷ bel
 placed_is w f below t i at = inside t.0.at.place.instruction i (sym (fetched_is w f t.0.at) ∙ at)
 
 pub operands_found : (w : World) (frames : List Frame) (i : Instruction) → IsReady w → Typed w frames → instruction_at w (top_method frames) (top_pc frames) ≡ Some i →
-    FindsOperands w i.naming (row_of i.instr.op) (top_stack frames)
+    FindsOperands w i.resolution (row_of i.instr.op) (top_stack frames)
 operands_found w [] i ready typed at = absurd typed
 operands_found w (f ∷ below) i ready typed at =
-    subst (λ (j : Instruction). FindsOperands w j.naming (row_of j.instr.op) f.stack) (placed_is w f below typed i at) (operands_are_there w f below ready.linked typed)
+    subst (λ (j : Instruction). FindsOperands w j.resolution (row_of j.instr.op) f.stack) (placed_is w f below typed i at) (operands_are_there w f below ready.linked typed)
 
 -- what a return takes
-pub value_taken : (w : World) (naming : Naming) (r : Row) (kind : Option Kind) (stack : List Slot) → returned_kind r ≡ Some kind → FindsOperands w naming r stack →
+pub value_taken : (w : World) (resolution : Resolution) (r : Row) (kind : Option ValueKind) (stack : List Slot) → returned_kind r ≡ Some kind → FindsOperands w resolution r stack →
     HasOperands (returned_kinds kind) 0 stack
-value_taken w naming r kind stack is x = by kind (subst (λ (s : Row). FindsOperands w naming s stack) (kind_row r kind is) x)
+value_taken w resolution r kind stack is x = by kind (subst (λ (s : Row). FindsOperands w resolution s stack) (kind_row r kind is) x)
   where
-    by : (k : Option Kind) → FindsOperands w naming (returns k) stack → HasOperands (returned_kinds k) 0 stack
+    by : (k : Option ValueKind) → FindsOperands w resolution (returns k) stack → HasOperands (returned_kinds k) 0 stack
     by None y = tt
     by (Some k) y = y
 
@@ -85,9 +85,9 @@ on_top w m h n x = subst (λ (fs : List Frame). FindsArguments w n (top_stack fs
 
 -- one that runs on the receiver at hand
 received : (w : World) (m : Continuation) (a : Parts) (h : Stands w m) (invocation : Invocation) (index k : ℕ) (named : Named) (r : Receiver) (n : Native) → IsReady w →
-    row_of (instruction w m h).instr.op ≡ invoke invocation index → takes_receiver invocation ≡ true → named_method w (instruction w m h).naming ≡ Some named →
-    OfReceiver w (state w m a h) (receiver named.method.signature h.f.stack) (IsSelected w (instruction w m h).naming invocation named) →
-    HasReceiver w (instruction w m h).naming (argument_slots named.method.signature) a.natives.heap m r → is_sub w r.class r.named ≡ true →
+    row_of (instruction w m h).instr.op ≡ invoke invocation index → takes_receiver invocation ≡ true → named_method w (instruction w m h).resolution ≡ Some named →
+    OfReceiver w (state w m a h) (receiver named.method.signature h.f.stack) (IsSelected w (instruction w m h).resolution invocation named) →
+    HasReceiver w (instruction w m h).resolution (argument_slots named.method.signature) a.natives.heap m r → is_sub w r.class r.named ≡ true →
     method_run w invocation named r.class ≡ Some k → IsNative w k n → FindsArguments w n (operands m)
 received w m a h invocation index k named r n ready row takes is names has instance run native =
     let slots = argument_slots named.method.signature in
@@ -101,18 +101,18 @@ received w m a h invocation index k named r n ready row takes is names has insta
 
 -- one that is selected
 selected : (w : World) (m : Continuation) (a : Parts) (h : Stands w m) (invocation : Invocation) (index : ℕ) (named : Named) (n : Native) → IsReady w →
-    row_of (instruction w m h).instr.op ≡ invoke invocation index → takes_receiver invocation ≡ true → named_method w (instruction w m h).naming ≡ Some named →
-    OfReceiver w (state w m a h) (receiver named.method.signature h.f.stack) (IsSelected w (instruction w m h).naming invocation named) →
+    row_of (instruction w m h).instr.op ≡ invoke invocation index → takes_receiver invocation ≡ true → named_method w (instruction w m h).resolution ≡ Some named →
+    OfReceiver w (state w m a h) (receiver named.method.signature h.f.stack) (IsSelected w (instruction w m h).resolution invocation named) →
     ((class : ℕ) → method_run w invocation named class ≡ (choice_of w class named.number >>= chosen_method w)) →
-    IsVirtualNative w (instruction w m h).naming named.number (argument_slots named.method.signature) a.natives.heap m n → FindsArguments w n (operands m)
+    IsVirtualNative w (instruction w m h).resolution named.number (argument_slots named.method.signature) a.natives.heap m n → FindsArguments w n (operands m)
 selected w m a h invocation index named n ready row takes is names runs x =
     let s = x.is.selected in
     received w m a h invocation index _ named x.receiver n ready row takes is names x.has x.is.instance
     (runs x.receiver.class ∙ bind_is (choice_of w x.receiver.class named.number) (chosen_method w) _ _ s.choice refl) s.is
 
 invoked : (w : World) (m : Continuation) (a : Parts) (h : Stands w m) (invocation : Invocation) (index : ℕ) (n : Native) → IsReady w →
-    row_of (instruction w m h).instr.op ≡ invoke invocation index → IsRowNaming w (instruction w m h).naming (invoke invocation index) (state w m a h) h.f.stack →
-    InvokesNative w (instruction w m h).naming invocation a.natives.heap m n → FindsArguments w n (operands m)
+    row_of (instruction w m h).instr.op ≡ invoke invocation index → IsRowResolution w (instruction w m h).resolution (invoke invocation index) (state w m a h) h.f.stack →
+    InvokesNative w (instruction w m h).resolution invocation a.natives.heap m n → FindsArguments w n (operands m)
 invoked w m a h virtual index n ready row names x = selected w m a h virtual index x.named n ready row refl x.is (names x.named x.is) (λ class. refl) x.runs
 invoked w m a h (interface count) index n ready row names x =
     selected w m a h (interface count) index x.named n ready row refl x.is (names x.named x.is) (λ class. refl) x.runs
@@ -124,22 +124,22 @@ invoked w m a h static index n ready row names x =
 invoked w m a h dynamic index n ready row names x = absurd x.runs
 
 -- only an invocation comes to a native method
-invocation_of : (w : World) (naming : Naming) (r : Row) (heap : Heap) (m : Continuation) (n : Native) → IsNativeInvoked w naming r heap m n →
-    (invocation : Invocation) × (index : ℕ) × (r ≡ invoke invocation index) × InvokesNative w naming invocation heap m n
-invocation_of w naming (invoke invocation index) heap m n x = (invocation, index, refl, x)
-invocation_of w naming r heap m n x = absurd x
+invocation_of : (w : World) (resolution : Resolution) (r : Row) (heap : Heap) (m : Continuation) (n : Native) → IsNativeInvoked w resolution r heap m n →
+    (invocation : Invocation) × (index : ℕ) × (r ≡ invoke invocation index) × InvokesNative w resolution invocation heap m n
+invocation_of w resolution (invoke invocation index) heap m n x = (invocation, index, refl, x)
+invocation_of w resolution r heap m n x = absurd x
 
 natives_there : (w : World) (m : Continuation) (a : Parts) (h : Stands w m) → IsReady w →
-    FindsNatives w (instruction w m h).naming (row_of (instruction w m h).instr.op) a.natives.heap m
+    FindsNatives w (instruction w m h).resolution (row_of (instruction w m h).instr.op) a.natives.heap m
 natives_there w m a h ready = λ n x.
     let i = instruction w m h in
-    let by = invocation_of w i.naming (row_of i.instr.op) a.natives.heap m n x in
+    let by = invocation_of w i.resolution (row_of i.instr.op) a.natives.heap m n x in
     let names = ready.named (state w m a h) h.f i (fetched_is w h.f h.typed.0.at) in
-    invoked w m a h by.0 by.1 n ready by.2 (subst (λ (r : Row). IsRowNaming w i.naming r (state w m a h) h.f.stack) by.2 names) by.3
+    invoked w m a h by.0 by.1 n ready by.2 (subst (λ (r : Row). IsRowResolution w i.resolution r (state w m a h) h.f.stack) by.2 names) by.3
 
 pub natives_found : (w : World) (a : Parts) (m : Continuation) (frames : List Frame) (i : Instruction) → m.stack.frames ≡ frames → IsReady w → Typed w frames →
-    instruction_at w (top_method frames) (top_pc frames) ≡ Some i → FindsNatives w i.naming (row_of i.instr.op) a.natives.heap m
+    instruction_at w (top_method frames) (top_pc frames) ≡ Some i → FindsNatives w i.resolution (row_of i.instr.op) a.natives.heap m
 natives_found w a m [] i top ready typed at = absurd typed
 natives_found w a m (f ∷ below) i top ready typed at =
-    subst (λ (j : Instruction). FindsNatives w j.naming (row_of j.instr.op) a.natives.heap m) (placed_is w f below typed i at)
+    subst (λ (j : Instruction). FindsNatives w j.resolution (row_of j.instr.op) a.natives.heap m) (placed_is w f below typed i at)
     (natives_there w m a (record { f = f; below = below; top = top; typed = typed }) ready)

@@ -4,15 +4,15 @@ use Rattle.std.specs.Prelude.{if◌then◌else◌}
 use Rattle.std.specs.Option.{option_map}
 use Rattle.items.proofs.Binds.{bind_is}
 use Rattle.vthread_state.specs.declared.thread.Status.{Status}
-use Rattle.world_model.specs.World.{World}
+use Rattle.link_model.specs.World.{World}
 use Rattle.verify_types.specs.Environment.{Handler}
 use Rattle.state_model.specs.Frames.{Frame}
 use Rattle.ref_model.specs.State.{State}
 use Rattle.ref_model.specs.Heap.{class_at}
 use Rattle.ref_model.specs.Throwing.{handler_of, uncaught, handled}
 use Rattle.ref_model.specs.Step.{root_left}
-use Rattle.object_events.specs.HeapReads.{class_number}
-use Rattle.method_calls.specs.FrameSteps.{top_is_root, top_handler}
+use Rattle.heap_instructions.specs.HeapReads.{class_number}
+use Rattle.invocation.specs.FrameSteps.{top_is_root, top_handler}
 use Rattle.machine.specs.declared.parts.Parts.{Parts}
 use Rattle.machine.specs.States.{state_of}
 use Rattle.machine.specs.Returning.{EndsUncaught, LeavesRoot, ThrowingSteps, status_left}

@@ -6,9 +6,9 @@ use Rattle.items.proofs.Binds.{bind_is, some_is}
 use Rattle.instruction_rows.specs.declared.value.Slot.{Slot}
 use Rattle.instruction_rows.specs.Rows.{Row, local, constant, wide_constant, returns, invoke, event, refused, virtual, special, static, interface, dynamic}
 use Rattle.instruction_rows.specs.Table.{row as row_of}
-use Rattle.world_model.specs.declared.sites.Naming.{Naming}
-use Rattle.world_model.specs.World.{World}
-use Rattle.world_model.specs.Decoded.{code_at}
+use Rattle.link_model.specs.declared.sites.Resolution.{Resolution}
+use Rattle.link_model.specs.World.{World}
+use Rattle.link_model.specs.Decoded.{code_at}
 use Rattle.verify_types.specs.Environment.{Instruction}
 use Rattle.state_model.specs.Frames.{Frame}
 use Rattle.ref_model.specs.State.{State}
@@ -19,15 +19,15 @@ use Rattle.ref_model.specs.Fetch.{fetched, Named, method_of, named_method}
 use Rattle.ref_model.specs.Frames.{callee, caller}
 use Rattle.ref_model.specs.Kinds.{argument_slots}
 use Rattle.ref_model.specs.LocalRows.{row, local_act, has_local_call, static_called, frames_called, most_frames}
-use Rattle.typed_frames.specs.LocalLaws.{NamesStatic}
-use Rattle.typed_frames.specs.Typed.{Typed}
-use Rattle.typed_frames.proofs.KeepLaws.{row_keeps}
-use Rattle.typed_steps.specs.Namings.{IsRowNaming}
+use Rattle.frame_soundness.specs.LocalLaws.{NamesStatic}
+use Rattle.frame_soundness.specs.Typed.{Typed}
+use Rattle.frame_soundness.proofs.KeepLaws.{row_keeps}
+use Rattle.step_soundness.specs.Resolutions.{IsRowResolution}
 use Rattle.continuation.specs.Continuation.{Continuation}
 use Rattle.frames.specs.Frames.{top_stack, with_stack}
-use Rattle.method_calls.specs.declared.target.Callee.{Callee}
-use Rattle.method_calls.specs.FrameSteps.{HasBegun}
-use Rattle.method_calls.specs.Targets.{IsStaticCallee, begins, callee_frame}
+use Rattle.invocation.specs.declared.target.Callee.{Callee}
+use Rattle.invocation.specs.FrameSteps.{HasBegun}
+use Rattle.invocation.specs.Targets.{IsStaticCallee, begins, callee_frame}
 use Rattle.interp_local.specs.declared.fetched.Fetched.{Fetched}
 use Rattle.interp_local.specs.Fetched.{IsTopAt, instruction_of}
 use Rattle.machine.specs.LocalRuns.{GoesOver}
@@ -77,15 +77,15 @@ begins_so depth c stack g rest e = by (nat_lt depth most_frames) refl e
         record { deep = is; frame = frame.1 ∙ ap (λ (h : Frame). Some h) same; left = cc }
 
 -- the frame, as the rows have it
-frame_called : (w : World) (naming : Naming) (c : Callee) (x : IsStaticCallee w naming c) (stack : List Slot) (g : Frame) → callee_frame c stack ≡ Some g
+frame_called : (w : World) (resolution : Resolution) (c : Callee) (x : IsStaticCallee w resolution c) (stack : List Slot) (g : Frame) → callee_frame c stack ≡ Some g
     → callee x.number x.callee.code x.slots stack ≡ Some g
-frame_called w naming c x stack g is = sym (ap (λ (d : Callee). callee_frame d stack) x.callee.is) ∙ is
+frame_called w resolution c x stack g is = sym (ap (λ (d : Callee). callee_frame d stack) x.callee.is) ∙ is
 
 true_and : (a b : Bool) → a ≡ true → b ≡ true → (a && b) ≡ true
 true_and true b e g = g
 true_and false b e g = absurd cc
 
-called_row : (w : World) (i : Instruction) (index : ℕ) (c : Callee) (f g : Frame) (below : List Frame) (rest : List Slot) → (x : IsStaticCallee w i.naming c) → Begins (length (f ∷ below)) c f.stack g rest
+called_row : (w : World) (i : Instruction) (index : ℕ) (c : Callee) (f g : Frame) (below : List Frame) (rest : List Slot) → (x : IsStaticCallee w i.resolution c) → Begins (length (f ∷ below)) c f.stack g rest
     → local_act w i (invoke static index) f below ≡ Some (g ∷ record f { stack = rest } ∷ below)
 called_row w i index c f g below rest x made =
     let m : Named = record { number = x.number; method = x.callee.method } in
@@ -93,18 +93,18 @@ called_row w i index c f g below rest x made =
     let takes : argument_slots m.method.signature ≡ slots = sym x.takes in
     let left : rest ≡ drop slots f.stack = made.left ∙ ap (λ (d : Callee). drop d.slots f.stack) x.callee.is in
     let result : Option (List Frame) = Some (g ∷ record f { stack = rest } ∷ below) in
-    let named : named_method w i.naming ≡ Some m =
-    bind_is (method_of i.naming.site) (λ n. slice_get w.methods n >>= λ k. Some (record { number = n; method = k })) x.number (Some m) x.named
+    let named : named_method w i.resolution ≡ Some m =
+    bind_is (method_of i.resolution.site) (λ n. slice_get w.methods n >>= λ k. Some (record { number = n; method = k })) x.number (Some m) x.named
     (bind_is (slice_get w.methods x.number) (λ k. Some (record { number = x.number; method = k })) x.callee.method (Some m) x.callee.at refl) in
     let frames : (code_at w x.number >>= λ code. callee x.number code slots f.stack >>= λ h. Some (h ∷ caller f slots ∷ below)) ≡ result =
     bind_is (code_at w x.number) (λ code. callee x.number code slots f.stack >>= λ h. Some (h ∷ caller f slots ∷ below)) x.callee.code result x.callee.has
-    (bind_is (callee x.number x.callee.code slots f.stack) (λ h. Some (h ∷ caller f slots ∷ below)) g result (frame_called w i.naming c x f.stack g made.frame)
+    (bind_is (callee x.number x.callee.code slots f.stack) (λ h. Some (h ∷ caller f slots ∷ below)) g result (frame_called w i.resolution c x f.stack g made.frame)
     (ap (λ (s : List Slot). Some (g ∷ record f { stack = s } ∷ below)) (sym left))) in
     let called : frames_called w m f below ≡ result =
     ap (λ n. code_at w x.number >>= λ code. callee x.number code n f.stack >>= λ h. Some (h ∷ caller f n ∷ below)) takes ∙ frames in
     let may : (has_local_call w m && nat_lt (length (f ∷ below)) most_frames) ≡ true =
     true_and (has_local_call w m) (nat_lt (length (f ∷ below)) most_frames) x.callee.local made.deep in
-    bind_is (named_method w i.naming) (λ n. static_called w n f below) m result named
+    bind_is (named_method w i.resolution) (λ n. static_called w n f below) m result named
     (ap (λ (b : Bool). if b then frames_called w m f below else None) may ∙ called)
 
 -- ---- the instruction
@@ -125,11 +125,11 @@ no_state = record {
 
 pub names_static : (w : World) (f : Frame) → IsReady w → NamesStatic w f
 names_static w f ready i index m at known named =
-    (subst (λ (r : Row). IsRowNaming w i.naming r no_state f.stack) known (ready.named no_state f i at) m named).flag
+    (subst (λ (r : Row). IsRowResolution w i.resolution r no_state f.stack) known (ready.named no_state f i at) m named).flag
 
 -- the method was begun
 pub into_made : (w : World) (m new : Continuation) (x : Fetched) (c : Callee) → IsReady w → Typed w m.stack.frames → IsTopAt w m.stack.frames x → is_static_call (row_of x.instr.now.op) ≡ true
-    → IsStaticCallee w x.naming.now c → HasBegun c m new → GoesOver w m.stack.frames new.stack.frames true
+    → IsStaticCallee w x.resolution.now c → HasBegun c m new → GoesOver w m.stack.frames new.stack.frames true
 into_made w m new x c ready typed top calls callee begun =
     by m.stack.frames typed top begun.effect begun.frames
   where

@@ -3,7 +3,7 @@ use Rattle.std.proofs.Common.{◌≡◌, ℕ, suc, List, ◌∷◌, length, Opti
 use Rattle.items.proofs.Binds.{bind_is}
 use Rattle.instruction_rows.specs.Rows.{Row, returns}
 use Rattle.instruction_rows.specs.Table.{row as row_of}
-use Rattle.world_model.specs.World.{World}
+use Rattle.link_model.specs.World.{World}
 use Rattle.verify_types.specs.Environment.{Instruction}
 use Rattle.state_model.specs.Frames.{Frame}
 use Rattle.ref_model.specs.State.{State}

@@ -4,7 +4,7 @@ use Rattle.std.specs.Prelude.{IfOk, OnOk, unwrap_or}
 use Rattle.items.proofs.Binds.{bind_is}
 use Rattle.instruction_rows.specs.declared.value.Value.{Value}
 use Rattle.heap_objs.specs.Heap.{Heap}
-use Rattle.world_model.specs.World.{World, name_number}
+use Rattle.link_model.specs.World.{World, name_number}
 use Rattle.vthread_state.specs.declared.phase.Phase.TheVariants.{Throwing}
 use Rattle.vthread_state.specs.declared.thread.Status.TheVariants.{Live}
 use Rattle.state_model.specs.Frames.{Frame}
@@ -13,7 +13,7 @@ use Rattle.ref_model.specs.State.{State}
 use Rattle.ref_model.specs.Heap.{with_instance}
 use Rattle.ref_model.specs.Members.{new_values}
 use Rattle.ref_model.specs.Throwing.{exception_name, raised, throwing_new}
-use Rattle.object_events.specs.HeapReads.{IsMade}
+use Rattle.heap_instructions.specs.HeapReads.{IsMade}
 use Rattle.machine.specs.declared.parts.Parts.{Parts}
 use Rattle.machine.specs.States.{state_of}
 

@@ -1,7 +1,7 @@
 -- What the outcome of an instruction makes of the machine.
 use Rattle.std.specs.Prelude.{◌≡◌, ℕ, suc, List, ◌∷◌, Option, Some, length}
 use Rattle.frames.specs.Frames.{at_pc}
-use Rattle.world_model.specs.World.{World}
+use Rattle.link_model.specs.World.{World}
 use Rattle.state_model.specs.Frames.{Frame}
 use Rattle.verify_types.specs.Environment.{Instruction}
 use Rattle.instruction_rows.specs.declared.value.Slot.{Slot}
@@ -10,8 +10,8 @@ use Rattle.ref_model.specs.Fetch.{fetched}
 use Rattle.ref_model.specs.Effects.{Effect}
 use Rattle.ref_model.specs.Step.{after_effect}
 use Rattle.ref_model.specs.Throwing.{raised, throwing}
-use Rattle.object_events.specs.declared.outcome.Outcome.{Outcome}
-use Rattle.object_events.specs.declared.outcome.Outcome.TheVariants.{Done, Throws, ThrowsObject, Undefined}
+use Rattle.heap_instructions.specs.declared.outcome.Outcome.{Outcome}
+use Rattle.heap_instructions.specs.declared.outcome.Outcome.TheVariants.{Done, Throws, ThrowsObject, Undefined}
 use Rattle.machine.specs.declared.parts.Parts.{Parts}
 use Rattle.machine.specs.States.{state_of, IsRunStep}
 

@@ -4,9 +4,9 @@ use Rattle.history.specs.declared.entry.Entry.{Entry}
 use Rattle.state_model.specs.Frames.{Frame}
 use Rattle.ref_model.specs.Setting.{Setting}
 use Rattle.ref_model.specs.State.{State}
-use Rattle.opening.specs.Openings.{setting}
-use Rattle.typed_frames.specs.TypedStates.{IsTypedState}
-use Rattle.method_calls.specs.Selections.{AreSelected, Kept}
+use Rattle.startup.specs.Openings.{setting}
+use Rattle.frame_soundness.specs.TypedStates.{IsTypedState}
+use Rattle.invocation.specs.InvocationCache.{AreSelected, Kept}
 use Rattle.machine.specs.declared.parts.Parts.{Parts}
 use Rattle.machine.specs.declared.machine_state.Machine.TheInside.{Inside}
 use Rattle.machine.specs.Machines.{IsLegal, Known}
@@ -26,12 +26,12 @@ pub record AreParts (a : Parts) (frames : List Frame) (q : State) : Type 0 where
   pub exited : a.natives.exited ≡ q.exited
 
 -- The history is one of the reference machine, and the parts and frames are those of the state that it gives, unless the machine gave up.
-pub record IsKept (p : Setting) (a : Parts) (frames : List Frame) (selections : Kept) (history : List Entry) (given_up : Bool) : Type 0 where
+pub record IsKept (p : Setting) (a : Parts) (frames : List Frame) (cache : Kept) (history : List Entry) (given_up : Bool) : Type 0 where
   pub ready : IsReady p.world
   pub legal : IsLegal p history
   pub typed : IsTypedState p.world legal.state
   pub parts : given_up ≡ false → AreParts a frames legal.state
-  pub selected : AreSelected p.world selections
+  pub selected : AreSelected p.world cache
 
 -- ---- a machine by its fields
 
@@ -47,4 +47,4 @@ known a = record {
 }
 
 abbrev pub IsSound : Inside → Type 0
-IsSound a = IsKept (setting_in a) a.parts a.mounted.stack.frames a.selections a.history.items a.given_up
+IsSound a = IsKept (setting_in a) a.parts a.mounted.stack.frames a.cache a.history.items a.given_up

@@ -1,15 +1,15 @@
 -- Runs of local instructions of a thread, in its top frame and in those to which it returns.
 use Rattle.std.specs.Prelude.{◌≡◌, ℕ, suc, ◌≤◌, Bool, true, false, not, List, Option, Some, None, is_some, ◌||◌}
-use Rattle.opcodes.specs.declared.op.Kind.{Kind}
+use Rattle.opcodes.specs.declared.op.ValueKind.{ValueKind}
 use Rattle.instruction_rows.specs.Rows.{Row, returns}
-use Rattle.world_model.specs.World.{World}
+use Rattle.link_model.specs.World.{World}
 use Rattle.state_model.specs.Frames.{Frame}
 use Rattle.ref_model.specs.LocalRows.{row, rows}
 use Rattle.ref_model.specs.Entries.{may_be_last, most_local_steps, stands_at_static_call}
-use Rattle.typed_frames.specs.Typed.{Typed}
+use Rattle.frame_soundness.specs.Typed.{Typed}
 
 -- the kind of what a return gives back, where the row is that of a return
-abbrev pub returned_kind : Row → Option (Option Kind)
+abbrev pub returned_kind : Row → Option (Option ValueKind)
 returned_kind (returns kind) = Some kind
 returned_kind r = None
 

@@ -1,11 +1,11 @@
 -- Returns and exceptions on their way, as steps of the main thread.
 use Rattle.std.specs.Prelude.{◌≡◌, ℕ, zero, suc, List, ◌∷◌, Option, Some}
-use Rattle.opcodes.specs.declared.op.Kind.{Kind}
+use Rattle.opcodes.specs.declared.op.ValueKind.{ValueKind}
 use Rattle.instruction_rows.specs.Rows.{returns}
 use Rattle.instruction_rows.specs.Table.{row as row_of}
 use Rattle.vthread_state.specs.declared.thread.Status.{Status}
 use Rattle.vthread_state.specs.declared.thread.Status.TheVariants.{Done}
-use Rattle.world_model.specs.World.{World}
+use Rattle.link_model.specs.World.{World}
 use Rattle.verify_types.specs.Environment.{Instruction}
 use Rattle.state_model.specs.Frames.{Frame}
 use Rattle.ref_model.specs.Fetch.{fetched}
@@ -25,7 +25,7 @@ LeavesRoot a frames b after = (f : Frame) (below : List Frame) → frames ≡ f 
     root_left (state_of a (f ∷ below)) 0 below ≡ state_of b after
 
 -- The top frame, where it is at such a return, was left.
-abbrev pub ReturnSteps : World → Option Kind → Parts → List Frame → Parts → List Frame → Type 0
+abbrev pub ReturnSteps : World → Option ValueKind → Parts → List Frame → Parts → List Frame → Type 0
 ReturnSteps w kind a frames b after = (f : Frame) (below : List Frame) (i : Instruction) → frames ≡ f ∷ below → fetched w f ≡ Some i →
     row_of i.instr.op ≡ returns kind → IsRunStep w (state_of a frames) frames (state_of b after)
 

@@ -2,9 +2,9 @@
 use Rattle.std.specs.Prelude.{◌≡◌, ℕ, suc, ◌<◌, true, List, [], ◌∷◌, ◌++◌, Some, slice_get}
 use Rattle.vthread_state.specs.declared.phase.Phase.TheVariants.{Run}
 use Rattle.vthread_state.specs.declared.thread.Status.TheVariants.{Live}
-use Rattle.world_model.specs.World.{World}
+use Rattle.link_model.specs.World.{World}
 use Rattle.state_model.specs.Frames.{Frame}
-use Rattle.typed_frames.specs.TypedStates.{IsTypedState}
+use Rattle.frame_soundness.specs.TypedStates.{IsTypedState}
 use Rattle.ref_model.specs.State.{JavaThread, State, with_frames}
 use Rattle.ref_model.specs.LocalRows.{rows}
 use Rattle.ref_model.specs.Entries.{is_grouped}

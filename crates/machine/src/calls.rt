@@ -3,10 +3,10 @@
 ghost use Rattle.std.specs.Prelude.{◌<◌, ◌≤◌, ℕ, length, OnOk};
 ghost use Rattle.instruction_rows.specs.Table.{row};
 ghost use Rattle.ref_model.specs.Operands.{FindsArguments, FindsOperands};
-ghost use Rattle.object_events.specs.Operands.{operands};
+ghost use Rattle.heap_instructions.specs.Operands.{operands};
 ghost use Rattle.native_methods.specs.Arguments.{native_effect};
-ghost use Rattle.method_calls.specs.Selections.{AreSelected};
-ghost use Rattle.method_calls.specs.Targets.{begins};
+ghost use Rattle.invocation.specs.InvocationCache.{AreSelected};
+ghost use Rattle.invocation.specs.Targets.{begins};
 ghost use Rattle.machine.specs.Concluding.{EffectSteps, Steps};
 ghost use Rattle.machine.specs.Operands.{FindsNatives};
 
@@ -14,13 +14,13 @@ use crate::concluding::{conclude, raise};
 use crate::parts::Parts;
 use crate::world::MachineWorld;
 use continuation::Mounted;
+use invocation::{Callee, Entered, InvocationCache, Target, enter, invoke};
 use items::NoMemory;
 use lib_table::Native;
-use method_calls::{Callee, Entered, Selections, Target, enter, invoke};
+use link_model::Resolution;
 use native_methods::run_native;
 use opcodes::Instr;
 use std::alloc::Global;
-use world_model::Naming;
 
 // A native method runs in one step, and the frame goes on at the next instruction.
 #[inline(never)]
@@ -70,30 +70,30 @@ fn code_step<W: MachineWorld>(
 pub(crate) fn invocation_step<W: MachineWorld>(
     alloc: Global,
     world: &W,
-    selections: &mut Selections,
+    cache: &mut InvocationCache,
     parts: &mut Parts,
     mounted: &mut Mounted,
     instr: &Instr,
-    naming: &Naming,
+    resolution: &Resolution,
 ) -> Result<(), NoMemory>
     requires frame { 0 < length mounted.old.stack.frames }
-    requires operands { FindsOperands (W.world world.now) naming.now (row instr.now.op)
+    requires operands { FindsOperands (W.world world.now) resolution.now (row instr.now.op)
         (operands mounted.old) }
-    requires natives { FindsNatives (W.world world.now) naming.now (row instr.now.op)
+    requires natives { FindsNatives (W.world world.now) resolution.now (row instr.now.op)
         parts.old.natives.heap mounted.old }
-    requires selected { AreSelected (W.world world.now) selections.old }
+    requires selected { AreSelected (W.world world.now) cache.old }
     ensures steps { OnOk result (Steps (W.world world.now)
-        (record { instr = instr.now; naming = naming.now })
+        (record { instr = instr.now; resolution = resolution.now })
         parts.old mounted.old.stack.frames parts.new mounted.new.stack.frames) }
-    ensures selections { AreSelected (W.world world.now) selections.new }
+    ensures cache { AreSelected (W.world world.now) cache.new }
 {
     mounted.operands_fit();
     let target = invoke(
         alloc,
         world,
-        selections,
+        cache,
         &instr.op,
-        naming,
+        resolution,
         &parts.natives.heap,
         mounted,
     )?;

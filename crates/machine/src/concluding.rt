@@ -9,8 +9,8 @@ ghost use Rattle.machine.specs.States.{state_of};
 use crate::parts::Parts;
 use crate::world::MachineWorld;
 use continuation::Mounted;
+use heap_instructions::{Outcome, make_object};
 use items::NoMemory;
-use object_events::{Outcome, make_object};
 use ref_model::Exception;
 use vthread_state::{Phase, Status};
 

@@ -2,10 +2,10 @@
 
 ghost use Rattle.std.specs.Prelude.{◌≡◌, ◌≤◌, ◌+◌, ◌-◌, None, length, vec_capacity, IfOk, OnErr, OnOk};
 ghost use Rattle.ref_model.specs.Ending.{ending};
-ghost use Rattle.typed_frames.specs.TypedStates.{IsTypedState};
+ghost use Rattle.frame_soundness.specs.TypedStates.{IsTypedState};
 ghost use Rattle.vthread_state.specs.declared.phase.Phase.TheVariants.{Run, Throwing};
 ghost use Rattle.vthread_state.specs.declared.thread.Status.TheVariants.{Live};
-ghost use Rattle.method_calls.specs.Selections.{AreSelected};
+ghost use Rattle.invocation.specs.InvocationCache.{AreSelected};
 ghost use Rattle.machine.specs.Ready.{IsReady};
 ghost use Rattle.machine.specs.States.{state_of};
 ghost use Rattle.machine.specs.Runs.{main_entry};
@@ -16,10 +16,10 @@ use crate::local::{MOST_STEPS, run_local};
 use crate::parts::Parts;
 use continuation::Mounted;
 use history::{Entry, What};
+use invocation::InvocationCache;
 use items::NoMemory;
 use jvm_edges::Gate;
-use method_calls::Selections;
-use ready_program::ReadyProgram;
+use runtime_program::ReadyProgram;
 use std::alloc::Global;
 use vthread_state::{Phase, Status};
 
@@ -28,7 +28,7 @@ use vthread_state::{Phase, Status};
 fn running_entry(
     alloc: Global,
     program: &ReadyProgram,
-    selections: &mut Selections,
+    cache: &mut InvocationCache,
     parts: &mut Parts,
     mounted: &mut Mounted,
 ) -> Result<u32, NoMemory>
@@ -36,18 +36,18 @@ fn running_entry(
     requires typed { IsTypedState program.now (state_of parts.old mounted.old.stack.frames) }
     requires running { parts.old.status ≡ Live Run }
     requires going { ending (state_of parts.old mounted.old.stack.frames) ≡ None }
-    requires selected { AreSelected program.now selections.old }
+    requires selected { AreSelected program.now cache.old }
     ensures advances { IfOk result (λ n. Advances program.now n
         (state_of parts.old mounted.old.stack.frames)
         (state_of parts.new mounted.new.stack.frames)) }
     ensures few { IfOk result (λ n. n ≤ 10000) }
-    ensures selections { AreSelected program.now selections.new }
+    ensures cache { AreSelected program.now cache.new }
 {
-    let stop = run_local(program, selections, mounted)?;
+    let stop = run_local(program, cache, mounted)?;
     if stop.steps == MOST_STEPS {
         return Ok(MOST_STEPS - 1);
     }
-    fetched_step(alloc, program, selections, parts, mounted, stop.next)?;
+    fetched_step(alloc, program, cache, parts, mounted, stop.next)?;
     Ok(stop.steps)
 }
 
@@ -78,7 +78,7 @@ fn throwing_entry(
 fn advance<G: Gate>(
     alloc: Global,
     program: &ReadyProgram,
-    selections: &mut Selections,
+    cache: &mut InvocationCache,
     parts: &mut Parts,
     mounted: &mut Mounted,
     gate: &G,
@@ -86,17 +86,17 @@ fn advance<G: Gate>(
     requires ready { IsReady program.now }
     requires typed { IsTypedState program.now (state_of parts.old mounted.old.stack.frames) }
     requires going { ending (state_of parts.old mounted.old.stack.frames) ≡ None }
-    requires selected { AreSelected program.now selections.old }
+    requires selected { AreSelected program.now cache.old }
     ensures advances { IfOk result (λ n. Advances program.now n
         (state_of parts.old mounted.old.stack.frames)
         (state_of parts.new mounted.new.stack.frames)) }
     ensures few { IfOk result (λ n. n ≤ 10000) }
-    ensures selections { AreSelected program.now selections.new }
+    ensures cache { AreSelected program.now cache.new }
 {
     match parts.status {
         Status::Live(Phase::Run) => {
             gate.local(0, 0);
-            running_entry(alloc, program, selections, parts, mounted)
+            running_entry(alloc, program, cache, parts, mounted)
         }
         Status::Live(Phase::Throwing(o)) => { throwing_entry(alloc, program, parts, mounted, o) }
         _ => Err(NoMemory),
@@ -124,7 +124,7 @@ fn entry(local: u32) -> Entry
 pub(crate) fn make_entry<G: Gate>(
     alloc: Global,
     program: &ReadyProgram,
-    selections: &mut Selections,
+    cache: &mut InvocationCache,
     parts: &mut Parts,
     mounted: &mut Mounted,
     history: &mut Vec<Entry>,
@@ -133,16 +133,16 @@ pub(crate) fn make_entry<G: Gate>(
     requires ready { IsReady program.now }
     requires typed { IsTypedState program.now (state_of parts.old mounted.old.stack.frames) }
     requires going { ending (state_of parts.old mounted.old.stack.frames) ≡ None }
-    requires selected { AreSelected program.now selections.old }
+    requires selected { AreSelected program.now cache.old }
     ensures made { OnOk result (IsMade program.now
         (state_of parts.old mounted.old.stack.frames) history.old.items history.new.items
         (state_of parts.new mounted.new.stack.frames)) }
     ensures kept { OnErr result (history.new.items ≡ history.old.items) }
     ensures spare { vec_capacity history.old - length history.old.items
         ≤ vec_capacity history.new - length history.new.items + 1 }
-    ensures selections { AreSelected program.now selections.new }
+    ensures cache { AreSelected program.now cache.new }
 {
-    let local = advance(alloc, program, selections, parts, mounted, gate)?;
+    let local = advance(alloc, program, cache, parts, mounted, gate)?;
     history.push(entry(local))?;
     Ok(())
 }

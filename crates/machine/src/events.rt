@@ -3,18 +3,18 @@
 ghost use Rattle.std.specs.Prelude.{◌<◌, length, OnOk};
 ghost use Rattle.instruction_rows.specs.Table.{row};
 ghost use Rattle.ref_model.specs.Operands.{FindsOperands};
-ghost use Rattle.object_events.specs.Operands.{operands};
+ghost use Rattle.heap_instructions.specs.Operands.{operands};
 ghost use Rattle.machine.specs.Concluding.{Steps};
 
 use crate::concluding::conclude;
 use crate::parts::Parts;
 use crate::world::MachineWorld;
 use continuation::Mounted;
+use heap_instructions::{run_event, run_field, run_plain};
 use items::NoMemory;
-use object_events::{run_event, run_field, run_plain};
+use link_model::Resolution;
 use opcodes::{Instr, Op};
 use std::alloc::Global;
-use world_model::Naming;
 
 // The step of a thread whose top frame is at an instruction on a field.
 #[inline(never)]
@@ -23,20 +23,20 @@ fn field_step<W: MachineWorld>(
     parts: &mut Parts,
     mounted: &mut Mounted,
     instr: &Instr,
-    naming: &Naming,
+    resolution: &Resolution,
 ) -> Result<(), NoMemory>
     requires frame { 0 < length mounted.old.stack.frames }
-    requires operands { FindsOperands (W.world world.now) naming.now (row instr.now.op)
+    requires operands { FindsOperands (W.world world.now) resolution.now (row instr.now.op)
         (operands mounted.old) }
     ensures { OnOk result (Steps (W.world world.now)
-        (record { instr = instr.now; naming = naming.now }) parts.old mounted.old.stack.frames
+        (record { instr = instr.now; resolution = resolution.now }) parts.old mounted.old.stack.frames
         parts.new mounted.new.stack.frames) }
 {
     mounted.operands_fit();
     let outcome = run_field(
         world,
         &instr.op,
-        naming,
+        resolution,
         &mut parts.natives.heap,
         parts.statics.as_mut_slice(),
         mounted,
@@ -52,20 +52,20 @@ fn plain_step<W: MachineWorld>(
     parts: &mut Parts,
     mounted: &mut Mounted,
     instr: &Instr,
-    naming: &Naming,
+    resolution: &Resolution,
 ) -> Result<(), NoMemory>
     requires frame { 0 < length mounted.old.stack.frames }
-    requires operands { FindsOperands (W.world world.now) naming.now (row instr.now.op)
+    requires operands { FindsOperands (W.world world.now) resolution.now (row instr.now.op)
         (operands mounted.old) }
     ensures { OnOk result (Steps (W.world world.now)
-        (record { instr = instr.now; naming = naming.now }) parts.old mounted.old.stack.frames
+        (record { instr = instr.now; resolution = resolution.now }) parts.old mounted.old.stack.frames
         parts.new mounted.new.stack.frames) }
 {
     mounted.operands_fit();
     let outcome = run_plain(
         world,
         &instr.op,
-        naming,
+        resolution,
         &mut parts.natives.heap,
         parts.statics.as_mut_slice(),
         mounted,
@@ -82,13 +82,13 @@ fn other_step<W: MachineWorld>(
     parts: &mut Parts,
     mounted: &mut Mounted,
     instr: &Instr,
-    naming: &Naming,
+    resolution: &Resolution,
 ) -> Result<(), NoMemory>
     requires frame { 0 < length mounted.old.stack.frames }
-    requires operands { FindsOperands (W.world world.now) naming.now (row instr.now.op)
+    requires operands { FindsOperands (W.world world.now) resolution.now (row instr.now.op)
         (operands mounted.old) }
     ensures { OnOk result (Steps (W.world world.now)
-        (record { instr = instr.now; naming = naming.now }) parts.old mounted.old.stack.frames
+        (record { instr = instr.now; resolution = resolution.now }) parts.old mounted.old.stack.frames
         parts.new mounted.new.stack.frames) }
 {
     mounted.operands_fit();
@@ -96,7 +96,7 @@ fn other_step<W: MachineWorld>(
         alloc,
         world,
         &instr.op,
-        naming,
+        resolution,
         &mut parts.natives.heap,
         parts.statics.as_mut_slice(),
         mounted,
@@ -114,20 +114,20 @@ pub(crate) fn event_step<W: MachineWorld>(
     parts: &mut Parts,
     mounted: &mut Mounted,
     instr: &Instr,
-    naming: &Naming,
+    resolution: &Resolution,
 ) -> Result<(), NoMemory>
     requires frame { 0 < length mounted.old.stack.frames }
-    requires operands { FindsOperands (W.world world.now) naming.now (row instr.now.op)
+    requires operands { FindsOperands (W.world world.now) resolution.now (row instr.now.op)
         (operands mounted.old) }
     ensures { OnOk result (Steps (W.world world.now)
-        (record { instr = instr.now; naming = naming.now }) parts.old mounted.old.stack.frames
+        (record { instr = instr.now; resolution = resolution.now }) parts.old mounted.old.stack.frames
         parts.new mounted.new.stack.frames) }
 {
     match instr.op {
         Op::GetStatic(_) | Op::PutStatic(_) | Op::GetField(_) | Op::PutField(_) => {
-            field_step(world, parts, mounted, instr, naming)
+            field_step(world, parts, mounted, instr, resolution)
         }
-        Op::Simple(_) => plain_step(world, parts, mounted, instr, naming),
-        _ => other_step(alloc, world, parts, mounted, instr, naming),
+        Op::Simple(_) => plain_step(world, parts, mounted, instr, resolution),
+        _ => other_step(alloc, world, parts, mounted, instr, resolution),
     }
 }

@@ -4,11 +4,11 @@ ghost use Rattle.std.specs.Prelude.{◌≡◌, ◌<◌, Some, None, length, OnOk
 ghost use Rattle.instruction_rows.specs.Table.{row};
 ghost use Rattle.ref_model.specs.Ending.{ending};
 ghost use Rattle.ref_model.specs.Operands.{FindsOperands};
-ghost use Rattle.typed_frames.specs.TypedStates.{IsTypedState};
+ghost use Rattle.frame_soundness.specs.TypedStates.{IsTypedState};
 ghost use Rattle.vthread_state.specs.declared.phase.Phase.TheVariants.{Run, Throwing};
 ghost use Rattle.vthread_state.specs.declared.thread.Status.TheVariants.{Live};
-ghost use Rattle.object_events.specs.Operands.{operands};
-ghost use Rattle.method_calls.specs.Selections.{AreSelected};
+ghost use Rattle.heap_instructions.specs.Operands.{operands};
+ghost use Rattle.invocation.specs.InvocationCache.{AreSelected};
 ghost use Rattle.machine.specs.Concluding.{Steps};
 ghost use Rattle.interp_local.specs.Fetched.{IsTopAt};
 ghost use Rattle.machine.specs.Operands.{FindsNatives};
@@ -25,34 +25,34 @@ use crate::throwing::throwing_step;
 use crate::world::MachineWorld;
 use continuation::Mounted;
 use interp_local::Fetched;
+use invocation::InvocationCache;
 use items::NoMemory;
-use method_calls::Selections;
+use link_model::Resolution;
 use opcodes::{Instr, Op};
-use ready_program::ReadyProgram;
+use runtime_program::ReadyProgram;
 use std::alloc::Global;
-use world_model::Naming;
 
 // The step of a thread whose top frame is at this instruction.
 #[inline(always)]
 fn instruction_step<W: MachineWorld>(
     alloc: Global,
     world: &W,
-    selections: &mut Selections,
+    cache: &mut InvocationCache,
     parts: &mut Parts,
     mounted: &mut Mounted,
     instr: &Instr,
-    naming: &Naming,
+    resolution: &Resolution,
 ) -> Result<(), NoMemory>
     requires frame { 0 < length mounted.old.stack.frames }
-    requires operands { FindsOperands (W.world world.now) naming.now (row instr.now.op)
+    requires operands { FindsOperands (W.world world.now) resolution.now (row instr.now.op)
         (operands mounted.old) }
-    requires natives { FindsNatives (W.world world.now) naming.now (row instr.now.op)
+    requires natives { FindsNatives (W.world world.now) resolution.now (row instr.now.op)
         parts.old.natives.heap mounted.old }
-    requires selected { AreSelected (W.world world.now) selections.old }
+    requires selected { AreSelected (W.world world.now) cache.old }
     ensures steps { OnOk result (Steps (W.world world.now)
-        (record { instr = instr.now; naming = naming.now })
+        (record { instr = instr.now; resolution = resolution.now })
         parts.old mounted.old.stack.frames parts.new mounted.new.stack.frames) }
-    ensures selections { AreSelected (W.world world.now) selections.new }
+    ensures cache { AreSelected (W.world world.now) cache.new }
 {
     if let Some(returns) = return_at(&instr.op) {
         return return_step(world, parts, mounted, returns.kind);
@@ -62,9 +62,9 @@ fn instruction_step<W: MachineWorld>(
         | Op::InvokeSpecial(_)
         | Op::InvokeStatic(_)
         | Op::InvokeInterface(_, _) => {
-            invocation_step(alloc, world, selections, parts, mounted, instr, naming)
+            invocation_step(alloc, world, cache, parts, mounted, instr, resolution)
         }
-        _ => event_step(alloc, world, parts, mounted, instr, naming),
+        _ => event_step(alloc, world, parts, mounted, instr, resolution),
     }
 }
 
@@ -73,7 +73,7 @@ fn instruction_step<W: MachineWorld>(
 pub(crate) fn fetched_step(
     alloc: Global,
     program: &ReadyProgram,
-    selections: &mut Selections,
+    cache: &mut InvocationCache,
     parts: &mut Parts,
     mounted: &mut Mounted,
     fetched: Fetched<'_>,
@@ -83,19 +83,19 @@ pub(crate) fn fetched_step(
     requires running { parts.old.status ≡ Live Run }
     requires going { ending (state_of parts.old mounted.old.stack.frames) ≡ None }
     requires next { IsTopAt program.now mounted.old.stack.frames fetched }
-    requires selected { AreSelected program.now selections.old }
+    requires selected { AreSelected program.now cache.old }
     ensures kept { OnOk result (IsKept program.now (state_of parts.old mounted.old.stack.frames)
         (state_of parts.new mounted.new.stack.frames)) }
-    ensures selections { AreSelected program.now selections.new }
+    ensures cache { AreSelected program.now cache.new }
 {
     instruction_step(
         alloc,
         program,
-        selections,
+        cache,
         parts,
         mounted,
         fetched.instr,
-        fetched.naming,
+        fetched.resolution,
     )
 }
 

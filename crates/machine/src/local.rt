@@ -7,17 +7,17 @@ ghost use Rattle.interp_local.specs.Runs.{stays_on};
 ghost use Rattle.interp_local.specs.Fetched.{IsTopAt};
 ghost use Rattle.ref_model.specs.Entries as entries;
 ghost use Rattle.ref_model.specs.LocalRows.{row, rows};
-ghost use Rattle.typed_frames.specs.Typed.{Typed};
-ghost use Rattle.method_calls.specs.Selections.{AreSelected};
+ghost use Rattle.frame_soundness.specs.Typed.{Typed};
+ghost use Rattle.invocation.specs.InvocationCache.{AreSelected};
 ghost use Rattle.machine.specs.LocalRuns.{GoesOver, IsLongRun, returned_kind};
 ghost use Rattle.machine.specs.Ready.{IsReady};
 
 use continuation::Mounted;
 use interp_local::{Fetched, TopRun, run_and_fetch};
+use invocation::{Entered, InvocationCache, Left, enter, leave, static_callee};
 use items::NoMemory;
-use method_calls::{Entered, Left, Selections, enter, leave, static_callee};
-use opcodes::{Kind, Op, Simple};
-use ready_program::ReadyProgram;
+use opcodes::{Op, Simple, ValueKind};
+use runtime_program::ReadyProgram;
 
 /// How many steps an entry has at most.
 pub(crate) const MOST_STEPS: u32 = 10_001;
@@ -32,7 +32,7 @@ pub(crate) struct LocalRun<'a> {
 /// A return, with the kind of what it gives back.
 #[derive(Clone, Copy)]
 pub(crate) struct Return {
-    pub(crate) kind: Option<Kind>,
+    pub(crate) kind: Option<ValueKind>,
 }
 
 #[inline(always)]
@@ -101,7 +101,7 @@ fn go_back(
 #[inline(always)]
 fn go_into(
     program: &ReadyProgram,
-    selections: &mut Selections,
+    cache: &mut InvocationCache,
     mounted: &mut Mounted,
     fetched: &Fetched<'_>,
 ) -> Result<bool, NoMemory>
@@ -109,12 +109,12 @@ fn go_into(
     requires typed { Typed program.now mounted.old.stack.frames }
     requires next { IsTopAt program.now mounted.old.stack.frames fetched.now }
     requires calls { entries.is_static_call (row_of fetched.now.instr.now.op) ≡ true }
-    requires selected { AreSelected program.now selections.old }
+    requires selected { AreSelected program.now cache.old }
     ensures over { IfOk result (GoesOver program.now mounted.old.stack.frames
         mounted.new.stack.frames) }
-    ensures selections { AreSelected program.now selections.new }
+    ensures cache { AreSelected program.now cache.new }
 {
-    let Some(callee) = static_callee(program, selections, fetched.naming) else {
+    let Some(callee) = static_callee(program, cache, fetched.resolution) else {
         return Ok(false);
     };
     match enter(callee, mounted)? {
@@ -135,7 +135,7 @@ fn is_static_call(op: &Op) -> bool
 #[inline(always)]
 fn go_over(
     program: &ReadyProgram,
-    selections: &mut Selections,
+    cache: &mut InvocationCache,
     mounted: &mut Mounted,
     fetched: &Fetched<'_>,
 ) -> Result<bool, NoMemory>
@@ -143,13 +143,13 @@ fn go_over(
     requires typed { Typed program.now mounted.old.stack.frames }
     requires leaves { stays_on program.now mounted.old.stack.frames ≡ false }
     requires next { IsTopAt program.now mounted.old.stack.frames fetched.now }
-    requires selected { AreSelected program.now selections.old }
+    requires selected { AreSelected program.now cache.old }
     ensures over { IfOk result (GoesOver program.now mounted.old.stack.frames
         mounted.new.stack.frames) }
-    ensures selections { AreSelected program.now selections.new }
+    ensures cache { AreSelected program.now cache.new }
 {
     if is_static_call(&fetched.instr.op) {
-        return go_into(program, selections, mounted, fetched);
+        return go_into(program, cache, mounted, fetched);
     }
     go_back(program, mounted, fetched)
 }
@@ -159,17 +159,17 @@ fn go_over(
 #[inline(always)]
 pub(crate) fn run_local<'a>(
     program: &'a ReadyProgram,
-    selections: &mut Selections,
+    cache: &mut InvocationCache,
     mounted: &mut Mounted,
 ) -> Result<LocalRun<'a>, NoMemory>
     requires ready { IsReady program.now }
     requires typed { Typed program.now mounted.old.stack.frames }
-    requires selected { AreSelected program.now selections.old }
+    requires selected { AreSelected program.now cache.old }
     ensures run { IfOk result (λ run. IsLongRun program.now run.steps
         mounted.old.stack.frames mounted.new.stack.frames) }
     ensures next { IfOk result (λ run.
         IsTopAt program.now mounted.new.stack.frames run.next) }
-    ensures selections { AreSelected program.now selections.new }
+    ensures cache { AreSelected program.now cache.new }
 {
     let mut steps = 0;
     loop {
@@ -181,7 +181,7 @@ pub(crate) fn run_local<'a>(
                 next: run.next,
             });
         }
-        if !go_over(program, selections, mounted, &run.next)? {
+        if !go_over(program, cache, mounted, &run.next)? {
             return Ok(LocalRun {
                 steps,
                 next: run.next,

@@ -3,8 +3,8 @@
 ghost use Rattle.std.specs.Prelude.{◌≡◌, ◌≤◌, ◌+◌, ◌-◌, true, false, None, Some, List, drop, length, vec_capacity, IfOk, OnErr, OnOk};
 ghost use Rattle.state_model.specs.Frames.{Frame};
 ghost use Rattle.ref_model.specs.Ending.{ending};
-ghost use Rattle.typed_steps.specs.OpeningLaws.{IsMain};
-ghost use Rattle.opening.specs.Openings.{first_state, setting};
+ghost use Rattle.step_soundness.specs.OpeningLaws.{IsMain};
+ghost use Rattle.startup.specs.Openings.{first_state, setting};
 ghost use Rattle.machine.specs.Machines.{HasGrown, IsLegal, at_first, ending_within, errors, output, run_ending};
 ghost use Rattle.machine.specs.Ready.{IsReady};
 ghost use Rattle.machine.specs.Runs.{IsRun};
@@ -17,18 +17,18 @@ use continuation::Mounted;
 use heap_objs::Heap;
 use history::Entry;
 use instruction_rows::Value;
+use invocation::InvocationCache;
 use items::NoMemory;
 use jvm_edges::Gate;
-use linked_names::{is_settled, linked_code_is_named};
-use method_calls::Selections;
+use link_soundness::{is_settled, linked_code_is_named};
 use native_methods::NativeState;
-use opening::open_typed;
-use ready_program::ReadyProgram;
 use ref_model::{Ending, Limits, Which};
+use runtime_program::ReadyProgram;
+use startup::open_typed;
+use startup_checks::{fields_have_kinds, natives_fit};
 use std::alloc::Global;
 use std::marker::Model;
-use typed_steps::linked_worlds_open;
-use typing_tests::{fields_have_kinds, natives_fit};
+use step_soundness::linked_worlds_open;
 use vthread_state::{Phase, Status};
 
 /// A program that runs, as thread 0 on carrier 0, with the history of its run. Contracts see what it was given and the history; that its heap,
@@ -40,7 +40,7 @@ pub struct Machine<'p> {
     limits: Limits,
     parts: Parts,
     mounted: Mounted,
-    selections: Selections,
+    cache: InvocationCache,
     history: Vec<Entry>,
     given_up: bool,
 }
@@ -131,14 +131,14 @@ impl<'p> Machine<'p> {
             return Err(NoMemory);
         }
         let opened = open_typed(alloc, program, main, limits)?;
-        let selections = Selections::new(alloc)?;
+        let cache = InvocationCache::new(alloc)?;
         Ok(Machine {
             program,
             main,
             limits,
             parts: first_parts(alloc, opened.heap, opened.statics),
             mounted: opened.mounted,
-            selections,
+            cache,
             history: Vec::new(alloc),
             given_up: false,
         })
@@ -223,7 +223,7 @@ impl<'p> Machine<'p> {
         let made = make_entry(
             alloc,
             self.program,
-            &mut self.selections,
+            &mut self.cache,
             &mut self.parts,
             &mut self.mounted,
             &mut self.history,

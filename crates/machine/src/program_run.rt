@@ -2,7 +2,7 @@
 
 ghost use Rattle.std.specs.Prelude.{◌≡◌, Some, false, IfOk};
 ghost use Rattle.ref_model.specs.Setting.{Setting};
-ghost use Rattle.typed_steps.specs.OpeningLaws.{IsMain};
+ghost use Rattle.step_soundness.specs.OpeningLaws.{IsMain};
 ghost use Rattle.machine.specs.Machines.{run_ending};
 ghost use Rattle.machine.specs.Runs.{IsRun};
 
@@ -11,8 +11,8 @@ use crate::machine_state::Machine;
 use class_world::World;
 use items::NoMemory;
 use jvm_edges::Gate;
-use ready_program::ReadyProgram;
 use ref_model::{Ending, Limits};
+use runtime_program::ReadyProgram;
 use std::alloc::Global;
 use verify_code::Checked;
 

@@ -2,16 +2,16 @@
 
 ghost use Rattle.std.specs.Prelude.{◌≡◌, ◌<◌, length, OnOk};
 ghost use Rattle.ref_model.specs.Operands.{HasOperands};
-ghost use Rattle.object_events.specs.Operands.{operands};
-ghost use Rattle.method_calls.specs.FrameSteps.{returned_kinds};
+ghost use Rattle.heap_instructions.specs.Operands.{operands};
+ghost use Rattle.invocation.specs.FrameSteps.{returned_kinds};
 ghost use Rattle.machine.specs.Returning.{LeavesRoot, ReturnSteps, status_left};
 
 use crate::parts::Parts;
 use crate::world::MachineWorld;
 use continuation::Mounted;
+use invocation::{Left, leave};
 use items::NoMemory;
-use method_calls::{Left, leave};
-use opcodes::Kind;
+use opcodes::ValueKind;
 use vthread_state::Status;
 
 // The status of a thread with so many frames, which is done when it has none.
@@ -36,7 +36,7 @@ pub(crate) fn return_step<W: MachineWorld>(
     world: &W,
     parts: &mut Parts,
     mounted: &mut Mounted,
-    kind: Option<Kind>,
+    kind: Option<ValueKind>,
 ) -> Result<(), NoMemory>
     requires frame { 0 < length mounted.old.stack.frames }
     requires operands { HasOperands (returned_kinds kind) 0 (operands mounted.old) }

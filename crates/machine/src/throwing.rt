@@ -8,11 +8,11 @@ ghost use Rattle.state_model.specs.Objects.{text};
 use crate::parts::Parts;
 use crate::world::MachineWorld;
 use continuation::Mounted;
+use heap_instructions::class_number;
 use heap_objs::Heap;
+use invocation::{Caught, catch_object};
 use items::NoMemory;
-use method_calls::{Caught, catch_object};
 use native_methods::push_text;
-use object_events::class_number;
 use std::alloc::Global;
 use vthread_state::{Phase, Status};
 

@@ -1,13 +1,13 @@
 ghost use Rattle.std.specs.Prelude.{◌≡◌, IfOk};
-ghost use Rattle.world_model.specs.World as spec;
+ghost use Rattle.link_model.specs.World as spec;
 ghost use Rattle.ref_model.specs.Classes as classes;
 ghost use Rattle.ref_model.specs.Throwing as throwing;
 
+use invocation::CallWorld;
 use items::NoMemory;
-use method_calls::CallWorld;
 use native_methods::NativeWorld;
-use ready_program::ReadyProgram;
 use ref_model::Exception;
+use runtime_program::ReadyProgram;
 use std::alloc::Global;
 
 /// What the machine asks of a linked world, beside what its instructions and methods ask.

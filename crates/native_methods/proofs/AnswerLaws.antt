@@ -3,8 +3,8 @@ use Rattle.std.proofs.Common.{ℕ, ◌≡◌, false, List, [], Option, Some, Non
 use Rattle.std.specs.Prelude.{Result, Ok, Err, IfOk}
 use Rattle.items.specs.declared.no_memory.NoMemory.{NoMemory}
 use Rattle.continuation.specs.Continuation.{Continuation}
-use Rattle.object_events.specs.declared.outcome.Outcome.{Outcome}
-use Rattle.object_events.specs.declared.outcome.Outcome.TheVariants as outcomes
+use Rattle.heap_instructions.specs.declared.outcome.Outcome.{Outcome}
+use Rattle.heap_instructions.specs.declared.outcome.Outcome.TheVariants as outcomes
 use Rattle.ref_model.specs.State.{State}
 use Rattle.ref_model.specs.Heap.{units_at}
 use Rattle.ref_model.specs.NativeRows as rows

@@ -2,13 +2,13 @@
 use Rattle.std.proofs.Common.{◌≡◌, ℕ, drop, List, [], ◌∷◌, Option, Some, None, ap, refl, subst, sym, ◌∙◌}
 use Rattle.std.specs.Prelude.{Result, Ok, Err, IfOk}
 use Rattle.items.specs.Options.{◌>>=◌}
-use Rattle.opcodes.specs.declared.op.Kind.{Kind}
-use Rattle.opcodes.specs.declared.op.Kind.TheVariants as kinds
+use Rattle.opcodes.specs.declared.op.ValueKind.{ValueKind}
+use Rattle.opcodes.specs.declared.op.ValueKind.TheVariants as kinds
 use Rattle.instruction_rows.specs.declared.value.Slot.{Slot}
 use Rattle.instruction_rows.specs.Kinds.{Of, Function}
 use Rattle.instruction_rows.specs.SlotEffect.{applied, popped}
 use Rattle.lib_table.specs.declared.native.Native.{Native}
-use Rattle.world_model.specs.World.{World}
+use Rattle.link_model.specs.World.{World}
 use Rattle.ref_model.specs.State.{State}
 use Rattle.ref_model.specs.Effects.{Effect}
 use Rattle.ref_model.specs.NativeRows as rows
@@ -26,8 +26,8 @@ use Rattle.native_methods.specs.declared.answer.Answer.{Answer}
 use Rattle.native_methods.specs.declared.answer.Answer.TheVariants as answers
 
 -- the operands of a native method, where the kinds that it takes are known
-row_found : (o : Option NativeRow) (ks : List Kind) (stack : List Slot) → row_kinds o ≡ Some ks →
-    ((takes : List Kind) (act : Function takes rows.Answer) → o ≡ Some (native takes act) → HasOperands takes 0 stack) → HasOperands ks 0 stack
+row_found : (o : Option NativeRow) (ks : List ValueKind) (stack : List Slot) → row_kinds o ≡ Some ks →
+    ((takes : List ValueKind) (act : Function takes rows.Answer) → o ≡ Some (native takes act) → HasOperands takes 0 stack) → HasOperands ks 0 stack
 row_found None ks stack e x = cc
 row_found (Some (native takes act)) ks stack e x =
     let is : takes ≡ ks = cc in
@@ -46,12 +46,12 @@ answered_is (Some (native [] answer)) stack a h = ap (λ (x : Option rows.Answer
 answered_is (Some (native (k ∷ ks) act)) stack a h = cc
 
 -- a row on a stack whose topmost operand is of the kind that it takes first
-taken : (k : Kind) (ks : List Kind) (act : Function (k ∷ ks) rows.Answer) (x : Of k) (stack rest : List Slot) → popped k stack ≡ Some (x, rest) →
+taken : (k : ValueKind) (ks : List ValueKind) (act : Function (k ∷ ks) rows.Answer) (x : Of k) (stack rest : List Slot) → popped k stack ≡ Some (x, rest) →
     native_acted (native (k ∷ ks) act) stack ≡ native_acted (native ks (act x)) rest
 taken k ks act x stack rest p =
     ap (λ (y : Option (Of k × List Slot)). (y >>= λ z. applied rows.Answer ks (act z.0) z.1) >>= λ z. Some (answered z.1 z.0)) p
 
-argument_is : (k : Kind) (x : Of k) (o : Option NativeRow) (stack rest : List Slot) (e : Effect) → popped k stack ≡ Some (x, rest) →
+argument_is : (k : ValueKind) (x : Of k) (o : Option NativeRow) (stack rest : List Slot) (e : Effect) → popped k stack ≡ Some (x, rest) →
     on (with_argument k x o) rest ≡ Some e → on o stack ≡ Some e
 argument_is kinds.Int x None stack rest e p h = cc
 argument_is kinds.Int x (Some (native [] act)) stack rest e p h = cc
@@ -80,14 +80,14 @@ by_answer (answers.Throws e) defined effect q rest is h = is _ h
 by_answer answers.Undefined defined effect q rest is h = tt
 
 -- A native method that takes one operand, and one that takes two, the second a reference.
-pub one_answered : (answer : Answer) (w : World) (r q : State) (n : Native) (k : Kind) (x : Of k) (stack rest : List Slot) →
+pub one_answered : (answer : Answer) (w : World) (r q : State) (n : Native) (k : ValueKind) (x : Of k) (stack rest : List Slot) →
     popped k stack ≡ Some (x, rest) → IsAnswer answer (answer_to w r n k x) q → IsAnswerEffect answer (native_effect w n r stack) q rest
 one_answered answer w r q n k x stack rest p h =
     let row = native_row w r n in
     by_answer answer (answer_to w r n k x) (native_effect w n r stack) q rest
     (λ a e. argument_is k x row stack rest (answered rest a) p (answered_is (with_argument k x row) rest a e)) h
 
-pub two_answered : (answer : Answer) (w : World) (r q : State) (n : Native) (k : Kind) (x : Of k) (this : Of kinds.Reference)
+pub two_answered : (answer : Answer) (w : World) (r q : State) (n : Native) (k : ValueKind) (x : Of k) (this : Of kinds.Reference)
     (stack middle rest : List Slot) → popped k stack ≡ Some (x, middle) → popped kinds.Reference middle ≡ Some (this, rest) →
     IsAnswer answer (answer_to_two w r n k x this) q → IsAnswerEffect answer (native_effect w n r stack) q rest
 two_answered answer w r q n k x this stack middle rest p p2 h =
@@ -98,12 +98,12 @@ two_answered answer w r q n k x this stack middle rest p p2 h =
     (answered_is (with_argument kinds.Reference this (with_argument k x row)) rest a e))) h
 
 -- The same, unless memory ran out.
-pub one_along : (w : World) (n : Native) (k : Kind) (x : Of k) (stack : List Slot) (count : ℕ) (old new : NativeState) (result : Result Answer NoMemory) →
+pub one_along : (w : World) (n : Native) (k : ValueKind) (x : Of k) (stack : List Slot) (count : ℕ) (old new : NativeState) (result : Result Answer NoMemory) →
     popped k stack ≡ Some (x, drop count stack) → IfOk result (λ a. Answers (λ r. answer_to w r n k x) old new a) → IfOk result (AnswersOn w n stack count old new)
 one_along w n k x stack count old new (Err e) p h = tt
 one_along w n k x stack count old new (Ok a) p h = λ r. one_answered a w (with_natives old r) (with_natives new r) n k x stack (drop count stack) p (h r)
 
-pub two_along : (w : World) (n : Native) (k : Kind) (x : Of k) (this : Of kinds.Reference) (stack : List Slot) (first count : ℕ) (old new : NativeState) (result : Result Answer NoMemory) →
+pub two_along : (w : World) (n : Native) (k : ValueKind) (x : Of k) (this : Of kinds.Reference) (stack : List Slot) (first count : ℕ) (old new : NativeState) (result : Result Answer NoMemory) →
     popped k stack ≡ Some (x, drop first stack) → popped kinds.Reference (drop first stack) ≡ Some (this, drop count stack) →
     IfOk result (λ a. Answers (λ r. answer_to_two w r n k x this) old new a) → IfOk result (AnswersOn w n stack count old new)
 two_along w n k x this stack first count old new (Err e) p q h = tt

@@ -5,7 +5,7 @@ use Rattle.items.specs.Options.{◌>>=◌}
 use Rattle.instruction_rows.specs.declared.value.Value.{Value}
 use Rattle.state_model.specs.Objects.{Object}
 use Rattle.ref_model.specs.Heap.{values_of}
-use Rattle.object_events.specs.HeapReads.{value_in}
+use Rattle.heap_instructions.specs.HeapReads.{value_in}
 use Rattle.native_methods.specs.NativeStates.{builder_units, field_units}
 
 grouped : (x : Option (List Value)) (f : Value → Option (List ℕ)) →

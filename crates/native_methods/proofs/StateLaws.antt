@@ -5,7 +5,7 @@ use Rattle.instruction_rows.specs.declared.value.Value.{Value}
 use Rattle.items.specs.declared.no_memory.NoMemory.{NoMemory}
 use Rattle.heap_objs.specs.Heap.{Heap}
 use Rattle.ref_model.specs.State.{State}
-use Rattle.object_events.specs.HeapReads as heaps
+use Rattle.heap_instructions.specs.HeapReads as heaps
 use Rattle.native_methods.specs.NativeStates.{IsMade, IsSet, beside_heap}
 use Rattle.native_methods.specs.declared.state.NativeState.{NativeState}
 

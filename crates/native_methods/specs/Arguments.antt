@@ -1,12 +1,12 @@
 -- The row of a native method with its arguments given one by one.
 use Rattle.std.specs.Prelude.{ℕ, [], ◌∷◌, List, Option, Some, None}
 use Rattle.items.specs.Options.{◌>>=◌}
-use Rattle.opcodes.specs.declared.op.Kind.{Kind}
-use Rattle.opcodes.specs.declared.op.Kind.TheVariants as kinds
+use Rattle.opcodes.specs.declared.op.ValueKind.{ValueKind}
+use Rattle.opcodes.specs.declared.op.ValueKind.TheVariants as kinds
 use Rattle.instruction_rows.specs.declared.value.Slot.{Slot}
 use Rattle.instruction_rows.specs.Kinds.{Of}
 use Rattle.lib_table.specs.declared.native.Native.{Native}
-use Rattle.world_model.specs.World.{World}
+use Rattle.link_model.specs.World.{World}
 use Rattle.ref_model.specs.State.{State}
 use Rattle.ref_model.specs.Effects.{Effect}
 use Rattle.ref_model.specs.NativeRows.{Answer, NativeRow, native, native_acted}
@@ -15,7 +15,7 @@ use Rattle.native_methods.specs.declared.arguments.Arguments.{Arguments}
 use Rattle.native_methods.specs.declared.arguments.Arguments.TheVariants as arguments
 
 -- the kinds of what native methods take in the code
-abbrev pub kinds_of : Arguments → List Kind
+abbrev pub kinds_of : Arguments → List ValueKind
 kinds_of arguments.Reference = kinds.Reference ∷ []
 kinds_of arguments.TwoReferences = kinds.Reference ∷ kinds.Reference ∷ []
 kinds_of arguments.IntAndReference = kinds.Int ∷ kinds.Reference ∷ []
@@ -33,7 +33,7 @@ slots_of arguments.Int = 1
 slots_of arguments.Long = 2
 
 -- a row with its first argument, the topmost operand; None where it takes no argument of the kind
-abbrev pub with_argument : (k : Kind) → Of k → Option NativeRow → Option NativeRow
+abbrev pub with_argument : (k : ValueKind) → Of k → Option NativeRow → Option NativeRow
 with_argument kinds.Int n (Some (native (kinds.Int ∷ ks) act)) = Some (native ks (act n))
 with_argument kinds.Long n (Some (native (kinds.Long ∷ ks) act)) = Some (native ks (act n))
 with_argument kinds.Reference x (Some (native (kinds.Reference ∷ ks) act)) = Some (native ks (act x))
@@ -45,17 +45,17 @@ row_answer (Some (native [] answer)) = Some answer
 row_answer row = None
 
 -- what a row answers to one argument, and to two, the second a reference
-abbrev pub to_one : (k : Kind) → Of k → Option NativeRow → Option Answer
+abbrev pub to_one : (k : ValueKind) → Of k → Option NativeRow → Option Answer
 to_one k x row = row_answer (with_argument k x row)
 
-abbrev pub to_two : (k : Kind) → Of k → Of kinds.Reference → Option NativeRow → Option Answer
+abbrev pub to_two : (k : ValueKind) → Of k → Of kinds.Reference → Option NativeRow → Option Answer
 to_two k x this row = row_answer (with_argument kinds.Reference this (with_argument k x row))
 
 -- what a native method answers to them
-abbrev pub answer_to : World → State → Native → (k : Kind) → Of k → Option Answer
+abbrev pub answer_to : World → State → Native → (k : ValueKind) → Of k → Option Answer
 answer_to w r n k x = to_one k x (native_row w r n)
 
-abbrev pub answer_to_two : World → State → Native → (k : Kind) → Of k → Of kinds.Reference → Option Answer
+abbrev pub answer_to_two : World → State → Native → (k : ValueKind) → Of k → Of kinds.Reference → Option Answer
 answer_to_two w r n k x this = to_two k x this (native_row w r n)
 
 -- what a native method does

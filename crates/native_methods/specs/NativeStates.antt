@@ -6,17 +6,17 @@ use Rattle.instruction_rows.specs.declared.value.Value.{Value}
 use Rattle.instruction_rows.specs.declared.value.Value.TheVariants as values
 use Rattle.continuation.specs.Continuation.{Continuation}
 use Rattle.lib_table.specs.declared.native.Native.{Native}
-use Rattle.world_model.specs.World.{World}
+use Rattle.link_model.specs.World.{World}
 use Rattle.ref_model.specs.State.{State}
 use Rattle.ref_model.specs.Effects.{Effect, done, gives, throws}
 use Rattle.ref_model.specs.Heap.{units_of, values_of, with_value}
 use Rattle.ref_model.specs.NativeRows as rows
 use Rattle.ref_model.specs.Printing.{line}
 use Rattle.state_model.specs.Objects.{Object}
-use Rattle.object_events.specs.Operands.{operands}
-use Rattle.object_events.specs.Outcomes.{IsEffect, with_heap}
-use Rattle.object_events.specs.declared.outcome.Outcome.{Outcome}
-use Rattle.object_events.specs.declared.outcome.Outcome.TheVariants as outcomes
+use Rattle.heap_instructions.specs.Operands.{operands}
+use Rattle.heap_instructions.specs.Outcomes.{IsEffect, with_heap}
+use Rattle.heap_instructions.specs.declared.outcome.Outcome.{Outcome}
+use Rattle.heap_instructions.specs.declared.outcome.Outcome.TheVariants as outcomes
 use Rattle.native_methods.specs.Arguments.{native_effect}
 use Rattle.native_methods.specs.declared.state.NativeState.{NativeState}
 use Rattle.native_methods.specs.declared.answer.Answer.{Answer}

@@ -1,11 +1,11 @@
 ghost use Rattle.std.specs.Prelude.{◌≤◌, length};
-ghost use Rattle.object_events.specs.Operands.{ChangesOperands, HasTop, operands};
-ghost use Rattle.object_events.specs.Outcomes.{KeptUnlessDone};
+ghost use Rattle.heap_instructions.specs.Operands.{ChangesOperands, HasTop, operands};
+ghost use Rattle.heap_instructions.specs.Outcomes.{KeptUnlessDone};
 ghost use Rattle.native_methods.specs.NativeStates.{IsAnswered};
 
 use continuation::Mounted;
+use heap_instructions::{Outcome, drop_operands, give};
 use instruction_rows::Value;
-use object_events::{Outcome, drop_operands, give};
 use ref_model::Exception;
 
 /// What a native method answers to its arguments.

@@ -1,7 +1,7 @@
 //! What native methods answer to their arguments, by what they take.
 
 ghost use Rattle.std.specs.Prelude.{◌≡◌, IfOk};
-ghost use Rattle.opcodes.specs.declared.op.Kind.TheVariants as kinds;
+ghost use Rattle.opcodes.specs.declared.op.ValueKind.TheVariants as kinds;
 ghost use Rattle.native_methods.specs.Arguments.{answer_to, answer_to_two};
 ghost use Rattle.native_methods.specs.NativeStates.{Answers, KeptIfThrown};
 

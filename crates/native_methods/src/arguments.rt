@@ -6,7 +6,7 @@ ghost use Rattle.ref_model.specs.Natives.{native_takes};
 ghost use Rattle.native_methods.specs.Arguments as spec;
 
 use lib_table::Native;
-use opcodes::Kind;
+use opcodes::ValueKind;
 
 /// What native methods take, from the topmost operand on, with the receiver below.
 #[derive(Clone, Copy)]
@@ -21,16 +21,16 @@ pub enum Arguments {
 
 impl Arguments {
     /// Their kinds, the topmost first.
-    pub fn kinds(self) -> &'static [Kind]
+    pub fn kinds(self) -> &'static [ValueKind]
         ensures { result.now ≡ spec.kinds_of self }
     {
         match self {
-            Arguments::Reference => &[Kind::Reference],
-            Arguments::TwoReferences => &[Kind::Reference, Kind::Reference],
-            Arguments::IntAndReference => &[Kind::Int, Kind::Reference],
-            Arguments::LongAndReference => &[Kind::Long, Kind::Reference],
-            Arguments::Int => &[Kind::Int],
-            Arguments::Long => &[Kind::Long],
+            Arguments::Reference => &[ValueKind::Reference],
+            Arguments::TwoReferences => &[ValueKind::Reference, ValueKind::Reference],
+            Arguments::IntAndReference => &[ValueKind::Int, ValueKind::Reference],
+            Arguments::LongAndReference => &[ValueKind::Long, ValueKind::Reference],
+            Arguments::Int => &[ValueKind::Int],
+            Arguments::Long => &[ValueKind::Long],
         }
     }
 

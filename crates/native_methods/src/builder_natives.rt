@@ -2,7 +2,7 @@
 
 ghost use Rattle.std.specs.Prelude.{◌≡◌, Some, IfOk};
 ghost use Rattle.std.specs.Option.{option_copied};
-ghost use Rattle.opcodes.specs.declared.op.Kind.TheVariants as kinds;
+ghost use Rattle.opcodes.specs.declared.op.ValueKind.TheVariants as kinds;
 ghost use Rattle.ref_model.specs.BuilderNatives as spec;
 ghost use Rattle.native_methods.specs.Arguments.{to_one, to_two};
 ghost use Rattle.native_methods.specs.NativeStates.{Answers, KeptIfThrown, builder_units};
@@ -10,9 +10,9 @@ ghost use Rattle.native_methods.specs.NativeStates.{Answers, KeptIfThrown, build
 use crate::answer::Answer;
 use crate::state::{NativeState, joined, make_text, new_text, set_value, text_at};
 use crate::texts::null_text;
+use heap_instructions::value_in;
 use instruction_rows::Value;
 use items::NoMemory;
-use object_events::value_in;
 use ref_model::Exception;
 use std::alloc::Global;
 

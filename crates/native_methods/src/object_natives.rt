@@ -2,7 +2,7 @@
 
 ghost use Rattle.std.specs.Prelude.{◌≡◌, ◌++◌, codes, pos, Some, IfOk};
 ghost use Rattle.std.specs.Int.{int_wrap, w32};
-ghost use Rattle.opcodes.specs.declared.op.Kind.TheVariants as kinds;
+ghost use Rattle.opcodes.specs.declared.op.ValueKind.TheVariants as kinds;
 ghost use Rattle.instruction_rows.specs.Comparisons as comparisons;
 ghost use Rattle.ref_model.specs.Classes as classes;
 ghost use Rattle.ref_model.specs.NativeRows as rows;
@@ -16,9 +16,9 @@ use crate::class_names::class_name;
 use crate::state::{NativeState, new_text};
 use crate::texts::hex_text;
 use crate::world::NativeWorld;
+use heap_instructions::class_number;
 use instruction_rows::Value;
 use items::NoMemory;
-use object_events::class_number;
 use ref_model::Exception;
 use std::alloc::Global;
 

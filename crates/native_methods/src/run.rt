@@ -2,8 +2,8 @@
 
 ghost use Rattle.std.specs.Prelude.{◌≤◌, IfOk, length};
 ghost use Rattle.ref_model.specs.Operands.{FindsArguments, HasOperands};
-ghost use Rattle.object_events.specs.Operands.{ChangesOperands, HasTop, operands};
-ghost use Rattle.object_events.specs.Outcomes.{Acts, KeptUnlessDone};
+ghost use Rattle.heap_instructions.specs.Operands.{ChangesOperands, HasTop, operands};
+ghost use Rattle.heap_instructions.specs.Outcomes.{Acts, KeptUnlessDone};
 ghost use Rattle.native_methods.specs.Arguments as spec;
 ghost use Rattle.native_methods.specs.Arguments.{native_effect};
 ghost use Rattle.native_methods.specs.NativeStates.{AnswersOn, KeptIfThrown, StaysIfThrown, with_natives};
@@ -16,9 +16,9 @@ use crate::arguments::{Arguments, takes};
 use crate::state::NativeState;
 use crate::world::NativeWorld;
 use continuation::Mounted;
+use heap_instructions::{Outcome, int_operand, long_operand, reference_operand};
 use items::NoMemory;
 use lib_table::Native;
-use object_events::{Outcome, int_operand, long_operand, reference_operand};
 use std::alloc::Global;
 
 // What a native method answers to its arguments, which lie on the operands.

@@ -56,7 +56,7 @@ pub(crate) fn make_text(state: &mut NativeState, units: &[u16]) -> Result<Option
     ensures { IfOk result (λ found.
         IsMade (λ r. heap.with_text r units.now) state.old state.new found) }
 {
-    object_events::make_text(&mut state.heap, units)
+    heap_instructions::make_text(&mut state.heap, units)
 }
 
 /// A new String as the result.
@@ -75,5 +75,5 @@ pub(crate) fn new_text(state: &mut NativeState, units: &[u16]) -> Result<Answer,
 pub(crate) fn set_value(state: &mut NativeState, o: u32, place: u32, value: Value) -> bool
     ensures { IsSet o place value state.old state.new result }
 {
-    object_events::set_value(&mut state.heap, o, place, value)
+    heap_instructions::set_value(&mut state.heap, o, place, value)
 }

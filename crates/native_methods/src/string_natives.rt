@@ -1,7 +1,7 @@
 //! The native methods of java.lang.String.
 
 ghost use Rattle.std.specs.Prelude.{◌≡◌, Some, IfOk};
-ghost use Rattle.opcodes.specs.declared.op.Kind.TheVariants as kinds;
+ghost use Rattle.opcodes.specs.declared.op.ValueKind.TheVariants as kinds;
 ghost use Rattle.ref_model.specs.StringNatives as spec;
 ghost use Rattle.native_methods.specs.Arguments.{to_one, to_two};
 ghost use Rattle.native_methods.specs.NativeStates.{Answers, KeptIfThrown, other_units};

@@ -1,6 +1,6 @@
 ghost use Rattle.std.specs.Prelude.{◌≡◌, [], get_or};
 
-use object_events::EventWorld;
+use heap_instructions::EventWorld;
 
 /// What native methods ask of a linked world, in constant time.
 pub trait NativeWorld: EventWorld {

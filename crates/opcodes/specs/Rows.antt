@@ -9,7 +9,7 @@ use Rattle.opcodes.specs.declared.op.Op.TheVariants as ops
 use Rattle.opcodes.specs.declared.op.Op.TheVariants.{PushInt, PushLong, PushConstant, PushWideConstant, Load, Store, IfZero, IfInts, IfReferences, IfNull, Goto, GetStatic, PutStatic, GetField, PutField, InvokeVirtual, InvokeSpecial, InvokeStatic, New, ANewArray, CheckCast, InstanceOf, Jsr, Ret, Floating}
 use Rattle.opcodes.specs.declared.op.Simple.{Simple}
 use Rattle.opcodes.specs.declared.op.Simple.TheVariants.{Nop, PushNull, ArrayLoad, ArrayStore, Pop, Pop2, Dup, DupX1, DupX2, Dup2, Dup2X1, Dup2X2, Swap, IntBinary, LongBinary, LongShift, IntNegate, LongNegate, IntToLong, LongToInt, IntNarrow, LongCompare, ReturnValue, Return, ArrayLength, Throw, MonitorEnter, MonitorExit}
-use Rattle.opcodes.specs.declared.op.Kind.TheVariants as kinds
+use Rattle.opcodes.specs.declared.op.ValueKind.TheVariants as kinds
 use Rattle.opcodes.specs.declared.op.Element.TheVariants as elements
 use Rattle.opcodes.specs.declared.op.Comparison.TheVariants as orders
 use Rattle.opcodes.specs.declared.op.Sameness.TheVariants as samenesses

@@ -4,14 +4,14 @@ ghost use Rattle.std.specs.Prelude.{◌≡◌, ◌<◌};
 ghost use Rattle.opcodes.specs.Forms.{meaning};
 ghost use Rattle.opcodes.specs.Rows.{row};
 
-use crate::op::{Comparison, Element, Kind, Sameness, Simple};
+use crate::op::{Comparison, Element, Sameness, Simple, ValueKind};
 use jvm_words::{IntOp, LongOp, Narrow, ShiftOp};
 
 /// What an instruction does with the local variable whose index is its operand.
 #[derive(Clone, Copy)]
 pub enum LocalForm {
-    Load(Kind),
-    Store(Kind),
+    Load(ValueKind),
+    Store(ValueKind),
     Ret,
     Floating(u8),
 }
@@ -103,19 +103,19 @@ static FORMS: [Form; 202] = [
     Form::Ldc, // 18 ldc
     Form::Index(IndexForm::PushConstant), // 19 ldc_w
     Form::Index(IndexForm::PushWideConstant), // 20 ldc2_w
-    Form::Local(LocalForm::Load(Kind::Int)), // 21 iload
-    Form::Local(LocalForm::Load(Kind::Long)), // 22 lload
+    Form::Local(LocalForm::Load(ValueKind::Int)), // 21 iload
+    Form::Local(LocalForm::Load(ValueKind::Long)), // 22 lload
     Form::Local(LocalForm::Floating(23)), // 23 fload
     Form::Local(LocalForm::Floating(24)), // 24 dload
-    Form::Local(LocalForm::Load(Kind::Reference)), // 25 aload
-    Form::LocalAt(LocalForm::Load(Kind::Int), 0), // 26 iload_0
-    Form::LocalAt(LocalForm::Load(Kind::Int), 1), // 27 iload_1
-    Form::LocalAt(LocalForm::Load(Kind::Int), 2), // 28 iload_2
-    Form::LocalAt(LocalForm::Load(Kind::Int), 3), // 29 iload_3
-    Form::LocalAt(LocalForm::Load(Kind::Long), 0), // 30 lload_0
-    Form::LocalAt(LocalForm::Load(Kind::Long), 1), // 31 lload_1
-    Form::LocalAt(LocalForm::Load(Kind::Long), 2), // 32 lload_2
-    Form::LocalAt(LocalForm::Load(Kind::Long), 3), // 33 lload_3
+    Form::Local(LocalForm::Load(ValueKind::Reference)), // 25 aload
+    Form::LocalAt(LocalForm::Load(ValueKind::Int), 0), // 26 iload_0
+    Form::LocalAt(LocalForm::Load(ValueKind::Int), 1), // 27 iload_1
+    Form::LocalAt(LocalForm::Load(ValueKind::Int), 2), // 28 iload_2
+    Form::LocalAt(LocalForm::Load(ValueKind::Int), 3), // 29 iload_3
+    Form::LocalAt(LocalForm::Load(ValueKind::Long), 0), // 30 lload_0
+    Form::LocalAt(LocalForm::Load(ValueKind::Long), 1), // 31 lload_1
+    Form::LocalAt(LocalForm::Load(ValueKind::Long), 2), // 32 lload_2
+    Form::LocalAt(LocalForm::Load(ValueKind::Long), 3), // 33 lload_3
     Form::Floating(34), // 34 fload_0
     Form::Floating(35), // 35 fload_1
     Form::Floating(36), // 36 fload_2
@@ -124,10 +124,10 @@ static FORMS: [Form; 202] = [
     Form::Floating(39), // 39 dload_1
     Form::Floating(40), // 40 dload_2
     Form::Floating(41), // 41 dload_3
-    Form::LocalAt(LocalForm::Load(Kind::Reference), 0), // 42 aload_0
-    Form::LocalAt(LocalForm::Load(Kind::Reference), 1), // 43 aload_1
-    Form::LocalAt(LocalForm::Load(Kind::Reference), 2), // 44 aload_2
-    Form::LocalAt(LocalForm::Load(Kind::Reference), 3), // 45 aload_3
+    Form::LocalAt(LocalForm::Load(ValueKind::Reference), 0), // 42 aload_0
+    Form::LocalAt(LocalForm::Load(ValueKind::Reference), 1), // 43 aload_1
+    Form::LocalAt(LocalForm::Load(ValueKind::Reference), 2), // 44 aload_2
+    Form::LocalAt(LocalForm::Load(ValueKind::Reference), 3), // 45 aload_3
     Form::Simple(Simple::ArrayLoad(Element::Int)), // 46 iaload
     Form::Simple(Simple::ArrayLoad(Element::Long)), // 47 laload
     Form::Floating(48), // 48 faload
@@ -136,19 +136,19 @@ static FORMS: [Form; 202] = [
     Form::Simple(Simple::ArrayLoad(Element::Byte)), // 51 baload
     Form::Simple(Simple::ArrayLoad(Element::Char)), // 52 caload
     Form::Simple(Simple::ArrayLoad(Element::Short)), // 53 saload
-    Form::Local(LocalForm::Store(Kind::Int)), // 54 istore
-    Form::Local(LocalForm::Store(Kind::Long)), // 55 lstore
+    Form::Local(LocalForm::Store(ValueKind::Int)), // 54 istore
+    Form::Local(LocalForm::Store(ValueKind::Long)), // 55 lstore
     Form::Local(LocalForm::Floating(56)), // 56 fstore
     Form::Local(LocalForm::Floating(57)), // 57 dstore
-    Form::Local(LocalForm::Store(Kind::Reference)), // 58 astore
-    Form::LocalAt(LocalForm::Store(Kind::Int), 0), // 59 istore_0
-    Form::LocalAt(LocalForm::Store(Kind::Int), 1), // 60 istore_1
-    Form::LocalAt(LocalForm::Store(Kind::Int), 2), // 61 istore_2
-    Form::LocalAt(LocalForm::Store(Kind::Int), 3), // 62 istore_3
-    Form::LocalAt(LocalForm::Store(Kind::Long), 0), // 63 lstore_0
-    Form::LocalAt(LocalForm::Store(Kind::Long), 1), // 64 lstore_1
-    Form::LocalAt(LocalForm::Store(Kind::Long), 2), // 65 lstore_2
-    Form::LocalAt(LocalForm::Store(Kind::Long), 3), // 66 lstore_3
+    Form::Local(LocalForm::Store(ValueKind::Reference)), // 58 astore
+    Form::LocalAt(LocalForm::Store(ValueKind::Int), 0), // 59 istore_0
+    Form::LocalAt(LocalForm::Store(ValueKind::Int), 1), // 60 istore_1
+    Form::LocalAt(LocalForm::Store(ValueKind::Int), 2), // 61 istore_2
+    Form::LocalAt(LocalForm::Store(ValueKind::Int), 3), // 62 istore_3
+    Form::LocalAt(LocalForm::Store(ValueKind::Long), 0), // 63 lstore_0
+    Form::LocalAt(LocalForm::Store(ValueKind::Long), 1), // 64 lstore_1
+    Form::LocalAt(LocalForm::Store(ValueKind::Long), 2), // 65 lstore_2
+    Form::LocalAt(LocalForm::Store(ValueKind::Long), 3), // 66 lstore_3
     Form::Floating(67), // 67 fstore_0
     Form::Floating(68), // 68 fstore_1
     Form::Floating(69), // 69 fstore_2
@@ -157,10 +157,10 @@ static FORMS: [Form; 202] = [
     Form::Floating(72), // 72 dstore_1
     Form::Floating(73), // 73 dstore_2
     Form::Floating(74), // 74 dstore_3
-    Form::LocalAt(LocalForm::Store(Kind::Reference), 0), // 75 astore_0
-    Form::LocalAt(LocalForm::Store(Kind::Reference), 1), // 76 astore_1
-    Form::LocalAt(LocalForm::Store(Kind::Reference), 2), // 77 astore_2
-    Form::LocalAt(LocalForm::Store(Kind::Reference), 3), // 78 astore_3
+    Form::LocalAt(LocalForm::Store(ValueKind::Reference), 0), // 75 astore_0
+    Form::LocalAt(LocalForm::Store(ValueKind::Reference), 1), // 76 astore_1
+    Form::LocalAt(LocalForm::Store(ValueKind::Reference), 2), // 77 astore_2
+    Form::LocalAt(LocalForm::Store(ValueKind::Reference), 3), // 78 astore_3
     Form::Simple(Simple::ArrayStore(Element::Int)), // 79 iastore
     Form::Simple(Simple::ArrayStore(Element::Long)), // 80 lastore
     Form::Floating(81), // 81 fastore
@@ -254,11 +254,11 @@ static FORMS: [Form; 202] = [
     Form::Local(LocalForm::Ret), // 169 ret
     Form::TableSwitch, // 170 tableswitch
     Form::LookupSwitch, // 171 lookupswitch
-    Form::Simple(Simple::ReturnValue(Kind::Int)), // 172 ireturn
-    Form::Simple(Simple::ReturnValue(Kind::Long)), // 173 lreturn
+    Form::Simple(Simple::ReturnValue(ValueKind::Int)), // 172 ireturn
+    Form::Simple(Simple::ReturnValue(ValueKind::Long)), // 173 lreturn
     Form::Floating(174), // 174 freturn
     Form::Floating(175), // 175 dreturn
-    Form::Simple(Simple::ReturnValue(Kind::Reference)), // 176 areturn
+    Form::Simple(Simple::ReturnValue(ValueKind::Reference)), // 176 areturn
     Form::Simple(Simple::Return), // 177 return
     Form::Index(IndexForm::GetStatic), // 178 getstatic
     Form::Index(IndexForm::PutStatic), // 179 putstatic

@@ -14,7 +14,7 @@ mod switch_operands;
 pub use code::decode;
 pub use error::{CodeError, CodeWhy};
 pub use laws::one_decoding;
-pub use op::{Comparison, Element, Instr, Kind, Op, Primitive, Sameness, Simple};
+pub use op::{Comparison, Element, Instr, Op, Primitive, Sameness, Simple, ValueKind};
 pub use pc_table::{NO_INSTR, index_by_pc};
 pub use switch::{LookupSwitch, Match, TableSwitch};
 

@@ -4,7 +4,7 @@ use jvm_words::{IntOp, LongOp, Narrow, ShiftOp};
 
 /// The kind of a value in a local variable or of a result, but for float and double (JVMS 2.11.1).
 #[derive(Clone, Copy, Debug, PartialEq, Eq)]
-pub enum Kind {
+pub enum ValueKind {
     Int,
     Long,
     Reference,
@@ -91,7 +91,7 @@ pub enum Simple {
     /// lcmp.
     LongCompare,
     /// ireturn, lreturn and areturn.
-    ReturnValue(Kind),
+    ReturnValue(ValueKind),
     Return,
     ArrayLength,
     /// athrow.
@@ -116,9 +116,9 @@ pub enum Op {
     /// ldc2_w.
     PushWideConstant(u16),
     /// iload, lload and aload, in each of their forms.
-    Load(Kind, u16),
+    Load(ValueKind, u16),
     /// istore, lstore and astore, in each of their forms.
-    Store(Kind, u16),
+    Store(ValueKind, u16),
     /// iinc: the local variable, and what is added to it.
     Increment(u16, i16),
     /// ifeq to ifle: an int against 0.

@@ -2,7 +2,7 @@
 use Rattle.std.proofs.Common.{◌≡◌, refl}
 use Rattle.lib_table.specs.declared.native.Native.{Native}
 use Rattle.lib_table.specs.declared.native.Native.TheVariants as natives
-use Rattle.world_model.specs.World.{World}
+use Rattle.link_model.specs.World.{World}
 use Rattle.ref_model.specs.State.{State}
 use Rattle.ref_model.specs.NativeRows.{row_kinds}
 use Rattle.ref_model.specs.Natives.{native_row, native_takes}

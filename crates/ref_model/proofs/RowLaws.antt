@@ -1,14 +1,14 @@
 -- What local instructions leave as it is.
 use Rattle.std.proofs.Common.{◌≡◌, ℕ, Bool, true, false, List, [], ◌∷◌, Option, Some, None, refl}
 use Rattle.std.specs.Prelude.{length, nat_lt, slice_get, ◌&&◌, if◌then◌else◌}
-use Rattle.opcodes.specs.declared.op.Kind.{Kind}
+use Rattle.opcodes.specs.declared.op.ValueKind.{ValueKind}
 use Rattle.instruction_rows.specs.Rows.{Row, local, constant, wide_constant, returns, invoke, event, refused, virtual, special, static, interface, dynamic}
 use Rattle.instruction_rows.specs.Table.{row as row_of}
 use Rattle.instruction_rows.specs.SlotEffect.{acted, pushed}
 use Rattle.items.proofs.Binds.{some_is}
-use Rattle.world_model.specs.declared.sites.Naming.{Naming}
-use Rattle.world_model.specs.World.{World}
-use Rattle.world_model.specs.Decoded.{code_at}
+use Rattle.link_model.specs.declared.sites.Resolution.{Resolution}
+use Rattle.link_model.specs.World.{World}
+use Rattle.link_model.specs.Decoded.{code_at}
 use Rattle.verify_types.specs.Environment.{Instruction}
 use Rattle.items.specs.Options.{◌>>=◌}
 use Rattle.state_model.specs.Frames.{Frame}
@@ -32,16 +32,16 @@ on_top : (o : Option Frame) (f : Frame) (below after : List Frame) → (o >>= λ
 on_top None f below after e = absurd cc
 on_top (Some g) f below after e = let is : g ∷ below ≡ after = cc in rw (← is) (one_top f g below)
 
-constant_top : (naming : Naming) (next : ℕ) (f : Frame) (below after : List Frame)
-    → constant_pushed naming next f below ≡ Some after → ChangesTop (f ∷ below) after
-constant_top naming next f below after e =
-    let v = some_is (constant_of naming.site) (λ v. behind f next (pushed v f.stack) >>= λ g. Some (g ∷ below)) after e in
+constant_top : (resolution : Resolution) (next : ℕ) (f : Frame) (below after : List Frame)
+    → constant_pushed resolution next f below ≡ Some after → ChangesTop (f ∷ below) after
+constant_top resolution next f below after e =
+    let v = some_is (constant_of resolution.site) (λ v. behind f next (pushed v f.stack) >>= λ g. Some (g ∷ below)) after e in
     on_top (behind f next (pushed v.0 f.stack)) f below after v.2
 
 replaced_top : (f g caller : Frame) (rest after : List Frame) → caller ∷ rest ≡ after → ChangesTop (f ∷ g ∷ rest) after
 replaced_top f g caller rest after is = record { tops = caller ∷ []; is = rw (← is) refl }
 
-returned_top : (w : World) (kind : Option Kind) (f : Frame) (below after : List Frame) → returned w kind f below ≡ Some after
+returned_top : (w : World) (kind : Option ValueKind) (f : Frame) (below after : List Frame) → returned w kind f below ≡ Some after
     → ChangesTop (f ∷ below) after
 returned_top w kind f [] after e = absurd cc
 returned_top w kind f (g ∷ rest) after e =
@@ -52,7 +52,7 @@ returned_top w kind f (g ∷ rest) after e =
     let caller = some_is (returned_to w g stack.0) (λ caller. Some (caller ∷ rest)) after stack.2 in
     replaced_top f g caller.0 rest after cc
 
-left_top : (w : World) (kind : Option Kind) (f : Frame) (below after : List Frame) (root : Bool)
+left_top : (w : World) (kind : Option ValueKind) (f : Frame) (below after : List Frame) (root : Bool)
     → (if root then None else returned w kind f below) ≡ Some after → ChangesTop (f ∷ below) after
 left_top w kind f below after true e = absurd cc
 left_top w kind f below after false e = returned_top w kind f below after e
@@ -77,11 +77,11 @@ act_top : (w : World) (i : Instruction) (r : Row) (f : Frame) (below after : Lis
 act_top w i (local r) f below after e =
     let m = some_is (acted r (contents f)) (λ m. moved f i.instr.next m >>= λ g. Some (g ∷ below)) after e in
     on_top (moved f i.instr.next m.0) f below after m.2
-act_top w i (constant index) f below after e = constant_top i.naming i.instr.next f below after e
-act_top w i (wide_constant index) f below after e = constant_top i.naming i.instr.next f below after e
+act_top w i (constant index) f below after e = constant_top i.resolution i.instr.next f below after e
+act_top w i (wide_constant index) f below after e = constant_top i.resolution i.instr.next f below after e
 act_top w i (returns kind) f below after e = left_top w kind f below after (is_root w f below) e
 act_top w i (invoke static index) f below after e =
-    let m = some_is (named_method w i.naming) (λ m. static_called w m f below) after e in
+    let m = some_is (named_method w i.resolution) (λ m. static_called w m f below) after e in
     static_top w m.0 f below after (has_local_call w m.0 && nat_lt (length (f ∷ below)) most_frames) m.2
 act_top w i (invoke virtual index) f below after e = absurd cc
 act_top w i (invoke special index) f below after e = absurd cc

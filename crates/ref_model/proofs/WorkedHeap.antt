@@ -6,8 +6,8 @@ use Rattle.opcodes.specs.declared.op.Element.TheVariants as elements
 use Rattle.instruction_rows.specs.declared.value.Value.TheVariants.{Int, Long, Null, Ref}
 use Rattle.instruction_rows.specs.declared.value.Slot.{Slot}
 use Rattle.instruction_rows.specs.declared.value.Slot.TheVariants.{One, Second}
-use Rattle.world_model.specs.declared.sites.Naming.{Naming}
-use Rattle.world_model.specs.declared.sites.Site.TheVariants as sites
+use Rattle.link_model.specs.declared.sites.Resolution.{Resolution}
+use Rattle.link_model.specs.declared.sites.Site.TheVariants as sites
 use Rattle.state_model.specs.Objects.{instance, text}
 use Rattle.ref_model.specs.declared.exception.Exception.{Exception}
 use Rattle.ref_model.specs.declared.exception.Exception.TheVariants as exceptions
@@ -121,10 +121,10 @@ ref o = One (Ref o)
 abbrev null : Slot
 null = One Null
 
-abbrev of_field : ℕ → Naming
+abbrev of_field : ℕ → Resolution
 of_field n = record { site = sites.Field n; class = Some 7 }
 
-abbrev of_class : ℕ → Naming
+abbrev of_class : ℕ → Resolution
 of_class n = record { site = sites.Class n; class = None }
 
 -- what an effect gives with everything as it is

@@ -3,7 +3,7 @@ use Rattle.std.proofs.Common.{◌≡◌, pos, List, [], ◌∷◌, Some, None, r
 use Rattle.descriptors.specs.declared.kind.ElementType.TheVariants as elements
 use Rattle.descriptors.specs.declared.kind.Signature.{Signature}
 use Rattle.opcodes.specs.declared.op.Element.TheVariants as element_kinds
-use Rattle.opcodes.specs.declared.op.Kind.TheVariants as kinds
+use Rattle.opcodes.specs.declared.op.ValueKind.TheVariants as kinds
 use Rattle.jvm_words.specs.declared.operation.LongOp.TheVariants as longs
 use Rattle.opcodes.specs.declared.op.Op.TheVariants as ops
 use Rattle.opcodes.specs.declared.op.Simple.TheVariants as simples
@@ -12,13 +12,13 @@ use Rattle.instruction_rows.specs.declared.value.Slot.{Slot}
 use Rattle.instruction_rows.specs.declared.value.Slot.TheVariants.{One, Second}
 use Rattle.instruction_rows.specs.Rows.{virtual, static, event, returns, put_static, get_field, put_field, new_arrays, array_store}
 use Rattle.instruction_rows.specs.Table.{row}
-use Rattle.world_model.specs.declared.sites.Naming.{Naming}
-use Rattle.world_model.specs.declared.sites.Site.TheVariants as sites
+use Rattle.link_model.specs.declared.sites.Resolution.{Resolution}
+use Rattle.link_model.specs.declared.sites.Site.TheVariants as sites
 use Rattle.ref_model.specs.Operands.{HasOperand, called_takes, row_takes, FindsOperands}
 use Rattle.ref_model.proofs.WorkedWorld.{world, of_nothing}
 
 -- the field of a long
-abbrev large : Naming
+abbrev large : Resolution
 large = record { site = sites.Field 2; class = Some 7 }
 
 -- a long above a reference above an int

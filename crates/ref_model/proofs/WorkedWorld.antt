@@ -7,19 +7,19 @@ use Rattle.class_model.specs.declared.attribute.Row.{Row}
 use Rattle.descriptors.specs.declared.kind.ElementType.TheVariants as elements
 use Rattle.descriptors.specs.declared.kind.Signature.{Signature}
 use Rattle.jvm_words.specs.declared.operation.IntOp.TheVariants as ints
-use Rattle.opcodes.specs.declared.op.Kind.TheVariants as kinds
+use Rattle.opcodes.specs.declared.op.ValueKind.TheVariants as kinds
 use Rattle.opcodes.specs.declared.op.Instr.{Instr}
 use Rattle.opcodes.specs.declared.op.Op.{Op}
 use Rattle.opcodes.specs.declared.op.Op.TheVariants as ops
 use Rattle.opcodes.specs.declared.op.Simple.TheVariants as simples
 use Rattle.stack_maps.specs.declared.types.Base.TheVariants as bases
-use Rattle.world_model.specs.declared.members.FieldInfo.{FieldInfo}
-use Rattle.world_model.specs.declared.members.MethodInfo.{MethodInfo}
-use Rattle.world_model.specs.declared.members.MethodCode.{MethodCode}
-use Rattle.world_model.specs.declared.sites.ArrayType.{ArrayType}
-use Rattle.world_model.specs.declared.sites.Naming.{Naming}
-use Rattle.world_model.specs.declared.sites.Site.TheVariants as sites
-use Rattle.world_model.specs.World.{World}
+use Rattle.link_model.specs.declared.members.FieldInfo.{FieldInfo}
+use Rattle.link_model.specs.declared.members.MethodInfo.{MethodInfo}
+use Rattle.link_model.specs.declared.members.MethodCode.{MethodCode}
+use Rattle.link_model.specs.declared.sites.ArrayType.{ArrayType}
+use Rattle.link_model.specs.declared.sites.Resolution.{Resolution}
+use Rattle.link_model.specs.declared.sites.Site.TheVariants as sites
+use Rattle.link_model.specs.World.{World}
 
 -- ---- classes
 
@@ -122,7 +122,7 @@ call = instr 0 3 (ops.InvokeStatic 1) ∷ instr 3 4 (ops.Simple simples.Pop) ∷
 abbrev pub method : List ℕ → Signature → MethodInfo
 method name signature = record { class = 7; flags = 9; name = name; signature = signature }
 
-abbrev pub of_nothing : Naming
+abbrev pub of_nothing : Resolution
 of_nothing = record { site = sites.Plain; class = None }
 
 -- The main methods: 0 catches nothing, 1 catches what its division throws, 3 calls 2.
@@ -144,6 +144,6 @@ world = record {
       ∷ Some (code 1 0 two_hundred [])
       ∷ Some (code 1 1 call [])
       ∷ [];
-  namings = [] ∷ [] ∷ [] ∷ (record { site = sites.Method 2; class = Some 7 } ∷ []) ∷ [];
+  resolutions = [] ∷ [] ∷ [] ∷ (record { site = sites.Method 2; class = Some 7 } ∷ []) ∷ [];
   catches = [] ∷ (None ∷ []) ∷ [] ∷ [] ∷ [];
 }

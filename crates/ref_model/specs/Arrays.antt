@@ -3,7 +3,7 @@
 use Rattle.std.specs.Prelude.{ℕ, zero, suc, ◌+◌, ◌*◌, ℤ, pos, negsuc, Bool, true, false, List, [], ◌∷◌, ◌++◌, Option, Some, None, int_lt, length, map, nat_le, replicate, slice_get, unsigned_abs, if◌then◌else◌}
 use Rattle.std.specs.List.{list_any, range_with_len}
 use Rattle.items.specs.Options.{◌>>=◌}
-use Rattle.opcodes.specs.declared.op.Kind.TheVariants as kinds
+use Rattle.opcodes.specs.declared.op.ValueKind.TheVariants as kinds
 use Rattle.opcodes.specs.declared.op.Element.{Element}
 use Rattle.stack_maps.specs.declared.types.VType.TheVariants as types
 use Rattle.instruction_rows.specs.declared.value.Value.{Value}
@@ -11,8 +11,8 @@ use Rattle.instruction_rows.specs.declared.value.Value.TheVariants as values
 use Rattle.instruction_rows.specs.declared.value.Slot.{Slot}
 use Rattle.instruction_rows.specs.Kinds.{value, kind_of_element}
 use Rattle.instruction_rows.specs.SlotEffect.{popped}
-use Rattle.world_model.specs.declared.sites.Naming.{Naming}
-use Rattle.world_model.specs.World.{World, array_type}
+use Rattle.link_model.specs.declared.sites.Resolution.{Resolution}
+use Rattle.link_model.specs.World.{World, array_type}
 use Rattle.verify_types.specs.Operands.{serves}
 use Rattle.state_model.specs.Objects.{Object, instance}
 use Rattle.ref_model.specs.declared.exception.Exception.TheVariants as exceptions
@@ -99,9 +99,9 @@ not_negative true made = Some (throws exceptions.NegativeArraySizeException)
 not_negative false made = made
 
 -- newarray, anewarray: the class is that of the array
-abbrev pub array_made : World → Naming → State → List Slot → Option Effect
-array_made w naming r stack = do
-  class ← class_of naming.site
+abbrev pub array_made : World → Resolution → State → List Slot → Option Effect
+array_made w resolution r stack = do
+  class ← class_of resolution.site
   x ← popped kinds.Int stack
   v ← element_zero w class
   not_negative (int_lt x.0 (pos 0)) (Some (gives_new (with_array r class (unsigned_abs x.0) v) x.1))
@@ -153,9 +153,9 @@ with_arrays w r class lengths =
     then (arrays_from w lengths (length r.heap) class >>= λ objects. Some (with_objects r (cells_of_lengths lengths) objects))
     else Some None
 
-abbrev pub arrays_made : World → ℕ → Naming → State → List Slot → Option Effect
-arrays_made w dimensions naming r stack = do
-  class ← class_of naming.site
+abbrev pub arrays_made : World → ℕ → Resolution → State → List Slot → Option Effect
+arrays_made w dimensions resolution r stack = do
+  class ← class_of resolution.site
   x ← ints_popped dimensions stack
   not_negative (list_any (λ n. int_lt n (pos 0)) x.0)
       (with_arrays w r class (map unsigned_abs x.0) >>= λ made. Some (gives_new made x.1))

@@ -2,7 +2,7 @@
 -- appends makes a new String. (own)
 use Rattle.std.specs.Prelude.{ℕ, pos, List, [], ◌∷◌, ◌++◌, Option, Some, None, length, slice_get}
 use Rattle.items.specs.Options.{◌>>=◌}
-use Rattle.opcodes.specs.declared.op.Kind.TheVariants.{Int, Long, Reference}
+use Rattle.opcodes.specs.declared.op.ValueKind.TheVariants.{Int, Long, Reference}
 use Rattle.instruction_rows.specs.declared.value.Value.{Value}
 use Rattle.instruction_rows.specs.declared.value.Value.TheVariants as values
 use Rattle.ref_model.specs.declared.exception.Exception.TheVariants as exceptions

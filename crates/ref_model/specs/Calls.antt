@@ -2,19 +2,19 @@
 -- class of the receiver, selection, the number of frames. A call is stated by the descriptor that its instruction names.
 use Rattle.std.specs.Prelude.{ℕ, suc, List, Option, Some, None, drop, nat_lt, slice_get, ◌||◌, if◌then◌else◌}
 use Rattle.items.specs.Options.{◌>>=◌}
-use Rattle.opcodes.specs.declared.op.Kind.TheVariants as kinds
+use Rattle.opcodes.specs.declared.op.ValueKind.TheVariants as kinds
 use Rattle.lib_table.specs.declared.native.Native.{Native}
-use Rattle.linkage.specs.declared.choice.Choice.{Choice}
-use Rattle.linkage.specs.declared.choice.Choice.TheVariants.{Method, Abstract, Several}
-use Rattle.linkage.specs.Members.{method_number}
+use Rattle.link_rules.specs.declared.choice.Choice.{Choice}
+use Rattle.link_rules.specs.declared.choice.Choice.TheVariants.{Method, Abstract, Several}
+use Rattle.link_rules.specs.Members.{method_number}
 use Rattle.instruction_rows.specs.declared.value.Slot.{Slot}
 use Rattle.instruction_rows.specs.Rows.{Invocation, virtual, special, static, interface, dynamic}
 use Rattle.instruction_rows.specs.SlotEffect.{popped}
-use Rattle.world_model.specs.declared.members.MethodCode.{MethodCode}
-use Rattle.world_model.specs.declared.sites.Naming.{Naming}
-use Rattle.world_model.specs.World.{World}
-pub use Rattle.world_model.specs.Methods.{selecting_class, choice_of}
-use Rattle.world_model.specs.Decoded.{code_at}
+use Rattle.link_model.specs.declared.members.MethodCode.{MethodCode}
+use Rattle.link_model.specs.declared.sites.Resolution.{Resolution}
+use Rattle.link_model.specs.World.{World}
+pub use Rattle.link_model.specs.Methods.{selecting_class, choice_of}
+use Rattle.link_model.specs.Decoded.{code_at}
 use Rattle.ref_model.specs.declared.exception.Exception.TheVariants as exceptions
 use Rattle.ref_model.specs.Kinds.{argument_slots}
 use Rattle.ref_model.specs.Members.{native_at, is_synchronized, is_hold}
@@ -72,21 +72,21 @@ abbrev pub method_numbered : World → ℕ → Option Named
 method_numbered w n = slice_get w.methods n >>= λ m. Some (record { number = n; method = m })
 
 -- a method of an object, which lies below the arguments
-abbrev pub instance_called : World → Naming → Invocation → Named → State → ℕ → List Slot → Option Effect
-instance_called w naming invocation m r depth stack =
+abbrev pub instance_called : World → Resolution → Invocation → Named → State → ℕ → List Slot → Option Effect
+instance_called w resolution invocation m r depth stack =
     let slots = argument_slots m.method.signature in
     popped kinds.Reference (drop slots stack) >>= λ x.
-    on_instance w naming r x.0 (λ o class. selected w invocation m class (λ n.
+    on_instance w resolution r x.0 (λ o class. selected w invocation m class (λ n.
     method_numbered w n >>= λ chosen. entered w r depth chosen (suc slots) stack))
 
 -- a method of a class
 abbrev pub class_called : World → Named → State → ℕ → List Slot → Option Effect
 class_called w m r depth stack = entered w r depth m (argument_slots m.method.signature) stack
 
-abbrev pub called : World → Naming → Invocation → Named → State → ℕ → List Slot → Option Effect
-called w naming static m r depth stack = class_called w m r depth stack
-called w naming dynamic m r depth stack = None
-called w naming invocation m r depth stack = instance_called w naming invocation m r depth stack
+abbrev pub called : World → Resolution → Invocation → Named → State → ℕ → List Slot → Option Effect
+called w resolution static m r depth stack = class_called w m r depth stack
+called w resolution dynamic m r depth stack = None
+called w resolution invocation m r depth stack = instance_called w resolution invocation m r depth stack
 
-abbrev pub invoked : World → Naming → Invocation → State → ℕ → List Slot → Option Effect
-invoked w naming invocation r depth stack = named_method w naming >>= λ m. called w naming invocation m r depth stack
+abbrev pub invoked : World → Resolution → Invocation → State → ℕ → List Slot → Option Effect
+invoked w resolution invocation r depth stack = named_method w resolution >>= λ m. called w resolution invocation m r depth stack

@@ -3,9 +3,9 @@ use Rattle.std.specs.Prelude.{ℕ, ◌-◌, Bool, true, false, List, [], ◌++�
 use Rattle.std.specs.Option.{option_map}
 use Rattle.stack_maps.specs.declared.types.Base.{Base}
 use Rattle.stack_maps.specs.declared.types.Base.TheVariants as bases
-use Rattle.world_model.specs.declared.sites.ArrayType.{ArrayType}
-use Rattle.world_model.specs.World.{World, array_type}
-pub use Rattle.world_model.specs.Subtypes.{is_array, type_of, base_below, type_below, is_sub}
+use Rattle.link_model.specs.declared.sites.ArrayType.{ArrayType}
+use Rattle.link_model.specs.World.{World, array_type}
+pub use Rattle.link_model.specs.Subtypes.{is_array, type_of, base_below, type_below, is_sub}
 
 -- ---- elements
 

@@ -5,9 +5,9 @@ use Rattle.instruction_rows.specs.declared.value.Value.{Value}
 use Rattle.instruction_rows.specs.declared.value.Value.TheVariants as values
 use Rattle.instruction_rows.specs.declared.value.Slot.{Slot}
 use Rattle.instruction_rows.specs.SlotEffect.{pushed}
-use Rattle.linkage.specs.Program.{is_interface}
-use Rattle.world_model.specs.declared.sites.Naming.{Naming}
-use Rattle.world_model.specs.World.{World}
+use Rattle.link_rules.specs.Program.{is_interface}
+use Rattle.link_model.specs.declared.sites.Resolution.{Resolution}
+use Rattle.link_model.specs.World.{World}
 use Rattle.state_model.specs.Frames.{Frame}
 use Rattle.ref_model.specs.declared.exception.Exception.{Exception}
 use Rattle.ref_model.specs.declared.exception.Exception.TheVariants as exceptions
@@ -48,8 +48,8 @@ late_failure w class =
     if is_array w class || is_interface w.program class then exceptions.IncompatibleClassChangeError else exceptions.VerifyError
 
 -- the object of a field or method instruction, which is an instance of the class that the instruction's constant names
-abbrev pub on_instance : World → Naming → State → Option ℕ → (ℕ → ℕ → Option Effect) → Option Effect
-on_instance w naming r reference act = not_null reference (λ o.
+abbrev pub on_instance : World → Resolution → State → Option ℕ → (ℕ → ℕ → Option Effect) → Option Effect
+on_instance w resolution r reference act = not_null reference (λ o.
     class_at w r o >>= λ class.
-    naming.class >>= λ named.
+    resolution.class >>= λ named.
     if is_sub w class named then act o class else Some (throws (late_failure w named)))

@@ -2,19 +2,19 @@
 use Rattle.std.specs.Prelude.{ℕ, List, [], Option, Some, None, find, get_or, slice_get, ◌==◌}
 use Rattle.items.specs.Options.{◌>>=◌}
 use Rattle.instruction_rows.specs.declared.value.Value.{Value}
-use Rattle.world_model.specs.declared.members.MethodInfo.{MethodInfo}
-use Rattle.world_model.specs.declared.members.MethodCode.{MethodCode}
-use Rattle.world_model.specs.declared.sites.Naming.{Naming}
-use Rattle.world_model.specs.declared.sites.Site.{Site}
-use Rattle.world_model.specs.declared.sites.Site.TheVariants as sites
-use Rattle.world_model.specs.World.{World}
-use Rattle.world_model.specs.Decoded.{code_at}
-use Rattle.verify_types.specs.Environment.{Instruction, Handler, with_namings, with_catches}
+use Rattle.link_model.specs.declared.members.MethodInfo.{MethodInfo}
+use Rattle.link_model.specs.declared.members.MethodCode.{MethodCode}
+use Rattle.link_model.specs.declared.sites.Resolution.{Resolution}
+use Rattle.link_model.specs.declared.sites.Site.{Site}
+use Rattle.link_model.specs.declared.sites.Site.TheVariants as sites
+use Rattle.link_model.specs.World.{World}
+use Rattle.link_model.specs.Decoded.{code_at}
+use Rattle.verify_types.specs.Environment.{Instruction, Handler, with_resolutions, with_catches}
 use Rattle.state_model.specs.Frames.{Frame}
 
 -- the instructions of a method, with what their constants mean
 abbrev pub instructions_of : World → ℕ → MethodCode → List Instruction
-instructions_of w method code = with_namings code.code (get_or w.namings method [])
+instructions_of w method code = with_resolutions code.code (get_or w.resolutions method [])
 
 -- the rows of its exception table, with the classes that they catch
 abbrev pub handlers_of : World → ℕ → MethodCode → List Handler
@@ -51,6 +51,6 @@ pub record Named : Type 0 where
   pub number : ℕ
   pub method : MethodInfo
 
-abbrev pub named_method : World → Naming → Option Named
-named_method w naming =
-    method_of naming.site >>= λ n. slice_get w.methods n >>= λ m. Some (record { number = n; method = m })
+abbrev pub named_method : World → Resolution → Option Named
+named_method w resolution =
+    method_of resolution.site >>= λ n. slice_get w.methods n >>= λ m. Some (record { number = n; method = m })

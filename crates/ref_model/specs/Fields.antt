@@ -1,15 +1,15 @@
 -- Fields (JVMS 6.5: getstatic, putstatic, getfield, putfield). Null is tested first, and then the class of the object.
 use Rattle.std.specs.Prelude.{List, Option, Some, slice_get}
 use Rattle.items.specs.Options.{◌>>=◌}
-use Rattle.opcodes.specs.declared.op.Kind.TheVariants as kinds
+use Rattle.opcodes.specs.declared.op.ValueKind.TheVariants as kinds
 use Rattle.instruction_rows.specs.declared.value.Value.{Value}
 use Rattle.instruction_rows.specs.declared.value.Slot.{Slot}
 use Rattle.instruction_rows.specs.Contents.{with_item}
 use Rattle.instruction_rows.specs.Kinds.{value}
 use Rattle.instruction_rows.specs.SlotEffect.{popped}
-use Rattle.world_model.specs.declared.members.FieldInfo.{FieldInfo}
-use Rattle.world_model.specs.declared.sites.Naming.{Naming}
-use Rattle.world_model.specs.World.{World}
+use Rattle.link_model.specs.declared.members.FieldInfo.{FieldInfo}
+use Rattle.link_model.specs.declared.sites.Resolution.{Resolution}
+use Rattle.link_model.specs.World.{World}
 use Rattle.ref_model.specs.Kinds.{value_kind, kept}
 use Rattle.ref_model.specs.Members.{field_place, static_place}
 use Rattle.ref_model.specs.State.{State}
@@ -23,13 +23,13 @@ stored f stack = popped (value_kind f.kind) stack >>= λ x. Some (kept f.kind (v
 
 -- ---- static fields
 
-abbrev pub static_gotten : World → Naming → State → List Slot → Option Effect
-static_gotten w naming r stack =
-    field_of naming.site >>= λ n. slice_get r.statics (static_place w n) >>= λ v. Some (gives r v stack)
+abbrev pub static_gotten : World → Resolution → State → List Slot → Option Effect
+static_gotten w resolution r stack =
+    field_of resolution.site >>= λ n. slice_get r.statics (static_place w n) >>= λ v. Some (gives r v stack)
 
-abbrev pub static_put : World → Naming → State → List Slot → Option Effect
-static_put w naming r stack = do
-  n ← field_of naming.site
+abbrev pub static_put : World → Resolution → State → List Slot → Option Effect
+static_put w resolution r stack = do
+  n ← field_of resolution.site
   f ← slice_get w.fields n
   x ← stored f stack
   statics ← with_item (static_place w n) x.0 r.statics
@@ -37,23 +37,23 @@ static_put w naming r stack = do
 
 -- ---- fields of an object
 
-abbrev pub field_gotten : World → Naming → State → List Slot → Option Effect
-field_gotten w naming r stack = do
-  n ← field_of naming.site
+abbrev pub field_gotten : World → Resolution → State → List Slot → Option Effect
+field_gotten w resolution r stack = do
+  n ← field_of resolution.site
   x ← popped kinds.Reference stack
-  on_instance w naming r x.0 (λ o class. do
+  on_instance w resolution r x.0 (λ o class. do
     place ← field_place w n
     fields ← values_at r o
     v ← slice_get fields place
     Some (gives r v x.1))
 
-abbrev pub field_put : World → Naming → State → List Slot → Option Effect
-field_put w naming r stack = do
-  n ← field_of naming.site
+abbrev pub field_put : World → Resolution → State → List Slot → Option Effect
+field_put w resolution r stack = do
+  n ← field_of resolution.site
   f ← slice_get w.fields n
   x ← stored f stack
   y ← popped kinds.Reference x.1
-  on_instance w naming r y.0 (λ o class. do
+  on_instance w resolution r y.0 (λ o class. do
     place ← field_place w n
     q ← with_value r o place x.0
     Some (done q y.1))

@@ -2,16 +2,16 @@
 use Rattle.std.specs.Prelude.{ℕ, ◌-◌, Bool, true, false, List, [], ◌∷◌, ◌++◌, Option, Some, None, drop, length, nat_le, replicate, reverse, slice_get, take, ◌||◌, if◌then◌else◌}
 use Rattle.std.specs.Option.{option_map_or}
 use Rattle.items.specs.Options.{◌>>=◌}
-use Rattle.opcodes.specs.declared.op.Kind.{Kind}
+use Rattle.opcodes.specs.declared.op.ValueKind.{ValueKind}
 use Rattle.instruction_rows.specs.declared.value.Slot.{Slot}
 use Rattle.instruction_rows.specs.declared.value.Slot.TheVariants.{Second}
 use Rattle.instruction_rows.specs.Contents.{Contents}
 use Rattle.instruction_rows.specs.Kinds.{value}
 use Rattle.instruction_rows.specs.Pcs.{pc_after}
 use Rattle.instruction_rows.specs.SlotEffect.{Moved, popped, pushed}
-use Rattle.world_model.specs.declared.members.MethodInfo.{MethodInfo}
-use Rattle.world_model.specs.declared.members.MethodCode.{MethodCode}
-use Rattle.world_model.specs.World.{World}
+use Rattle.link_model.specs.declared.members.MethodInfo.{MethodInfo}
+use Rattle.link_model.specs.declared.members.MethodCode.{MethodCode}
+use Rattle.link_model.specs.World.{World}
 use Rattle.state_model.specs.Frames.{Frame}
 use Rattle.ref_model.specs.Kinds.{kept}
 use Rattle.ref_model.specs.Members.{is_initializer}
@@ -74,7 +74,7 @@ abbrev pub is_root : World → Frame → List Frame → Bool
 is_root w f below = is_empty below || is_initializer_frame w f
 
 -- the operand stack of the caller, with what the method returns on top
-abbrev pub stack_returned : Option Kind → MethodInfo → List Slot → List Slot → Option (List Slot)
+abbrev pub stack_returned : Option ValueKind → MethodInfo → List Slot → List Slot → Option (List Slot)
 stack_returned None m stack under = Some under
 stack_returned (Some k) m stack under =
     popped k stack >>= λ x. m.signature.result >>= λ result. Some (pushed (kept result (value k x.0)) under)
@@ -84,7 +84,7 @@ abbrev pub returned_to : World → Frame → List Slot → Option Frame
 returned_to w g stack = fetched w g >>= λ call. behind g call.instr.next stack
 
 -- the frames after a return from the top one to that below it
-abbrev pub returned : World → Option Kind → Frame → List Frame → Option (List Frame)
+abbrev pub returned : World → Option ValueKind → Frame → List Frame → Option (List Frame)
 returned w kind f [] = None
 returned w kind f (g ∷ rest) =
     slice_get w.methods f.method >>= λ m.

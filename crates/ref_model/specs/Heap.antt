@@ -4,8 +4,8 @@ use Rattle.std.specs.Option.{option_map}
 use Rattle.items.specs.Options.{◌>>=◌}
 use Rattle.instruction_rows.specs.declared.value.Value.{Value}
 use Rattle.instruction_rows.specs.Contents.{with_item}
-use Rattle.world_model.specs.declared.sites.ArrayType.{ArrayType}
-use Rattle.world_model.specs.World.{World, array_type, name_number}
+use Rattle.link_model.specs.declared.sites.ArrayType.{ArrayType}
+use Rattle.link_model.specs.World.{World, array_type, name_number}
 use Rattle.state_model.specs.Objects.{Object, instance, text}
 use Rattle.ref_model.specs.State.{State}
 

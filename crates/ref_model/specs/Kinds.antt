@@ -6,19 +6,19 @@ use Rattle.descriptors.specs.declared.kind.ElementType.TheVariants as elements
 use Rattle.descriptors.specs.declared.kind.Kind.{Kind as FieldType}
 use Rattle.descriptors.specs.declared.kind.Signature.{Signature}
 use Rattle.descriptors.specs.Descriptors.{slots}
-use Rattle.opcodes.specs.declared.op.Kind.{Kind}
-use Rattle.opcodes.specs.declared.op.Kind.TheVariants as kinds
+use Rattle.opcodes.specs.declared.op.ValueKind.{ValueKind}
+use Rattle.opcodes.specs.declared.op.ValueKind.TheVariants as kinds
 use Rattle.stack_maps.specs.declared.types.Base.{Base}
 use Rattle.stack_maps.specs.declared.types.Base.TheVariants as bases
 use Rattle.jvm_words.specs.declared.operation.Narrow.TheVariants as narrows
 use Rattle.jvm_words.specs.Words.{narrow_result}
 use Rattle.instruction_rows.specs.declared.value.Value.{Value}
 use Rattle.instruction_rows.specs.declared.value.Value.TheVariants as values
-use Rattle.world_model.specs.declared.sites.ArrayType.{ArrayType}
+use Rattle.link_model.specs.declared.sites.ArrayType.{ArrayType}
 
 -- ---- kinds
 
-abbrev pub kind_of_element_type : ElementType → Kind
+abbrev pub kind_of_element_type : ElementType → ValueKind
 kind_of_element_type elements.Byte = kinds.Int
 kind_of_element_type elements.Char = kinds.Int
 kind_of_element_type elements.Short = kinds.Int
@@ -30,7 +30,7 @@ kind_of_element_type elements.Double = kinds.Reference
 kind_of_element_type (elements.Class name) = kinds.Reference
 
 -- the kind of the values of a type
-abbrev pub value_kind : FieldType → Kind
+abbrev pub value_kind : FieldType → ValueKind
 value_kind t = if t.dimensions == 0 then kind_of_element_type t.element else kinds.Reference
 
 -- how many slots the arguments take, without the receiver (JVMS 2.6.1)
@@ -39,7 +39,7 @@ argument_slots s = sum_by slots s.args
 
 -- ---- values that nothing was stored in yet (JVMS 2.3, 2.4)
 
-abbrev pub zero_of_kind : Kind → Value
+abbrev pub zero_of_kind : ValueKind → Value
 zero_of_kind kinds.Int = values.Int (pos 0)
 zero_of_kind kinds.Long = values.Long (pos 0)
 zero_of_kind kinds.Reference = values.Null
@@ -49,7 +49,7 @@ abbrev pub zero_of : FieldType → Value
 zero_of t = zero_of_kind (value_kind t)
 
 -- the kind of the values of a type of last elements
-abbrev pub kind_of_base : Base → Kind
+abbrev pub kind_of_base : Base → ValueKind
 kind_of_base bases.Bool = kinds.Int
 kind_of_base bases.Byte = kinds.Int
 kind_of_base bases.Char = kinds.Int
@@ -61,7 +61,7 @@ kind_of_base bases.Double = kinds.Reference
 kind_of_base (bases.Class class) = kinds.Reference
 
 -- the kind of an array's elements
-abbrev pub kind_of_elements : ArrayType → Kind
+abbrev pub kind_of_elements : ArrayType → ValueKind
 kind_of_elements array = if array.dimensions == 1 then kind_of_base array.base else kinds.Reference
 
 -- ---- what a store keeps: of a boolean, byte, char or short 1, 8, 16 or 16 bits (JVMS 6.5: putfield, putstatic, ireturn)

@@ -6,9 +6,9 @@ use Rattle.items.specs.Options.{◌>>=◌}
 use Rattle.instruction_rows.specs.Rows.{Row, local, constant, wide_constant, returns, invoke, event, refused, virtual, special, static, interface, dynamic}
 use Rattle.instruction_rows.specs.Table.{row as row_of}
 use Rattle.instruction_rows.specs.SlotEffect.{acted, pushed}
-use Rattle.world_model.specs.declared.sites.Naming.{Naming}
-use Rattle.world_model.specs.World.{World}
-use Rattle.world_model.specs.Decoded.{code_at}
+use Rattle.link_model.specs.declared.sites.Resolution.{Resolution}
+use Rattle.link_model.specs.World.{World}
+use Rattle.link_model.specs.Decoded.{code_at}
 use Rattle.verify_types.specs.Environment.{Instruction}
 use Rattle.state_model.specs.Frames.{Frame}
 use Rattle.ref_model.specs.Kinds.{argument_slots}
@@ -21,9 +21,9 @@ abbrev pub most_frames : ℕ
 most_frames = 2048
 
 -- ldc, ldc_w, ldc2_w: each String constant has its object from the start
-abbrev pub constant_pushed : Naming → ℕ → Frame → List Frame → Option (List Frame)
-constant_pushed naming next f below =
-    constant_of naming.site >>= λ v. behind f next (pushed v f.stack) >>= λ g. Some (g ∷ below)
+abbrev pub constant_pushed : Resolution → ℕ → Frame → List Frame → Option (List Frame)
+constant_pushed resolution next f below =
+    constant_of resolution.site >>= λ v. behind f next (pushed v f.stack) >>= λ g. Some (g ∷ below)
 
 -- ---- invokestatic of a method with code, that isn't synchronized and doesn't pin
 
@@ -45,10 +45,10 @@ static_called w m f below =
 
 abbrev pub local_act : World → Instruction → Row → Frame → List Frame → Option (List Frame)
 local_act w i (local r) f below = acted r (contents f) >>= λ m. moved f i.instr.next m >>= λ g. Some (g ∷ below)
-local_act w i (constant index) f below = constant_pushed i.naming i.instr.next f below
-local_act w i (wide_constant index) f below = constant_pushed i.naming i.instr.next f below
+local_act w i (constant index) f below = constant_pushed i.resolution i.instr.next f below
+local_act w i (wide_constant index) f below = constant_pushed i.resolution i.instr.next f below
 local_act w i (returns kind) f below = if is_root w f below then None else returned w kind f below
-local_act w i (invoke static index) f below = named_method w i.naming >>= λ m. static_called w m f below
+local_act w i (invoke static index) f below = named_method w i.resolution >>= λ m. static_called w m f below
 local_act w i (invoke virtual index) f below = None
 local_act w i (invoke special index) f below = None
 local_act w i (invoke (interface count) index) f below = None

@@ -7,15 +7,15 @@ use Rattle.class_grammar.specs.Text.{same_text}
 use Rattle.items.specs.Options.{◌>>=◌}
 use Rattle.lib_table.specs.declared.native.Native.{Native}
 use Rattle.lib_table.specs.Natives.{native_of}
-use Rattle.linkage.specs.Program.{has_flag, own_name, class_at}
-use Rattle.linkage.specs.Selection.{key_in}
+use Rattle.link_rules.specs.Program.{has_flag, own_name, class_at}
+use Rattle.link_rules.specs.Selection.{key_in}
 use Rattle.instruction_rows.specs.declared.value.Value.{Value}
 use Rattle.instruction_rows.specs.declared.value.Value.TheVariants as values
-use Rattle.world_model.specs.declared.members.FieldInfo.{FieldInfo}
-use Rattle.world_model.specs.declared.members.MethodInfo.{MethodInfo}
-use Rattle.world_model.specs.World.{World}
-pub use Rattle.world_model.specs.Fields.{is_static_field, own_fields, instance_fields, field_place, static_place}
-pub use Rattle.world_model.specs.Methods.{method_place}
+use Rattle.link_model.specs.declared.members.FieldInfo.{FieldInfo}
+use Rattle.link_model.specs.declared.members.MethodInfo.{MethodInfo}
+use Rattle.link_model.specs.World.{World}
+pub use Rattle.link_model.specs.Fields.{is_static_field, own_fields, instance_fields, field_place, static_place}
+pub use Rattle.link_model.specs.Methods.{method_place}
 use Rattle.ref_model.specs.Kinds.{zero_of}
 
 -- ---- fields

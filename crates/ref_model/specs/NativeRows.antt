@@ -1,7 +1,7 @@
 -- What the machine does in place of the code of a native method: the kinds that it takes, and the function of what it takes.
 use Rattle.std.specs.Prelude.{ℕ, List, Option, Some, None}
 use Rattle.items.specs.Options.{◌>>=◌}
-use Rattle.opcodes.specs.declared.op.Kind.{Kind}
+use Rattle.opcodes.specs.declared.op.ValueKind.{ValueKind}
 use Rattle.instruction_rows.specs.declared.value.Value.{Value}
 use Rattle.instruction_rows.specs.declared.value.Value.TheVariants as values
 use Rattle.instruction_rows.specs.declared.value.Slot.{Slot}
@@ -22,10 +22,10 @@ pub data Answer : Type 0 where
 
 -- The kinds are those of the arguments, the topmost first, and of the receiver below them.
 pub data NativeRow : Type 0 where
-  native : (takes : List Kind) → Function takes Answer → NativeRow
+  native : (takes : List ValueKind) → Function takes Answer → NativeRow
 
 -- the kinds that a row takes
-abbrev pub row_kinds : Option NativeRow → Option (List Kind)
+abbrev pub row_kinds : Option NativeRow → Option (List ValueKind)
 row_kinds None = None
 row_kinds (Some (native takes act)) = Some takes
 

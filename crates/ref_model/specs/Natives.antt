@@ -1,11 +1,11 @@
 -- The native methods of one thread, by their names in the table of built-in classes. Those of threads, monitors and the clock have no row
 -- yet, and linking refuses what names them.
 use Rattle.std.specs.Prelude.{List, [], ◌∷◌, Option, Some, None}
-use Rattle.opcodes.specs.declared.op.Kind.{Kind}
-use Rattle.opcodes.specs.declared.op.Kind.TheVariants as kinds
+use Rattle.opcodes.specs.declared.op.ValueKind.{ValueKind}
+use Rattle.opcodes.specs.declared.op.ValueKind.TheVariants as kinds
 use Rattle.lib_table.specs.declared.native.Native.{Native}
 use Rattle.lib_table.specs.declared.native.Native.TheVariants as natives
-use Rattle.world_model.specs.World.{World}
+use Rattle.link_model.specs.World.{World}
 use Rattle.ref_model.specs.State.{State}
 use Rattle.ref_model.specs.NativeRows.{NativeRow}
 use Rattle.ref_model.specs.ObjectNatives.{object_init, object_equals, object_hash_code, object_to_string}
@@ -56,7 +56,7 @@ native_row w r natives.PrintStreamPrintString = Some (print_string r)
 native_row w r native = None
 
 -- the kinds that a native method takes, the topmost first, and a reference to the receiver below them; of one that has no row, None
-abbrev pub native_takes : Native → Option (List Kind)
+abbrev pub native_takes : Native → Option (List ValueKind)
 native_takes natives.ObjectInit = Some (kinds.Reference ∷ [])
 native_takes natives.ObjectEquals = Some (kinds.Reference ∷ kinds.Reference ∷ [])
 native_takes natives.ObjectHashCode = Some (kinds.Reference ∷ [])

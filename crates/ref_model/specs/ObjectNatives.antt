@@ -2,11 +2,11 @@
 use Rattle.std.specs.Prelude.{ℕ, pos, Bool, List, [], ◌∷◌, ◌++◌, Option, Some, None, codes, if◌then◌else◌}
 use Rattle.std.specs.Option.{option_map_or}
 use Rattle.std.specs.Int.{w32, int_wrap}
-use Rattle.opcodes.specs.declared.op.Kind.TheVariants.{Int, Reference}
+use Rattle.opcodes.specs.declared.op.ValueKind.TheVariants.{Int, Reference}
 use Rattle.instruction_rows.specs.declared.value.Value.{Value}
 use Rattle.instruction_rows.specs.declared.value.Value.TheVariants as values
 use Rattle.instruction_rows.specs.Comparisons.{same_reference}
-use Rattle.world_model.specs.World.{World}
+use Rattle.link_model.specs.World.{World}
 use Rattle.ref_model.specs.declared.exception.Exception.TheVariants as exceptions
 use Rattle.ref_model.specs.Classes.{class_name}
 use Rattle.ref_model.specs.State.{State}

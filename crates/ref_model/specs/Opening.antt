@@ -15,11 +15,11 @@ use Rattle.class_grammar.specs.Pool.{text_at}
 use Rattle.class_grammar.specs.Text.{same_text}
 use Rattle.descriptors.specs.declared.kind.Kind.{Kind as FieldType}
 use Rattle.descriptors.specs.Meaning.{kind_of}
-use Rattle.linkage.specs.declared.place.Place.{Place}
-use Rattle.linkage.specs.Program.{Program, own_name}
-use Rattle.linkage.specs.Hierarchy.{is_among, superclasses}
-use Rattle.linkage.specs.Members.{Key, is_static, declared_method, has_method, method_number}
-use Rattle.linkage.specs.Selection.{key_in}
+use Rattle.link_rules.specs.declared.place.MemberPlace.{MemberPlace}
+use Rattle.link_rules.specs.Program.{Program, own_name}
+use Rattle.link_rules.specs.Hierarchy.{is_among, superclasses}
+use Rattle.link_rules.specs.Members.{Key, is_static, declared_method, has_method, method_number}
+use Rattle.link_rules.specs.Selection.{key_in}
 use Rattle.stack_maps.specs.declared.types.Base.TheVariants as bases
 use Rattle.instruction_rows.specs.declared.value.Value.{Value}
 use Rattle.instruction_rows.specs.declared.value.Value.TheVariants as values
@@ -28,9 +28,9 @@ use Rattle.instruction_rows.specs.declared.value.Slot.TheVariants.{One}
 use Rattle.vthread_state.specs.declared.phase.Phase.TheVariants.{Run}
 use Rattle.vthread_state.specs.declared.thread.Status.TheVariants.{Live}
 use Rattle.vthread_state.specs.declared.thread.ThreadKind.TheVariants.{Platform}
-use Rattle.world_model.specs.Strings.{objects_before, strings_of, string_number}
-use Rattle.world_model.specs.World.{World, name_number}
-use Rattle.world_model.specs.Decoded.{code_at}
+use Rattle.link_model.specs.Strings.{objects_before, strings_of, string_number}
+use Rattle.link_model.specs.World.{World, name_number}
+use Rattle.link_model.specs.Decoded.{code_at}
 use Rattle.state_model.specs.Frames.{Frame}
 use Rattle.state_model.specs.Objects.{Object, instance, text}
 use Rattle.ref_model.specs.Setting.{Setting}
@@ -164,7 +164,7 @@ abbrev pub initializer_key : Key
 initializer_key = record { name = codes "<clinit>"; descriptor = codes "()V" }
 
 -- the number of the initializer of a class
-abbrev pub static_at : Program → Place → Option ℕ
+abbrev pub static_at : Program → MemberPlace → Option ℕ
 static_at p at = if has_method is_static p at then Some (method_number p at) else None
 
 abbrev pub initializer_of : Program → ℕ → Option ℕ

@@ -1,6 +1,6 @@
 -- The native methods of java.io.PrintStream and System.exit. One call writes one text, in UTF-8.
 use Rattle.std.specs.Prelude.{ℕ, List, [], ◌∷◌, ◌++◌, Option, Some, None, ◌==◌, if◌then◌else◌}
-use Rattle.opcodes.specs.declared.op.Kind.TheVariants.{Int, Long, Reference}
+use Rattle.opcodes.specs.declared.op.ValueKind.TheVariants.{Int, Long, Reference}
 use Rattle.ref_model.specs.declared.exception.Exception.TheVariants as exceptions
 use Rattle.ref_model.specs.State.{State}
 use Rattle.ref_model.specs.Texts.{text_bytes, decimal_text, boolean_text, char_text, null_text}

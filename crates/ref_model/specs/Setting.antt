@@ -1,6 +1,6 @@
 -- What a run is given.
 use Rattle.std.specs.Prelude.{ℕ}
-use Rattle.world_model.specs.World.{World}
+use Rattle.link_model.specs.World.{World}
 use Rattle.ref_model.specs.declared.limits.Limits.{Limits}
 
 -- the linked program, the number of its main method, and the limits of the run

@@ -10,8 +10,8 @@ use Rattle.vthread_state.specs.declared.phase.Phase.{Phase}
 use Rattle.vthread_state.specs.declared.phase.Phase.TheVariants.{Run, Throwing}
 use Rattle.vthread_state.specs.declared.thread.Status.{Status}
 use Rattle.vthread_state.specs.declared.thread.Status.TheVariants.{New, Live, Done}
-use Rattle.world_model.specs.declared.sites.Naming.{Naming}
-use Rattle.world_model.specs.World.{World}
+use Rattle.link_model.specs.declared.sites.Resolution.{Resolution}
+use Rattle.link_model.specs.World.{World}
 use Rattle.verify_types.specs.Environment.{Instruction}
 use Rattle.state_model.specs.Frames.{Frame}
 use Rattle.ref_model.specs.declared.exception.Exception.TheVariants as exceptions
@@ -30,23 +30,23 @@ use Rattle.ref_model.specs.Ending.{ending}
 
 -- ---- events: instructions that aren't local. Monitors have no row yet, and linking refuses what enters one.
 
-abbrev pub event_effect : World → Naming → Event → State → List Slot → Option Effect
-event_effect w naming (get_static index) r stack = static_gotten w naming r stack
-event_effect w naming (put_static index) r stack = static_put w naming r stack
-event_effect w naming (get_field index) r stack = field_gotten w naming r stack
-event_effect w naming (put_field index) r stack = field_put w naming r stack
-event_effect w naming (new index) r stack = object_made w naming r stack
-event_effect w naming (new_array primitive) r stack = array_made w naming r stack
-event_effect w naming (new_array_of index) r stack = array_made w naming r stack
-event_effect w naming (new_arrays index dimensions) r stack = arrays_made w dimensions naming r stack
-event_effect w naming array_length r stack = length_gotten w r stack
-event_effect w naming (array_load element) r stack = array_loaded w element r stack
-event_effect w naming (array_store element) r stack = array_stored w element r stack
-event_effect w naming (check_cast index) r stack = object_cast w naming r stack
-event_effect w naming (instance_of index) r stack = object_judged w naming r stack
-event_effect w naming throw r stack = object_thrown stack
-event_effect w naming monitor_enter r stack = None
-event_effect w naming monitor_exit r stack = None
+abbrev pub event_effect : World → Resolution → Event → State → List Slot → Option Effect
+event_effect w resolution (get_static index) r stack = static_gotten w resolution r stack
+event_effect w resolution (put_static index) r stack = static_put w resolution r stack
+event_effect w resolution (get_field index) r stack = field_gotten w resolution r stack
+event_effect w resolution (put_field index) r stack = field_put w resolution r stack
+event_effect w resolution (new index) r stack = object_made w resolution r stack
+event_effect w resolution (new_array primitive) r stack = array_made w resolution r stack
+event_effect w resolution (new_array_of index) r stack = array_made w resolution r stack
+event_effect w resolution (new_arrays index dimensions) r stack = arrays_made w dimensions resolution r stack
+event_effect w resolution array_length r stack = length_gotten w r stack
+event_effect w resolution (array_load element) r stack = array_loaded w element r stack
+event_effect w resolution (array_store element) r stack = array_stored w element r stack
+event_effect w resolution (check_cast index) r stack = object_cast w resolution r stack
+event_effect w resolution (instance_of index) r stack = object_judged w resolution r stack
+event_effect w resolution throw r stack = object_thrown stack
+event_effect w resolution monitor_enter r stack = None
+event_effect w resolution monitor_exit r stack = None
 
 -- idiv, irem, ldiv and lrem by 0
 abbrev pub division_effect : LocalRow → Frame → Option Effect
@@ -58,8 +58,8 @@ row_effect w i (local act) r depth f = division_effect act f
 row_effect w i (constant index) r depth f = None
 row_effect w i (wide_constant index) r depth f = None
 row_effect w i (returns kind) r depth f = None
-row_effect w i (invoke invocation index) r depth f = invoked w i.naming invocation r depth f.stack
-row_effect w i (event e) r depth f = event_effect w i.naming e r f.stack
+row_effect w i (invoke invocation index) r depth f = invoked w i.resolution invocation r depth f.stack
+row_effect w i (event e) r depth f = event_effect w i.resolution e r f.stack
 row_effect w i refused r depth f = None
 
 -- ---- what an effect makes of the state and of the thread's frames

@@ -1,7 +1,7 @@
 -- What holds of steps and histories.
 use Rattle.std.specs.Prelude.{◌≡◌, ℕ, suc, true, List, ◌++◌, Option, Some, None, drop}
 use Rattle.history.specs.declared.entry.Entry.{Entry}
-use Rattle.world_model.specs.World.{World}
+use Rattle.link_model.specs.World.{World}
 use Rattle.state_model.specs.Frames.{Frame}
 use Rattle.ref_model.specs.Setting.{Setting}
 use Rattle.ref_model.specs.State.{State, with_frames}

@@ -3,7 +3,7 @@ use Rattle.std.specs.Prelude.{ℕ, ℤ, pos, negsuc, Bool, false, List, [], ◌�
 use Rattle.std.specs.Option.{option_map_or}
 use Rattle.items.specs.Options.{◌>>=◌}
 use Rattle.class_grammar.specs.Text.{same_text}
-use Rattle.opcodes.specs.declared.op.Kind.TheVariants.{Int, Long, Reference}
+use Rattle.opcodes.specs.declared.op.ValueKind.TheVariants.{Int, Long, Reference}
 use Rattle.instruction_rows.specs.declared.value.Value.TheVariants as values
 use Rattle.ref_model.specs.declared.exception.Exception.TheVariants as exceptions
 use Rattle.ref_model.specs.State.{State}

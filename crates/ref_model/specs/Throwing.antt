@@ -6,8 +6,8 @@ use Rattle.instruction_rows.specs.declared.value.Value.TheVariants as values
 use Rattle.instruction_rows.specs.SlotEffect.{pushed}
 use Rattle.vthread_state.specs.declared.phase.Phase.TheVariants.{Run, Throwing}
 use Rattle.vthread_state.specs.declared.thread.Status.TheVariants.{Live, Done}
-use Rattle.world_model.specs.World.{World, name_number}
-use Rattle.world_model.specs.Decoded.{code_at}
+use Rattle.link_model.specs.World.{World, name_number}
+use Rattle.link_model.specs.Decoded.{code_at}
 use Rattle.verify_types.specs.Environment.{Handler}
 use Rattle.verify_types.specs.Calls.{covers}
 use Rattle.state_model.specs.Frames.{Frame}

@@ -6,12 +6,12 @@ use Rattle.std.proofs.lemmas.Int.{of_z-to_z}
 use Rattle.instruction_rows.specs.declared.value.Value.TheVariants as values
 use Rattle.instruction_rows.specs.declared.value.Slot.{Slot}
 use Rattle.instruction_rows.specs.declared.value.Slot.TheVariants as slots
-use Rattle.slot_block.specs.declared.cell.Kind.{Kind}
-use Rattle.slot_block.specs.declared.cell.Kind.TheVariants as kinds
+use Rattle.slot_block.specs.declared.cell.CellKind.{CellKind}
+use Rattle.slot_block.specs.declared.cell.CellKind.TheVariants as kinds
 use Rattle.slot_block.specs.declared.cell.Cell.TheInside.{Inside}
 
 -- the slot of a kind and a word: an int is the low 32 bits, with its sign
-abbrev pub slot_of : Kind → ℕ → Slot
+abbrev pub slot_of : CellKind → ℕ → Slot
 slot_of kinds.Int w = slots.One (values.Int (cast_signed w32 w))
 slot_of kinds.Long w = slots.One (values.Long (cast_signed w64 w))
 slot_of kinds.Null w = slots.One values.Null
@@ -22,7 +22,7 @@ abbrev pub seen : Inside → Slot
 seen c = slot_of c.kind c.word
 
 -- the words that a kind may have
-abbrev pub IsWord : Kind → ℕ → Type 0
+abbrev pub IsWord : CellKind → ℕ → Type 0
 IsWord kinds.Int w = w < 2 ^ 32
 IsWord kinds.Long w = w < 2 ^ 64
 IsWord kinds.Null w = w ≡ 0
@@ -40,10 +40,10 @@ hidden (slots.One values.Null) = record { kind = kinds.Null; word = 0 }
 hidden (slots.One (values.Ref n)) = record { kind = kinds.Ref; word = n }
 hidden slots.Second = record { kind = kinds.Second; word = 0 }
 
-abbrev pub cell_of : Kind → ℕ → Inside
+abbrev pub cell_of : CellKind → ℕ → Inside
 cell_of k w = record { kind = k; word = w }
 
-pub hidden-slot_of : (k : Kind) (w : ℕ) → IsWord k w → hidden (slot_of k w) ≡ cell_of k w
+pub hidden-slot_of : (k : CellKind) (w : ℕ) → IsWord k w → hidden (slot_of k w) ≡ cell_of k w
 hidden-slot_of kinds.Int w h = ap (cell_of kinds.Int) (of_z-to_z w32 w h)
 hidden-slot_of kinds.Long w h = ap (cell_of kinds.Long) (of_z-to_z w64 w h)
 hidden-slot_of kinds.Null w h = ap (cell_of kinds.Null) (sym h)

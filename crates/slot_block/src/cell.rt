@@ -5,7 +5,7 @@ use std::marker::Model;
 
 /// What a cell holds.
 #[derive(Clone, Copy)]
-pub(crate) enum Kind {
+pub(crate) enum CellKind {
     Int,
     Long,
     Null,
@@ -17,7 +17,7 @@ pub(crate) enum Kind {
 /// the kind, where the kind is known.
 #[derive(Clone, Copy, Drop)]
 pub struct Cell {
-    pub(crate) kind: Kind,
+    pub(crate) kind: CellKind,
     pub(crate) word: u64,
 }
 
@@ -45,23 +45,23 @@ impl Cell {
     {
         match slot {
             Slot::One(Value::Int(x)) => Cell {
-                kind: Kind::Int,
+                kind: CellKind::Int,
                 word: u64::from(x.cast_unsigned()),
             },
             Slot::One(Value::Long(x)) => Cell {
-                kind: Kind::Long,
+                kind: CellKind::Long,
                 word: x.cast_unsigned(),
             },
             Slot::One(Value::Null) => Cell {
-                kind: Kind::Null,
+                kind: CellKind::Null,
                 word: 0,
             },
             Slot::One(Value::Ref(object)) => Cell {
-                kind: Kind::Ref,
+                kind: CellKind::Ref,
                 word: u64::from(object),
             },
             Slot::Second => Cell {
-                kind: Kind::Second,
+                kind: CellKind::Second,
                 word: 0,
             },
         }
@@ -74,11 +74,11 @@ impl Cell {
     {
         let word = self.word;
         match self.kind {
-            Kind::Int => Slot::One(Value::Int((word as u32).cast_signed())),
-            Kind::Long => Slot::One(Value::Long(word.cast_signed())),
-            Kind::Null => Slot::One(Value::Null),
-            Kind::Ref => Slot::One(Value::Ref(word as u32)),
-            Kind::Second => Slot::Second,
+            CellKind::Int => Slot::One(Value::Int((word as u32).cast_signed())),
+            CellKind::Long => Slot::One(Value::Long(word.cast_signed())),
+            CellKind::Null => Slot::One(Value::Null),
+            CellKind::Ref => Slot::One(Value::Ref(word as u32)),
+            CellKind::Second => Slot::Second,
         }
     }
 }

@@ -1,6 +1,6 @@
 ghost use Rattle.std.specs.Prelude.{ℕ, ℤ, ◌≡◌, ◌+◌, ◌%◌, ◌^◌, ◌<◌, Some, length, slice_get, slice_set};
 
-use crate::cell::{Cell, Kind};
+use crate::cell::{Cell, CellKind};
 use instruction_rows::{Slot, Value};
 
 // The low 32 bits of a word.
@@ -67,7 +67,7 @@ pub fn put_int(row: &mut [Cell], i: usize, x: i32)
     ensures { row.new ≡ slice_set row.old i (Slot.One (Value.Int x)) }
 {
     row[i] = Cell {
-        kind: Kind::Int,
+        kind: CellKind::Int,
         word: u64::from(x.cast_unsigned()),
     };
 }
@@ -80,11 +80,11 @@ pub fn put_long(row: &mut [Cell], i: usize, x: i64)
         slice_set (slice_set row.old i (Slot.One (Value.Long x))) (i + 1) Slot.Second }
 {
     row[i] = Cell {
-        kind: Kind::Long,
+        kind: CellKind::Long,
         word: x.cast_unsigned(),
     };
     row[i + 1] = Cell {
-        kind: Kind::Second,
+        kind: CellKind::Second,
         word: 0,
     };
 }
@@ -96,7 +96,7 @@ pub fn put_null(row: &mut [Cell], i: usize)
     ensures { row.new ≡ slice_set row.old i (Slot.One Value.Null) }
 {
     row[i] = Cell {
-        kind: Kind::Null,
+        kind: CellKind::Null,
         word: 0,
     };
 }
@@ -108,7 +108,7 @@ pub fn put_reference(row: &mut [Cell], i: usize, object: u32)
     ensures { row.new ≡ slice_set row.old i (Slot.One (Value.Ref object)) }
 {
     row[i] = Cell {
-        kind: Kind::Ref,
+        kind: CellKind::Ref,
         word: u64::from(object),
     };
 }

@@ -6,7 +6,7 @@ use Rattle.std.specs.Option.{option_map_or}
 use Rattle.std.proofs.lemmas.Bool.{eqb-true, eqb-false, ltb-true, leb-true, le-leb, lt-ltb, and_parts, and_from}
 use Rattle.class_model.specs.declared.attribute.Row.{Row}
 use Rattle.stack_maps.specs.declared.types.VType.{VType}
-use Rattle.world_model.specs.World.{World}
+use Rattle.link_model.specs.World.{World}
 use Rattle.verify_types.specs.Assignability.{assignable}
 use Rattle.verify_types.specs.Calls.{covers}
 use Rattle.verify_types.specs.ClassTypes.{throwable_type}

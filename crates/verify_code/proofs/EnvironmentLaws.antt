@@ -7,11 +7,11 @@ use Rattle.std.specs.Result.{result_ok}
 use Rattle.stack_maps.specs.declared.types.FrameTypes.{FrameTypes}
 use Rattle.stack_maps.specs.declared.error.MapWhy.{MapWhy}
 use Rattle.stack_maps.specs.Expansion.{expansion}
-use Rattle.world_model.specs.declared.members.MethodInfo.{MethodInfo}
-use Rattle.world_model.specs.declared.members.MethodCode.{MethodCode}
-use Rattle.world_model.specs.declared.sites.Naming.{Naming}
-use Rattle.world_model.specs.Decoded.{IsDecoded}
-use Rattle.world_model.specs.World.{World}
+use Rattle.link_model.specs.declared.members.MethodInfo.{MethodInfo}
+use Rattle.link_model.specs.declared.members.MethodCode.{MethodCode}
+use Rattle.link_model.specs.declared.sites.Resolution.{Resolution}
+use Rattle.link_model.specs.Decoded.{IsDecoded}
+use Rattle.link_model.specs.World.{World}
 use Rattle.verify_types.specs.Environment.{MapFrame, first_frame, map_frame, map_frames, environment_of, with_catches}
 use Rattle.verify_frames.specs.StackMaps.{mapped}
 use Rattle.verify_code.specs.declared.guards.Guard.{Guard}
@@ -28,7 +28,7 @@ is_map : (w : World) (m : MethodInfo) (max : ℕ) (r : Expanded) (frames : List 
 is_map w m max (Ok list) frames e = let same : frames ≡ map (map_frame w m max) list = cc in (refl, same)
 is_map w m max (Err why) frames e = absurd cc
 
-pub has_frames : (w : World) (m : MethodInfo) (code : MethodCode) (ns : List Naming) (cs : List (Option ℕ)) (first : FrameTypes) (bytes : List ℕ) (frames : List MapFrame)
+pub has_frames : (w : World) (m : MethodInfo) (code : MethodCode) (ns : List Resolution) (cs : List (Option ℕ)) (first : FrameTypes) (bytes : List ℕ) (frames : List MapFrame)
     → (guards : List Guard) → first ≡ first_frame w m → bytes ≡ code.map → Some frames ≡ mapped w m code.max_locals first bytes → IsDecoded code → AskAlike (map guard_in guards) (with_catches code.rows cs)
     → HasFrames (environment_of w m code ns cs) frames guards false None
 has_frames w m code ns cs first bytes frames guards begins is e decoded guarded =

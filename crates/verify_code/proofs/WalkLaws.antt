@@ -9,13 +9,13 @@ use Rattle.opcodes.specs.declared.op.Instr.{Instr}
 use Rattle.instruction_rows.specs.declared.row_why.RowWhy.{RowWhy}
 use Rattle.instruction_rows.specs.Rows.{row_goes_on}
 use Rattle.instruction_rows.specs.Table.{row}
-use Rattle.world_model.specs.declared.sites.Naming.{Naming}
-use Rattle.world_model.specs.declared.sites.Site.TheVariants.{Plain}
+use Rattle.link_model.specs.declared.sites.Resolution.{Resolution}
+use Rattle.link_model.specs.declared.sites.Site.TheVariants.{Plain}
 use Rattle.verify_types.specs.declared.why.VerifyWhy.{VerifyWhy}
 use Rattle.verify_types.specs.declared.why.VerifyWhy.TheVariants as whys
 use Rattle.verify_types.specs.declared.fault.PcFault.{PcFault}
 use Rattle.verify_types.specs.TypeStates.{TypeState}
-use Rattle.verify_types.specs.Environment.{MapFrame, Environment, map_at, with_namings}
+use Rattle.verify_types.specs.Environment.{MapFrame, Environment, map_at, with_resolutions}
 use Rattle.verify_types.specs.Effects.{state_after}
 use Rattle.verify_types.specs.Walk.{Placed, is_end, placed, behind, standing}
 use Rattle.items.specs.First.{unless, first_some}
@@ -43,39 +43,39 @@ pub gives_kept : {X : Type 0} (result : Result X Stop) (left : TypeState) (wante
 gives_kept result left wanted x h is = subst (λ r. Leaves r left wanted) is h
 
 -- the first broken rule, where the instruction breaks one of its own
-pub broken : (env : Environment) (i : Instr) (naming : Naming) (entry : Option TypeState) (is_last fits : Bool) (s : TypeState) (why : RowWhy) (answer : VerifyWhy)
-    → state_after env (instruction_of i naming) s ≡ Err why → fits ≡ arrives env i.pc entry
-    → Some answer ≡ first_some (findings_whys (findings_at env fits (instruction_of i naming) is_last s) (λ rule. not (is_why rule why)) true true)
-    → first_some (state_whys env (place i naming (Some s) entry is_last) s) ≡ Some answer
-broken env i naming entry is_last fits s why answer after arrived answered =
-    let p = place i naming (Some s) entry is_last in
+pub broken : (env : Environment) (i : Instr) (resolution : Resolution) (entry : Option TypeState) (is_last fits : Bool) (s : TypeState) (why : RowWhy) (answer : VerifyWhy)
+    → state_after env (instruction_of i resolution) s ≡ Err why → fits ≡ arrives env i.pc entry
+    → Some answer ≡ first_some (findings_whys (findings_at env fits (instruction_of i resolution) is_last s) (λ rule. not (is_why rule why)) true true)
+    → first_some (state_whys env (place i resolution (Some s) entry is_last) s) ≡ Some answer
+broken env i resolution entry is_last fits s why answer after arrived answered =
+    let p = place i resolution (Some s) entry is_last in
     ap (λ r. first_some (whys_after env p s r)) after
-    ∙ ap (λ b. first_some (findings_whys (findings_at env b (instruction_of i naming) is_last s) (λ rule. not (is_why rule why)) true true)) (sym arrived)
+    ∙ ap (λ b. first_some (findings_whys (findings_at env b (instruction_of i resolution) is_last s) (λ rule. not (is_why rule why)) true true)) (sym arrived)
     ∙ sym answered
 
 -- the first broken rule, where it keeps its own
-pub kept : (env : Environment) (i : Instr) (naming : Naming) (entry : Option TypeState) (is_last fits : Bool) (s after : TypeState) (answer : Option VerifyWhy)
-    → state_after env (instruction_of i naming) s ≡ Ok after → fits ≡ arrives env i.pc entry
-    → answer ≡ first_some (findings_whys (findings_at env fits (instruction_of i naming) is_last s) (λ rule. true) (goes_to env (row i.op) i.next is_last after) (is_shallow env after))
-    → first_some (state_whys env (place i naming (Some s) entry is_last) s) ≡ answer
-kept env i naming entry is_last fits s after answer is arrived answered =
-    let p = place i naming (Some s) entry is_last in
+pub kept : (env : Environment) (i : Instr) (resolution : Resolution) (entry : Option TypeState) (is_last fits : Bool) (s after : TypeState) (answer : Option VerifyWhy)
+    → state_after env (instruction_of i resolution) s ≡ Ok after → fits ≡ arrives env i.pc entry
+    → answer ≡ first_some (findings_whys (findings_at env fits (instruction_of i resolution) is_last s) (λ rule. true) (goes_to env (row i.op) i.next is_last after) (is_shallow env after))
+    → first_some (state_whys env (place i resolution (Some s) entry is_last) s) ≡ answer
+kept env i resolution entry is_last fits s after answer is arrived answered =
+    let p = place i resolution (Some s) entry is_last in
     ap (λ r. first_some (whys_after env p s r)) is
-    ∙ ap (λ b. first_some (findings_whys (findings_at env b (instruction_of i naming) is_last s) (λ rule. true) (goes_to env (row i.op) i.next is_last after) (is_shallow env after))) (sym arrived)
+    ∙ ap (λ b. first_some (findings_whys (findings_at env b (instruction_of i resolution) is_last s) (λ rule. true) (goes_to env (row i.op) i.next is_last after) (is_shallow env after))) (sym arrived)
     ∙ sym answered
 
 -- an instruction without a state before it
-pub unknown_there : (env : Environment) (i : Instr) (naming : Naming) (entry : Option TypeState) (is_last : Bool) → is_some (map_at env i.pc) ≡ true
-    → first_some (whys_at env (place i naming None entry is_last)) ≡ Some whys.Map
-unknown_there env i naming entry is_last h = there (map_at env i.pc) h
+pub unknown_there : (env : Environment) (i : Instr) (resolution : Resolution) (entry : Option TypeState) (is_last : Bool) → is_some (map_at env i.pc) ≡ true
+    → first_some (whys_at env (place i resolution None entry is_last)) ≡ Some whys.Map
+unknown_there env i resolution entry is_last h = there (map_at env i.pc) h
   where
     there : (o : Option MapFrame) → is_some o ≡ true → first_some (unless (is_none o) whys.Map ∷ []) ≡ Some whys.Map
     there None h = absurd cc
     there (Some f) h = refl
 
-pub unknown_missing : (env : Environment) (i : Instr) (naming : Naming) (entry : Option TypeState) (is_last : Bool) → is_some (map_at env i.pc) ≡ false
-    → first_some (whys_at env (place i naming None entry is_last)) ≡ None
-unknown_missing env i naming entry is_last h = missing (map_at env i.pc) h
+pub unknown_missing : (env : Environment) (i : Instr) (resolution : Resolution) (entry : Option TypeState) (is_last : Bool) → is_some (map_at env i.pc) ≡ false
+    → first_some (whys_at env (place i resolution None entry is_last)) ≡ None
+unknown_missing env i resolution entry is_last h = missing (map_at env i.pc) h
   where
     missing : (o : Option MapFrame) → is_some o ≡ false → first_some (unless (is_none o) whys.Map ∷ []) ≡ None
     missing None h = refl
@@ -85,9 +85,9 @@ unknown_missing env i naming entry is_last h = missing (map_at env i.pc) h
 pub passed_unknown : (env : Environment) (p : Placed) (b : StateAfter) → b ≡ record { known = None; goes_on = false } → first_some (whys_at env p) ≡ None → behind env p.instruction p.state ≡ None → IsPassed env p b
 passed_unknown env p b e none at = subst (IsPassed env p) (sym e) (record { none = none; is = sym at; holds = none_hold env })
 
-pub passed_on : (env : Environment) (i : Instr) (naming : Naming) (entry : Option TypeState) (is_last : Bool) (s : TypeState) (after : KnownState) (on : Bool) (b : StateAfter)
-    → IsKept env (place i naming (Some s) entry is_last) s after → on ≡ row_goes_on (row i.op) → b ≡ record { known = Some after; goes_on = on } → IsPassed env (place i naming (Some s) entry is_last) b
-passed_on env i naming entry is_last s after on b h goes e = subst (IsPassed env (place i naming (Some s) entry is_last)) (sym e) (record {
+pub passed_on : (env : Environment) (i : Instr) (resolution : Resolution) (entry : Option TypeState) (is_last : Bool) (s : TypeState) (after : KnownState) (on : Bool) (b : StateAfter)
+    → IsKept env (place i resolution (Some s) entry is_last) s after → on ≡ row_goes_on (row i.op) → b ≡ record { known = Some after; goes_on = on } → IsPassed env (place i resolution (Some s) entry is_last) b
+passed_on env i resolution entry is_last s after on b h goes e = subst (IsPassed env (place i resolution (Some s) entry is_last)) (sym e) (record {
   none = h.none;
   is =
       new_going after on
@@ -141,41 +141,41 @@ stray_there env p h =
 
 -- ---- the walk
 
-pub last_is : (is : List Instr) (ns : List Naming) → is_end (with_namings is ns) ≡ nat_eq (length is) 0
+pub last_is : (is : List Instr) (ns : List Resolution) → is_end (with_resolutions is ns) ≡ nat_eq (length is) 0
 last_is [] ns = refl
 last_is (i ∷ is) ns = sym (ne_eqb (length (i ∷ is)) 0 (λ e. omega arith))
 
-abbrev Naming_at : List Naming → Naming
-Naming_at ns = get_or ns 0 (record { site = Plain; class = None })
+abbrev Resolution_at : List Resolution → Resolution
+Resolution_at ns = get_or ns 0 (record { site = Plain; class = None })
 
 -- the first of what is left, as the walk has it
-head_is : (env : Environment) (entry before : Option TypeState) (i : Instr) (is : List Instr) (ns : List Naming) (naming : Naming) (is_last : Bool)
-    → naming ≡ Naming_at ns → is_last ≡ nat_eq (length is) 0
-    → place i naming (standing env i.pc before) entry is_last ≡ place i (Naming_at ns) (standing env i.pc before) entry (is_end (with_namings is (drop 1 ns)))
-head_is env entry before i is ns naming is_last named last =
+head_is : (env : Environment) (entry before : Option TypeState) (i : Instr) (is : List Instr) (ns : List Resolution) (resolution : Resolution) (is_last : Bool)
+    → resolution ≡ Resolution_at ns → is_last ≡ nat_eq (length is) 0
+    → place i resolution (standing env i.pc before) entry is_last ≡ place i (Resolution_at ns) (standing env i.pc before) entry (is_end (with_resolutions is (drop 1 ns)))
+head_is env entry before i is ns resolution is_last named last =
     ap (λ n. place i n (standing env i.pc before) entry is_last) named
-    ∙ ap (λ b. place i (Naming_at ns) (standing env i.pc before) entry b) (last ∙ sym (last_is is (drop 1 ns)))
+    ∙ ap (λ b. place i (Resolution_at ns) (standing env i.pc before) entry b) (last ∙ sym (last_is is (drop 1 ns)))
 
 -- a fault at the first of what is left is the first there
-pub fault_at_first : (env : Environment) (entry before : Option TypeState) (i : Instr) (is : List Instr) (ns : List Naming) (naming : Naming) (is_last : Bool) (fault : PcFault)
-    → naming ≡ Naming_at ns → is_last ≡ nat_eq (length is) 0
-    → first_some (placed_faults env (place i naming (standing env i.pc before) entry is_last)) ≡ Some fault
-    → fault_from env entry before (with_namings (i ∷ is) ns) ≡ Some fault
-fault_at_first env entry before i is ns naming is_last fault named last h =
+pub fault_at_first : (env : Environment) (entry before : Option TypeState) (i : Instr) (is : List Instr) (ns : List Resolution) (resolution : Resolution) (is_last : Bool) (fault : PcFault)
+    → resolution ≡ Resolution_at ns → is_last ≡ nat_eq (length is) 0
+    → first_some (placed_faults env (place i resolution (standing env i.pc before) entry is_last)) ≡ Some fault
+    → fault_from env entry before (with_resolutions (i ∷ is) ns) ≡ Some fault
+fault_at_first env entry before i is ns resolution is_last fault named last h =
     let here = standing env i.pc before in
-    let head = place i (Naming_at ns) here entry (is_end (with_namings is (drop 1 ns))) in
-    found_in_front (placed_faults env head) (flat_map (placed_faults env) (placed env None (behind env head.instruction here) (with_namings is (drop 1 ns)))) fault
-    (ap (λ p. first_some (placed_faults env p)) (sym (head_is env entry before i is ns naming is_last named last)) ∙ h)
+    let head = place i (Resolution_at ns) here entry (is_end (with_resolutions is (drop 1 ns))) in
+    found_in_front (placed_faults env head) (flat_map (placed_faults env) (placed env None (behind env head.instruction here) (with_resolutions is (drop 1 ns)))) fault
+    (ap (λ p. first_some (placed_faults env p)) (sym (head_is env entry before i is ns resolution is_last named last)) ∙ h)
 
 -- without one there, it is the first of those after it
-pub fault_behind_first : (env : Environment) (entry before : Option TypeState) (after : StateAfter) (i : Instr) (is : List Instr) (ns : List Naming) (naming : Naming) (is_last : Bool)
-    → naming ≡ Naming_at ns → is_last ≡ nat_eq (length is) 0
-    → GoesOn env (place i naming (standing env i.pc before) entry is_last) after
-    → fault_from env entry before (with_namings (i ∷ is) ns) ≡ fault_from env None (going after) (with_namings is (drop 1 ns))
-fault_behind_first env entry before after i is ns naming is_last named last h =
+pub fault_behind_first : (env : Environment) (entry before : Option TypeState) (after : StateAfter) (i : Instr) (is : List Instr) (ns : List Resolution) (resolution : Resolution) (is_last : Bool)
+    → resolution ≡ Resolution_at ns → is_last ≡ nat_eq (length is) 0
+    → GoesOn env (place i resolution (standing env i.pc before) entry is_last) after
+    → fault_from env entry before (with_resolutions (i ∷ is) ns) ≡ fault_from env None (going after) (with_resolutions is (drop 1 ns))
+fault_behind_first env entry before after i is ns resolution is_last named last h =
     let here = standing env i.pc before in
-    let head = place i (Naming_at ns) here entry (is_end (with_namings is (drop 1 ns))) in
-    let same = head_is env entry before i is ns naming is_last named last in
+    let head = place i (Resolution_at ns) here entry (is_end (with_resolutions is (drop 1 ns))) in
+    let same = head_is env entry before i is ns resolution is_last named last in
     let on = subst (λ p. GoesOn env p after) same h in
-    none_in_front (placed_faults env head) (flat_map (placed_faults env) (placed env None (behind env head.instruction here) (with_namings is (drop 1 ns)))) on.none
-    ∙ ap (λ s. fault_from env None s (with_namings is (drop 1 ns))) (sym on.is)
+    none_in_front (placed_faults env head) (flat_map (placed_faults env) (placed env None (behind env head.instruction here) (with_resolutions is (drop 1 ns)))) on.none
+    ∙ ap (λ s. fault_from env None s (with_resolutions is (drop 1 ns))) (sym on.is)

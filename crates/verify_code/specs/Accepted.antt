@@ -1,7 +1,7 @@
 -- A store that what the handlers want of local variables accepts.
 use Rattle.std.specs.Prelude.{◌≡◌, ◌⊎◌, ℕ, ◌+◌, ◌-◌, Bool, true, List, length, ◌&&◌}
 use Rattle.class_model.specs.declared.attribute.Row.{Row}
-use Rattle.world_model.specs.World.{World}
+use Rattle.link_model.specs.World.{World}
 use Rattle.verify_types.specs.TypeStates.{TypeState}
 use Rattle.verify_frames.specs.declared.wanted.Wanted.{Wanted}
 use Rattle.verify_frames.specs.declared.watch.Around.{Around}

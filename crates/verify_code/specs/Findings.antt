@@ -5,7 +5,7 @@ use Rattle.opcodes.specs.declared.op.Instr.{Instr}
 use Rattle.instruction_rows.specs.declared.row_why.RowWhy.{RowWhy}
 use Rattle.instruction_rows.specs.declared.row_why.RowWhy.TheVariants as row_whys
 use Rattle.instruction_rows.specs.Rows.{targets_of_row, row_goes_on}
-use Rattle.world_model.specs.declared.sites.Naming.{Naming}
+use Rattle.link_model.specs.declared.sites.Resolution.{Resolution}
 use Rattle.verify_types.specs.declared.why.VerifyWhy.{VerifyWhy}
 use Rattle.verify_types.specs.declared.why.VerifyWhy.TheVariants as whys
 use Rattle.verify_types.specs.TypeStates.{TypeState}
@@ -17,8 +17,8 @@ use Rattle.verify_types.specs.Faults.{is_target, is_shallow, has_locals}
 use Rattle.verify_code.specs.declared.findings.Findings.{Findings}
 
 -- an instruction as the walk has it
-abbrev pub instruction_of : Instr → Naming → Instruction
-instruction_of i naming = record { instr = i; naming = naming }
+abbrev pub instruction_of : Instr → Resolution → Instruction
+instruction_of i resolution = record { instr = i; resolution = resolution }
 
 -- what is found before the instruction is typed, where `arrives` says that the state in which the method begins fits
 abbrev pub findings_at : Environment → Bool → Instruction → Bool → TypeState → Findings

@@ -2,7 +2,7 @@
 use Rattle.std.specs.Prelude.{ℕ, Option}
 use Rattle.std.specs.Option.{option_map}
 use Rattle.items.specs.Options.{◌>>=◌}
-use Rattle.world_model.specs.World.{World}
+use Rattle.link_model.specs.World.{World}
 use Rattle.verify_types.specs.declared.fault.VerifyFault.{VerifyFault}
 use Rattle.verify_types.specs.Environment.{environment}
 use Rattle.verify_types.specs.Faults.{fault_in, method_fault}

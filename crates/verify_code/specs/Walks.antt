@@ -4,7 +4,7 @@ use Rattle.std.specs.Option.{option_map_or}
 use Rattle.std.specs.List.{flat_map, list_all}
 use Rattle.opcodes.specs.declared.op.Instr.{Instr}
 use Rattle.instruction_rows.specs.Rows.{Row, targets_of_row}
-use Rattle.world_model.specs.declared.sites.Naming.{Naming}
+use Rattle.link_model.specs.declared.sites.Resolution.{Resolution}
 use Rattle.verify_types.specs.declared.fault.PcFault.{PcFault}
 use Rattle.verify_types.specs.TypeStates.{TypeState}
 use Rattle.verify_types.specs.Environment.{Instruction, Environment, map_at}
@@ -35,9 +35,9 @@ abbrev pub arrives : Environment → ℕ → Option TypeState → Bool
 arrives env pc entry =
     option_map_or (λ s. option_map_or (fits_frame env s) (map_at env pc) true) entry true
 
-abbrev pub place : Instr → Naming → Option TypeState → Option TypeState → Bool → Placed
-place i naming state entry is_last =
-    record { instruction = instruction_of i naming; state = state; entry = entry; is_last = is_last }
+abbrev pub place : Instr → Resolution → Option TypeState → Option TypeState → Bool → Placed
+place i resolution state entry is_last =
+    record { instruction = instruction_of i resolution; state = state; entry = entry; is_last = is_last }
 
 -- whether the state after an instruction of this row fits where it goes
 abbrev pub goes_to : Environment → Row → ℕ → Bool → TypeState → Bool

@@ -6,11 +6,11 @@ ghost use Rattle.verify_code.specs.Satisfied.{IsJudgedFrom};
 ghost use Rattle.verify_frames.specs.KnownStates.{Holds, type_state};
 
 use crate::environment::Environment;
+use link_model::Lookups;
 use stack_maps::VType;
 use verify_frames::{
     Around, Judged, KnownState, Overwritten, Wanted, Written, holds_at, type_at, types_around,
 };
-use world_model::Lookups;
 
 // Whether these types around a local variable are accepted at the pcs from one on and before another.
 fn accepts_around<L: Lookups>(

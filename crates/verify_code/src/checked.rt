@@ -8,10 +8,10 @@ ghost use Rattle.verify_types.specs.Typing.{AreTyped};
 
 use crate::method_fault::world_fault;
 use items::NoMemory;
+use link_model::Lookups;
 use std::alloc::Global;
 use std::marker::Model;
 use verify_types::VerifyFault;
-use world_model::Lookups;
 
 /// Why a world was not accepted.
 #[derive(Drop)]
@@ -39,7 +39,7 @@ pub struct Checked<L: Lookups> {
 }
 
 impl<L: Lookups> Model for Checked<L> {
-    ghost use Rattle.world_model.specs.World.{World};
+    ghost use Rattle.link_model.specs.World.{World};
     ghost use Rattle.verify_types.specs.Faults.{IsWellTyped};
 
     ghost Value = { World };

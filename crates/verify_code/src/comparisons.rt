@@ -11,10 +11,10 @@ use crate::environment::Environment;
 use crate::switches::branch_target;
 use crate::targets::pc_of;
 use items::{Boxed, NoMemory};
+use link_model::Lookups;
 use opcodes::{Instr, Op};
 use std::alloc::Global;
 use verify_frames::{Fitted, KnownState, Like, are_assignable};
-use world_model::Lookups;
 
 // With fewer local variables a comparison costs less than what is kept to save it.
 const MANY: u16 = 64;

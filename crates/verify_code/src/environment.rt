@@ -2,15 +2,15 @@
 
 ghost use Rattle.std.specs.Prelude.{◌≡◌, IfOk, MatchOption, false};
 ghost use Rattle.verify_instructions.specs.Views.{environment_in, state_in};
-ghost use Rattle.world_model.specs.Decoded.{IsDecoded};
+ghost use Rattle.link_model.specs.Decoded.{IsDecoded};
 
 use crate::guards::{Guard, guards_of};
 use items::NoMemory;
+use link_model::Lookups;
 use std::alloc::Global;
 use std::marker::Model;
 use verify_frames::{Frames, Wanted, first_frame, frames_of, state_of};
 use verify_instructions::{Method, State};
-use world_model::Lookups;
 
 /// A method with code in a world, the frames of its stack map, and the rows of its exception table.
 #[derive(Drop)]

@@ -18,11 +18,11 @@ use crate::guards::{Caught, Guard, is_last};
 use crate::satisfied::{JudgedTwice, SatisfiedStores, judged_on};
 use class_model::Row;
 use items::NoMemory;
+use link_model::Lookups;
 use stack_maps::VType;
 use verify_frames::{Judged, KnownState, Written, holds_at, types_around};
 use verify_instructions::State;
 use verify_types::{assignable, throwable_type};
-use world_model::Lookups;
 
 // With fewer rows a comparison with all of them costs less than what is kept to save it.
 const MANY: usize = 16;

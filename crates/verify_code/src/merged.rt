@@ -10,9 +10,9 @@ use crate::environment::Environment;
 use crate::guards::{Caught, Guard, joined, sorted};
 use class_model::Row;
 use items::NoMemory;
+use link_model::Lookups;
 use std::alloc::{AllocError, Global};
 use verify_types::{assignable, throwable_type};
-use world_model::Lookups;
 
 // With fewer rows, to take them together saves nothing.
 const MANY: usize = 16;

@@ -1,17 +1,17 @@
 //! The first fault of a method, and of a world (JVMS 4.10.1).
 
 ghost use Rattle.std.specs.Prelude.{◌≡◌, IfOk};
-ghost use Rattle.world_model.specs.Decoded.{IsDecoded};
+ghost use Rattle.link_model.specs.Decoded.{IsDecoded};
 ghost use Rattle.verify_types.specs.Faults as spec;
 ghost use Rattle.verify_instructions.specs.Views.{environment_in};
 ghost use Rattle.verify_code.specs.Methods.{numbered_fault};
 
 use crate::environment::Environment;
 use items::NoMemory;
+use link_model::Lookups;
 use std::alloc::Global;
 use verify_instructions::Method;
 use verify_types::{PcFault, VerifyFault, VerifyWhy};
-use world_model::Lookups;
 
 /// The first fault of a method with code. `None`: there is none.
 pub fn method_fault<L: Lookups>(
@@ -51,7 +51,7 @@ fn fault_of_method<L: Lookups>(
     let method = Method {
         info,
         code,
-        namings: world.namings(n),
+        resolutions: world.resolutions(n),
         catches: world.catches(n),
     };
     Ok(method_fault(alloc, world, method)?.map(|fault| VerifyFault {

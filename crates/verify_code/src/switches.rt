@@ -15,10 +15,10 @@ ghost use Rattle.verify_frames.specs.KnownStates.{AllFit, Compares, FitsBut, Fit
 use crate::environment::Environment;
 use crate::targets::pc_of;
 use items::NoMemory;
+use link_model::Lookups;
 use opcodes::{LookupSwitch, Match, Op, TableSwitch};
 use std::alloc::Global;
 use verify_frames::{Fitted, Frame, KnownState};
-use world_model::Lookups;
 
 // A target of an instruction. `None`: it has none.
 fn a_target(op: &Op) -> Option<i64>

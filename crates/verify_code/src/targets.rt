@@ -17,10 +17,10 @@ ghost use Rattle.verify_frames.specs.KnownStates.{IsOver, Holds, type_state};
 
 use crate::environment::Environment;
 use crate::instructions::has_instruction;
+use link_model::Lookups;
 use opcodes::{Instr, LookupSwitch, Match, Op, TableSwitch};
 use verify_frames::{Frame, KnownState, are_assignable};
 use verify_instructions::{State, goes_on};
-use world_model::Lookups;
 
 /// The pc that a target is. `None`: no code has it.
 pub fn pc_of(target: i64) -> Option<u32>

@@ -3,7 +3,7 @@
 ghost use Rattle.std.specs.Prelude.{◌≡◌, ◌<◌, ◌^◌, Bool, IfOk, IfSome, None, OnOk, Option, Some};
 ghost use Rattle.std.specs.Option.{option_map};
 ghost use Rattle.instruction_rows.specs.Table.{row};
-ghost use Rattle.world_model.specs.declared.sites.Naming.{Naming as Meaning};
+ghost use Rattle.link_model.specs.declared.sites.Resolution.{Resolution as Meaning};
 ghost use Rattle.verify_types.specs.TypeStates.{TypeState};
 ghost use Rattle.verify_types.specs.Environment.{MapFrame, map_at};
 ghost use Rattle.verify_types.specs.Walk.{standing};
@@ -22,6 +22,7 @@ use crate::findings::Findings;
 use crate::satisfied::SatisfiedStores;
 use instruction_rows::RowWhy;
 use items::{Boxed, NoMemory};
+use link_model::{Lookups, Resolution};
 use opcodes::Instr;
 use std::alloc::Global;
 use verify_frames::{
@@ -30,7 +31,6 @@ use verify_frames::{
 };
 use verify_instructions::{State, Stop, goes_on};
 use verify_types::{PcFault, VerifyWhy};
-use world_model::{Lookups, Naming};
 
 /// The state before an instruction, and whether the state in which the method begins fits the frame of the map there.
 #[derive(Drop)]
@@ -235,14 +235,14 @@ impl<'a, L: Lookups> Environment<'a, L> {
         s: &KnownState,
         fits: bool,
         i: &Instr,
-        naming: Naming,
+        resolution: Resolution,
         is_last: bool,
     ) -> Findings
         requires holds { Holds self.now s.now }
         requires judged { holds_at i.now.pc s.now.judged
             ≡ are_satisfied self.now i.now.pc (type_state s.now) }
         ensures { result ≡
-            findings_at self.now fits (instruction_of i.now naming) is_last (type_state s.now) }
+            findings_at self.now fits (instruction_of i.now resolution) is_last (type_state s.now) }
     {
         Findings {
             are_targets: self.are_targets(&i.op),
@@ -263,12 +263,12 @@ impl<'a, L: Lookups> Environment<'a, L> {
         alloc: Global,
         s: KnownState,
         i: &Instr,
-        naming: Naming,
+        resolution: Resolution,
     ) -> Result<After, NoMemory>
         requires low { i.now.pc < 2 ^ 16 }
         requires holds { Holds self.now s }
         ensures { IfOk result
-            (IsAfter self.now (instruction_of i.now naming) (type_state s)) }
+            (IsAfter self.now (instruction_of i.now resolution) (type_state s)) }
     {
         let KnownState {
             state,
@@ -281,7 +281,7 @@ impl<'a, L: Lookups> Environment<'a, L> {
         let watch = watched(alloc, &i.op, &state.types)?;
         let like = like_behind(&i.op, like, &state.types)?;
         let mut state = state;
-        let applied = state.apply(self.world, &self.method, i.pc as u16, naming, &i.op);
+        let applied = state.apply(self.world, &self.method, i.pc as u16, resolution, &i.op);
         let after = known_after(alloc, state, this_uninit, watch, like, judged, fitted)?;
         match applied {
             Ok(()) => Ok(After::Kept(after)),
@@ -297,7 +297,7 @@ impl<'a, L: Lookups> Environment<'a, L> {
         s: KnownState,
         fits: bool,
         i: &Instr,
-        naming: Naming,
+        resolution: Resolution,
         is_last: bool,
     ) -> Result<Verdict, NoMemory>
         requires low { i.now.pc < 2 ^ 16 }
@@ -306,11 +306,11 @@ impl<'a, L: Lookups> Environment<'a, L> {
             ≡ are_satisfied self.now i.now.pc (type_state s) }
         ensures { IfOk result (λ v. (entry : Option TypeState)
             → fits ≡ arrives self.now i.now.pc entry
-            → IsVerdict self.now (place i.now naming (Some (type_state s)) entry is_last)
+            → IsVerdict self.now (place i.now resolution (Some (type_state s)) entry is_last)
             (type_state s) v) }
     {
-        let findings = self.findings(&s, fits, i, naming, is_last);
-        match self.after(alloc, s, i, naming)? {
+        let findings = self.findings(&s, fits, i, resolution, is_last);
+        match self.after(alloc, s, i, resolution)? {
             After::Broken(why) => Ok(Verdict::Broken(findings.why_broken(why))),
             After::Kept(after) => {
                 let compared = self.compared(alloc, after, i, is_last)?;
@@ -326,8 +326,8 @@ impl<'a, L: Lookups> Environment<'a, L> {
 
     // Judges an instruction without a state before it: a frame of the stack map there names a constant that is no class.
     fn pass_unknown(&self, i: &Instr) -> Passage
-        ensures { (naming : Meaning) (entry : Option TypeState) (is_last : Bool)
-            → IsPassage self.now (place i.now naming None entry is_last) result }
+        ensures { (resolution : Meaning) (entry : Option TypeState) (is_last : Bool)
+            → IsPassage self.now (place i.now resolution None entry is_last) result }
     {
         if self.has_frame(i.pc) {
             Passage::Broken(VerifyWhy::Map)
@@ -343,7 +343,7 @@ impl<'a, L: Lookups> Environment<'a, L> {
         alloc: Global,
         arrival: Arrival,
         i: &Instr,
-        naming: Naming,
+        resolution: Resolution,
         is_last: bool,
         stores: &mut SatisfiedStores,
     ) -> Result<Passage, NoMemory>
@@ -353,14 +353,14 @@ impl<'a, L: Lookups> Environment<'a, L> {
         ensures taken { OnOk result (AllTaken self.now stores.new) }
         ensures passage { IfOk result (λ x. (entry : Option TypeState)
             → arrival.fits ≡ arrives self.now i.now.pc entry → IsPassage self.now
-            (place i.now naming (option_map type_state arrival.known) entry is_last) x) }
+            (place i.now resolution (option_map type_state arrival.known) entry is_last) x) }
     {
         let Arrival { known, fits } = arrival;
         let Some(s) = known else {
             return Ok(self.pass_unknown(i));
         };
         let s = self.judged(i.pc, s, stores)?;
-        match self.judge(alloc, s, fits, i, naming, is_last)? {
+        match self.judge(alloc, s, fits, i, resolution, is_last)? {
             Verdict::Broken(why) => Ok(Passage::Broken(why)),
             Verdict::Kept(after) => Ok(Passage::On(StateAfter::new(after, goes_on(&i.op)))),
         }
@@ -374,7 +374,7 @@ impl<'a, L: Lookups> Environment<'a, L> {
         before: StateAfter,
         is_entry: bool,
         i: &Instr,
-        naming: Naming,
+        resolution: Resolution,
         is_last: bool,
         stores: &mut SatisfiedStores,
     ) -> Result<Step, NoMemory>
@@ -382,12 +382,12 @@ impl<'a, L: Lookups> Environment<'a, L> {
         requires holds { AllHold self.now before.known }
         requires taken { AllTaken self.now stores.old }
         ensures taken { OnOk result (AllTaken self.now stores.new) }
-        ensures step { IfOk result (IsStep self.now (place i.now naming
+        ensures step { IfOk result (IsStep self.now (place i.now resolution
             (standing self.now i.now.pc (going before))
             (entry_of is_entry (going before)) is_last)) }
     {
         let arrival = self.arrive(alloc, before, is_entry, i.pc)?;
-        match self.pass(alloc, arrival, i, naming, is_last, stores)? {
+        match self.pass(alloc, arrival, i, resolution, is_last, stores)? {
             Passage::Broken(why) => Ok(Step::Fault(PcFault { pc: i.pc, why })),
             Passage::On(after) => match self.frames.stray(i.pc, i.next, is_last) {
                 Some(pc) => Ok(Step::Fault(PcFault {
@@ -415,17 +415,17 @@ impl<'a, L: Lookups> Environment<'a, L> {
         let mut stores = SatisfiedStores::new(alloc);
         let mut is_entry = true;
         let mut rest: &[Instr] = &self.method.code.code;
-        let mut namings = self.method.namings;
+        let mut resolutions = self.method.resolutions;
         while let Some((i, behind)) = rest.split_first() {
             let is_last = behind.is_empty();
-            let naming = *namings.at(0);
-            match self.step(alloc, before, is_entry, i, naming, is_last, &mut stores)? {
+            let resolution = *resolutions.at(0);
+            match self.step(alloc, before, is_entry, i, resolution, is_last, &mut stores)? {
                 Step::Fault(fault) => return Ok(Some(fault)),
                 Step::On(after) => before = after,
             }
             is_entry = false;
             rest = behind;
-            namings = namings.behind_first();
+            resolutions = resolutions.behind_first();
         }
         Ok(None)
     }

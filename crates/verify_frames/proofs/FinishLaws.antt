@@ -10,10 +10,10 @@ use Rattle.instruction_rows.specs.Results.{◌then◌}
 use Rattle.instruction_rows.specs.Rows.{special}
 use Rattle.instruction_rows.specs.Table.{row}
 use Rattle.instruction_rows.specs.TypeEffect.{type_popped}
-use Rattle.opcodes.specs.declared.op.Kind.TheVariants as kinds
-use Rattle.world_model.specs.declared.members.MethodInfo.{MethodInfo}
-use Rattle.world_model.specs.declared.sites.Naming.{Naming}
-use Rattle.world_model.specs.World.{class_type}
+use Rattle.opcodes.specs.declared.op.ValueKind.TheVariants as kinds
+use Rattle.link_model.specs.declared.members.MethodInfo.{MethodInfo}
+use Rattle.link_model.specs.declared.sites.Resolution.{Resolution}
+use Rattle.link_model.specs.World.{class_type}
 use Rattle.verify_types.specs.TypeStates.{TypeState, with_stack}
 use Rattle.verify_types.specs.Operands.{only_if}
 use Rattle.verify_types.specs.Objects.{made_anew, named_class}
@@ -86,14 +86,14 @@ called_finished : (env : Environment) (pc : ℕ) (m : MethodInfo) (class : ℕ) 
 called_finished env pc m class s =
     either s (is_constructor m) (constructor_called env pc m class s) (special_called env m class s) (constructor_finished env pc m class s) (special_finished env m class s)
 
-special_row : (env : Environment) (pc : ℕ) (naming : Naming) (s : TypeState) → Finishes s (method_of env.world naming.site then λ m. named_class naming then λ class. called env pc special m class s)
-special_row env pc naming s =
-    bound s (method_of env.world naming.site) _ (λ m. bound s (named_class naming) _ (λ class. called_finished env pc m class s))
+special_row : (env : Environment) (pc : ℕ) (resolution : Resolution) (s : TypeState) → Finishes s (method_of env.world resolution.site then λ m. named_class resolution then λ class. called env pc special m class s)
+special_row env pc resolution s =
+    bound s (method_of env.world resolution.site) _ (λ m. bound s (named_class resolution) _ (λ class. called_finished env pc m class s))
 
-op_finishes : (env : Environment) (pc : ℕ) (naming : Naming) (op : Op) (s : TypeState) → finishes op ≡ true → Finishes s (row_state env pc naming (row op) s)
-op_finishes env pc naming (ops.New index) s h = anew pc s
-op_finishes env pc naming (ops.InvokeSpecial index) s h = special_row env pc naming s
-op_finishes env pc naming op s h = absurd cc
+op_finishes : (env : Environment) (pc : ℕ) (resolution : Resolution) (op : Op) (s : TypeState) → finishes op ≡ true → Finishes s (row_state env pc resolution (row op) s)
+op_finishes env pc resolution (ops.New index) s h = anew pc s
+op_finishes env pc resolution (ops.InvokeSpecial index) s h = special_row env pc resolution s
+op_finishes env pc resolution op s h = absurd cc
 
 pub after_finished : (env : Environment) (i : Instruction) (s after : TypeState) → finishes i.instr.op ≡ true → state_after env i s ≡ Ok after → Finished s after
-after_finished env i s after h e = subst (λ r. Finishes s r) e (op_finishes env i.instr.pc i.naming i.instr.op s h)
+after_finished env i s after h e = subst (λ r. Finishes s r) e (op_finishes env i.instr.pc i.resolution i.instr.op s h)

@@ -9,8 +9,8 @@ use Rattle.stack_maps.specs.declared.types.FrameTypes.{FrameTypes}
 use Rattle.stack_maps.specs.declared.types.FrameChange.{FrameChange}
 use Rattle.stack_maps.specs.Changes.{locals_after, made_whole, types_after}
 use Rattle.type_paths.specs.Paths.{Path, IsPath}
-use Rattle.world_model.specs.declared.members.MethodInfo.{MethodInfo}
-use Rattle.world_model.specs.World.{World}
+use Rattle.link_model.specs.declared.members.MethodInfo.{MethodInfo}
+use Rattle.link_model.specs.World.{World}
 use Rattle.verify_types.specs.Environment.{MapFrame, map_frame, is_constructor}
 use Rattle.verify_frames.specs.declared.frame_paths.Entry.{Entry}
 use Rattle.verify_frames.specs.Entries.{AreRising, Rises, entry_at, stray_entry, pc_of}

@@ -10,8 +10,8 @@ use Rattle.stack_maps.specs.declared.types.LocalsChange.{LocalsChange}
 use Rattle.stack_maps.specs.declared.types.LocalsChange.TheVariants as changes
 use Rattle.stack_maps.specs.Changes.{locals_after}
 use Rattle.type_paths.specs.Paths.{Path, IsPath, path, types_on}
-use Rattle.world_model.specs.World.{World}
-use Rattle.world_model.specs.declared.members.MethodInfo.{MethodInfo}
+use Rattle.link_model.specs.World.{World}
+use Rattle.link_model.specs.declared.members.MethodInfo.{MethodInfo}
 use Rattle.verify_types.specs.ClassTypes.{resolve}
 use Rattle.verify_types.specs.Environment.{is_constructor, all_resolved, map_frame}
 use Rattle.verify_frames.specs.declared.frame_paths.Entry.{Entry}

@@ -14,14 +14,14 @@ use Rattle.stack_maps.specs.declared.types.VType.{VType}
 use Rattle.stack_maps.specs.declared.types.VType.TheVariants as types
 use Rattle.stack_maps.specs.Expansion.{expansion}
 use Rattle.instruction_rows.specs.Contents.{is_wide, slot_types, types_of}
-use Rattle.linkage.specs.Constants.{dimensions_of, last_element}
-use Rattle.linkage.specs.Hierarchy.{is_below}
-use Rattle.linkage.specs.Program.{is_array_name, is_interface}
-use Rattle.world_model.specs.declared.members.MethodCode.{MethodCode}
-use Rattle.world_model.specs.declared.members.MethodInfo.{MethodInfo}
-use Rattle.world_model.specs.declared.sites.Naming.{Naming}
-use Rattle.world_model.specs.Pools.{type_in}
-use Rattle.world_model.specs.World.{World, array_named, array_of, base_of, class_count, name_number, named_type}
+use Rattle.link_rules.specs.Constants.{dimensions_of, last_element}
+use Rattle.link_rules.specs.Hierarchy.{is_below}
+use Rattle.link_rules.specs.Program.{is_array_name, is_interface}
+use Rattle.link_model.specs.declared.members.MethodCode.{MethodCode}
+use Rattle.link_model.specs.declared.members.MethodInfo.{MethodInfo}
+use Rattle.link_model.specs.declared.sites.Resolution.{Resolution}
+use Rattle.link_model.specs.Pools.{type_in}
+use Rattle.link_model.specs.World.{World, array_named, array_of, base_of, class_count, name_number, named_type}
 use Rattle.verify_types.specs.Assignability.{assignable, base_assignable, is_array_super, is_object}
 use Rattle.verify_types.specs.ClassTypes.{resolve}
 use Rattle.verify_types.specs.Environment.{MapFrame, all_resolved, environment_of, first_frame, map_at, map_frame, map_frames, state_of}
@@ -136,5 +136,5 @@ expanded : (w : World) (m : MethodInfo) (max : ℕ) (p : MapFrame → Bool) (r :
 expanded w m max p (Ok fs) = frames_themselves w m max p fs
 expanded w m max p (Err why) = tt
 
-pub map_itself : (w : World) (m : MethodInfo) (code : MethodCode) (ns : List Naming) (cs : List (Option ℕ)) (pc : ℕ) → IfSome (map_at (environment_of w m code ns cs) pc) (LocalsThemselves w)
+pub map_itself : (w : World) (m : MethodInfo) (code : MethodCode) (ns : List Resolution) (cs : List (Option ℕ)) (pc : ℕ) → IfSome (map_at (environment_of w m code ns cs) pc) (LocalsThemselves w)
 map_itself w m code ns cs pc = expanded w m code.max_locals (λ (f : MapFrame). eqb f.pc pc) (expansion (first_frame w m) code.map)

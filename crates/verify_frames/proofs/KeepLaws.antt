@@ -7,7 +7,7 @@ use Rattle.opcodes.specs.declared.op.Simple.{Simple}
 use Rattle.opcodes.specs.declared.op.Simple.TheVariants as simples
 use Rattle.opcodes.specs.declared.op.Primitive.{Primitive}
 use Rattle.opcodes.specs.declared.op.Primitive.TheVariants as primitives
-use Rattle.opcodes.specs.declared.op.Kind.TheVariants as kinds
+use Rattle.opcodes.specs.declared.op.ValueKind.TheVariants as kinds
 use Rattle.stack_maps.specs.declared.types.VType.{VType}
 use Rattle.stack_maps.specs.declared.types.VType.TheVariants as types
 use Rattle.instruction_rows.specs.declared.row_why.RowWhy.{RowWhy}
@@ -17,9 +17,9 @@ use Rattle.instruction_rows.specs.Rows.{LocalRow, push, int, long, moves, load, 
 use Rattle.instruction_rows.specs.Table.{row, simple_row, new_array_row}
 use Rattle.instruction_rows.specs.StackItems.{items_on}
 use Rattle.instruction_rows.specs.TypeEffect.{items_popped, local_type, type_popped, type_pushed, typed, types_on, types_popped}
-use Rattle.world_model.specs.declared.members.MethodInfo.{MethodInfo}
-use Rattle.world_model.specs.declared.sites.Naming.{Naming}
-use Rattle.world_model.specs.World.{World, class_type}
+use Rattle.link_model.specs.declared.members.MethodInfo.{MethodInfo}
+use Rattle.link_model.specs.declared.sites.Resolution.{Resolution}
+use Rattle.link_model.specs.World.{World, class_type}
 use Rattle.verify_types.specs.TypeStates.{TypeState, with_stack, with_types}
 use Rattle.verify_types.specs.Operands.{only_if, wanted}
 use Rattle.verify_types.specs.Objects.{constant_type, event_state, named_class}
@@ -108,23 +108,23 @@ keeps_event e = true
 on_stack : (s : TypeState) (r : Result (List VType) RowWhy) → Keeps s (r then λ stack. Ok (with_stack s stack))
 on_stack s r = bound s r _ (λ stack. same s stack)
 
-event_kept : (w : World) (own pc : ℕ) (naming : Naming) (e : Event) (s : TypeState) → keeps_event e ≡ true → Keeps s (event_state w own pc naming e s)
-event_kept w own pc naming (get_static index) s h = on_stack s _
-event_kept w own pc naming (put_static index) s h = on_stack s _
-event_kept w own pc naming (get_field index) s h = on_stack s _
-event_kept w own pc naming (put_field index) s h = on_stack s _
-event_kept w own pc naming (new index) s h = absurd cc
-event_kept w own pc naming (new_array primitive) s h = on_stack s _
-event_kept w own pc naming (new_array_of index) s h = on_stack s _
-event_kept w own pc naming (new_arrays index lengths) s h = on_stack s _
-event_kept w own pc naming array_length s h = on_stack s _
-event_kept w own pc naming (array_load element) s h = on_stack s _
-event_kept w own pc naming (array_store element) s h = on_stack s _
-event_kept w own pc naming (check_cast index) s h = on_stack s _
-event_kept w own pc naming (instance_of index) s h = on_stack s _
-event_kept w own pc naming throw s h = on_stack s _
-event_kept w own pc naming monitor_enter s h = on_stack s _
-event_kept w own pc naming monitor_exit s h = on_stack s _
+event_kept : (w : World) (own pc : ℕ) (resolution : Resolution) (e : Event) (s : TypeState) → keeps_event e ≡ true → Keeps s (event_state w own pc resolution e s)
+event_kept w own pc resolution (get_static index) s h = on_stack s _
+event_kept w own pc resolution (put_static index) s h = on_stack s _
+event_kept w own pc resolution (get_field index) s h = on_stack s _
+event_kept w own pc resolution (put_field index) s h = on_stack s _
+event_kept w own pc resolution (new index) s h = absurd cc
+event_kept w own pc resolution (new_array primitive) s h = on_stack s _
+event_kept w own pc resolution (new_array_of index) s h = on_stack s _
+event_kept w own pc resolution (new_arrays index lengths) s h = on_stack s _
+event_kept w own pc resolution array_length s h = on_stack s _
+event_kept w own pc resolution (array_load element) s h = on_stack s _
+event_kept w own pc resolution (array_store element) s h = on_stack s _
+event_kept w own pc resolution (check_cast index) s h = on_stack s _
+event_kept w own pc resolution (instance_of index) s h = on_stack s _
+event_kept w own pc resolution throw s h = on_stack s _
+event_kept w own pc resolution monitor_enter s h = on_stack s _
+event_kept w own pc resolution monitor_exit s h = on_stack s _
 
 abbrev keeps_row : Row → Bool
 keeps_row (local r) = keeps_types r
@@ -132,17 +132,17 @@ keeps_row (invoke i index) = keeps_call i
 keeps_row (event e) = keeps_event e
 keeps_row r = true
 
-constant_kept : (w : World) (naming : Naming) (s : TypeState) → Keeps s (constant_pushed w naming s)
-constant_kept w naming s = bound s (constant_type w naming.site) (λ t. Ok (with_stack s (type_pushed t s.types.stack))) (λ t. same s (type_pushed t s.types.stack))
+constant_kept : (w : World) (resolution : Resolution) (s : TypeState) → Keeps s (constant_pushed w resolution s)
+constant_kept w resolution s = bound s (constant_type w resolution.site) (λ t. Ok (with_stack s (type_pushed t s.types.stack))) (λ t. same s (type_pushed t s.types.stack))
 
-row_kept : (env : Environment) (pc : ℕ) (naming : Naming) (r : Row) (s : TypeState) → keeps_row r ≡ true → Keeps s (row_state env pc naming r s)
-row_kept env pc naming (local r) s h = with_kept s _ (types_kept r s.types h)
-row_kept env pc naming (constant index) s h = constant_kept env.world naming s
-row_kept env pc naming (wide_constant index) s h = constant_kept env.world naming s
-row_kept env pc naming (returns kind) s h = on_stack s _
-row_kept env pc naming (invoke i index) s h = bound s (method_of env.world naming.site) (λ m. named_class naming then λ class. called env pc i m class s) (λ m. bound s (named_class naming) (λ class. called env pc i m class s) (λ class. call_kept env pc i m class s h))
-row_kept env pc naming (event e) s h = event_kept env.world env.method.class pc naming e s h
-row_kept env pc naming refused s h = tt
+row_kept : (env : Environment) (pc : ℕ) (resolution : Resolution) (r : Row) (s : TypeState) → keeps_row r ≡ true → Keeps s (row_state env pc resolution r s)
+row_kept env pc resolution (local r) s h = with_kept s _ (types_kept r s.types h)
+row_kept env pc resolution (constant index) s h = constant_kept env.world resolution s
+row_kept env pc resolution (wide_constant index) s h = constant_kept env.world resolution s
+row_kept env pc resolution (returns kind) s h = on_stack s _
+row_kept env pc resolution (invoke i index) s h = bound s (method_of env.world resolution.site) (λ m. named_class resolution then λ class. called env pc i m class s) (λ m. bound s (named_class resolution) (λ class. called env pc i m class s) (λ class. call_kept env pc i m class s h))
+row_kept env pc resolution (event e) s h = event_kept env.world env.method.class pc resolution e s h
+row_kept env pc resolution refused s h = tt
 
 -- ---- instructions
 
@@ -223,4 +223,4 @@ op_keeps (ops.Floating o) h = refl
 
 -- the state after an instruction that keeps the local variables has those of the state before it
 pub after_kept : (env : Environment) (i : Instruction) (s after : TypeState) → keeps_locals i.instr.op ≡ true → state_after env i s ≡ Ok after → Kept s after
-after_kept env i s after h e = subst (λ r. Keeps s r) e (row_kept env i.instr.pc i.naming (row i.instr.op) s (op_keeps i.instr.op h))
+after_kept env i s after h e = subst (λ r. Keeps s r) e (row_kept env i.instr.pc i.resolution (row i.instr.op) s (op_keeps i.instr.op h))

@@ -9,7 +9,7 @@ use Rattle.stack_maps.specs.declared.types.FrameTypes.{FrameTypes}
 use Rattle.stack_maps.specs.declared.types.VType.{VType}
 use Rattle.instruction_rows.specs.Contents.{slot_types}
 use Rattle.type_paths.specs.Paths.{Path, path, types_on}
-use Rattle.world_model.specs.World.{World}
+use Rattle.link_model.specs.World.{World}
 use Rattle.verify_types.specs.Assignability.{assignable}
 use Rattle.verify_types.specs.Effects.{state_after}
 use Rattle.verify_types.specs.Environment.{Instruction, MapFrame, Environment, map_at}

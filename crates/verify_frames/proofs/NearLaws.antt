@@ -15,7 +15,7 @@ use Rattle.stack_maps.specs.declared.types.FrameTypes.{FrameTypes}
 use Rattle.instruction_rows.specs.Contents.{is_wide, slot_types, types_of}
 use Rattle.type_paths.specs.Paths.{Path, count_on, path, types_on}
 use Rattle.verify_types.specs.Environment.{Environment, MapFrame, map_at}
-use Rattle.world_model.specs.World.{World}
+use Rattle.link_model.specs.World.{World}
 use Rattle.verify_types.specs.Assignability.{assignable}
 use Rattle.verify_types.specs.TypeStates.{TypeState, all_assignable, is_this, padded}
 use Rattle.verify_frames.specs.declared.frame_paths.Entry.{Entry}

@@ -6,7 +6,7 @@ use Rattle.std.proofs.lemmas.List.{length-set, get_or-set_same, get_or-set_other
 use Rattle.std.proofs.lemmas.List.Folds.{list_any-append}
 use Rattle.stack_maps.specs.declared.types.VType.{VType}
 use Rattle.stack_maps.specs.declared.types.VType.TheVariants as types
-use Rattle.world_model.specs.World.{World}
+use Rattle.link_model.specs.World.{World}
 use Rattle.verify_types.specs.Assignability.{assignable}
 use Rattle.verify_types.specs.TypeStates.{TypeState, all_assignable}
 use Rattle.verify_frames.specs.declared.overwritten.Overwritten.{Overwritten}

@@ -11,7 +11,7 @@ use Rattle.stack_maps.specs.declared.types.VType.{VType}
 use Rattle.stack_maps.specs.declared.types.VType.TheVariants as types
 use Rattle.instruction_rows.specs.Contents.{slot_types, types_of}
 use Rattle.type_paths.specs.Paths.{Path, types_on}
-use Rattle.world_model.specs.World.{World}
+use Rattle.link_model.specs.World.{World}
 use Rattle.verify_types.specs.Assignability.{assignable}
 use Rattle.verify_types.specs.TypeStates.{all_assignable, padded}
 use Rattle.verify_instructions.proofs.Lists.{last_pair, none_to_more}

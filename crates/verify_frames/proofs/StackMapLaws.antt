@@ -7,8 +7,8 @@ use Rattle.stack_maps.specs.declared.types.FrameTypes.{FrameTypes}
 use Rattle.stack_maps.specs.Encoding.{Frame, delta_of, types_of, whole_frames}
 use Rattle.stack_maps.specs.Expansion.{Expands, with_offset, expansion}
 use Rattle.stack_maps.proofs.MapLaws.{table_again}
-use Rattle.world_model.specs.declared.members.MethodInfo.{MethodInfo}
-use Rattle.world_model.specs.World.{World}
+use Rattle.link_model.specs.declared.members.MethodInfo.{MethodInfo}
+use Rattle.link_model.specs.World.{World}
 use Rattle.verify_types.specs.Environment.{MapFrame, map_frame}
 use Rattle.verify_frames.specs.Entries.{Rises}
 use Rattle.verify_frames.specs.StackMaps.{pc_of}

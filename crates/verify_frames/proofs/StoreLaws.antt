@@ -3,7 +3,7 @@ use Rattle.std.proofs.Common.{◌≡◌, ℕ, zero, suc, ◌+◌, ◌-◌, Bool,
 use Rattle.std.specs.Prelude.{nat_lt, ok_or, IfOk, IfSome}
 use Rattle.std.proofs.lemmas.List.{length-set, get_or-set_other}
 use Rattle.items.specs.Options.{◌>>=◌}
-use Rattle.opcodes.specs.declared.op.Kind.{Kind}
+use Rattle.opcodes.specs.declared.op.ValueKind.{ValueKind}
 use Rattle.opcodes.specs.declared.op.Op.{Op}
 use Rattle.opcodes.specs.declared.op.Op.TheVariants as ops
 use Rattle.stack_maps.specs.declared.types.VType.{VType}
@@ -14,7 +14,7 @@ use Rattle.instruction_rows.specs.Contents.{is_wide, types_of, with_item, with_i
 use Rattle.instruction_rows.specs.Results.{◌then◌}
 use Rattle.instruction_rows.specs.Table.{row}
 use Rattle.instruction_rows.specs.TypeEffect.{type_popped, types_on, with_type, without_half}
-use Rattle.world_model.specs.declared.sites.Naming.{Naming}
+use Rattle.link_model.specs.declared.sites.Resolution.{Resolution}
 use Rattle.verify_types.specs.TypeStates.{TypeState, with_types}
 use Rattle.verify_types.specs.Environment.{Environment, Instruction}
 use Rattle.verify_types.specs.Effects.{row_state, state_after}
@@ -127,14 +127,14 @@ store_noted : (n : ℕ) (s : TypeState) (r : Result (VType × List VType) RowWhy
 store_noted n s (Err why) = tt
 store_noted n s (Ok x) = put_noted n s x.1 x.0 (with_type x.0 n s.types.locals) refl
 
-row_stored : (env : Environment) (pc : ℕ) (naming : Naming) (op : Op) (kind : Kind) (n : ℕ) (s : TypeState) → op ≡ ops.Store kind n → IfOk (row_state env pc naming (row op) s) (StoredAt n s)
-row_stored env pc naming op kind n s e =
-    subst (λ o. IfOk (row_state env pc naming (row o) s) (StoredAt n s)) (sym e) (store_noted n s (type_popped kind s.types.stack))
+row_stored : (env : Environment) (pc : ℕ) (resolution : Resolution) (op : Op) (kind : ValueKind) (n : ℕ) (s : TypeState) → op ≡ ops.Store kind n → IfOk (row_state env pc resolution (row op) s) (StoredAt n s)
+row_stored env pc resolution op kind n s e =
+    subst (λ o. IfOk (row_state env pc resolution (row o) s) (StoredAt n s)) (sym e) (store_noted n s (type_popped kind s.types.stack))
 
-pub after_stored : (env : Environment) (i : Instruction) (kind : Kind) (n : ℕ) (s after : TypeState) → i.instr.op ≡ ops.Store kind n → state_after env i s ≡ Ok after → StoredAt n s after
-after_stored env i kind n s after is e = subst (λ r. IfOk r (StoredAt n s)) e (row_stored env i.instr.pc i.naming i.instr.op kind n s is)
+pub after_stored : (env : Environment) (i : Instruction) (kind : ValueKind) (n : ℕ) (s after : TypeState) → i.instr.op ≡ ops.Store kind n → state_after env i s ≡ Ok after → StoredAt n s after
+after_stored env i kind n s after is e = subst (λ r. IfOk r (StoredAt n s)) e (row_stored env i.instr.pc i.resolution i.instr.op kind n s is)
 
-pub noted_behind : (op : Op) (locals : List VType) (like : Option Like) (before : Like) (kind : Kind) (n : ℕ) (r : Result (Option Like) NoMemory) → op ≡ ops.Store kind n → like ≡ Some before
+pub noted_behind : (op : Op) (locals : List VType) (like : Option Like) (before : Like) (kind : ValueKind) (n : ℕ) (r : Result (Option Like) NoMemory) → op ≡ ops.Store kind n → like ≡ Some before
     → IfOk r (λ o. IfSome o (IsNoted before.pc (noting_store locals n before.overwritten.items))) → IfOk r (λ o. IfSome o (NotedBehind op locals like))
 noted_behind op locals like before kind n (Err why) is was h = tt
 noted_behind op locals like before kind n (Ok None) is was h = tt

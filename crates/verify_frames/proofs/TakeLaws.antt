@@ -6,7 +6,7 @@ use Rattle.std.specs.List.{All}
 use Rattle.instruction_rows.specs.Contents.{slot_types}
 use Rattle.stack_maps.specs.declared.types.VType.{VType}
 use Rattle.type_paths.specs.Paths.{Path, path, types_on}
-use Rattle.world_model.specs.World.{World}
+use Rattle.link_model.specs.World.{World}
 use Rattle.verify_types.specs.Assignability.{assignable}
 use Rattle.verify_types.specs.Environment.{MapFrame}
 use Rattle.verify_types.specs.TypeStates.{TypeState}

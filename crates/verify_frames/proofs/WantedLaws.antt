@@ -11,7 +11,7 @@ use Rattle.instruction_rows.specs.Contents.{is_wide, slot_types, types_of}
 use Rattle.stack_maps.specs.declared.types.VType.{VType}
 use Rattle.stack_maps.specs.declared.types.VType.TheVariants as types
 use Rattle.type_paths.specs.Paths.{Path, count_on, path, types_on}
-use Rattle.world_model.specs.World.{World}
+use Rattle.link_model.specs.World.{World}
 use Rattle.verify_types.specs.Assignability.{assignable}
 use Rattle.verify_types.specs.Environment.{MapFrame}
 use Rattle.verify_types.specs.TypeStates.{TypeState, padded}

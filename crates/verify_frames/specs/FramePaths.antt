@@ -7,7 +7,7 @@ use Rattle.stack_maps.specs.declared.types.VType.{VType}
 use Rattle.stack_maps.specs.declared.types.FrameTypes.{FrameTypes}
 use Rattle.instruction_rows.specs.Contents.{slot_types}
 use Rattle.type_paths.specs.Paths.{Path, IsPath, path, types_on}
-use Rattle.world_model.specs.World.{World}
+use Rattle.link_model.specs.World.{World}
 use Rattle.verify_types.specs.ClassTypes.{resolve}
 use Rattle.verify_types.specs.Environment.{MapFrame}
 use Rattle.verify_types.specs.TypeStates.{TypeState, is_this, padded}

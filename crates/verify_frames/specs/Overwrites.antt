@@ -2,12 +2,12 @@
 use Rattle.std.specs.Prelude.{◌≡◌, ℕ, ◌+◌, ◌-◌, Bool, true, false, List, [], ◌∷◌, ◌++◌, length, get_or, Option, Some, ◌==◌, if◌then◌else◌}
 use Rattle.std.specs.List.{list_all, list_any}
 use Rattle.std.specs.Option.{option_map_or}
-use Rattle.opcodes.specs.declared.op.Kind.{Kind}
+use Rattle.opcodes.specs.declared.op.ValueKind.{ValueKind}
 use Rattle.opcodes.specs.declared.op.Op.{Op}
 use Rattle.opcodes.specs.declared.op.Op.TheVariants as ops
 use Rattle.stack_maps.specs.declared.types.VType.{VType}
 use Rattle.stack_maps.specs.declared.types.VType.TheVariants as types
-use Rattle.world_model.specs.World.{World}
+use Rattle.link_model.specs.World.{World}
 use Rattle.verify_types.specs.Assignability.{assignable}
 use Rattle.verify_types.specs.TypeStates.{TypeState}
 use Rattle.verify_instructions.specs.Unfinished.{AreListed}
@@ -83,7 +83,7 @@ pub record NotedAll (before : Like) (locals : List VType) (l : Like) : Type 0 wh
 -- the types of unfinished objects
 pub data NotedBehind (op : Op) (locals : List VType) (like : Option Like) (l : Like) : Type 0 where
   leaves : keeps_locals op ≡ true → like ≡ Some l → NotedBehind op locals like l
-  stores : (kind : Kind) (n : ℕ) (before : Like) → op ≡ ops.Store kind n → like ≡ Some before
+  stores : (kind : ValueKind) (n : ℕ) (before : Like) → op ≡ ops.Store kind n → like ≡ Some before
       → IsNoted before.pc (noting_store locals n before.overwritten.items) l → NotedBehind op locals like l
   objects : (before : Like) → finishes op ≡ true → like ≡ Some before → NotedAll before locals l → NotedBehind op locals like l
 

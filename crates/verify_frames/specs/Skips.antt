@@ -3,7 +3,7 @@ use Rattle.std.specs.Prelude.{◌≡◌, ℕ, ◌<◌, true, List, Some, length,
 use Rattle.instruction_rows.specs.Contents.{slot_types}
 use Rattle.stack_maps.specs.declared.types.VType.{VType}
 use Rattle.type_paths.specs.Paths.{IsAbove, Path, types_on}
-use Rattle.world_model.specs.World.{World}
+use Rattle.link_model.specs.World.{World}
 use Rattle.verify_types.specs.Assignability.{assignable}
 use Rattle.verify_frames.specs.Overwrites.{type_at}
 

@@ -4,8 +4,8 @@ use Rattle.std.specs.Option.{option_map}
 use Rattle.std.specs.Result.{result_ok}
 use Rattle.stack_maps.specs.declared.types.FrameTypes.{FrameTypes}
 use Rattle.stack_maps.specs.Expansion.{expansion}
-use Rattle.world_model.specs.declared.members.MethodInfo.{MethodInfo}
-use Rattle.world_model.specs.World.{World}
+use Rattle.link_model.specs.declared.members.MethodInfo.{MethodInfo}
+use Rattle.link_model.specs.World.{World}
 use Rattle.verify_types.specs.Environment.{MapFrame, map_frame}
 
 abbrev pub pc_of : ℕ × FrameTypes → ℕ

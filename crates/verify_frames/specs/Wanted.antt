@@ -5,7 +5,7 @@ use Rattle.std.specs.Option.{option_map_or}
 use Rattle.class_model.specs.declared.attribute.Row.{Row}
 use Rattle.stack_maps.specs.declared.types.VType.{VType}
 use Rattle.type_paths.specs.Paths.{Path, count_on, path}
-use Rattle.world_model.specs.World.{World}
+use Rattle.link_model.specs.World.{World}
 use Rattle.verify_types.specs.Assignability.{assignable}
 use Rattle.verify_types.specs.Environment.{MapFrame}
 use Rattle.verify_types.specs.TypeStates.{TypeState}

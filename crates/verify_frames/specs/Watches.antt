@@ -1,6 +1,6 @@
 -- What shows whether an instruction changes local variables.
 use Rattle.std.specs.Prelude.{◌≡◌, ℕ, true, List, []}
-use Rattle.opcodes.specs.declared.op.Kind.{Kind}
+use Rattle.opcodes.specs.declared.op.ValueKind.{ValueKind}
 use Rattle.opcodes.specs.declared.op.Op.{Op}
 use Rattle.opcodes.specs.declared.op.Op.TheVariants as ops
 use Rattle.stack_maps.specs.declared.types.VType.{VType}
@@ -17,7 +17,7 @@ pub data Keeps (op : Op) (locals : List VType) : Type 0 where
 
 -- an instruction stores to this local variable
 pub record Stores (op : Op) (n : ℕ) : Type 0 where
-  pub kind : Kind
+  pub kind : ValueKind
   pub is : op ≡ ops.Store kind n
 
 -- these are all local variables of unfinished objects

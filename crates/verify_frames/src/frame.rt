@@ -15,11 +15,11 @@ use crate::frame_paths::{Entry, is_known};
 use crate::frame_state::{slots, state_where};
 use crate::path_fits::{fit_locals, fit_path, has_this};
 use items::NoMemory;
+use link_model::Lookups;
 use stack_maps::{FrameTypes, VType};
 use std::alloc::Global;
 use type_paths::Paths;
 use verify_instructions::State;
-use world_model::Lookups;
 
 /// A frame of the stack map, whose types are paths that it shares with the other frames.
 #[derive(Clone, Copy)]

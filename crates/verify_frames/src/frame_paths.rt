@@ -6,11 +6,11 @@ ghost use Rattle.stack_maps.specs.Changes.{locals_after, types_after};
 ghost use Rattle.type_paths.specs.Paths.{IsPath, Path, path};
 ghost use Rattle.verify_frames.specs.FramePaths.{Grows, IsEntry, frame_types, onto, path_of};
 
+use link_model::Lookups;
 use stack_maps::{FrameChange, LocalsChange, VType};
 use std::alloc::AllocError;
 use type_paths::Paths;
 use verify_types::resolve;
-use world_model::Lookups;
 
 /// What is kept of a frame: its pc, and the paths of its local variables and of its operand stack.
 #[derive(Clone, Copy, Debug, PartialEq, Eq)]

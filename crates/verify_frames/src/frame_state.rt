@@ -13,11 +13,11 @@ use class_model::ACC_STATIC;
 use descriptors::Kind;
 use instruction_rows::is_wide;
 use items::{Items, NoMemory};
+use link_model::{Lookups, MethodInfo};
 use stack_maps::{FrameTypes, VType};
 use std::alloc::{AllocError, Global};
 use verify_instructions::{State, Types, is_constructor};
 use verify_types::type_of_kind;
-use world_model::{Lookups, MethodInfo};
 
 // The receiver of a method of instances.
 fn receiver_type<L: Lookups>(w: &L, m: &MethodInfo) -> VType

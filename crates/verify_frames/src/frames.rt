@@ -25,12 +25,12 @@ use crate::takes::takes_all;
 use crate::wanted::Wanted;
 use class_model::Row;
 use items::NoMemory;
+use link_model::{Lookups, MethodInfo};
 use stack_maps::{FrameChange, VType};
 use std::alloc::Global;
 use std::marker::Model;
 use type_paths::Paths;
 use verify_instructions::is_constructor;
-use world_model::{Lookups, MethodInfo};
 
 // With fewer local variables the types of single ones aren't asked for.
 const LONG: u16 = 64;

@@ -5,12 +5,12 @@ ghost use Rattle.verify_instructions.specs.Views.{state_in};
 ghost use Rattle.verify_frames.specs.Overwrites.{IsNoted, IsRestored, NotedAll, NotedBehind, are_assignable, finishes, is_noted, keeps_locals, noting, noting_all, noting_store, overwritten_since, type_at};
 
 use items::NoMemory;
+use link_model::Lookups;
 use opcodes::Op;
 use stack_maps::VType;
 use std::alloc::{AllocError, Global};
 use verify_instructions::{State, Types};
 use verify_types::assignable;
-use world_model::Lookups;
 
 // With more local variables overwritten, a state isn't compared by these any longer.
 const MOST: usize = 128;

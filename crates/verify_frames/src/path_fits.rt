@@ -8,10 +8,10 @@ ghost use Rattle.type_paths.specs.Paths.{path};
 ghost use Rattle.verify_frames.specs.PathFits as spec;
 
 use instruction_rows::is_wide;
+use link_model::Lookups;
 use stack_maps::VType;
 use type_paths::Paths;
 use verify_types::assignable;
-use world_model::Lookups;
 
 // The slots in front of the last, where that is assignable to a type.
 fn in_front_of_one<'a, L: Lookups>(w: &L, slots: &'a [VType], t: VType) -> Option<&'a [VType]>

@@ -11,9 +11,9 @@ ghost use Rattle.verify_frames.specs.StackMaps.{mapped, pc_of};
 
 use crate::frames::Frames;
 use items::NoMemory;
+use link_model::{Lookups, MethodInfo};
 use stack_maps::{FrameChange, FrameTypes, MapError, changes};
 use std::alloc::Global;
-use world_model::{Lookups, MethodInfo};
 
 // The frames of a map, each with its pc and what it changes of the one before. `None`: the bytes are no map. Those of 2^32 bytes
 // and more count as want of memory.

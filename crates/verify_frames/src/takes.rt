@@ -7,10 +7,10 @@ ghost use Rattle.verify_frames.specs.Skips.{AreSkips, TakesAt};
 
 use crate::overwritten::type_at;
 use crate::skips::type_in;
+use link_model::Lookups;
 use stack_maps::VType;
 use type_paths::Paths;
 use verify_types::assignable;
-use world_model::Lookups;
 
 // Whether a local variable fits that of a path.
 fn takes_at<L: Lookups>(

@@ -13,10 +13,10 @@ use crate::frame_paths::Entry;
 use crate::pc_sets::{PcSet, Span, covers, lies_in, meet, row_span};
 use crate::watch::is_same_type;
 use class_model::Row;
+use link_model::Lookups;
 use stack_maps::VType;
 use type_paths::Paths;
 use verify_types::assignable;
-use world_model::Lookups;
 
 /// A type that frames of handlers want of a slot, and the number of a set that has all pcs at which they do.
 #[derive(Clone, Copy, Debug, PartialEq, Eq)]

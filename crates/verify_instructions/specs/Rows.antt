@@ -5,8 +5,8 @@ use Rattle.instruction_rows.specs.declared.row_why.RowWhy.{RowWhy}
 use Rattle.instruction_rows.specs.Contents.{Contents}
 use Rattle.instruction_rows.specs.Rows.{Row, local, event}
 use Rattle.instruction_rows.specs.TypeEffect.{typed}
-use Rattle.world_model.specs.declared.sites.Naming.{Naming}
-use Rattle.world_model.specs.World.{World}
+use Rattle.link_model.specs.declared.sites.Resolution.{Resolution}
+use Rattle.link_model.specs.World.{World}
 use Rattle.verify_types.specs.Objects.{stack_after}
 
 -- what a row of slots alone does; the others leave the types here
@@ -15,6 +15,6 @@ local_types (local r) c = typed r c
 local_types r c = Ok c
 
 -- What an event that isn't `new` does to the operand stack; the other rows leave it here.
-abbrev pub event_stack : World → ℕ → ℕ → Naming → Row → List VType → Result (List VType) RowWhy
-event_stack w own pc naming (event e) stack = stack_after w own pc naming e stack
-event_stack w own pc naming r stack = Ok stack
+abbrev pub event_stack : World → ℕ → ℕ → Resolution → Row → List VType → Result (List VType) RowWhy
+event_stack w own pc resolution (event e) stack = stack_after w own pc resolution e stack
+event_stack w own pc resolution r stack = Ok stack

@@ -7,7 +7,7 @@ use Rattle.verify_types.specs.Calls.{made_by}
 
 -- the class of the `new` at a pc
 abbrev pub new_at : ℕ → List Instruction → Option ℕ
-new_at pc is = option_and_then (λ (i : Instruction). made_by i.instr.op i.naming.site) (find (λ (i : Instruction). i.instr.pc == pc) is)
+new_at pc is = option_and_then (λ (i : Instruction). made_by i.instr.op i.resolution.site) (find (λ (i : Instruction). i.instr.pc == pc) is)
 
 -- the pc lies in the range of the row
 abbrev pub is_row_covered : ℕ → Row → Bool

@@ -1,9 +1,9 @@
 -- The types that a frame has as it is verified, and the state that they are part of.
 use Rattle.std.specs.Prelude.{Bool}
-use Rattle.world_model.specs.Namings.{meanings}
+use Rattle.link_model.specs.Resolutions.{meanings}
 use Rattle.stack_maps.specs.declared.types.VType.{VType}
 use Rattle.instruction_rows.specs.Contents.{Contents}
-use Rattle.world_model.specs.World.{World}
+use Rattle.link_model.specs.World.{World}
 use Rattle.verify_types.specs.Environment.{Environment, environment_of}
 use Rattle.verify_instructions.specs.declared.method.Method.{Method}
 use Rattle.verify_types.specs.TypeStates.{TypeState, is_this, is_new}
@@ -25,4 +25,4 @@ is_object (objects.New pc) t = is_new pc t
 
 -- the environment that a method has in a world
 abbrev pub environment_in : World → Method → Environment
-environment_in w m = environment_of w m.info.now m.code.now (meanings m.namings) m.catches.now
+environment_in w m = environment_of w m.info.now m.code.now (meanings m.resolutions) m.catches.now

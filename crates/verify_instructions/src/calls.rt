@@ -2,7 +2,7 @@
 
 ghost use Rattle.std.specs.Prelude.{◌≡◌, Err, OnOk, OnErr, map, reverse};
 ghost use Rattle.class_grammar.specs.Names as names;
-ghost use Rattle.world_model.specs.Namings.{meanings};
+ghost use Rattle.link_model.specs.Resolutions.{meanings};
 ghost use Rattle.verify_types.specs.ClassTypes as types;
 ghost use Rattle.verify_types.specs.Environment as environment;
 ghost use Rattle.verify_types.specs.Operands.{all_wanted};
@@ -21,10 +21,10 @@ use crate::types::Types;
 use class_grammar::is_same;
 use descriptors::Kind as Descriptor;
 use instruction_rows::RowWhy;
-use opcodes::Kind;
+use link_model::{Lookups, MethodInfo, Resolution, Site};
+use opcodes::ValueKind;
 use stack_maps::VType;
 use verify_types::{assignable, type_of_kind};
-use world_model::{Lookups, MethodInfo, Naming, Site};
 
 // The method that a constant means.
 fn method_of<L: Lookups>(w: &L, site: Site) -> Result<&MethodInfo, Stop>
@@ -96,7 +96,7 @@ impl Types {
 // Whether there is a `new` of this class at the pc.
 fn is_new_of(m: &Method<'_>, pc: u16, class: u32) -> bool
     ensures { result ≡ is_number
-        (new_at pc (environment.with_namings m.now.code.now.code (meanings m.now.namings))) class }
+        (new_at pc (environment.with_resolutions m.now.code.now.code (meanings m.now.resolutions))) class }
 {
     match new_class(m, pc) {
         Some(made) => made == class,
@@ -216,7 +216,7 @@ impl State {
             (state_in self.old)) }
     {
         self.types.take_arguments(w, called)?;
-        let receiver = self.types.pop_kind(Kind::Reference)?;
+        let receiver = self.types.pop_kind(ValueKind::Reference)?;
         if called.class != class {
             return Err(Stop::Broken(RowWhy::Init));
         }
@@ -230,14 +230,14 @@ impl State {
         w: &L,
         m: &Method<'_>,
         pc: u16,
-        naming: Naming,
+        resolution: Resolution,
     ) -> Result<(), Stop>
         ensures { Leaves result (state_in self.new)
-            (spec.invoke_state (environment_in (L.world w.now) m.now) pc naming rows.virtual
+            (spec.invoke_state (environment_in (L.world w.now) m.now) pc resolution rows.virtual
             (state_in self.old)) }
     {
-        let called = method_of(w, naming.site)?;
-        let class = named_class(naming)?;
+        let called = method_of(w, resolution.site)?;
+        let class = named_class(resolution)?;
         self.call_instance(w, called, class)
     }
 
@@ -247,14 +247,14 @@ impl State {
         w: &L,
         m: &Method<'_>,
         pc: u16,
-        naming: Naming,
+        resolution: Resolution,
     ) -> Result<(), Stop>
         ensures { Leaves result (state_in self.new)
-            (spec.invoke_state (environment_in (L.world w.now) m.now) pc naming rows.static
+            (spec.invoke_state (environment_in (L.world w.now) m.now) pc resolution rows.static
             (state_in self.old)) }
     {
-        let called = method_of(w, naming.site)?;
-        named_class(naming)?;
+        let called = method_of(w, resolution.site)?;
+        named_class(resolution)?;
         self.call_static(w, called)
     }
 
@@ -264,14 +264,14 @@ impl State {
         w: &L,
         m: &Method<'_>,
         pc: u16,
-        naming: Naming,
+        resolution: Resolution,
     ) -> Result<(), Stop>
         ensures { Leaves result (state_in self.new)
-            (spec.invoke_state (environment_in (L.world w.now) m.now) pc naming rows.special
+            (spec.invoke_state (environment_in (L.world w.now) m.now) pc resolution rows.special
             (state_in self.old)) }
     {
-        let called = method_of(w, naming.site)?;
-        let class = named_class(naming)?;
+        let called = method_of(w, resolution.site)?;
+        let class = named_class(resolution)?;
         if is_constructor(called) {
             self.call_constructor(w, m, pc, called, class)
         } else {

@@ -4,7 +4,7 @@ ghost use Rattle.std.specs.Prelude.{◌≡◌, ◌∷◌, ℕ, Ok, Some};
 ghost use Rattle.instruction_rows.specs.TypeEffect.{type_popped};
 ghost use Rattle.instruction_rows.specs.Results.{◌then◌};
 ghost use Rattle.instruction_rows.specs.Table.{row, simple_row, new_array_row};
-ghost use Rattle.world_model.specs.declared.sites.Naming.{Naming};
+ghost use Rattle.link_model.specs.declared.sites.Resolution.{Resolution};
 ghost use Rattle.verify_types.specs.Environment.{Environment};
 ghost use Rattle.verify_types.specs.TypeStates.{with_stack, with_types};
 ghost use Rattle.verify_types.specs.Objects as objects;
@@ -17,10 +17,10 @@ use crate::method::Method;
 use crate::state::State;
 use crate::stop::Stop;
 use instruction_rows::RowWhy;
-use opcodes::{Element, Kind, Op, Primitive, Simple};
+use link_model::{Lookups, Resolution, Site};
+use opcodes::{Element, Op, Primitive, Simple, ValueKind};
 use stack_maps::{Base, VType};
 use verify_types::type_of_value;
-use world_model::{Lookups, Naming, Site};
 
 // The type of the value that a constant means.
 fn constant_type<L: Lookups>(w: &L, site: Site) -> Result<VType, Stop>
@@ -34,16 +34,16 @@ fn constant_type<L: Lookups>(w: &L, site: Site) -> Result<VType, Stop>
 
 impl State {
     // ldc, ldc_w and ldc2_w.
-    fn push_constant<L: Lookups>(&mut self, w: &L, naming: Naming) -> Result<(), Stop>
+    fn push_constant<L: Lookups>(&mut self, w: &L, resolution: Resolution) -> Result<(), Stop>
         ensures { Leaves result (state_in self.new)
-            (spec.constant_pushed (L.world w.now) naming (state_in self.old)) }
+            (spec.constant_pushed (L.world w.now) resolution (state_in self.old)) }
     {
-        let t = constant_type(w, naming.site)?;
+        let t = constant_type(w, resolution.site)?;
         self.types.push(t)
     }
 
     // A return with a value of this kind.
-    fn take_returned(&mut self, kind: Kind) -> Result<(), Stop>
+    fn take_returned(&mut self, kind: ValueKind) -> Result<(), Stop>
         ensures { Leaves result (state_in self.new)
             (spec.returned_from (Some kind) self.old.types.stack then λ stack.
             Ok (with_stack (state_in self.old) stack)) }
@@ -76,14 +76,14 @@ impl State {
         w: &L,
         own: u32,
         pc: u16,
-        naming: Naming,
+        resolution: Resolution,
         op: &Op,
     ) -> Result<(), Stop>
         ensures { Leaves result (state_in self.new)
-            (event_stack (L.world w.now) own pc naming (row op.now) self.old.types.stack
+            (event_stack (L.world w.now) own pc resolution (row op.now) self.old.types.stack
             then λ stack. Ok (with_stack (state_in self.old) stack)) }
     {
-        self.types.event(w, own, pc, naming, op)
+        self.types.event(w, own, pc, resolution, op)
     }
 
     // An event without operands in the code.
@@ -92,11 +92,11 @@ impl State {
         w: &L,
         own: u32,
         pc: u16,
-        naming: Naming,
+        resolution: Resolution,
         simple: Simple,
     ) -> Result<(), Stop>
         ensures { Leaves result (state_in self.new)
-            (event_stack (L.world w.now) own pc naming (simple_row simple) self.old.types.stack
+            (event_stack (L.world w.now) own pc resolution (simple_row simple) self.old.types.stack
             then λ stack. Ok (with_stack (state_in self.old) stack)) }
     {
         self.types.simple_event(w, simple)
@@ -108,11 +108,11 @@ impl State {
         w: &L,
         m: &Method<'_>,
         pc: u16,
-        naming: Naming,
+        resolution: Resolution,
         simple: Simple,
     ) -> Result<(), Stop>
         ensures { Leaves result (state_in self.new)
-            (spec.row_state (environment_in (L.world w.now) m.now) pc naming (simple_row simple)
+            (spec.row_state (environment_in (L.world w.now) m.now) pc resolution (simple_row simple)
             (state_in self.old)) }
     {
         match simple {
@@ -138,12 +138,12 @@ impl State {
             Simple::LongToInt => self.simple_local(simple),
             Simple::IntNarrow(_) => self.simple_local(simple),
             Simple::LongCompare => self.simple_local(simple),
-            Simple::ArrayLoad(_) => self.simple_event(w, m.info.class, pc, naming, simple),
+            Simple::ArrayLoad(_) => self.simple_event(w, m.info.class, pc, resolution, simple),
             Simple::ArrayStore(element) => self.store_element(w, element),
-            Simple::ArrayLength => self.simple_event(w, m.info.class, pc, naming, simple),
-            Simple::Throw => self.simple_event(w, m.info.class, pc, naming, simple),
-            Simple::MonitorEnter => self.simple_event(w, m.info.class, pc, naming, simple),
-            Simple::MonitorExit => self.simple_event(w, m.info.class, pc, naming, simple),
+            Simple::ArrayLength => self.simple_event(w, m.info.class, pc, resolution, simple),
+            Simple::Throw => self.simple_event(w, m.info.class, pc, resolution, simple),
+            Simple::MonitorEnter => self.simple_event(w, m.info.class, pc, resolution, simple),
+            Simple::MonitorExit => self.simple_event(w, m.info.class, pc, resolution, simple),
         }
     }
 
@@ -159,17 +159,17 @@ impl State {
     // newarray, of elements of this base.
     fn array_of(&mut self, base: Base) -> Result<(), Stop>
         ensures { Leaves result (state_in self.new)
-            ((type_popped Kind.Int self.old.types.stack then λ x. Ok (VType.Named 1 base ∷ x.1))
+            ((type_popped ValueKind.Int self.old.types.stack then λ x. Ok (VType.Named 1 base ∷ x.1))
             then λ stack. Ok (with_stack (state_in self.old) stack)) }
     {
-        self.types.pop_kind(Kind::Int)?;
+        self.types.pop_kind(ValueKind::Int)?;
         self.types.push_slot(VType::Named(1, base))
     }
 
     // newarray.
     fn make_array(&mut self, primitive: Primitive) -> Result<(), Stop>
-        ensures { (env : Environment) (pc : ℕ) (naming : Naming) → Leaves result (state_in self.new)
-            (spec.row_state env pc naming (new_array_row primitive) (state_in self.old)) }
+        ensures { (env : Environment) (pc : ℕ) (resolution : Resolution) → Leaves result (state_in self.new)
+            (spec.row_state env pc resolution (new_array_row primitive) (state_in self.old)) }
     {
         match primitive {
             Primitive::Float => Err(Stop::Broken(RowWhy::Kind)),
@@ -189,31 +189,31 @@ impl State {
         w: &L,
         m: &Method<'_>,
         pc: u16,
-        naming: Naming,
+        resolution: Resolution,
         op: &Op,
     ) -> Result<(), Stop>
         ensures { Leaves result (state_in self.new)
-            (spec.row_state (environment_in (L.world w.now) m.now) pc naming (row op.now)
+            (spec.row_state (environment_in (L.world w.now) m.now) pc resolution (row op.now)
             (state_in self.old)) }
     {
         match op {
-            Op::Simple(simple) => self.simple(w, m, pc, naming, *simple),
-            Op::PushConstant(_) => self.push_constant(w, naming),
-            Op::PushWideConstant(_) => self.push_constant(w, naming),
-            Op::InvokeVirtual(_) => self.invoke_virtual(w, m, pc, naming),
-            Op::InvokeInterface(_, _) => self.invoke_virtual(w, m, pc, naming),
-            Op::InvokeStatic(_) => self.invoke_static(w, m, pc, naming),
-            Op::InvokeSpecial(_) => self.invoke_special(w, m, pc, naming),
+            Op::Simple(simple) => self.simple(w, m, pc, resolution, *simple),
+            Op::PushConstant(_) => self.push_constant(w, resolution),
+            Op::PushWideConstant(_) => self.push_constant(w, resolution),
+            Op::InvokeVirtual(_) => self.invoke_virtual(w, m, pc, resolution),
+            Op::InvokeInterface(_, _) => self.invoke_virtual(w, m, pc, resolution),
+            Op::InvokeStatic(_) => self.invoke_static(w, m, pc, resolution),
+            Op::InvokeSpecial(_) => self.invoke_special(w, m, pc, resolution),
             Op::New(_) => self.make_new(pc),
             Op::NewArray(primitive) => self.make_array(*primitive),
-            Op::GetStatic(_) => self.event(w, m.info.class, pc, naming, op),
-            Op::PutStatic(_) => self.event(w, m.info.class, pc, naming, op),
-            Op::GetField(_) => self.event(w, m.info.class, pc, naming, op),
-            Op::PutField(_) => self.event(w, m.info.class, pc, naming, op),
-            Op::ANewArray(_) => self.event(w, m.info.class, pc, naming, op),
-            Op::MultiANewArray(_, _) => self.event(w, m.info.class, pc, naming, op),
-            Op::CheckCast(_) => self.event(w, m.info.class, pc, naming, op),
-            Op::InstanceOf(_) => self.event(w, m.info.class, pc, naming, op),
+            Op::GetStatic(_) => self.event(w, m.info.class, pc, resolution, op),
+            Op::PutStatic(_) => self.event(w, m.info.class, pc, resolution, op),
+            Op::GetField(_) => self.event(w, m.info.class, pc, resolution, op),
+            Op::PutField(_) => self.event(w, m.info.class, pc, resolution, op),
+            Op::ANewArray(_) => self.event(w, m.info.class, pc, resolution, op),
+            Op::MultiANewArray(_, _) => self.event(w, m.info.class, pc, resolution, op),
+            Op::CheckCast(_) => self.event(w, m.info.class, pc, resolution, op),
+            Op::InstanceOf(_) => self.event(w, m.info.class, pc, resolution, op),
             Op::PushInt(_) => self.local(op),
             Op::PushLong(_) => self.local(op),
             Op::Load(_, _) => self.local(op),

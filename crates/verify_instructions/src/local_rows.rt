@@ -9,12 +9,12 @@ ghost use Rattle.verify_instructions.specs.Rows.{local_types};
 
 use crate::stop::Stop;
 use crate::types::Types;
-use opcodes::{Kind, Op, Simple};
+use opcodes::{Op, Simple, ValueKind};
 use stack_maps::VType;
 
 impl Types {
     // Takes values of these kinds, the topmost first.
-    fn take(&mut self, kinds: &[Kind]) -> Result<(), Stop>
+    fn take(&mut self, kinds: &[ValueKind]) -> Result<(), Stop>
         ensures { Leaves result self.new
             (spec.types_popped kinds.now self.old.stack then λ stack.
             spec.types_on self.old.locals stack) }
@@ -23,7 +23,7 @@ impl Types {
     }
 
     // Takes values of these kinds, the topmost first, and pushes one of this type.
-    fn calculate(&mut self, kinds: &[Kind], gives: VType) -> Result<(), Stop>
+    fn calculate(&mut self, kinds: &[ValueKind], gives: VType) -> Result<(), Stop>
         ensures { Leaves result self.new
             (spec.types_popped kinds.now self.old.stack then λ stack.
             spec.types_on self.old.locals (spec.type_pushed gives stack)) }
@@ -48,15 +48,18 @@ impl Types {
             Simple::Dup2X1 => self.dup2_x1(),
             Simple::Dup2X2 => self.dup2_x2(),
             Simple::Swap => self.swap(),
-            Simple::IntBinary(_) => self.calculate(&[Kind::Int, Kind::Int], VType::Int),
-            Simple::LongBinary(_) => self.calculate(&[Kind::Long, Kind::Long], VType::Long),
-            Simple::LongShift(_) => self.calculate(&[Kind::Int, Kind::Long], VType::Long),
-            Simple::IntNegate => self.calculate(&[Kind::Int], VType::Int),
-            Simple::LongNegate => self.calculate(&[Kind::Long], VType::Long),
-            Simple::IntToLong => self.calculate(&[Kind::Int], VType::Long),
-            Simple::LongToInt => self.calculate(&[Kind::Long], VType::Int),
-            Simple::IntNarrow(_) => self.calculate(&[Kind::Int], VType::Int),
-            Simple::LongCompare => self.calculate(&[Kind::Long, Kind::Long], VType::Int),
+            Simple::IntBinary(_) => self.calculate(&[ValueKind::Int, ValueKind::Int], VType::Int),
+            Simple::LongBinary(_) => self.calculate(
+                &[ValueKind::Long, ValueKind::Long],
+                VType::Long,
+            ),
+            Simple::LongShift(_) => self.calculate(&[ValueKind::Int, ValueKind::Long], VType::Long),
+            Simple::IntNegate => self.calculate(&[ValueKind::Int], VType::Int),
+            Simple::LongNegate => self.calculate(&[ValueKind::Long], VType::Long),
+            Simple::IntToLong => self.calculate(&[ValueKind::Int], VType::Long),
+            Simple::LongToInt => self.calculate(&[ValueKind::Long], VType::Int),
+            Simple::IntNarrow(_) => self.calculate(&[ValueKind::Int], VType::Int),
+            Simple::LongCompare => self.calculate(&[ValueKind::Long, ValueKind::Long], VType::Int),
             Simple::ArrayLoad(_)
             | Simple::ArrayStore(_)
             | Simple::ReturnValue(_)
@@ -79,13 +82,13 @@ impl Types {
             Op::Load(kind, n) => self.load(*kind, *n),
             Op::Store(kind, n) => self.store(*kind, *n),
             Op::Increment(n, _) => self.increment(*n),
-            Op::IfZero(_, _) => self.take(&[Kind::Int]),
-            Op::IfInts(_, _) => self.take(&[Kind::Int, Kind::Int]),
-            Op::IfReferences(_, _) => self.take(&[Kind::Reference, Kind::Reference]),
-            Op::IfNull(_, _) => self.take(&[Kind::Reference]),
+            Op::IfZero(_, _) => self.take(&[ValueKind::Int]),
+            Op::IfInts(_, _) => self.take(&[ValueKind::Int, ValueKind::Int]),
+            Op::IfReferences(_, _) => self.take(&[ValueKind::Reference, ValueKind::Reference]),
+            Op::IfNull(_, _) => self.take(&[ValueKind::Reference]),
             Op::Goto(_) => Ok(()),
-            Op::TableSwitch(_) => self.take(&[Kind::Int]),
-            Op::LookupSwitch(_) => self.take(&[Kind::Int]),
+            Op::TableSwitch(_) => self.take(&[ValueKind::Int]),
+            Op::LookupSwitch(_) => self.take(&[ValueKind::Int]),
             _ => Ok(()),
         }
     }

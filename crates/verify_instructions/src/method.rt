@@ -4,21 +4,21 @@ ghost use Rattle.std.specs.Prelude.{◌≡◌, ◌==◌, position};
 ghost use Rattle.opcodes.specs.declared.op.Instr.{Instr as Instruction};
 ghost use Rattle.std.specs.List.{list_any};
 ghost use Rattle.std.specs.List.Sorted.{IsNonDecreasingBy};
-ghost use Rattle.world_model.specs.Namings.{meanings};
+ghost use Rattle.link_model.specs.Resolutions.{meanings};
 ghost use Rattle.verify_types.specs.Environment as environment;
 ghost use Rattle.verify_types.specs.Calls as spec;
 ghost use Rattle.verify_instructions.specs.Tables.{is_row_covered, new_at};
 
 use class_model::Row;
+use link_model::{MethodCode, MethodInfo, Resolutions, Site};
 use opcodes::{Instr, Op};
-use world_model::{MethodCode, MethodInfo, Namings, Site};
 
 /// A method with code: what its constants mean, by instruction, and what the rows of its exception table catch.
 #[derive(Clone, Copy)]
 pub struct Method<'a> {
     pub info: &'a MethodInfo,
     pub code: &'a MethodCode,
-    pub namings: Namings<'a>,
+    pub resolutions: Resolutions<'a>,
     pub catches: &'a [Option<u32>],
     /// The instructions lie by rising pc.
     pub ghost in_order: { IsNonDecreasingBy (λ (i : Instruction). i.pc) code.now.code },
@@ -52,7 +52,7 @@ fn index_at(code: &[Instr], pc: u32) -> Option<usize>
 /// The class of the `new` at a pc. `None`: there is none.
 pub fn new_class(m: &Method<'_>, pc: u16) -> Option<u32>
     ensures { result ≡
-        new_at pc (environment.with_namings m.now.code.now.code (meanings m.now.namings)) }
+        new_at pc (environment.with_resolutions m.now.code.now.code (meanings m.now.resolutions)) }
 {
     let code: &[Instr] = &m.code.code;
     let Some(n) = index_at(code, u32::from(pc)) else {
@@ -61,7 +61,7 @@ pub fn new_class(m: &Method<'_>, pc: u16) -> Option<u32>
     let Some(i) = code.get(n) else {
         return None;
     };
-    made_by(&i.op, m.namings.at(n).site)
+    made_by(&i.op, m.resolutions.at(n).site)
 }
 
 // Whether the pc lies in the range of the row.

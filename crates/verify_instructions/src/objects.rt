@@ -4,7 +4,7 @@ ghost use Rattle.std.specs.Prelude.{◌≡◌, ℕ, ◌∷◌, Ok, replicate};
 ghost use Rattle.instruction_rows.specs.Results.{◌then◌};
 ghost use Rattle.instruction_rows.specs.Table.{row, simple_row, new_array_row};
 ghost use Rattle.instruction_rows.specs.TypeEffect.{type_popped, types_popped};
-ghost use Rattle.world_model.specs.World.{World, class_type};
+ghost use Rattle.link_model.specs.World.{World, class_type};
 ghost use Rattle.verify_instructions.specs.Rows.{event_stack};
 ghost use Rattle.verify_types.specs.Objects as spec;
 ghost use Rattle.verify_instructions.specs.Answers.{Gives, Leaves, Takes};
@@ -13,12 +13,12 @@ use crate::operands::is_array;
 use crate::stop::Stop;
 use crate::types::Types;
 use instruction_rows::RowWhy;
-use opcodes::{Element, Kind, Op, Primitive, Simple};
+use link_model::{FieldInfo, Lookups, Resolution, Site};
+use opcodes::{Element, Op, Primitive, Simple, ValueKind};
 use stack_maps::VType;
 use verify_types::{
     assignable, base_of_primitive, object_type, throwable_type, type_of_kind, type_of_value,
 };
-use world_model::{FieldInfo, Lookups, Naming, Site};
 
 // The field that a constant means.
 fn field_of<L: Lookups>(w: &L, site: Site) -> Result<&FieldInfo, Stop>
@@ -44,10 +44,10 @@ fn class_of(site: Site) -> Result<u32, Stop>
 }
 
 /// The class that a constant names.
-pub fn named_class(naming: Naming) -> Result<u32, Stop>
-    ensures { Gives result (λ class. class) (spec.named_class naming) }
+pub fn named_class(resolution: Resolution) -> Result<u32, Stop>
+    ensures { Gives result (λ class. class) (spec.named_class resolution) }
 {
-    match naming.class {
+    match resolution.class {
         Some(class) => Ok(class),
         None => Err(Stop::Broken(RowWhy::Kind)),
     }
@@ -76,33 +76,33 @@ fn element_type(element: Element, array: VType) -> VType
 
 impl Types {
     /// getstatic.
-    pub fn get_static<L: Lookups>(&mut self, w: &L, naming: Naming) -> Result<(), Stop>
+    pub fn get_static<L: Lookups>(&mut self, w: &L, resolution: Resolution) -> Result<(), Stop>
         ensures stack { Leaves result self.new.stack
-            (spec.static_gotten (L.world w.now) naming self.old.stack) }
+            (spec.static_gotten (L.world w.now) resolution self.old.stack) }
         ensures locals { self.new.locals ≡ self.old.locals }
     {
-        let field = field_of(w, naming.site)?;
+        let field = field_of(w, resolution.site)?;
         self.push(type_of_kind(w, &field.kind))
     }
 
     /// putstatic.
-    pub fn put_static<L: Lookups>(&mut self, w: &L, naming: Naming) -> Result<(), Stop>
+    pub fn put_static<L: Lookups>(&mut self, w: &L, resolution: Resolution) -> Result<(), Stop>
         ensures stack { Leaves result self.new.stack
-            (spec.static_put (L.world w.now) naming self.old.stack) }
+            (spec.static_put (L.world w.now) resolution self.old.stack) }
         ensures locals { self.new.locals ≡ self.old.locals }
     {
-        let field = field_of(w, naming.site)?;
+        let field = field_of(w, resolution.site)?;
         self.pop_wanted(w, type_of_kind(w, &field.kind))
     }
 
     /// getfield.
-    pub fn get_field<L: Lookups>(&mut self, w: &L, naming: Naming) -> Result<(), Stop>
+    pub fn get_field<L: Lookups>(&mut self, w: &L, resolution: Resolution) -> Result<(), Stop>
         ensures stack { Leaves result self.new.stack
-            (spec.field_gotten (L.world w.now) naming self.old.stack) }
+            (spec.field_gotten (L.world w.now) resolution self.old.stack) }
         ensures locals { self.new.locals ≡ self.old.locals }
     {
-        let field = field_of(w, naming.site)?;
-        let class = named_class(naming)?;
+        let field = field_of(w, resolution.site)?;
+        let class = named_class(resolution)?;
         self.pop_wanted(w, w.class_type(class))?;
         self.push(type_of_kind(w, &field.kind))
     }
@@ -119,7 +119,7 @@ impl Types {
             (spec.set_in (L.world w.now) own class field.now self.old.stack) }
         ensures locals { self.new.locals ≡ self.old.locals }
     {
-        let owner = self.pop_kind(Kind::Reference)?;
+        let owner = self.pop_kind(ValueKind::Reference)?;
         if assignable(w, owner, w.class_type(class)) || may_set_early(own, class, field, owner) {
             Ok(())
         } else {
@@ -128,13 +128,18 @@ impl Types {
     }
 
     /// putfield, in the code of the class `own`.
-    pub fn put_field<L: Lookups>(&mut self, w: &L, own: u32, naming: Naming) -> Result<(), Stop>
+    pub fn put_field<L: Lookups>(
+        &mut self,
+        w: &L,
+        own: u32,
+        resolution: Resolution,
+    ) -> Result<(), Stop>
         ensures stack { Leaves result self.new.stack
-            (spec.field_put (L.world w.now) own naming self.old.stack) }
+            (spec.field_put (L.world w.now) own resolution self.old.stack) }
         ensures locals { self.new.locals ≡ self.old.locals }
     {
-        let field = field_of(w, naming.site)?;
-        let class = named_class(naming)?;
+        let field = field_of(w, resolution.site)?;
+        let class = named_class(resolution)?;
         self.pop_wanted(w, type_of_kind(w, &field.kind))?;
         self.pop_owner(w, own, class, field)
     }
@@ -144,7 +149,7 @@ impl Types {
         ensures stack { Leaves result self.new.stack (spec.array_loaded element self.old.stack) }
         ensures locals { self.new.locals ≡ self.old.locals }
     {
-        self.pop_kind(Kind::Int)?;
+        self.pop_kind(ValueKind::Int)?;
         let array = self.pop_array(element)?;
         self.push(element_type(element, array))
     }
@@ -158,11 +163,11 @@ impl Types {
         match element {
             Element::Reference => self.pop_wanted(w, object_type(w)),
             Element::Long => {
-                self.pop_kind(Kind::Long)?;
+                self.pop_kind(ValueKind::Long)?;
                 Ok(())
             }
             Element::Int | Element::Byte | Element::Char | Element::Short => {
-                self.pop_kind(Kind::Int)?;
+                self.pop_kind(ValueKind::Int)?;
                 Ok(())
             }
         }
@@ -175,7 +180,7 @@ impl Types {
         ensures locals { self.new.locals ≡ self.old.locals }
     {
         self.pop_stored(w, element)?;
-        self.pop_kind(Kind::Int)?;
+        self.pop_kind(ValueKind::Int)?;
         self.pop_array(element)?;
         Ok(())
     }
@@ -185,7 +190,7 @@ impl Types {
         ensures stack { Leaves result self.new.stack (spec.length_gotten self.old.stack) }
         ensures locals { self.new.locals ≡ self.old.locals }
     {
-        let array = self.pop_kind(Kind::Reference)?;
+        let array = self.pop_kind(ValueKind::Reference)?;
         if is_array(array) {
             self.push_slot(VType::Int)
         } else {
@@ -196,42 +201,47 @@ impl Types {
     // Takes so many lengths.
     fn pop_lengths(&mut self, lengths: u8) -> Result<(), Stop>
         ensures stack { Leaves result self.new.stack
-            (types_popped (replicate lengths Kind.Int) self.old.stack) }
+            (types_popped (replicate lengths ValueKind.Int) self.old.stack) }
         ensures locals { self.new.locals ≡ self.old.locals }
     {
         if lengths == 0 {
             return Ok(());
         }
-        self.pop_kind(Kind::Int)?;
+        self.pop_kind(ValueKind::Int)?;
         self.pop_lengths(lengths - 1)
     }
 
     /// anewarray and multianewarray, with so many lengths.
-    pub fn new_arrays<L: Lookups>(&mut self, w: &L, naming: Naming, lengths: u8) -> Result<(), Stop>
+    pub fn new_arrays<L: Lookups>(
+        &mut self,
+        w: &L,
+        resolution: Resolution,
+        lengths: u8,
+    ) -> Result<(), Stop>
         ensures stack { Leaves result self.new.stack
-            (spec.array_made (L.world w.now) naming lengths self.old.stack) }
+            (spec.array_made (L.world w.now) resolution lengths self.old.stack) }
         ensures locals { self.new.locals ≡ self.old.locals }
     {
-        let class = class_of(naming.site)?;
+        let class = class_of(resolution.site)?;
         self.pop_lengths(lengths)?;
         self.push_slot(w.class_type(class))
     }
 
     // Takes an object, and gives the class that the constant means.
-    fn pop_object<L: Lookups>(&mut self, w: &L, naming: Naming) -> Result<u32, Stop>
+    fn pop_object<L: Lookups>(&mut self, w: &L, resolution: Resolution) -> Result<u32, Stop>
         ensures stack { Takes result self.new.stack
-            (spec.object_taken (L.world w.now) naming self.old.stack) }
+            (spec.object_taken (L.world w.now) resolution self.old.stack) }
         ensures locals { self.new.locals ≡ self.old.locals }
     {
-        let class = class_of(naming.site)?;
+        let class = class_of(resolution.site)?;
         self.pop_wanted(w, object_type(w))?;
         Ok(class)
     }
 
     // An instruction without operands in the code.
     pub fn simple_event<L: Lookups>(&mut self, w: &L, simple: Simple) -> Result<(), Stop>
-        ensures stack { (own pc : ℕ) (naming : Naming) → Leaves result self.new.stack
-            (event_stack (L.world w.now) own pc naming (simple_row simple) self.old.stack) }
+        ensures stack { (own pc : ℕ) (resolution : Resolution) → Leaves result self.new.stack
+            (event_stack (L.world w.now) own pc resolution (simple_row simple) self.old.stack) }
         ensures locals { self.new.locals ≡ self.old.locals }
     {
         match simple {
@@ -247,47 +257,47 @@ impl Types {
     // Takes a reference.
     fn take_reference(&mut self) -> Result<(), Stop>
         ensures stack { Leaves result self.new.stack
-            (type_popped Kind.Reference self.old.stack then λ x. Ok x.1) }
+            (type_popped ValueKind.Reference self.old.stack then λ x. Ok x.1) }
         ensures locals { self.new.locals ≡ self.old.locals }
     {
-        self.pop_kind(Kind::Reference)?;
+        self.pop_kind(ValueKind::Reference)?;
         Ok(())
     }
 
     // newarray.
     pub fn new_array(&mut self, primitive: Primitive) -> Result<(), Stop>
-        ensures stack { (w : World) (own pc : ℕ) (naming : Naming) → Leaves result self.new.stack
-            (event_stack w own pc naming (new_array_row primitive) self.old.stack) }
+        ensures stack { (w : World) (own pc : ℕ) (resolution : Resolution) → Leaves result self.new.stack
+            (event_stack w own pc resolution (new_array_row primitive) self.old.stack) }
         ensures locals { self.new.locals ≡ self.old.locals }
     {
         match primitive {
             Primitive::Float | Primitive::Double => Ok(()),
             _ => {
-                self.pop_kind(Kind::Int)?;
+                self.pop_kind(ValueKind::Int)?;
                 self.push_slot(VType::Named(1, base_of_primitive(primitive)))
             }
         }
     }
 
     // checkcast.
-    fn check_cast<L: Lookups>(&mut self, w: &L, naming: Naming) -> Result<(), Stop>
+    fn check_cast<L: Lookups>(&mut self, w: &L, resolution: Resolution) -> Result<(), Stop>
         ensures stack { Leaves result self.new.stack
-            (spec.object_taken (L.world w.now) naming self.old.stack then λ x.
+            (spec.object_taken (L.world w.now) resolution self.old.stack then λ x.
             Ok (class_type (L.world w.now) x.0 ∷ x.1)) }
         ensures locals { self.new.locals ≡ self.old.locals }
     {
-        let class = self.pop_object(w, naming)?;
+        let class = self.pop_object(w, resolution)?;
         self.push_slot(w.class_type(class))
     }
 
     // instanceof.
-    fn instance_of<L: Lookups>(&mut self, w: &L, naming: Naming) -> Result<(), Stop>
+    fn instance_of<L: Lookups>(&mut self, w: &L, resolution: Resolution) -> Result<(), Stop>
         ensures stack { Leaves result self.new.stack
-            (spec.object_taken (L.world w.now) naming self.old.stack then λ x.
+            (spec.object_taken (L.world w.now) resolution self.old.stack then λ x.
             Ok (VType.Int ∷ x.1)) }
         ensures locals { self.new.locals ≡ self.old.locals }
     {
-        self.pop_object(w, naming)?;
+        self.pop_object(w, resolution)?;
         self.push_slot(VType::Int)
     }
 
@@ -298,25 +308,25 @@ impl Types {
         w: &L,
         own: u32,
         pc: u16,
-        naming: Naming,
+        resolution: Resolution,
         op: &Op,
     ) -> Result<(), Stop>
         ensures stack { Leaves result self.new.stack
-            (event_stack (L.world w.now) own pc naming (row op.now) self.old.stack) }
+            (event_stack (L.world w.now) own pc resolution (row op.now) self.old.stack) }
         ensures locals { self.new.locals ≡ self.old.locals }
     {
         match op {
             Op::Simple(simple) => self.simple_event(w, *simple),
-            Op::GetStatic(_) => self.get_static(w, naming),
-            Op::PutStatic(_) => self.put_static(w, naming),
-            Op::GetField(_) => self.get_field(w, naming),
-            Op::PutField(_) => self.put_field(w, own, naming),
+            Op::GetStatic(_) => self.get_static(w, resolution),
+            Op::PutStatic(_) => self.put_static(w, resolution),
+            Op::GetField(_) => self.get_field(w, resolution),
+            Op::PutField(_) => self.put_field(w, own, resolution),
             Op::New(_) => self.push_slot(VType::Uninit(pc)),
             Op::NewArray(primitive) => self.new_array(*primitive),
-            Op::ANewArray(_) => self.new_arrays(w, naming, 1),
-            Op::MultiANewArray(_, lengths) => self.new_arrays(w, naming, *lengths),
-            Op::CheckCast(_) => self.check_cast(w, naming),
-            Op::InstanceOf(_) => self.instance_of(w, naming),
+            Op::ANewArray(_) => self.new_arrays(w, resolution, 1),
+            Op::MultiANewArray(_, lengths) => self.new_arrays(w, resolution, *lengths),
+            Op::CheckCast(_) => self.check_cast(w, resolution),
+            Op::InstanceOf(_) => self.instance_of(w, resolution),
             _ => Ok(()),
         }
     }

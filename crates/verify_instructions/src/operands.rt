@@ -8,10 +8,10 @@ ghost use Rattle.verify_instructions.specs.Answers.{Leaves, Takes};
 use crate::stop::Stop;
 use crate::types::Types;
 use instruction_rows::{RowWhy, kind_of_type};
-use opcodes::{Element, Kind};
+use link_model::Lookups;
+use opcodes::{Element, ValueKind};
 use stack_maps::{Base, VType};
 use verify_types::assignable;
-use world_model::Lookups;
 
 impl Types {
     /// Takes a value that is assignable to this type.
@@ -36,7 +36,7 @@ impl Types {
         ensures popped { Takes result self.new.stack (spec.array_popped element self.old.stack) }
         ensures locals { self.new.locals ≡ self.old.locals }
     {
-        let array = self.pop_kind(Kind::Reference)?;
+        let array = self.pop_kind(ValueKind::Reference)?;
         if serves(element, array) {
             Ok(array)
         } else {

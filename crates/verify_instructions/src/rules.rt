@@ -12,10 +12,10 @@ ghost use Rattle.verify_instructions.specs.Views.{state_in, environment_in};
 
 use crate::method::Method;
 use crate::state::State;
-use opcodes::{Kind, Op, Primitive, Simple};
+use link_model::Lookups;
+use opcodes::{Op, Primitive, Simple, ValueKind};
 use stack_maps::VType;
 use verify_types::{assignable, type_of_kind};
-use world_model::Lookups;
 
 // Whether the code goes on after an instruction without operands.
 fn simple_goes_on(simple: Simple) -> bool
@@ -59,7 +59,7 @@ fn is_of_result<L: Lookups>(w: &L, m: &Method<'_>, t: VType) -> bool
 
 impl State {
     // Whether the value of this kind on top, if it is there, is of the method's result.
-    fn is_result<L: Lookups>(&self, w: &L, m: &Method<'_>, kind: Kind) -> bool
+    fn is_result<L: Lookups>(&self, w: &L, m: &Method<'_>, kind: ValueKind) -> bool
         ensures { result ≡ spec.is_result (environment_in (L.world w.now) m.now)
             (type_popped kind self.now.types.stack) }
     {

@@ -17,7 +17,7 @@ use crate::operand_stack::OperandStack;
 use crate::state::Uninitialized;
 use crate::stop::Stop;
 use instruction_rows::{RowWhy, is_narrow, is_wide, kind_of_type};
-use opcodes::Kind;
+use opcodes::ValueKind;
 use stack_maps::VType;
 use std::alloc::{AllocError, Global};
 use std::marker::Model;
@@ -92,7 +92,7 @@ impl Types {
 
     // Takes a long.
     fn pop_long(&mut self) -> Result<VType, Stop>
-        ensures popped { Takes result self.new.stack (spec.type_popped Kind.Long self.old.stack) }
+        ensures popped { Takes result self.new.stack (spec.type_popped ValueKind.Long self.old.stack) }
         ensures locals { self.new.locals ≡ self.old.locals }
     {
         match self.slots.stack.pop() {
@@ -107,7 +107,7 @@ impl Types {
 
     // Takes an int.
     fn pop_int(&mut self) -> Result<VType, Stop>
-        ensures popped { Takes result self.new.stack (spec.type_popped Kind.Int self.old.stack) }
+        ensures popped { Takes result self.new.stack (spec.type_popped ValueKind.Int self.old.stack) }
         ensures locals { self.new.locals ≡ self.old.locals }
     {
         match self.slots.stack.pop() {
@@ -120,27 +120,27 @@ impl Types {
     // Takes a reference.
     fn pop_reference(&mut self) -> Result<VType, Stop>
         ensures popped { Takes result self.new.stack
-            (spec.type_popped Kind.Reference self.old.stack) }
+            (spec.type_popped ValueKind.Reference self.old.stack) }
         ensures locals { self.new.locals ≡ self.old.locals }
     {
         match self.slots.stack.pop() {
             None => Err(Stop::Broken(RowWhy::Depth)),
             Some(t) => match kind_of_type(t) {
-                Some(Kind::Reference) => Ok(t),
+                Some(ValueKind::Reference) => Ok(t),
                 _ => Err(Stop::Broken(RowWhy::Kind)),
             },
         }
     }
 
     /// Takes the type of a value of this kind.
-    pub fn pop_kind(&mut self, kind: Kind) -> Result<VType, Stop>
+    pub fn pop_kind(&mut self, kind: ValueKind) -> Result<VType, Stop>
         ensures popped { Takes result self.new.stack (spec.type_popped kind self.old.stack) }
         ensures locals { self.new.locals ≡ self.old.locals }
     {
         match kind {
-            Kind::Int => self.pop_int(),
-            Kind::Long => self.pop_long(),
-            Kind::Reference => self.pop_reference(),
+            ValueKind::Int => self.pop_int(),
+            ValueKind::Long => self.pop_long(),
+            ValueKind::Reference => self.pop_reference(),
         }
     }
 
@@ -228,7 +228,7 @@ impl Types {
     }
 
     // The type of a local variable, where it is of this kind.
-    fn local(&self, kind: Kind, n: u16) -> Result<VType, Stop>
+    fn local(&self, kind: ValueKind, n: u16) -> Result<VType, Stop>
         ensures { Gives result (λ t. t) (spec.local_type kind n self.now.locals) }
     {
         let Some(t) = self.locals().get(usize::from(n)) else {
@@ -242,7 +242,7 @@ impl Types {
     }
 
     /// Pushes what a local variable holds.
-    pub fn load(&mut self, kind: Kind, n: u16) -> Result<(), Stop>
+    pub fn load(&mut self, kind: ValueKind, n: u16) -> Result<(), Stop>
         ensures { Leaves result self.new (spec.typed (rows.load kind n) self.old) }
     {
         let t = self.local(kind, n)?;
@@ -250,7 +250,7 @@ impl Types {
     }
 
     /// Takes a value, and writes it to a local variable.
-    pub fn store(&mut self, kind: Kind, n: u16) -> Result<(), Stop>
+    pub fn store(&mut self, kind: ValueKind, n: u16) -> Result<(), Stop>
         ensures { Leaves result self.new (spec.typed (rows.store kind n) self.old) }
     {
         let t = self.pop_kind(kind)?;
@@ -260,14 +260,14 @@ impl Types {
     /// Adds to an int in a local variable.
     pub fn increment(&mut self, n: u16) -> Result<(), Stop>
         ensures { Leaves result self.new
-            (spec.local_type Kind.Int n self.old.locals then λ t. Ok self.old) }
+            (spec.local_type ValueKind.Int n self.old.locals then λ t. Ok self.old) }
     {
-        self.local(Kind::Int, n)?;
+        self.local(ValueKind::Int, n)?;
         Ok(())
     }
 
     /// Takes values of these kinds, the topmost first.
-    pub fn pop_kinds(&mut self, kinds: &[Kind]) -> Result<(), Stop>
+    pub fn pop_kinds(&mut self, kinds: &[ValueKind]) -> Result<(), Stop>
         ensures popped { Leaves result self.new.stack (spec.types_popped kinds.now self.old.stack) }
         ensures locals { self.new.locals ≡ self.old.locals }
     {
@@ -295,25 +295,25 @@ impl Types {
     }
 
     /// The type of the value of this kind on top. `None`: there is none.
-    pub fn peek(&self, kind: Kind) -> Option<VType>
+    pub fn peek(&self, kind: ValueKind) -> Option<VType>
         ensures { result ≡ option_map (λ x. x.0)
             (result_ok (spec.type_popped kind self.now.stack)) }
     {
         let (top, below) = self.stack().split_last()?;
         match kind {
-            Kind::Int => match top {
+            ValueKind::Int => match top {
                 VType::Int => Some(VType::Int),
                 _ => None,
             },
-            Kind::Long => match top {
+            ValueKind::Long => match top {
                 VType::Top => match below.last() {
                     Some(VType::Long) => Some(VType::Long),
                     _ => None,
                 },
                 _ => None,
             },
-            Kind::Reference => {
-                if is_of_kind(*top, Kind::Reference) {
+            ValueKind::Reference => {
+                if is_of_kind(*top, ValueKind::Reference) {
                     Some(*top)
                 } else {
                     None
@@ -350,13 +350,13 @@ impl Types {
 }
 
 // Whether a type is of this kind.
-fn is_of_kind(t: VType, kind: Kind) -> bool
+fn is_of_kind(t: VType, kind: ValueKind) -> bool
     ensures { result ≡ is_kind kind (kind_of_type t) }
 {
     match kind_of_type(t) {
         None => false,
-        Some(Kind::Int) => matches!(kind, Kind::Int),
-        Some(Kind::Long) => matches!(kind, Kind::Long),
-        Some(Kind::Reference) => matches!(kind, Kind::Reference),
+        Some(ValueKind::Int) => matches!(kind, ValueKind::Int),
+        Some(ValueKind::Long) => matches!(kind, ValueKind::Long),
+        Some(ValueKind::Reference) => matches!(kind, ValueKind::Reference),
     }
 }

@@ -9,7 +9,7 @@ use Rattle.instruction_rows.specs.declared.row_why.RowWhy.{RowWhy}
 use Rattle.instruction_rows.specs.declared.row_why.RowWhy.TheVariants as row_whys
 use Rattle.instruction_rows.specs.Rows.{targets_of_row, row_goes_on}
 use Rattle.instruction_rows.proofs.Steps.{some_is}
-use Rattle.world_model.specs.World.{World}
+use Rattle.link_model.specs.World.{World}
 use Rattle.verify_types.specs.declared.why.VerifyWhy.{VerifyWhy}
 use Rattle.verify_types.specs.declared.why.VerifyWhy.TheVariants as whys
 use Rattle.verify_types.specs.TypeStates.{TypeState}

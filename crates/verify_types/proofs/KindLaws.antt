@@ -8,7 +8,7 @@ use Rattle.instruction_rows.specs.declared.value.Slot.{Slot}
 use Rattle.instruction_rows.specs.Contents.{Contents}
 use Rattle.instruction_rows.specs.Soundness.{KeepsKind, HasKinds}
 use Rattle.instruction_rows.proofs.KindLaws.{are_of_kept}
-use Rattle.world_model.specs.World.{World}
+use Rattle.link_model.specs.World.{World}
 use Rattle.verify_types.specs.Assignability.{assignable}
 use Rattle.verify_types.specs.TypeStates.{TypeState, all_assignable, fits}
 use Rattle.verify_types.proofs.ListLaws.{and_true}

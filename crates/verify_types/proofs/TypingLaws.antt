@@ -10,7 +10,7 @@ use Rattle.items.specs.First.{Each, AllNone}
 use Rattle.items.proofs.FirstLaws.{passed}
 use Rattle.instruction_rows.specs.Pcs.{pc_of}
 use Rattle.instruction_rows.specs.Rows.{targets_of_row, row_goes_on}
-use Rattle.world_model.specs.World.{World}
+use Rattle.link_model.specs.World.{World}
 use Rattle.verify_types.specs.ClassTypes.{throwable_type}
 use Rattle.verify_types.specs.Assignability.{assignable}
 use Rattle.verify_types.specs.TypeStates.{TypeState, fits}
@@ -21,7 +21,7 @@ use Rattle.verify_types.specs.Handlers.{fits_frame, caught_type, caught, is_sati
 use Rattle.verify_types.specs.Walk.{Placed, standing, behind, is_end, placed, walk, placed_at}
 use Rattle.verify_types.specs.Faults.{is_target, fits_target, fits_next, is_inside, pc_fault, placed_faults, method_faults, IsWellTyped}
 use Rattle.verify_types.specs.Acceptance.{KeepsRules, IsAccepted, AreAccepted}
-use Rattle.world_model.specs.Decoded.{AreDecoded}
+use Rattle.link_model.specs.Decoded.{AreDecoded}
 use Rattle.verify_types.proofs.CodeLaws.{InOrder, IsLinkedCode, are_linked}
 use Rattle.verify_types.specs.Typing.{Leads, LeadsTo, IsFine, IsTypedMethod, AreTyped}
 use Rattle.verify_types.proofs.KindLaws.{fits_kept}

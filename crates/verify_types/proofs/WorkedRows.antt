@@ -7,17 +7,17 @@ use Rattle.opcodes.specs.declared.op.Op.{Op}
 use Rattle.opcodes.specs.declared.op.Op.TheVariants as ops
 use Rattle.opcodes.specs.declared.op.Instr.{Instr}
 use Rattle.opcodes.specs.declared.op.Simple.TheVariants as simples
-use Rattle.opcodes.specs.declared.op.Kind.TheVariants as kinds
+use Rattle.opcodes.specs.declared.op.ValueKind.TheVariants as kinds
 use Rattle.stack_maps.specs.declared.types.Base.TheVariants as bases
 use Rattle.stack_maps.specs.declared.types.VType.{VType}
 use Rattle.stack_maps.specs.declared.types.VType.TheVariants as types
 use Rattle.stack_maps.specs.Readers.{type_at, wide_frame_at, frame_at, changes_at, changes_of, table_of}
-use Rattle.world_model.specs.declared.members.MethodInfo.{MethodInfo}
-use Rattle.world_model.specs.declared.members.MethodCode.{MethodCode}
+use Rattle.link_model.specs.declared.members.MethodInfo.{MethodInfo}
+use Rattle.link_model.specs.declared.members.MethodCode.{MethodCode}
 use Rattle.descriptors.specs.declared.kind.ElementType.TheVariants as elements
-use Rattle.world_model.specs.declared.sites.Naming.{Naming}
-use Rattle.world_model.specs.declared.sites.Site.TheVariants as sites
-use Rattle.world_model.specs.World.{World}
+use Rattle.link_model.specs.declared.sites.Resolution.{Resolution}
+use Rattle.link_model.specs.declared.sites.Site.TheVariants as sites
+use Rattle.link_model.specs.World.{World}
 use Rattle.verify_types.specs.declared.why.VerifyWhy.{VerifyWhy}
 use Rattle.verify_types.specs.declared.why.VerifyWhy.TheVariants as whys
 use Rattle.verify_types.specs.Assignability.{assignable}
@@ -39,7 +39,7 @@ names = record {
   fields = record { class = 3; flags = 0; name = codes "f"; kind = record { dimensions = 0; element = elements.Int } } ∷ [];
   methods = constructor ∷ static_method ∷ [];
   codes = [];
-  namings = [];
+  resolutions = [];
   catches = [];
 }
 
@@ -179,23 +179,23 @@ no_handler = refl
 -- ---- objects that are created
 
 -- what the constants of A, of its constructor and of its field mean
-abbrev plain : Naming
+abbrev plain : Resolution
 plain = record { site = sites.Plain; class = None }
 
-abbrev class_a : Naming
+abbrev class_a : Resolution
 class_a = record { site = sites.Class 3; class = Some 3 }
 
-abbrev constructor_a : Naming
+abbrev constructor_a : Resolution
 constructor_a = record { site = sites.Method 0; class = Some 3 }
 
-abbrev constructor_of_object : Naming
+abbrev constructor_of_object : Resolution
 constructor_of_object = record { site = sites.Method 0; class = Some 0 }
 
-abbrev field_a : Naming
+abbrev field_a : Resolution
 field_a = record { site = sites.Field 0; class = Some 3 }
 
-abbrev created : MethodInfo → List Instr → List Row → List Naming → Environment
-created m is rows namings = environment_of names m (code_of is rows (0 ∷ 0 ∷ [])) namings []
+abbrev created : MethodInfo → List Instr → List Row → List Resolution → Environment
+created m is rows resolutions = environment_of names m (code_of is rows (0 ∷ 0 ∷ [])) resolutions []
 
 abbrev aload_0 : Op
 aload_0 = ops.Load kinds.Reference 0

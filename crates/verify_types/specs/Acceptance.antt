@@ -3,7 +3,7 @@ use Rattle.std.specs.Prelude.{◌≡◌, ℕ, true, false, [], Some, Ok, ◌&&�
 use Rattle.std.specs.List.{list_all}
 use Rattle.items.specs.First.{Each}
 use Rattle.instruction_rows.specs.Rows.{targets_of_row, row_goes_on}
-use Rattle.world_model.specs.World.{World}
+use Rattle.link_model.specs.World.{World}
 use Rattle.verify_types.specs.TypeStates.{TypeState}
 use Rattle.verify_types.specs.Environment.{Environment, environment}
 use Rattle.verify_types.specs.Effects.{row_of, state_after}

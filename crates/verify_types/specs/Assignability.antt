@@ -5,10 +5,10 @@ use Rattle.stack_maps.specs.declared.types.Base.{Base}
 use Rattle.stack_maps.specs.declared.types.Base.TheVariants as bases
 use Rattle.stack_maps.specs.declared.types.VType.{VType}
 use Rattle.stack_maps.specs.declared.types.VType.TheVariants as types
-use Rattle.linkage.specs.Program.{is_interface}
-use Rattle.linkage.specs.Hierarchy.{is_below}
-use Rattle.world_model.specs.World.{World, class_count}
-pub use Rattle.world_model.specs.Subtypes.{is_number, is_named, is_object, is_above_arrays, is_array_super}
+use Rattle.link_rules.specs.Program.{is_interface}
+use Rattle.link_rules.specs.Hierarchy.{is_below}
+use Rattle.link_model.specs.World.{World, class_count}
+pub use Rattle.link_model.specs.Subtypes.{is_number, is_named, is_object, is_above_arrays, is_array_super}
 
 -- A class to itself, to its superclasses, and to every interface. A class that isn't in the program, named by a descriptor or a
 -- map alone, counts as one whose only superclass is Object. (own)

@@ -5,7 +5,7 @@ use Rattle.std.specs.Option.{option_map_or, option_and_then}
 use Rattle.std.specs.List.{list_any}
 use Rattle.class_grammar.specs.Names.{is_initializer}
 use Rattle.descriptors.specs.declared.kind.Signature.{Signature}
-use Rattle.opcodes.specs.declared.op.Kind.TheVariants as kinds
+use Rattle.opcodes.specs.declared.op.ValueKind.TheVariants as kinds
 use Rattle.opcodes.specs.declared.op.Op.{Op}
 use Rattle.opcodes.specs.declared.op.Op.TheVariants as ops
 use Rattle.stack_maps.specs.declared.types.VType.{VType}
@@ -15,12 +15,12 @@ use Rattle.instruction_rows.specs.declared.row_why.RowWhy.TheVariants as whys
 use Rattle.instruction_rows.specs.Results.{◌then◌}
 use Rattle.instruction_rows.specs.Rows.{Invocation, virtual, special, static, interface, dynamic}
 use Rattle.instruction_rows.specs.TypeEffect.{type_popped, type_pushed}
-use Rattle.linkage.specs.Hierarchy.{parent_of}
-use Rattle.world_model.specs.declared.members.MethodInfo.{MethodInfo}
-use Rattle.world_model.specs.declared.sites.Naming.{Naming}
-use Rattle.world_model.specs.declared.sites.Site.{Site}
-use Rattle.world_model.specs.declared.sites.Site.TheVariants as sites
-use Rattle.world_model.specs.World.{World, class_type}
+use Rattle.link_rules.specs.Hierarchy.{parent_of}
+use Rattle.link_model.specs.declared.members.MethodInfo.{MethodInfo}
+use Rattle.link_model.specs.declared.sites.Resolution.{Resolution}
+use Rattle.link_model.specs.declared.sites.Site.{Site}
+use Rattle.link_model.specs.declared.sites.Site.TheVariants as sites
+use Rattle.link_model.specs.World.{World, class_type}
 use Rattle.verify_types.specs.ClassTypes.{type_of_kind}
 use Rattle.verify_types.specs.Assignability.{is_number, assignable}
 use Rattle.verify_types.specs.TypeStates.{TypeState, with_stack, is_this, is_new, replaced}
@@ -60,7 +60,7 @@ made_by op site = None
 
 -- whether there is a `new` of this class at the pc
 abbrev pub is_new_of : Environment → ℕ → ℕ → Bool
-is_new_of env pc class = is_number (option_and_then (λ (i : Instruction). made_by i.instr.op i.naming.site) (instruction_at env pc)) class
+is_new_of env pc class = is_number (option_and_then (λ (i : Instruction). made_by i.instr.op i.resolution.site) (instruction_at env pc)) class
 
 -- The class named is that of the object's `new`.
 abbrev pub may_initialize_new : Environment → ℕ → ℕ → Bool
@@ -134,6 +134,6 @@ called env pc special m class s =
 called env pc static m class s = static_called env.world m s
 called env pc dynamic m class s = Err whys.Kind
 
-abbrev pub invoke_state : Environment → ℕ → Naming → Invocation → TypeState → Result TypeState RowWhy
-invoke_state env pc naming invocation s =
-    method_of env.world naming.site then λ m. named_class naming then λ class. called env pc invocation m class s
+abbrev pub invoke_state : Environment → ℕ → Resolution → Invocation → TypeState → Result TypeState RowWhy
+invoke_state env pc resolution invocation s =
+    method_of env.world resolution.site then λ m. named_class resolution then λ class. called env pc invocation m class s

@@ -12,8 +12,8 @@ use Rattle.stack_maps.specs.declared.types.VType.{VType}
 use Rattle.stack_maps.specs.declared.types.VType.TheVariants as types
 use Rattle.instruction_rows.specs.declared.value.Value.{Value}
 use Rattle.instruction_rows.specs.declared.value.Value.TheVariants as values
-use Rattle.world_model.specs.World.{World, name_number}
-use Rattle.world_model.specs.Pools.{pool_type}
+use Rattle.link_model.specs.World.{World, name_number}
+use Rattle.link_model.specs.Pools.{pool_type}
 
 -- ---- types of a stack map
 

@@ -14,13 +14,13 @@ use Rattle.stack_maps.specs.declared.error.MapWhy.{MapWhy}
 use Rattle.stack_maps.specs.Expansion.{expansion}
 use Rattle.items.specs.Options.{◌>>=◌}
 use Rattle.instruction_rows.specs.Contents.{slot_types}
-use Rattle.linkage.specs.Program.{has_flag}
-use Rattle.world_model.specs.declared.members.MethodInfo.{MethodInfo}
-use Rattle.world_model.specs.declared.members.MethodCode.{MethodCode}
-use Rattle.world_model.specs.declared.sites.Naming.{Naming}
-use Rattle.world_model.specs.declared.sites.Site.TheVariants.{Plain}
-use Rattle.world_model.specs.World.{World, class_type}
-use Rattle.world_model.specs.Decoded.{code_at}
+use Rattle.link_rules.specs.Program.{has_flag}
+use Rattle.link_model.specs.declared.members.MethodInfo.{MethodInfo}
+use Rattle.link_model.specs.declared.members.MethodCode.{MethodCode}
+use Rattle.link_model.specs.declared.sites.Resolution.{Resolution}
+use Rattle.link_model.specs.declared.sites.Site.TheVariants.{Plain}
+use Rattle.link_model.specs.World.{World, class_type}
+use Rattle.link_model.specs.Decoded.{code_at}
 use Rattle.verify_types.specs.ClassTypes.{resolve, type_of_kind}
 use Rattle.verify_types.specs.Assignability.{is_object}
 use Rattle.verify_types.specs.TypeStates.{TypeState, is_this, padded}
@@ -28,7 +28,7 @@ use Rattle.verify_types.specs.TypeStates.{TypeState, is_this, padded}
 -- an instruction, and what its constant means
 pub record Instruction : Type 0 where
   pub instr : Instr
-  pub naming : Naming
+  pub resolution : Resolution
 
 -- a row of the exception table, and the number of the class that it catches, None for every throwable
 pub record Handler : Type 0 where
@@ -105,25 +105,25 @@ map_frames w m max_locals (Err fault) = []
 -- ---- the tables of a method
 
 -- the instructions, each with its entry of the table, or with none where the table is short
-abbrev pub with_namings : List Instr → List Naming → List Instruction
-with_namings [] namings = []
-with_namings (i ∷ is) namings =
-    record { instr = i; naming = get_or namings 0 (record { site = Plain; class = None }) } ∷ with_namings is (drop 1 namings)
+abbrev pub with_resolutions : List Instr → List Resolution → List Instruction
+with_resolutions [] resolutions = []
+with_resolutions (i ∷ is) resolutions =
+    record { instr = i; resolution = get_or resolutions 0 (record { site = Plain; class = None }) } ∷ with_resolutions is (drop 1 resolutions)
 
 -- the rows of an exception table, each with its entry of the table of classes
 abbrev pub with_catches : List Row → List (Option ℕ) → List Handler
 with_catches [] catches = []
 with_catches (r ∷ rs) catches = record { row = r; catch = get_or catches 0 None } ∷ with_catches rs (drop 1 catches)
 
-abbrev pub environment_of : World → MethodInfo → MethodCode → List Naming → List (Option ℕ) → Environment
-environment_of w m code namings catches =
+abbrev pub environment_of : World → MethodInfo → MethodCode → List Resolution → List (Option ℕ) → Environment
+environment_of w m code resolutions catches =
     let expanded = expansion (first_frame w m) code.map in
     record {
       world = w;
       method = m;
       max_stack = code.max_stack;
       max_locals = code.max_locals;
-      instructions = with_namings code.code namings;
+      instructions = with_resolutions code.code resolutions;
       handlers = with_catches code.rows catches;
       first = state_of m code.max_locals (first_frame w m);
       is_mapped = is_ok expanded;
@@ -135,7 +135,7 @@ abbrev pub environment : World → ℕ → Option Environment
 environment w n =
     slice_get w.methods n >>= λ m.
     code_at w n >>= λ code.
-    Some (environment_of w m code (get_or w.namings n []) (get_or w.catches n []))
+    Some (environment_of w m code (get_or w.resolutions n []) (get_or w.catches n []))
 
 -- ---- what is at a pc
 

@@ -6,7 +6,7 @@ use Rattle.stack_maps.specs.declared.types.VType.{VType}
 use Rattle.instruction_rows.specs.declared.row_why.RowWhy.{RowWhy}
 use Rattle.instruction_rows.specs.Rows.{Row, returns}
 use Rattle.instruction_rows.specs.TypeEffect.{type_popped}
-use Rattle.world_model.specs.World.{World, class_type}
+use Rattle.link_model.specs.World.{World, class_type}
 use Rattle.verify_types.specs.ClassTypes.{throwable_type, type_of_kind}
 use Rattle.verify_types.specs.Assignability.{assignable}
 use Rattle.verify_types.specs.TypeStates.{TypeState, with_stack, fits}

@@ -1,7 +1,7 @@
 -- Operands by their types (JVMS 4.10.1.4: canPop). An operand of the wrong kind or type is Kind, and a missing one Depth.
 use Rattle.std.specs.Prelude.{Bool, true, false, List, [], ◌∷◌, Option, Some, None, Result, Ok, Err, nat_lt, ◌==◌, ◌&&◌, ◌||◌, if◌then◌else◌}
-use Rattle.opcodes.specs.declared.op.Kind.{Kind}
-use Rattle.opcodes.specs.declared.op.Kind.TheVariants as kinds
+use Rattle.opcodes.specs.declared.op.ValueKind.{ValueKind}
+use Rattle.opcodes.specs.declared.op.ValueKind.TheVariants as kinds
 use Rattle.opcodes.specs.declared.op.Element.{Element}
 use Rattle.opcodes.specs.declared.op.Element.TheVariants as elements
 use Rattle.stack_maps.specs.declared.types.Base.{Base}
@@ -13,7 +13,7 @@ use Rattle.instruction_rows.specs.declared.row_why.RowWhy.TheVariants as whys
 use Rattle.instruction_rows.specs.Results.{◌then◌}
 use Rattle.instruction_rows.specs.Kinds.{kind_of_type}
 use Rattle.instruction_rows.specs.TypeEffect.{type_popped}
-use Rattle.world_model.specs.World.{World}
+use Rattle.link_model.specs.World.{World}
 use Rattle.verify_types.specs.Assignability.{assignable}
 
 -- this, where the test has passed
@@ -23,7 +23,7 @@ only_if passed why x = if passed then Ok x else Err why
 -- ---- values of a type
 
 -- the value on top, by the kind of the type
-abbrev pub popped_as : Option Kind → List VType → Result (VType × List VType) RowWhy
+abbrev pub popped_as : Option ValueKind → List VType → Result (VType × List VType) RowWhy
 popped_as None stack = Err whys.Kind
 popped_as (Some k) stack = type_popped k stack
 

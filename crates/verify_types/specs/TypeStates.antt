@@ -5,7 +5,7 @@ use Rattle.std.specs.Cmp.Lexicographic.{pointwise}
 use Rattle.stack_maps.specs.declared.types.VType.{VType}
 use Rattle.stack_maps.specs.declared.types.VType.TheVariants as types
 use Rattle.instruction_rows.specs.Contents.{Contents}
-use Rattle.world_model.specs.World.{World}
+use Rattle.link_model.specs.World.{World}
 use Rattle.verify_types.specs.Assignability.{assignable}
 
 pub record TypeState : Type 0 where

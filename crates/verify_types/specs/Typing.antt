@@ -7,7 +7,7 @@ use Rattle.instruction_rows.specs.Contents.{Contents}
 use Rattle.instruction_rows.specs.Pcs.{pc_of}
 use Rattle.instruction_rows.specs.Rows.{targets_of_row, row_goes_on}
 use Rattle.instruction_rows.specs.Soundness.{HasKinds}
-use Rattle.world_model.specs.World.{World}
+use Rattle.link_model.specs.World.{World}
 use Rattle.verify_types.specs.TypeStates.{TypeState}
 use Rattle.verify_types.specs.Environment.{Instruction, Handler, Environment, environment}
 use Rattle.verify_types.specs.Effects.{row_of, state_after}

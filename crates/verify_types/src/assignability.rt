@@ -1,8 +1,8 @@
 ghost use Rattle.std.specs.Prelude.{◌≡◌};
 ghost use Rattle.verify_types.specs.Assignability as spec;
 
+use link_model::Lookups;
 use stack_maps::{Base, VType};
-use world_model::Lookups;
 
 // Whether this is the number of one of the classes above each array class (JLS 4.10.3).
 fn is_above_arrays<L: Lookups>(w: &L, class: u32) -> bool

@@ -3,9 +3,9 @@ ghost use Rattle.verify_types.specs.ClassTypes as spec;
 
 use descriptors::{ElementType, Kind};
 use instruction_rows::Value;
+use link_model::Lookups;
 use opcodes::Primitive;
 use stack_maps::{Base, VType};
-use world_model::Lookups;
 
 /// What a type of a stack map means in the code of a class: a constant of its pool becomes the class that it names, and every
 /// other type is itself (JVMS 4.7.4). `None`: the constant is no class.

@@ -1,8 +1,8 @@
 use Rattle.std.proofs.Common.{◌≡◌, ℕ, List, Option, Some, None, IfSome, sym}
-use Rattle.world_model.specs.MainMethod.{main_of}
-use Rattle.world_model.specs.World.{World}
-use Rattle.world_model.specs.Worlds.{world_of}
-use Rattle.typed_steps.specs.OpeningLaws.{IsMain, MainIsFound}
+use Rattle.link_model.specs.MainMethod.{main_of}
+use Rattle.link_model.specs.World.{World}
+use Rattle.link_model.specs.Worlds.{world_of}
+use Rattle.step_soundness.specs.OpeningLaws.{IsMain, MainIsFound}
 use Rattle.conformance.proofs.runs.main_in.Goals as goal
 
 main_is : (w : World) (name : List ℕ) (found : Option ℕ) → MainIsFound → found ≡ main_of w name → IfSome found (IsMain w)

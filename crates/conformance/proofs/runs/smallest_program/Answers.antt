@@ -1,6 +1,6 @@
 use Rattle.std.proofs.Common.{sym, subst, ◌∙◌}
-use Rattle.world_model.specs.World.{World}
-use Rattle.typed_steps.specs.OpeningLaws.{IsMain}
+use Rattle.link_model.specs.World.{World}
+use Rattle.step_soundness.specs.OpeningLaws.{IsMain}
 use Rattle.conformance.proofs.runs.smallest_program.Goals as goal
 
 pub returns : goal.returns

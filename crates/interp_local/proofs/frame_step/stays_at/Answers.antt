@@ -1,7 +1,7 @@
 use Rattle.std.proofs.Common.{◌∙◌, refl, sym, arith}
-use Rattle.world_model.specs.Namings.{meanings}
+use Rattle.link_model.specs.Resolutions.{meanings}
 use Rattle.verify_types.specs.Environment.{Instruction}
-use Rattle.interp_local.specs.Places.{naming_at}
+use Rattle.interp_local.specs.Places.{resolution_at}
 use Rattle.interp_local.specs.Runs.{frame_of}
 use Rattle.interp_local.proofs.FrameSteps.{operands_there}
 use Rattle.interp_local.proofs.LoopLaws.{inside_at, fetched_at, used_at, stays_there}
@@ -17,8 +17,8 @@ does_stay-requires g c =
     let f = c.args.frame.now in
     let row = c.args.row.now in
     let here = c.requires.at in
-    let i : Instruction = record { instr = c.instr_at-instr.result.now; naming = naming_at (meanings code.namings) c.args.at } in
-    let e = fetched_at w code f row c.args.used c.args.at i.instr i.naming c.requires.code here c.instr_at-instr.ensures refl in
+    let i : Instruction = record { instr = c.instr_at-instr.result.now; resolution = resolution_at (meanings code.resolutions) c.args.at } in
+    let e = fetched_at w code f row c.args.used c.args.at i.instr i.resolution c.requires.code here c.instr_at-instr.ensures refl in
     record {
       fits = omega (arith, used_at w code.instrs.now f row c.args.used c.args.at c.requires.typed here);
       operands = operands_there w f.method f.room here.pc row f.locals c.args.used i c.requires.typed here.stands e;
@@ -28,6 +28,6 @@ pub returns : goal.returns
 returns g c = λ here.
     let w = c.args.p.now in
     let code = c.args.code.now in
-    let i : Instruction = record { instr = c.instr_at-instr.result.now; naming = naming_at (meanings code.namings) c.args.at } in
-    let e = fetched_at w code c.args.frame.now c.args.row.now c.args.used c.args.at i.instr i.naming c.requires.code here c.instr_at-instr.ensures refl in
+    let i : Instruction = record { instr = c.instr_at-instr.result.now; resolution = resolution_at (meanings code.resolutions) c.args.at } in
+    let e = fetched_at w code c.args.frame.now c.args.row.now c.args.used c.args.at i.instr i.resolution c.requires.code here c.instr_at-instr.ensures refl in
     stays_there w (frame_of c.args.frame.now here.pc c.args.row.now c.args.used) i e ∙ sym c.does_stay.ensures

@@ -1,6 +1,6 @@
 use Rattle.std.proofs.Common.{◌≡◌, ◌∙◌, Bool, true, false, not, refl, sym, subst, arith}
 use Rattle.interp_local.specs.declared.frame_step.Step.{Step}
-use Rattle.quick_rows.specs.QuickRows.{is_quick}
+use Rattle.superinstructions.specs.QuickRows.{is_quick}
 use Rattle.interp_local.specs.Runs.{IsStep}
 use Rattle.interp_local.proofs.LoopLaws.{inside_at, used_at}
 use Rattle.interp_local.proofs.QuickSteps.{can_be_made, quick_step}

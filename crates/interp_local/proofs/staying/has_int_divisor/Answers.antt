@@ -2,7 +2,7 @@ use Rattle.std.proofs.Common.{ℤ, ◌+◌, ◌-◌, ◌∙◌, Bool, Option, no
 use Rattle.std.specs.Prelude.{is_some}
 use Rattle.std.specs.Int.{w32}
 use Rattle.std.proofs.lemmas.Int.{to_z-of_z}
-use Rattle.cell_rows.proofs.MadeRows.{reads_int}
+use Rattle.frame_instructions.proofs.MadeRows.{reads_int}
 use Rattle.interp_local.proofs.Divisors.{int_few, zero_int, int_quotient_some}
 use Rattle.interp_local.proofs.staying.has_int_divisor.Goals as goal
 

@@ -2,7 +2,7 @@ use Rattle.std.proofs.Common.{ℤ, ◌+◌, ◌-◌, ◌∙◌, Bool, Option, no
 use Rattle.std.specs.Prelude.{is_some}
 use Rattle.std.specs.Int.{w64}
 use Rattle.std.proofs.lemmas.Int.{to_z-of_z}
-use Rattle.cell_rows.proofs.MadeRows.{reads_long}
+use Rattle.frame_instructions.proofs.MadeRows.{reads_long}
 use Rattle.interp_local.proofs.Divisors.{long_few, zero_long, long_quotient_some}
 use Rattle.interp_local.proofs.staying.has_long_divisor.Goals as goal
 

@@ -2,8 +2,8 @@ use Rattle.std.proofs.Common.{◌≡◌, ◌<◌, ◌≤◌, length, List, Strin
 use Rattle.std.specs.Global.{Global}
 use Rattle.std.proofs.lemmas.List.{length-map}
 use Rattle.jvm_edges.specs.Causes.{Rose}
-use Rattle.world_model.specs.World.{World}
-use Rattle.linkage.specs.Program.{Program}
+use Rattle.link_model.specs.World.{World}
+use Rattle.link_rules.specs.Program.{Program}
 use Rattle.java_cli.specs.Commands.{command_texts}
 use Rattle.java_cli.specs.declared.report.Why.TheVariants.{NoMemory}
 use Rattle.java_cli.specs.Errors.{load_answer, accept_answer, start_answer}

@@ -1,4 +1,4 @@
-use Rattle.world_model.specs.Worlds.{world_of}
+use Rattle.link_model.specs.Worlds.{world_of}
 use Rattle.java_cli.proofs.StartLaws.{main_is}
 use Rattle.java_cli.proofs.program.runnable_main.Goals as goal
 

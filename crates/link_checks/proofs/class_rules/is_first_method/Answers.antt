@@ -1,8 +1,8 @@
 use Rattle.std.proofs.Common.{ℕ, false, Option, List, nat_eq, ap, ◌∙◌}
 use Rattle.std.specs.Option.{option_map_or}
 use Rattle.class_model.specs.declared.constant.Const.{Const}
-use Rattle.linkage.specs.Members.{Key, index_of}
-use Rattle.linkage.specs.Selection.{key_in}
+use Rattle.link_rules.specs.Members.{Key, index_of}
+use Rattle.link_rules.specs.Selection.{key_in}
 use Rattle.link_checks.proofs.class_rules.is_first_method.Goals as goal
 
 pub returns-in-Some : goal.returns-in-Some

@@ -2,9 +2,9 @@ use Rattle.std.proofs.Common.{◌≡◌, List, Option, sym, ap, ◌∙◌}
 use Rattle.std.specs.Option.{option_or}
 use Rattle.class_model.specs.declared.attribute.Row.{Row}
 use Rattle.opcodes.specs.declared.op.Instr.{Instr}
-use Rattle.linkage.specs.declared.why.LinkWhy.{LinkWhy}
+use Rattle.link_rules.specs.declared.why.LinkWhy.{LinkWhy}
 use Rattle.items.specs.First.{first_in}
-use Rattle.linkage.specs.Faults.{Decoded, decoded}
+use Rattle.link_rules.specs.Faults.{Decoded, decoded}
 use Rattle.link_checks.specs.Firsts.{instr_why, row_why}
 use Rattle.link_checks.proofs.FaultLaws.{bad_why, code_is}
 use Rattle.link_checks.proofs.code.code_fault.Goals as goal

@@ -1,6 +1,6 @@
 use Rattle.std.proofs.Common.{true, List, sym, ap, ◌∙◌}
 use Rattle.opcodes.specs.declared.op.Instr.{Instr}
-use Rattle.linkage.specs.Faults.{Decoded}
+use Rattle.link_rules.specs.Faults.{Decoded}
 use Rattle.link_checks.proofs.DecodedLaws.{front, front_code}
 use Rattle.link_checks.proofs.code.front_before.Goals as goal
 

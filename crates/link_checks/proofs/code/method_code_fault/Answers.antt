@@ -1,7 +1,7 @@
 use Rattle.std.proofs.Common.{List, ap, sym, ◌∙◌}
 use Rattle.class_model.specs.declared.attribute.Attribute.{Attribute}
 use Rattle.items.specs.First.{first_in}
-use Rattle.linkage.specs.Faults.{attribute_faults}
+use Rattle.link_rules.specs.Faults.{attribute_faults}
 use Rattle.link_checks.specs.Firsts.{attribute_why}
 use Rattle.items.proofs.FirstLaws.{first_flat}
 use Rattle.link_checks.proofs.code.method_code_fault.Goals as goal

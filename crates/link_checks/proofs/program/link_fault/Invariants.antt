@@ -1,7 +1,7 @@
 use Rattle.std.proofs.Common.{◌≡◌, drop}
 use Rattle.std.specs.List.{enumerate_from}
 use Rattle.items.specs.First.{first_in}
-use Rattle.linkage.specs.Faults.{link_fault}
+use Rattle.link_rules.specs.Faults.{link_fault}
 use Rattle.link_checks.specs.Firsts.{fault_of_class}
 use Rattle.link_checks.proofs.program.link_fault.Given as goal
 

@@ -1,7 +1,7 @@
 use Rattle.std.proofs.Common.{sym}
 use Rattle.instruction_rows.specs.Table.{row as row_of}
 use Rattle.interp_local.specs.Fetched.{instruction_of}
-use Rattle.object_events.specs.Operands.{operands}
+use Rattle.heap_instructions.specs.Operands.{operands}
 use Rattle.machine.proofs.BackLaws.{back_made}
 use Rattle.machine.proofs.OperandLaws.{operands_found, value_taken}
 use Rattle.machine.proofs.local.go_back.Goals as goal
@@ -15,5 +15,5 @@ pub leave-requires-clause-operands : goal.leave-requires-clause-operands
 leave-requires-clause-operands c =
     let i = instruction_of c.args.fetched.now in
     let frames = c.args.mounted.now.stack.frames in
-    value_taken c.args.program.now i.naming (row_of i.instr.op) c.in-Some.returns.kind (operands c.args.mounted.now) (sym c.in-Some.ensures)
+    value_taken c.args.program.now i.resolution (row_of i.instr.op) c.in-Some.returns.kind (operands c.args.mounted.now) (sym c.in-Some.ensures)
     (operands_found c.args.program.now frames i c.requires.ready c.requires.typed c.requires.next.at)

@@ -1,9 +1,9 @@
 use Rattle.std.proofs.Common.{subst}
 use Rattle.instruction_rows.specs.Table.{row as row_of}
 use Rattle.interp_local.specs.Fetched.{instruction_of}
-use Rattle.object_events.specs.Operands.{operands}
-use Rattle.method_calls.specs.FrameSteps.{IsEntered}
-use Rattle.method_calls.proofs.ReceiverLaws.{callee_given}
+use Rattle.heap_instructions.specs.Operands.{operands}
+use Rattle.invocation.specs.FrameSteps.{IsEntered}
+use Rattle.invocation.proofs.ReceiverLaws.{callee_given}
 use Rattle.machine.proofs.OperandLaws.{operands_found}
 use Rattle.machine.proofs.StaticLaws.{into_made, static_row}
 use Rattle.machine.proofs.local.go_into.Goals as goal
@@ -19,5 +19,5 @@ enter-requires-clause-given c =
     let frames = c.args.mounted.now.stack.frames in
     let i = instruction_of c.args.fetched.now in
     let act = static_row (row_of i.instr.op) c.requires.calls in
-    callee_given w i.naming (row_of i.instr.op) act.index c.in-Some.callee (operands c.args.mounted.now) act.is c.in-Some.ensures.callee
+    callee_given w i.resolution (row_of i.instr.op) act.index c.in-Some.callee (operands c.args.mounted.now) act.is c.in-Some.ensures.callee
     (operands_found w frames i c.requires.ready c.requires.typed c.requires.next.at)

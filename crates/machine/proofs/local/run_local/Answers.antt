@@ -42,5 +42,5 @@ loop-steps-preserved c =
       few = omega arith;
       rows = goes_again w (n + more) first mid last (ran_more w n more first c.loop-steps.mounted.stack.frames mid c.loop-steps.invariant.rows c.run_top-run.ensures.rows) over;
       typed = over.1;
-      selected = c.in_ok-go_over.ensures.selections;
+      selected = c.in_ok-go_over.ensures.cache;
     }

@@ -1,7 +1,7 @@
 use Rattle.std.proofs.Common.{◌-◌, ◌≡◌, ◌≤◌, Some}
 use Rattle.ref_model.specs.LocalRows.{rows}
-use Rattle.typed_frames.specs.Typed.{Typed}
-use Rattle.method_calls.specs.Selections.{AreSelected}
+use Rattle.frame_soundness.specs.Typed.{Typed}
+use Rattle.invocation.specs.InvocationCache.{AreSelected}
 use Rattle.machine.proofs.local.run_local.Given as goal
 
 abbrev pub invariant-loop-steps : goal.invariant-loop-steps
@@ -9,7 +9,7 @@ invariant-loop-steps l = record {
   few : l.steps ≤ 10001;
   rows : rows l.program l.steps l.fn.mounted.stack.frames ≡ Some l.mounted.stack.frames;
   typed : Typed l.program l.mounted.stack.frames;
-  selected : AreSelected l.program l.selections;
+  selected : AreSelected l.program l.cache;
 }
 
 abbrev pub decreases-loop-steps : goal.decreases-loop-steps

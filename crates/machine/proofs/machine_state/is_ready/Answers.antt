@@ -1,9 +1,9 @@
 use Rattle.std.proofs.Common.{◌≡◌, Bool, true, sym, subst, ◌∙◌}
-use Rattle.typed_frames.specs.EventLaws.{HasDimensions}
-use Rattle.typed_frames.specs.StateKinds.{HasFieldKinds}
-use Rattle.typed_steps.specs.MethodKinds.{HasFitNatives}
-use Rattle.linked_names.specs.Names.{AreNamed}
-use Rattle.linked_names.specs.Settled.{IsSettled}
+use Rattle.frame_soundness.specs.EventLaws.{HasDimensions}
+use Rattle.frame_soundness.specs.StateKinds.{HasFieldKinds}
+use Rattle.step_soundness.specs.MethodKinds.{HasFitNatives}
+use Rattle.link_soundness.specs.Names.{AreNamed}
+use Rattle.link_soundness.specs.Settled.{IsSettled}
 use Rattle.machine.specs.Ready.{IsReady}
 use Rattle.machine.proofs.ThrowLaws.{if_ok}
 use Rattle.machine.proofs.machine_state.is_ready.Goals as goal

@@ -1,6 +1,6 @@
 use Rattle.std.proofs.Common.{◌≡◌, subst}
 use Rattle.std.specs.Prelude.{IfOk}
-use Rattle.world_model.specs.World.{World}
+use Rattle.link_model.specs.World.{World}
 use Rattle.ref_model.specs.Setting.{Setting}
 use Rattle.machine.specs.declared.execution.Execution.{Execution}
 use Rattle.machine.specs.Runs.{IsRun}

@@ -1,7 +1,7 @@
 use Rattle.std.proofs.Common.{ℕ, ℤ, List, Some, ap, rules, subst, to_z-of_z, ◌∙◌}
 use Rattle.std.specs.Prelude.{FitsSigned, IfOk, true}
 use Rattle.std.specs.Int.{w32}
-use Rattle.opcodes.specs.declared.op.Kind.TheVariants as kinds
+use Rattle.opcodes.specs.declared.op.ValueKind.TheVariants as kinds
 use Rattle.ref_model.specs.Printing.{written}
 use Rattle.ref_model.specs.StringNatives.{string_char_at}
 use Rattle.ref_model.specs.Texts.{char_text}

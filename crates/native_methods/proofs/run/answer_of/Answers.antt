@@ -1,8 +1,8 @@
 use Rattle.std.proofs.Common.{ℤ, rules, subst, sym, to_z-of_z}
 use Rattle.std.specs.Prelude.{FitsSigned, IfOk}
 use Rattle.std.specs.Int.{w32, w64}
-use Rattle.opcodes.specs.declared.op.Kind.TheVariants as kinds
-use Rattle.object_events.specs.Operands.{operands}
+use Rattle.opcodes.specs.declared.op.ValueKind.TheVariants as kinds
+use Rattle.heap_instructions.specs.Operands.{operands}
 use Rattle.native_methods.specs.Arguments.{answer_to_two, slots_of}
 use Rattle.native_methods.specs.NativeStates.{Answers, AnswersOn}
 use Rattle.native_methods.specs.declared.arguments.Arguments.{Arguments}

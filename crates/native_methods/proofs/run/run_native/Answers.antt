@@ -1,4 +1,4 @@
-use Rattle.object_events.specs.Operands.{operands}
+use Rattle.heap_instructions.specs.Operands.{operands}
 use Rattle.native_methods.proofs.AnswerLaws.{stays}
 use Rattle.native_methods.proofs.ArgumentLaws.{arguments_found}
 use Rattle.native_methods.proofs.run.run_native.Goals as goal

@@ -1,6 +1,6 @@
 use Rattle.std.proofs.Common.{ap, ◌∙◌}
-use Rattle.world_model.specs.World.{World}
-use Rattle.world_model.specs.LookUps.{site}
+use Rattle.link_model.specs.World.{World}
+use Rattle.link_model.specs.LookUps.{site}
 use Rattle.class_world.proofs.world.World.site.Goals as goal
 
 pub returns : goal.returns

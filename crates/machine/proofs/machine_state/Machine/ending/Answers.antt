@@ -13,5 +13,5 @@ returns c =
     let entries = a.history.items in
     let count : c.len.result ≡ length entries = c.len.ensures ∙ search rules in
     c.ended_within.ensures frames ∙ ap (λ (n : ℕ). ending_within a.limits n (ending (state_of a.parts frames))) count
-    ∙ ending_is (setting_in a) a.parts frames a.selections entries a.given_up (vec_capacity a.history - length entries) c.self.invariant
+    ∙ ending_is (setting_in a) a.parts frames a.cache entries a.given_up (vec_capacity a.history - length entries) c.self.invariant
     (ap (λ (m : Known). m.given_up) c.self.view_is ∙ c.requires) ∙ ap run_ending c.self.view_is

@@ -10,12 +10,12 @@ use Rattle.verify_code.proofs.environment.Environment.after.Goals as goal
 
 pub returns : goal.returns
 returns g c =
-    ap (λ (env : Environment). state_after env (instruction_of c.args.i.now c.args.naming) (type_state c.args.s)) (sym c.self.view_is)
+    ap (λ (env : Environment). state_after env (instruction_of c.args.i.now c.args.resolution) (type_state c.args.s)) (sym c.self.view_is)
     ∙ gives_broken c.apply-applied.result _ _ c.in-Err.stop c.in_ok-broken_rule-in-Err.field-0 c.apply-applied.ensures c.in-Err.is c.in_ok-broken_rule-in-Err.ensures
 
 pub returns-in-Ok : goal.returns-in-Ok
 returns-in-Ok g c =
-    let i = instruction_of c.args.i.now c.args.naming in
+    let i = instruction_of c.args.i.now c.args.resolution in
     let is =
     ap (λ (env : Environment). state_after env i (type_state c.args.s)) (sym c.self.view_is)
     ∙ gives_kept c.apply-applied.result (state_in c.apply-applied.new.self) _ c.in-Ok.field-0 c.apply-applied.ensures c.in-Ok.is in

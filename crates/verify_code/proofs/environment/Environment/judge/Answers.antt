@@ -15,8 +15,8 @@ returns-in-Broken g c = λ entry arrived.
     let env = c.args.self.now in
     let s = type_state c.args.s in
     let why = c.in-Broken.why in
-    broken env c.args.i.now c.args.naming entry c.args.is_last c.args.fits s why c.why_broken.result
-    (subst (IsAfter env (instruction_of c.args.i.now c.args.naming) s) c.in-Broken.is c.in_ok-why.ensures)
+    broken env c.args.i.now c.args.resolution entry c.args.is_last c.args.fits s why c.why_broken.result
+    (subst (IsAfter env (instruction_of c.args.i.now c.args.resolution) s) c.in-Broken.is c.in_ok-why.ensures)
     arrived
     (c.why_broken.ensures ∙ ap (λ (f : Findings). first_some (findings_whys f (λ rule. not (is_why rule why)) true true)) c.findings-findings.ensures)
 
@@ -28,8 +28,8 @@ pub returns-in-Some : goal.returns-in-Some
 returns-in-Some g c = λ entry arrived.
     let env = c.args.self.now in
     let s = type_state c.args.s in
-    let after = subst (IsAfter env (instruction_of c.args.i.now c.args.naming) s) c.in-Kept.is c.in_ok-why.ensures in
-    kept env c.args.i.now c.args.naming entry c.args.is_last c.args.fits s (type_state c.in-Kept.after) c.why.result
+    let after = subst (IsAfter env (instruction_of c.args.i.now c.args.resolution) s) c.in-Kept.is c.in_ok-why.ensures in
+    kept env c.args.i.now c.args.resolution entry c.args.is_last c.args.fits s (type_state c.in-Kept.after) c.why.result
     after.0
     arrived
     (answered c.findings-findings.result _ c.in_ok-compared-in-Kept.compared.fits _ c.is_shallow-is_shallow.result _ c.why.result c.why.ensures c.findings-findings.ensures c.in_ok-compared-in-Kept.ensures.fits
@@ -40,10 +40,10 @@ pub returns-in-None : goal.returns-in-None
 returns-in-None g c = λ entry arrived.
     let env = c.args.self.now in
     let s = type_state c.args.s in
-    let after = subst (IsAfter env (instruction_of c.args.i.now c.args.naming) s) c.in-Kept.is c.in_ok-why.ensures in
+    let after = subst (IsAfter env (instruction_of c.args.i.now c.args.resolution) s) c.in-Kept.is c.in_ok-why.ensures in
     record {
       none =
-          kept env c.args.i.now c.args.naming entry c.args.is_last c.args.fits s (type_state c.in-Kept.after) c.why.result after.0 arrived
+          kept env c.args.i.now c.args.resolution entry c.args.is_last c.args.fits s (type_state c.in-Kept.after) c.why.result after.0 arrived
           (answered c.findings-findings.result _ c.in_ok-compared-in-Kept.compared.fits _ c.is_shallow-is_shallow.result _ c.why.result c.why.ensures c.findings-findings.ensures c.in_ok-compared-in-Kept.ensures.fits
           (c.is_shallow-is_shallow.ensures ∙ ap (λ t. is_shallow env t) c.in_ok-compared-in-Kept.ensures.same))
           ∙ c.in-None.is;

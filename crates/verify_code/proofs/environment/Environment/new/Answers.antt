@@ -1,6 +1,6 @@
 use Rattle.std.proofs.Common.{List, subst, sym, ◌∙◌}
 use Rattle.std.specs.Prelude.{map}
-use Rattle.world_model.specs.Namings.{meanings}
+use Rattle.link_model.specs.Resolutions.{meanings}
 use Rattle.class_model.specs.declared.attribute.Row.{Row}
 use Rattle.verify_types.specs.Environment.{with_catches}
 use Rattle.verify_code.specs.Guards.{AskAlike, guard_in}
@@ -10,7 +10,7 @@ use Rattle.verify_code.proofs.environment.Environment.new.Goals as goal
 pub invariant_of-result : goal.invariant_of-result
 invariant_of-result g c =
     let method = c.args.method in
-    has_frames (g.L.Lookups.world c.args.world.now) method.info.now method.code.now (meanings method.namings) method.catches.now
+    has_frames (g.L.Lookups.world c.args.world.now) method.info.now method.code.now (meanings method.resolutions) method.catches.now
     c.in_ok-first.first c.deref-2.result.now c.in-Some.frames c.in_ok-guards.guards.items
     c.in_ok-first.ensures c.deref-2.ensures (sym c.in-Some.is ∙ c.in_ok-frames.ensures) c.requires
     (subst (λ (rs : List Row). AskAlike (map guard_in c.in_ok-guards.guards.items) (with_catches rs method.catches.now)) c.deref.ensures c.in_ok-guards.ensures)

@@ -1,6 +1,6 @@
 use Rattle.std.proofs.Common.{ap, subst, ◌∙◌}
 use Rattle.std.specs.Prelude.{IfSome}
-use Rattle.world_model.specs.Namings.{meanings}
+use Rattle.link_model.specs.Resolutions.{meanings}
 use Rattle.verify_types.specs.Environment.{Environment, map_at}
 use Rattle.verify_frames.specs.KnownStates.{type_state}
 use Rattle.verify_frames.proofs.ItselfLaws.{LocalsThemselves, map_itself}
@@ -13,6 +13,6 @@ returns-in-Some g c =
     let like = c.in-Some.like in
     let themselves =
     subst (λ (env : Environment). IfSome (map_at env like.pc) (LocalsThemselves env.world)) c.self.view_is
-    (map_itself (g.L.Lookups.world c.self.inside.world.now) m.info.now m.code.now (meanings m.namings) m.catches.now like.pc) in
+    (map_itself (g.L.Lookups.world c.self.inside.world.now) m.info.now m.code.now (meanings m.resolutions) m.catches.now like.pc) in
     over_some c.args.self.now c.self.inside.frames c.args.s.now.like like c.args.pc (type_state c.args.s.now) c.shared.result
     (c.self.invariant.are ∙ ap (λ (env : Environment). env.map) c.self.view_is) themselves c.requires.like c.in-Some.is c.shared.ensures

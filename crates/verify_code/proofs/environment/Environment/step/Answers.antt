@@ -22,22 +22,22 @@ returns-in-Broken-clause-step g c =
     let env = c.args.self.now in
     let before = going c.args.before in
     let entry = entry_of c.args.is_entry before in
-    let At : Option TypeState → Passage → Type 0 = λ s x. IsPassage env (place c.args.i.now c.args.naming s entry c.args.is_last) x in
+    let At : Option TypeState → Passage → Type 0 = λ s x. IsPassage env (place c.args.i.now c.args.resolution s entry c.args.is_last) x in
     let here = standing env c.args.i.now.pc before in
     let passed = c.in_ok-why.ensures.passage entry c.in_ok-arrival.ensures.fits in
     let known = subst (λ s. At s c.in_ok-why.field-0) c.in_ok-arrival.ensures.state passed in
-    broken_there env (place c.args.i.now c.args.naming here entry c.args.is_last) c.in-Broken.why (subst (At here) c.in-Broken.is known)
+    broken_there env (place c.args.i.now c.args.resolution here entry c.args.is_last) c.in-Broken.why (subst (At here) c.in-Broken.is known)
 
 pub returns-in-Some-clause-step : goal.returns-in-Some-clause-step
 returns-in-Some-clause-step g c =
     let env = c.args.self.now in
     let before = going c.args.before in
     let entry = entry_of c.args.is_entry before in
-    let At : Option TypeState → Passage → Type 0 = λ s x. IsPassage env (place c.args.i.now c.args.naming s entry c.args.is_last) x in
+    let At : Option TypeState → Passage → Type 0 = λ s x. IsPassage env (place c.args.i.now c.args.resolution s entry c.args.is_last) x in
     let here = standing env c.args.i.now.pc before in
     let passed = c.in_ok-why.ensures.passage entry c.in_ok-arrival.ensures.fits in
     let known = subst (λ s. At s c.in_ok-why.field-0) c.in_ok-arrival.ensures.state passed in
-    let p = place c.args.i.now c.args.naming here entry c.args.is_last in
+    let p = place c.args.i.now c.args.resolution here entry c.args.is_last in
     let on = subst (At here) c.in-On.is known in
     stray_there env p on.none
     ∙ ap (λ (fs : List MapFrame). option_map (λ (f : MapFrame). pc_fault f.pc whys.Map) (stray_frame c.args.i.now.pc c.args.i.now.next c.args.is_last fs))
@@ -50,11 +50,11 @@ returns-in-None-clause-step g c =
     let env = c.args.self.now in
     let before = going c.args.before in
     let entry = entry_of c.args.is_entry before in
-    let At : Option TypeState → Passage → Type 0 = λ s x. IsPassage env (place c.args.i.now c.args.naming s entry c.args.is_last) x in
+    let At : Option TypeState → Passage → Type 0 = λ s x. IsPassage env (place c.args.i.now c.args.resolution s entry c.args.is_last) x in
     let here = standing env c.args.i.now.pc before in
     let passed = c.in_ok-why.ensures.passage entry c.in_ok-arrival.ensures.fits in
     let known = subst (λ s. At s c.in_ok-why.field-0) c.in_ok-arrival.ensures.state passed in
-    let p = place c.args.i.now c.args.naming here entry c.args.is_last in
+    let p = place c.args.i.now c.args.resolution here entry c.args.is_last in
     let on = subst (At here) c.in-On.is known in
     record {
       none =

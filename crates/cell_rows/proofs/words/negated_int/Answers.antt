@@ -1,7 +1,0 @@
-use Rattle.std.proofs.Common.{arith}
-use Rattle.std.specs.Int.{w32}
-use Rattle.std.proofs.lemmas.Int.{wrapping_sub_onto}
-use Rattle.cell_rows.proofs.words.negated_int.Goals as goal
-
-pub returns : goal.returns
-returns c = wrapping_sub_onto w32 0 c.args.a (omega arith) c.ranges.a

@@ -1,7 +1,0 @@
-use Rattle.std.proofs.Common.{◌≡◌, ◌+◌, reverse}
-use Rattle.linkage.specs.Hierarchy.{directs, edges}
-use Rattle.class_resolution.specs.Tables.{tabulate}
-use Rattle.class_resolution.proofs.hierarchy.all_directs.Given as goal
-
-abbrev pub invariant-loop-c : goal.invariant-loop-c
-invariant-loop-c l = (l.stacked.items ≡ tabulate (λ c. reverse (directs l.classes c)) l.c) × (l.visits ≡ edges l.classes l.c + 1)

@@ -1,7 +1,0 @@
-use Rattle.std.proofs.Common.{◌≡◌}
-use Rattle.linkage.specs.Hierarchy.{parent_of}
-use Rattle.class_resolution.specs.Tables.{tabulate}
-use Rattle.class_resolution.proofs.hierarchy.all_parents.Given as goal
-
-abbrev pub invariant-loop-c : goal.invariant-loop-c
-invariant-loop-c l = l.parents.items ≡ tabulate (parent_of l.classes) l.c

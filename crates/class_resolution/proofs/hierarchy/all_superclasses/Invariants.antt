@@ -1,7 +1,0 @@
-use Rattle.std.proofs.Common.{◌≡◌}
-use Rattle.linkage.specs.Hierarchy.{superclasses}
-use Rattle.class_resolution.specs.Tables.{tabulate}
-use Rattle.class_resolution.proofs.hierarchy.all_superclasses.Given as goal
-
-abbrev pub invariant-loop-c : goal.invariant-loop-c
-invariant-loop-c l = l.superclasses.items ≡ tabulate (superclasses l.classes) l.c

@@ -1,8 +1,0 @@
-use Rattle.std.proofs.Common.{◌≡◌, ◌-◌, ◌++◌, []}
-use Rattle.std.specs.Option.{option_map_or}
-use Rattle.linkage.specs.Hierarchy.{climb}
-use Rattle.class_resolution.specs.Tables.{parent_at}
-use Rattle.class_resolution.proofs.hierarchy.climb.Given as goal
-
-abbrev pub invariant-loop : goal.invariant-loop
-invariant-loop l = l.line.items ++ option_map_or (climb (parent_at l.parents) (l.most - l.counter)) l.next [] ≡ climb (parent_at l.parents) l.most l.start

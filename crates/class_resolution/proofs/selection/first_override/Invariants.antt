@@ -1,9 +1,0 @@
-use Rattle.std.proofs.Common.{◌≡◌, drop}
-use Rattle.items.specs.First.{first_in}
-use Rattle.linkage.specs.Selection.{override}
-use Rattle.class_resolution.specs.Keys.{key_of}
-use Rattle.class_resolution.proofs.selection.first_override.Given as goal
-
-abbrev pub invariant-loop-class : goal.invariant-loop-class
-invariant-loop-class l =
-    first_in (override l.world (key_of l.key)) l.classes ≡ first_in (override l.world (key_of l.key)) (drop l.class-index l.classes)

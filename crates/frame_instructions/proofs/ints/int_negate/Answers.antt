@@ -1,0 +1,25 @@
+use Rattle.std.proofs.Common.{◌+◌, ◌-◌, ◌∙◌, Some, ap, sym, arith, rules, to_z, of_z, pos}
+use Rattle.std.specs.Int.{w32}
+use Rattle.std.proofs.lemmas.Int.{to_z-of_z}
+use Rattle.opcodes.specs.declared.op.ValueKind.TheVariants as kinds
+use Rattle.jvm_words.specs.declared.operation.IntOp.TheVariants as int_ops
+use Rattle.jvm_words.specs.Words.{int_result}
+use Rattle.frame_instructions.proofs.MadeRows.{int_of_one, int_takes_one, reads_int}
+use Rattle.frame_instructions.proofs.ints.int_negate.Goals as goal
+
+pub overflow_sub-at : goal.overflow_sub-at
+overflow_sub-at c =
+    let row = c.args.row.now in
+    let can = c.requires.acts in
+    let few = int_takes_one kinds.Int (λ a. int_result int_ops.Sub (pos 0) a) row c.args.locals c.args.used can in
+    omega (arith, few)
+
+pub returns : goal.returns
+returns c =
+    let row = c.args.row.now in
+    let can = c.requires.acts in
+    let few = int_takes_one kinds.Int (λ a. int_result int_ops.Sub (pos 0) a) row c.args.locals c.args.used can in
+    let at = c.args.locals + c.args.used - 1 in
+    let a = reads_int row at c.int_at-a.result (to_z-of_z w32 c.int_at-a.result (search rules)) c.int_at-a.ensures in
+    int_of_one kinds.Int (λ a. int_result int_ops.Sub (pos 0) a) row c.put_int.new.row c.args.locals c.args.used at (c.args.used) (to_z w32 (of_z w32 c.int_at-a.result)) (to_z w32 (of_z w32 c.negated_int.result))
+    can a (omega (arith, few)) (omega (arith, few)) (ap Some (sym (to_z-of_z w32 c.negated_int.result (search rules) ∙ c.negated_int.ensures))) c.put_int.ensures (omega (arith, few))

@@ -1,0 +1,14 @@
+use Rattle.std.proofs.Common.{◌+◌, ◌-◌, [], ◌∷◌, refl, arith}
+use Rattle.instruction_rows.specs.StackItems.{one, two}
+use Rattle.frame_instructions.proofs.TopWrites.{moves_written, moves_enough, lie_three}
+use Rattle.frame_instructions.proofs.moves.dup_x2.Goals as goal
+
+pub overflow_sub-at : goal.overflow_sub-at
+overflow_sub-at c = let few = moves_enough (one ∷ two ∷ []) (0 ∷ 1 ∷ 0 ∷ []) _ _ _ c.requires.acts in omega (arith, few)
+
+pub returns : goal.returns
+returns c =
+    let few = moves_enough (one ∷ two ∷ []) (0 ∷ 1 ∷ 0 ∷ []) _ _ _ c.requires.acts in
+    moves_written (one ∷ two ∷ []) (0 ∷ 1 ∷ 0 ∷ []) 3 (c.cell_at-c.result ∷ c.cell_at-b.result ∷ c.cell_at-a.result ∷ []) (c.cell_at-a.result ∷ c.cell_at-c.result ∷ c.cell_at-b.result ∷ c.cell_at-a.result ∷ [])
+    c.args.row.now c.put_four.new.row c.args.locals c.args.used (c.args.locals + c.args.used - 3) _ (λ locals stack. refl)
+    (lie_three c.args.row.now (c.args.locals + c.args.used - 3) c.cell_at-c.result c.cell_at-b.result c.cell_at-a.result c.cell_at-c.ensures c.cell_at-b.ensures c.cell_at-a.ensures) (omega (arith, few)) few c.put_four.ensures (omega (arith, few)) (omega (arith, few))

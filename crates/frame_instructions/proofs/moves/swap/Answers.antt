@@ -1,0 +1,14 @@
+use Rattle.std.proofs.Common.{◌+◌, ◌-◌, [], ◌∷◌, refl, arith}
+use Rattle.instruction_rows.specs.StackItems.{one}
+use Rattle.frame_instructions.proofs.TopWrites.{moves_written, moves_enough, lie_two}
+use Rattle.frame_instructions.proofs.moves.swap.Goals as goal
+
+pub overflow_sub-at : goal.overflow_sub-at
+overflow_sub-at c = let few = moves_enough (one ∷ one ∷ []) (1 ∷ 0 ∷ []) _ _ _ c.requires.acts in omega (arith, few)
+
+pub returns : goal.returns
+returns c =
+    let few = moves_enough (one ∷ one ∷ []) (1 ∷ 0 ∷ []) _ _ _ c.requires.acts in
+    moves_written (one ∷ one ∷ []) (1 ∷ 0 ∷ []) 2 (c.cell_at-b.result ∷ c.cell_at-a.result ∷ []) (c.cell_at-a.result ∷ c.cell_at-b.result ∷ [])
+    c.args.row.now c.put_two.new.row c.args.locals c.args.used (c.args.locals + c.args.used - 2) _ (λ locals stack. refl)
+    (lie_two c.args.row.now (c.args.locals + c.args.used - 2) c.cell_at-b.result c.cell_at-a.result c.cell_at-b.ensures c.cell_at-a.ensures) (omega (arith, few)) few c.put_two.ensures (omega (arith, few)) (omega (arith, few))

@@ -1,0 +1,133 @@
+-- What an invocation does, where the method that it names is known.
+use Rattle.std.proofs.Common.{ℕ, ◌≡◌, Bool, true, false, List, Option, Some, None, drop, refl, sym, subst, ap, ◌∙◌}
+use Rattle.std.specs.Prelude.{Result, Ok, Err, IfOk, nat_lt, slice_get, ◌||◌, if◌then◌else◌}
+use Rattle.items.specs.Options.{◌>>=◌}
+use Rattle.items.proofs.Binds.{bind_is}
+use Rattle.instruction_rows.specs.declared.value.Slot.{Slot}
+use Rattle.instruction_rows.specs.Rows.{Invocation, virtual, special, static, interface}
+use Rattle.link_model.specs.declared.members.MethodInfo.{MethodInfo}
+use Rattle.link_model.specs.declared.sites.Resolution.{Resolution}
+use Rattle.link_model.specs.declared.members.MethodCode.{MethodCode}
+use Rattle.link_model.specs.World.{World}
+use Rattle.link_model.specs.Decoded.{code_at}
+use Rattle.lib_table.specs.declared.native.Native.{Native}
+use Rattle.ref_model.specs.State.{State}
+use Rattle.ref_model.specs.Effects.{Effect, invokes, late_failure, throws}
+use Rattle.ref_model.specs.Fetch.{Named, method_of, named_method}
+use Rattle.ref_model.specs.Kinds.{argument_slots}
+use Rattle.ref_model.specs.Calls.{called, code_entered, entered, invoked, native_entered}
+use Rattle.ref_model.specs.Classes.{is_sub}
+use Rattle.ref_model.specs.Frames.{callee}
+use Rattle.ref_model.specs.LocalRows.{most_frames}
+use Rattle.ref_model.specs.Members.{is_hold, is_synchronized, native_at}
+use Rattle.ref_model.specs.declared.exception.Exception.TheVariants as exceptions
+use Rattle.invocation.specs.declared.target.Target.{Target}
+use Rattle.invocation.specs.declared.receivers.Receiver.{Receiver}
+use Rattle.invocation.specs.declared.invocation_cache.NamedMethod.{NamedMethod}
+use Rattle.invocation.specs.declared.target.Callee.{Callee}
+use Rattle.invocation.specs.declared.target.Target.TheVariants as targets
+use Rattle.invocation.specs.Arguments.{takes_double}
+use Rattle.invocation.specs.Receivers.{tested}
+use Rattle.invocation.specs.InvocationCache.{FitsReceiver, IsNamed}
+use Rattle.invocation.specs.Targets.{Gives, IsLocalCallee, IsLocalCode, IsReceived, IsStaticCallee, begins, numbered_effect, received_effect, selected_effect, special_effect, virtual_effect}
+
+pub named_is : (w : World) (resolution : Resolution) (n : ℕ) (m : MethodInfo) → Some n ≡ method_of resolution.site → Some m ≡ slice_get w.methods n →
+    named_method w resolution ≡ Some (record { number = n; method = m })
+named_is w resolution n m site method =
+    bind_is (method_of resolution.site) _ n _ (sym site) (bind_is (slice_get w.methods n) _ m _ (sym method) refl)
+
+pub invoked_by : (w : World) (resolution : Resolution) (invocation : Invocation) (r : State) (depth : ℕ) (stack : List Slot) (n : ℕ) (m : MethodInfo) →
+    Some n ≡ method_of resolution.site → Some m ≡ slice_get w.methods n →
+    invoked w resolution invocation r depth stack ≡ called w resolution invocation (record { number = n; method = m }) r depth stack
+invoked_by w resolution invocation r depth stack n m site method =
+    ap (λ (x : Option Named). x >>= λ named. called w resolution invocation named r depth stack) (named_is w resolution n m site method)
+
+pub static_is : (w : World) (resolution : Resolution) (r : State) (depth : ℕ) (stack : List Slot) (n slots : ℕ) (m : MethodInfo) →
+    Some n ≡ method_of resolution.site → Some m ≡ slice_get w.methods n → slots ≡ argument_slots m.signature →
+    invoked w resolution static r depth stack ≡ numbered_effect w r depth n slots stack
+static_is w resolution r depth stack n slots m site method is =
+    let named : Named = record { number = n; method = m } in
+    invoked_by w resolution static r depth stack n m site method ∙ ap (λ s. entered w r depth named s stack) (sym is)
+    ∙ ap (λ (x : Option MethodInfo). (x >>= λ y. Some (record { number = n; method = y })) >>= λ y. entered w r depth y slots stack) method
+
+pub virtual_is : (w : World) (resolution : Resolution) (r : State) (depth : ℕ) (stack : List Slot) (n slots : ℕ) (m : MethodInfo) →
+    Some n ≡ method_of resolution.site → Some m ≡ slice_get w.methods n → slots ≡ argument_slots m.signature →
+    invoked w resolution virtual r depth stack ≡ virtual_effect w resolution n slots r depth stack
+virtual_is w resolution r depth stack n slots m site method is =
+    invoked_by w resolution virtual r depth stack n m site method ∙ ap (λ s. virtual_effect w resolution n s r depth stack) (sym is)
+
+pub interface_is : (w : World) (resolution : Resolution) (count : ℕ) (r : State) (depth : ℕ) (stack : List Slot) (n slots : ℕ) (m : MethodInfo) →
+    Some n ≡ method_of resolution.site → Some m ≡ slice_get w.methods n → slots ≡ argument_slots m.signature →
+    invoked w resolution (interface count) r depth stack ≡ virtual_effect w resolution n slots r depth stack
+interface_is w resolution count r depth stack n slots m site method is =
+    invoked_by w resolution (interface count) r depth stack n m site method ∙ ap (λ s. virtual_effect w resolution n s r depth stack) (sym is)
+
+pub special_is : (w : World) (resolution : Resolution) (r : State) (depth : ℕ) (stack : List Slot) (n slots : ℕ) (m : MethodInfo) →
+    Some n ≡ method_of resolution.site → Some m ≡ slice_get w.methods n → slots ≡ argument_slots m.signature →
+    invoked w resolution special r depth stack ≡ special_effect w resolution n slots r depth stack
+special_is w resolution r depth stack n slots m site method is =
+    invoked_by w resolution special r depth stack n m site method ∙ ap (λ s. special_effect w resolution n s r depth stack) (sym is)
+
+-- a method with code begins
+pub coded_is : (w : World) (r : State) (depth : ℕ) (stack : List Slot) (n slots : ℕ) (m : MethodInfo) (code : MethodCode) →
+    slice_get w.methods n ≡ Some m → native_at w n ≡ None → code_at w n ≡ Some code → (is_synchronized m || is_hold w m) ≡ false →
+    numbered_effect w r depth n slots stack ≡ begins depth (record { method = n; slots = slots; locals = code.max_locals; operands = code.max_stack }) stack
+coded_is w r depth stack n slots m code method native has plain =
+    let named : Named = record { number = n; method = m } in
+    let held : Option Effect = None in
+    let begun : Option Effect =
+    if nat_lt depth most_frames then (callee n code slots stack >>= λ g. Some (invokes g (drop slots stack))) else Some (throws exceptions.StackOverflowError) in
+    ap (λ (x : Option MethodInfo). (x >>= λ y. Some (record { number = n; method = y })) >>= λ y. entered w r depth y slots stack) method
+    ∙ ap (λ (x : Option Native). native_entered w r depth named x slots stack) native ∙ ap (λ (x : Option MethodCode). code_entered w depth named x slots stack) has
+    ∙ ap (λ (b : Bool). if b then held else begun) plain
+
+-- ---- the test of the receiver's class
+
+pub tested_instance : (w : World) (receiver : Receiver) (act : ℕ → Option Effect) → is_sub w receiver.class receiver.named ≡ true →
+    tested w receiver act ≡ act receiver.class
+tested_instance w receiver act e = ap (λ (b : Bool). if b then act receiver.class else Some (throws (late_failure w receiver.named))) e
+
+pub tested_other : (w : World) (receiver : Receiver) (act : ℕ → Option Effect) → is_sub w receiver.class receiver.named ≡ false →
+    tested w receiver act ≡ Some (throws (late_failure w receiver.named))
+tested_other w receiver act e = ap (λ (b : Bool). if b then act receiver.class else Some (throws (late_failure w receiver.named))) e
+
+-- ---- what holds of a target, along an equation of its effect
+
+pub if_ok_mapped : {A E : Type 0} (x : Result A E) (P Q : A → Type 0) → ((a : A) → P a → Q a) → IfOk x P → IfOk x Q
+if_ok_mapped (Ok a) P Q f h = f a h
+if_ok_mapped (Err e) P Q f h = tt
+
+pub gives_along : (w : World) (r : State) (depth : ℕ) (stack : List Slot) (effect other : Option Effect) (target : Target) → effect ≡ other →
+    Gives w r depth stack other target → Gives w r depth stack effect target
+gives_along w r depth stack effect other target e h =
+    let P : Option Effect → Type 0 = λ x. Gives w r depth stack x target in subst P (sym e) h
+
+-- what was selected for an instance of the class that is named
+pub fits_is_received : (w : World) (receiver : Receiver) (n slots : ℕ) (target : Target) → FitsReceiver w receiver n slots target →
+    IsReceived w receiver n slots target
+fits_is_received w receiver n slots target h = λ r depth stack.
+    gives_along w r depth stack (received_effect w r depth receiver n slots stack) (selected_effect w r depth receiver.class n slots stack) target
+    (tested_instance w receiver (λ class. selected_effect w r depth class n slots stack) h.instance) (h.selected r depth stack)
+
+pub other_is_received : (w : World) (receiver : Receiver) (n slots : ℕ) → is_sub w receiver.class receiver.named ≡ false →
+    IsReceived w receiver n slots (targets.Throws (late_failure w receiver.named))
+other_is_received w receiver n slots e = λ r depth stack. tested_other w receiver (λ class. selected_effect w r depth class n slots stack) e
+
+-- ---- the method that an invokestatic begins
+
+inside : {A : Type 0} (a b : A) → ◌≡◌ {A = Option A} (Some a) (Some b) → a ≡ b
+inside a b e = cc
+
+pub static_named : (w : World) (resolution : Resolution) (n : ℕ) (m : NamedMethod) (c : Callee) → method_of resolution.site ≡ Some n → m.number ≡ n → IsNamed w m → m.unbound ≡ targets.Code c
+    → IsStaticCallee w resolution c
+static_named w resolution n m c site number named is =
+    let local : IsLocalCallee w m.number m.slots c = subst (IsLocalCode w m.number m.slots) is named.local in
+    let same : named.method ≡ local.method = inside named.method local.method (named.is ∙ local.at) in
+    record {
+      number = m.number;
+      named = site ∙ ap (λ (k : ℕ). Some k) (sym number);
+      slots = m.slots;
+      callee = local;
+      takes = named.slots ∙ ap (λ (x : MethodInfo). argument_slots x.signature) same;
+      plain = ap (λ (x : MethodInfo). takes_double x.signature) (sym same) ∙ named.plain;
+    }

@@ -1,0 +1,129 @@
+-- What calls, returns and exceptions on their way make of the frames of a thread.
+use Rattle.std.specs.Prelude.{ℕ, ◌≡◌, ◌-◌, ◌≤◌, Bool, true, false, List, [], ◌∷◌, Option, Some, None, IfSome, drop, length, if◌then◌else◌}
+use Rattle.std.specs.Option.{option_map}
+use Rattle.items.specs.Options.{◌>>=◌}
+use Rattle.opcodes.specs.declared.op.ValueKind.{ValueKind}
+use Rattle.instruction_rows.specs.declared.value.Slot.{Slot}
+use Rattle.instruction_rows.specs.declared.value.Value.{Value}
+use Rattle.instruction_rows.specs.SlotEffect.{pushed}
+use Rattle.link_model.specs.declared.members.MethodInfo.{MethodInfo}
+use Rattle.link_model.specs.World.{World}
+use Rattle.verify_types.specs.Environment.{Handler}
+use Rattle.state_model.specs.Frames.{Frame}
+use Rattle.frames.specs.Frames.{top_room, with_stack}
+use Rattle.continuation.specs.Continuation.{Continuation, without_pin}
+use Rattle.ref_model.specs.Effects.{invokes, throws}
+use Rattle.ref_model.specs.Frames.{is_root, returned, returned_to, stack_returned}
+use Rattle.ref_model.specs.Throwing.{at_handler, handler_of}
+use Rattle.heap_instructions.specs.Operands.{operands}
+use Rattle.invocation.specs.declared.entering.Entered.{Entered}
+use Rattle.invocation.specs.declared.entering.Entered.TheVariants as entering
+use Rattle.invocation.specs.declared.returning.Left.{Left}
+use Rattle.invocation.specs.declared.returning.Left.TheVariants as leaving
+use Rattle.invocation.specs.declared.catching.Caught.{Caught}
+use Rattle.invocation.specs.declared.catching.Caught.TheVariants as catching
+use Rattle.invocation.specs.declared.target.Callee.{Callee}
+use Rattle.invocation.specs.Targets.{begins}
+
+-- ---- a method with code begins
+
+-- its frame lies over the caller's, which has the operands that are left
+pub record HasBegun (c : Callee) (old new : Continuation) : Type 0 where
+  pub callee : Frame
+  pub rest : List Slot
+  pub effect : begins (length old.stack.frames) c (operands old) ≡ Some (invokes callee rest)
+  pub frames : new.stack.frames ≡ callee ∷ with_stack rest old.stack.frames
+
+abbrev pub IsEntered : Callee → Continuation → Continuation → Entered → Type 0
+IsEntered c old new entering.Begun = HasBegun c old new
+IsEntered c old new (entering.Throws e) =
+    (begins (length old.stack.frames) c (operands old) ≡ Some (throws e)) × (new.stack.frames ≡ old.stack.frames)
+IsEntered c old new entering.Undefined = new.stack.frames ≡ old.stack.frames
+
+-- ---- a return
+
+-- whether the top frame is a root frame
+abbrev pub top_is_root : World → List Frame → Bool
+top_is_root w [] = false
+top_is_root w (f ∷ below) = is_root w f below
+
+-- the frames after a return from the top one
+abbrev pub top_returned : World → Option ValueKind → List Frame → Option (List Frame)
+top_returned w kind [] = None
+top_returned w kind (f ∷ below) = if is_root w f below then None else returned w kind f below
+
+abbrev pub IsLeft : World → Option ValueKind → Continuation → Continuation → Left → Type 0
+IsLeft w kind old new leaving.Returned =
+    (top_returned w kind old.stack.frames ≡ Some new.stack.frames) × (new.pinned ≡ without_pin (length old.stack.frames - 1) old.pinned)
+IsLeft w kind old new leaving.Root = (top_is_root w old.stack.frames ≡ true) × (new ≡ old)
+IsLeft w kind old new leaving.Undefined = Unit {0}
+
+-- the kinds of what a return takes
+abbrev pub returned_kinds : Option ValueKind → List ValueKind
+returned_kinds None = []
+returned_kinds (Some k) = k ∷ []
+
+-- what comes back: nothing, or a value
+abbrev pub pushed_back : Option Value → List Slot → List Slot
+pushed_back None stack = stack
+pushed_back (Some v) stack = pushed v stack
+
+abbrev pub IsBack : Option ValueKind → MethodInfo → List Slot → Option (Option Value) → Type 0
+IsBack kind m stack found = IfSome found (λ back. (under : List Slot) → stack_returned kind m stack under ≡ Some (pushed_back back under))
+
+-- what comes back was pushed on the operands of the top frame, which have room for it
+abbrev pub HasPushed : Option Value → Continuation → Continuation → Bool → Type 0
+HasPushed back old new true =
+    (new.stack.frames ≡ with_stack (pushed_back back (operands old)) old.stack.frames) × (length (pushed_back back (operands old)) ≤ top_room old.stack.frames)
+HasPushed back old new false = Unit {0}
+
+-- the frames where the top one goes on after its call, with what comes back
+abbrev pub top_behind : World → Option Value → List Frame → Option (List Frame)
+top_behind w back [] = None
+top_behind w back (g ∷ rest) = returned_to w g (pushed_back back g.stack) >>= λ caller. Some (caller ∷ rest)
+
+abbrev pub IsBehind : World → Option Value → Continuation → Continuation → Bool → Type 0
+IsBehind w back old new true = top_behind w back old.stack.frames ≡ Some new.stack.frames
+IsBehind w back old new false = Unit {0}
+
+-- ---- an exception on its way
+
+-- the frames where the top one's handler at this pc catches an object
+abbrev pub top_at_handler : ℕ → ℕ → List Frame → Option (List Frame)
+top_at_handler handler o [] = None
+top_at_handler handler o (f ∷ below) = at_handler f handler o >>= λ g. Some (g ∷ below)
+
+-- the pc of the top frame's first handler that catches an object of a class
+abbrev pub top_handler : World → ℕ → List Frame → Option ℕ
+top_handler w class [] = None
+top_handler w class (f ∷ below) = option_map (λ (h : Handler). h.row.handler) (handler_of w class f)
+
+abbrev pub IsAtHandler : ℕ → ℕ → Continuation → Continuation → Bool → Type 0
+IsAtHandler handler o old new true = top_at_handler handler o old.stack.frames ≡ Some new.stack.frames
+IsAtHandler handler o old new false = Unit {0}
+
+-- the top frame has a handler, and goes on there
+pub record IsHandled (w : World) (class o : ℕ) (old new : Continuation) : Type 0 where
+  pub handler : ℕ
+  pub is : top_handler w class old.stack.frames ≡ Some handler
+  pub frames : top_at_handler handler o old.stack.frames ≡ Some new.stack.frames
+  pub pinned : new.pinned ≡ old.pinned
+
+-- it has none, and is left
+pub record IsUnhandled (w : World) (class : ℕ) (old new : Continuation) : Type 0 where
+  pub none : top_handler w class old.stack.frames ≡ None
+  pub inner : top_is_root w old.stack.frames ≡ false
+  pub frames : new.stack.frames ≡ drop 1 old.stack.frames
+  pub pinned : new.pinned ≡ without_pin (length old.stack.frames - 1) old.pinned
+
+-- it has none, and is a root frame
+pub record IsUncaught (w : World) (class : ℕ) (old new : Continuation) : Type 0 where
+  pub none : top_handler w class old.stack.frames ≡ None
+  pub root : top_is_root w old.stack.frames ≡ true
+  pub same : new ≡ old
+
+abbrev pub IsCaught : World → ℕ → ℕ → Continuation → Continuation → Caught → Type 0
+IsCaught w class o old new catching.Handled = IsHandled w class o old new
+IsCaught w class o old new catching.Left = IsUnhandled w class old new
+IsCaught w class o old new catching.Uncaught = IsUncaught w class old new
+IsCaught w class o old new catching.Undefined = Unit {0}

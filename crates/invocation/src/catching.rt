@@ -1,0 +1,59 @@
+//! Exceptions on their way (JVMS 2.10, 6.5: athrow).
+
+ghost use Rattle.std.specs.Prelude.{◌≡◌, ◌<◌, length};
+ghost use Rattle.invocation.specs.FrameSteps.{IsAtHandler, IsCaught};
+
+use crate::returning::is_root;
+use crate::world::CallWorld;
+use continuation::Mounted;
+use instruction_rows::{Slot, Value};
+
+/// What became of an exception in the top frame.
+#[derive(Clone, Copy, Debug, PartialEq, Eq)]
+pub enum Caught {
+    /// The frame goes on at its handler.
+    Handled,
+    /// No handler catches it, and the frame is left.
+    Left,
+    /// No handler catches it in a root frame, and nothing has changed.
+    Uncaught,
+    /// The definitions have no such step.
+    Undefined,
+}
+
+// The top frame goes on at a handler, with an object alone on its operand stack: whether that has room.
+fn go_to_handler(mounted: &mut Mounted, handler: u16, o: u32) -> bool
+    requires { 0 < length mounted.old.stack.frames }
+    ensures at { IsAtHandler handler o mounted.old mounted.new result }
+    ensures thread { mounted.new.thread ≡ mounted.old.thread }
+    ensures pinned { mounted.new.pinned ≡ mounted.old.pinned }
+{
+    mounted.clear();
+    if mounted.operand_room() == 0 {
+        return false;
+    }
+    mounted.push(Slot::One(Value::Ref(o)));
+    mounted.set_pc(u32::from(handler));
+    true
+}
+
+/// What an object of a class that is thrown makes of the top frame: the first row of its exception table that catches the object leads to a
+/// handler; without one the frame is left.
+pub fn catch_object<W: CallWorld>(world: &W, class: u32, o: u32, mounted: &mut Mounted) -> Caught
+    requires { 0 < length mounted.old.stack.frames }
+    ensures caught { IsCaught (W.world world.now) class o mounted.old mounted.new result }
+    ensures thread { mounted.new.thread ≡ mounted.old.thread }
+{
+    let view = mounted.top();
+    if let Some(handler) = world.handler(class, view.method, view.pc) {
+        if !go_to_handler(mounted, handler, o) {
+            return Caught::Undefined;
+        }
+        return Caught::Handled;
+    }
+    if is_root(world, mounted) {
+        return Caught::Uncaught;
+    }
+    mounted.pop_frame();
+    Caught::Left
+}

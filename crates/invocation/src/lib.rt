@@ -1,0 +1,21 @@
+//! Invocations and returns of methods, and exceptions on their way (JVMS 2.6.4, 2.10, 6.5), over a heap and a mounted thread.
+#![tactic(auto)]
+
+mod arguments;
+mod catching;
+mod entering;
+mod invocation_cache;
+mod invocations;
+mod receivers;
+mod returning;
+mod target;
+mod world;
+
+pub use arguments::argument_slots;
+pub use catching::{Caught, catch_object};
+pub use entering::{Entered, enter};
+pub use invocation_cache::InvocationCache;
+pub use invocations::{invoke, static_callee};
+pub use returning::{Left, is_root, leave};
+pub use target::{Callee, Target};
+pub use world::CallWorld;

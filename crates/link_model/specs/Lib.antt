@@ -1,0 +1,16 @@
+pub mod World
+pub mod Pools
+pub mod Codes
+pub mod Infos
+pub mod Numbering
+pub mod Strings
+pub mod Sites
+pub mod Resolutions
+pub mod Worlds
+pub mod Decoded
+pub mod LookUps
+pub mod MainMethod
+pub mod InstanceFields
+pub mod Fields
+pub mod Subtypes
+pub mod Methods

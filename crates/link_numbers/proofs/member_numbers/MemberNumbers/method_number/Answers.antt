@@ -1,0 +1,16 @@
+use Rattle.std.proofs.Common.{◌≡◌, ◌+◌, ℕ, List, length, sym, ap, ◌∙◌}
+use Rattle.std.specs.Prelude.{slice_get}
+use Rattle.link_rules.specs.Program.{Program}
+use Rattle.link_rules.specs.Members.{methods_before}
+use Rattle.link_resolution.specs.Tables.{tabulate}
+use Rattle.link_numbers.proofs.TableLaws.{value_read}
+use Rattle.link_numbers.proofs.member_numbers.MemberNumbers.method_number.Goals as goal
+
+pub returns : goal.returns
+returns c =
+    let p = c.args.self.now in
+    let at = c.args.at in
+    let table : c.deref.result.now ≡ tabulate (methods_before p.classes) (length p.classes) =
+    c.deref.ensures.value ∙ c.self.invariant.methods ∙ ap (λ (q : Program). tabulate (methods_before q.classes) (length q.classes)) c.self.view_is in
+    let first = value_read (methods_before p.classes) (length p.classes) at.class c.in_ok-first.first (ap (λ (xs : List ℕ). slice_get xs at.class) (sym table) ∙ c.in_ok-first.ensures) in
+    c.in_ok-number.ensures ∙ ap (λ (n : ℕ). n + at.index) first

@@ -1,0 +1,12 @@
+use crate::MemberPlace;
+
+/// What an invocation selects (JVMS 5.4.6).
+#[derive(Clone, Copy, Debug, PartialEq, Eq)]
+pub enum Choice {
+    /// This method, which isn't abstract.
+    Method(MemberPlace),
+    /// An abstract method, or none.
+    Abstract,
+    /// Several maximally specific methods that aren't abstract.
+    Several,
+}

@@ -1,5 +1,0 @@
-use Rattle.linked_names.proofs.Steps.{linked_code_is_named}
-use Rattle.linked_names.proofs.linked_code_is_named.Goals as goal
-
-pub returns : goal.returns
-returns c = λ p links settled natives. linked_code_is_named p links settled natives

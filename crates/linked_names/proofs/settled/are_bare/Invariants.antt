@@ -1,5 +1,0 @@
-use Rattle.linked_names.proofs.TestLaws.{BareBefore}
-use Rattle.linked_names.proofs.settled.are_bare.Given as goal
-
-abbrev pub invariant-loop-n : goal.invariant-loop-n
-invariant-loop-n g l = BareBefore (g.L.Lookups.world l.world) l.class l.n

@@ -1,6 +1,0 @@
-use Rattle.std.proofs.Common.{◌≡◌}
-use Rattle.object_events.specs.ArrayMaking.{references}
-use Rattle.object_events.proofs.array_making.references_to.Given as goal
-
-abbrev pub invariant-loop-index : goal.invariant-loop-index
-invariant-loop-index l = l.values ≡ references l.first l.step l.index

@@ -1,7 +1,0 @@
-use Rattle.std.proofs.Common.{◌≡◌, take}
-use Rattle.std.specs.List.{flat_map}
-use Rattle.opening.specs.FirstStatics.{static_values}
-use Rattle.opening.proofs.first_statics.first_statics.Given as goal
-
-abbrev pub invariant-loop-file : goal.invariant-loop-file
-invariant-loop-file l = l.statics.items ≡ flat_map (static_values l.strings) (take l.file-index l.file-items)

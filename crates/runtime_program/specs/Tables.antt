@@ -1,0 +1,20 @@
+-- The tables of a program that is ready to run.
+use Rattle.std.specs.Prelude.{◌≡◌, length, map}
+use Rattle.link_resolution.specs.Tables.{tabulate}
+use Rattle.link_model.specs.World.{World}
+use Rattle.ref_model.specs.Members.{field_place, method_place, native_at, new_values}
+use Rattle.runtime_program.specs.Arrays.{inner_class}
+use Rattle.runtime_program.specs.Exceptions.{exceptions_of}
+use Rattle.runtime_program.specs.Places.{initializer_of}
+use Rattle.runtime_program.specs.StaticPlaces.{AreStaticPlaces}
+use Rattle.runtime_program.specs.declared.tables.ReadyTables.{ReadyTables}
+
+pub record HasTables (w : World) (t : ReadyTables) : Type 0 where
+  pub places : t.places.items ≡ tabulate (method_place w) (length w.methods)
+  pub natives : t.natives.items ≡ tabulate (native_at w) (length w.methods)
+  pub initializers : t.initializers.items ≡ tabulate (initializer_of w) (length w.methods)
+  pub new_values : t.new_values.items ≡ tabulate (new_values w) (length w.program.classes)
+  pub static_places : AreStaticPlaces w t.static_places
+  pub instance_places : t.instance_places.items ≡ tabulate (field_place w) (length w.fields)
+  pub inner_classes : t.inner_classes.items ≡ map (inner_class w) w.arrays
+  pub exceptions : t.exceptions ≡ exceptions_of w

@@ -1,0 +1,58 @@
+//! What invocations, returns, exceptions on their way and native methods ask.
+
+use crate::program::ReadyProgram;
+use invocation::CallWorld;
+use items::NoMemory;
+use lib_table::Native;
+use link_model::{MethodCode, MethodInfo};
+use link_rules::{Choice, MemberPlace};
+use native_methods::NativeWorld;
+use std::alloc::Global;
+
+impl CallWorld for ReadyProgram {
+    #[inline(always)]
+    fn method(&self, n: u32) -> Option<&MethodInfo> {
+        ReadyProgram::method(self, n)
+    }
+
+    #[inline(always)]
+    fn code(&self, n: u32) -> Option<&MethodCode> {
+        ReadyProgram::code(self, n)
+    }
+
+    #[inline(always)]
+    fn native(&self, n: u32) -> Option<Native> {
+        ReadyProgram::native(self, n)
+    }
+
+    fn choice(&self, alloc: Global, class: u32, method: u32) -> Result<Option<Choice>, NoMemory> {
+        ReadyProgram::choice(self, alloc, class, method)
+    }
+
+    fn method_number(&self, place: MemberPlace) -> Option<u32> {
+        ReadyProgram::method_number(self, place).ok()
+    }
+
+    fn is_hold(&self, method: &MethodInfo) -> bool {
+        ReadyProgram::is_hold(self, method)
+    }
+
+    fn is_initializer(&self, n: u32) -> bool {
+        ReadyProgram::is_initializer(self, n)
+    }
+
+    #[inline(always)]
+    fn next(&self, method: u32, pc: u32) -> Option<u32> {
+        ReadyProgram::next(self, method, pc)
+    }
+
+    fn handler(&self, class: u32, method: u32, pc: u32) -> Option<u16> {
+        ReadyProgram::handler(self, class, method, pc)
+    }
+}
+
+impl NativeWorld for ReadyProgram {
+    fn name(&self, class: u32) -> &[u16] {
+        self.tables().name(class)
+    }
+}

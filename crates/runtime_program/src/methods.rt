@@ -1,0 +1,148 @@
+//! Where methods are declared, and which of them are native (JVMS 4.6).
+
+ghost use Rattle.std.specs.Prelude.{◌≡◌, false, codes, length, IfOk};
+ghost use Rattle.link_resolution.specs.Tables.{tabulate};
+ghost use Rattle.class_grammar.specs.Text.{same_text};
+ghost use Rattle.link_rules.specs.Program.{class_at, own_name as name_of};
+ghost use Rattle.ref_model.specs.Members as spec;
+ghost use Rattle.runtime_program.specs.Places.{initializer_of, native_of_place};
+
+use class_grammar::is_same;
+use class_model::{ACC_SYNCHRONIZED, ClassFile, Member};
+use items::NoMemory;
+use lib_table::{Native, native_of};
+use link_model::MethodInfo;
+use link_resolution::{has_flag, key_in, own_name};
+use link_rules::MemberPlace;
+use link_tables::Tables;
+use std::alloc::Global;
+
+// Where the method of a number is declared.
+fn place_of(tables: &Tables, n: u32) -> Result<Option<MemberPlace>, NoMemory>
+    ensures { IfOk result (λ place. place ≡ spec.method_place tables.now n) }
+{
+    match tables.method(n) {
+        None => Ok(None),
+        Some(method) => {
+            let first = tables.first_method(method.class)?;
+            Ok(Some(MemberPlace {
+                class: method.class,
+                index: n.saturating_sub(first) as usize,
+            }))
+        }
+    }
+}
+
+/// Where all methods are declared, by their numbers.
+pub(crate) fn all_places(
+    alloc: Global,
+    tables: &Tables,
+) -> Result<Vec<Option<MemberPlace>>, NoMemory>
+    ensures { IfOk result (λ v. v.items
+        ≡ tabulate (spec.method_place tables.now) (length tables.now.methods)) }
+{
+    let mut places = Vec::new(alloc);
+    for n in 0..tables.method_count() {
+        places.push(place_of(tables, n)?)?;
+    }
+    Ok(places)
+}
+
+fn native_of_member(file: &ClassFile, member: &Member) -> Option<Native>
+    ensures { result ≡ spec.native_of_member file.now member.now }
+{
+    let key = key_in(&file.pool, member);
+    native_of(own_name(file), key.name, key.descriptor)
+}
+
+fn native_in(index: usize, file: &ClassFile) -> Option<Native>
+    ensures { result ≡ spec.native_in index file.now }
+{
+    native_of_member(file, file.methods.get(index)?)
+}
+
+// What the machine does in place of the code of a method, by its place.
+fn native_at_place(tables: &Tables, at: MemberPlace) -> Option<Native>
+    ensures { result ≡ native_of_place tables.now at }
+{
+    native_in(at.index, tables.hierarchy().classes().file(at.class)?)
+}
+
+// What the machine does in place of the code of a method.
+fn native_at(tables: &Tables, n: u32) -> Result<Option<Native>, NoMemory>
+    ensures { IfOk result (λ native. native ≡ spec.native_at tables.now n) }
+{
+    match place_of(tables, n)? {
+        Some(at) => Ok(native_at_place(tables, at)),
+        None => Ok(None),
+    }
+}
+
+/// What the machine does in place of the code of all methods, by their numbers.
+pub(crate) fn all_natives(alloc: Global, tables: &Tables) -> Result<Vec<Option<Native>>, NoMemory>
+    ensures { IfOk result (λ v. v.items
+        ≡ tabulate (spec.native_at tables.now) (length tables.now.methods)) }
+{
+    let mut natives = Vec::new(alloc);
+    for n in 0..tables.method_count() {
+        natives.push(native_at(tables, n)?)?;
+    }
+    Ok(natives)
+}
+
+/// Whether a method is synchronized (JVMS 4.6).
+pub(crate) fn is_synchronized(method: &MethodInfo) -> bool
+    ensures { result ≡ spec.is_synchronized method.now }
+{
+    has_flag(method.flags, ACC_SYNCHRONIZED)
+}
+
+// Whether a method is a class initializer (JVMS 2.9.2).
+fn is_initializer(method: &MethodInfo) -> bool
+    ensures { result ≡ spec.is_initializer method.now }
+{
+    is_same(&method.name, b"<clinit>")
+}
+
+// Whether the method of a number is a class initializer. `false`: also where there is none.
+fn initializer_at(tables: &Tables, n: u32) -> bool
+    ensures { result ≡ initializer_of tables.now n }
+{
+    match tables.method(n) {
+        Some(method) => is_initializer(method),
+        None => false,
+    }
+}
+
+/// Whether each method is a class initializer, by their numbers.
+pub(crate) fn all_initializers(alloc: Global, tables: &Tables) -> Result<Vec<bool>, NoMemory>
+    ensures { IfOk result (λ v. v.items
+        ≡ tabulate (initializer_of tables.now) (length tables.now.methods)) }
+{
+    let mut flags = Vec::new(alloc);
+    for n in 0..tables.method_count() {
+        flags.push(initializer_at(tables, n))?;
+    }
+    Ok(flags)
+}
+
+// Whether a class is jvt.Native.
+fn is_native_class(tables: &Tables, class: u32) -> bool
+    ensures { result ≡ class_at (λ f. same_text (name_of f) (codes "jvt/Native")) false
+        tables.now.program class }
+{
+    match tables.hierarchy().classes().file(class) {
+        Some(file) => is_same(own_name(file), b"jvt/Native"),
+        None => false,
+    }
+}
+
+/// Whether a method is jvt.Native.hold, whose frame pins its thread (own).
+pub(crate) fn is_hold(tables: &Tables, method: &MethodInfo) -> bool
+    ensures { result ≡ spec.is_hold tables.now method.now }
+{
+    if !is_same(&method.name, b"hold") {
+        return false;
+    }
+    is_native_class(tables, method.class)
+}

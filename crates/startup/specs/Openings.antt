@@ -1,0 +1,32 @@
+-- The state in which a program begins, by its parts.
+use Rattle.std.specs.Prelude.{ℕ, ◌-◌, false, List, [], ◌∷◌, None}
+use Rattle.instruction_rows.specs.declared.value.Value.{Value}
+use Rattle.link_model.specs.World.{World}
+use Rattle.state_model.specs.Frames.{Frame}
+use Rattle.state_model.specs.Objects.{Object}
+use Rattle.ref_model.specs.declared.limits.Limits.{Limits}
+use Rattle.ref_model.specs.Setting.{Setting}
+use Rattle.ref_model.specs.State.{State}
+use Rattle.ref_model.specs.Opening.{opening_thread}
+use Rattle.startup.specs.declared.begin.Opened.{Opened}
+
+-- what a run is given
+abbrev pub setting : World → ℕ → Limits → Setting
+setting w main limits = record { world = w; main = main; limits = limits }
+
+-- One thread runs, nothing is written yet, and no time has passed.
+abbrev pub first_state : List Object → ℕ → List Value → List Frame → State
+first_state heap room statics frames = record {
+  heap = heap;
+  room = room;
+  statics = statics;
+  threads = opening_thread frames ∷ [];
+  now = 0;
+  out = [];
+  err = [];
+  main_threw = false;
+  exited = None;
+}
+
+abbrev pub opened_state : Opened → State
+opened_state o = first_state o.heap.objects (o.heap.cells - o.heap.used) o.statics.items o.mounted.stack.frames

@@ -1,0 +1,68 @@
+//! The classes of which the opening heap has objects (own).
+
+ghost use Rattle.std.specs.Prelude.{◌≡◌, IfOk};
+ghost use Rattle.ref_model.specs.Opening.{words_class as class_of_words};
+ghost use Rattle.startup.specs.FirstObjects as spec;
+
+use items::NoMemory;
+use link_model::ArrayType;
+use link_tables::Tables;
+use runtime_program::{array_class, named};
+use stack_maps::Base;
+use std::alloc::Global;
+
+/// The numbers of these classes.
+#[derive(Clone, Copy, Debug, PartialEq, Eq)]
+pub struct Library {
+    pub error: u32,
+    pub stream: u32,
+    pub thread: u32,
+    pub state: u32,
+    pub words: u32,
+}
+
+// The number of String[].
+fn words_class(program: &Tables) -> Result<Option<u32>, NoMemory>
+    ensures { IfOk result (λ n. n ≡ class_of_words program.now) }
+{
+    match program.string() {
+        Some(string) => array_class(
+            program,
+            ArrayType {
+                dimensions: 1,
+                base: Base::Class(string),
+            },
+        ),
+        None => Ok(None),
+    }
+}
+
+fn library_of(
+    error: Option<u32>,
+    stream: Option<u32>,
+    thread: Option<u32>,
+    state: Option<u32>,
+    words: Option<u32>,
+) -> Option<Library>
+    ensures { result ≡ spec.library_of error stream thread state words }
+{
+    Some(Library {
+        error: error?,
+        stream: stream?,
+        thread: thread?,
+        state: state?,
+        words: words?,
+    })
+}
+
+/// These classes of a program. `None`: it lacks one of them.
+pub(crate) fn library_in(alloc: Global, program: &Tables) -> Result<Option<Library>, NoMemory>
+    ensures { IfOk result (λ l. l ≡ spec.library program.now) }
+{
+    let error = named(alloc, program, b"java/lang/OutOfMemoryError")?;
+    let stream = named(alloc, program, b"java/io/PrintStream")?;
+    let thread = named(alloc, program, b"java/lang/Thread")?;
+    let state = named(alloc, program, b"java/lang/Thread$State")?;
+    let words = words_class(program)?;
+    Ok(library_of(error, stream, thread, state, words))
+}

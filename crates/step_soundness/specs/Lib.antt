@@ -1,0 +1,4 @@
+pub mod Resolutions
+pub mod StepLaws
+pub mod OpeningLaws
+pub mod MethodKinds

@@ -1,5 +1,0 @@
-use Rattle.typed_steps.proofs.Openings.{opening_is_typed}
-use Rattle.typed_steps.proofs.openings_are_typed.Goals as goal
-
-pub returns : goal.returns
-returns c = λ p r linked facts e. opening_is_typed p r linked facts e

@@ -1,9 +1,0 @@
-use Rattle.typed_frames.proofs.ThreadLaws.{frames_keep}
-use Rattle.typed_steps.proofs.Steps.{running_is_typed}
-use Rattle.typed_steps.proofs.threads_keep.Goals as goal
-
-pub returns-clause-running : goal.returns-clause-running
-returns-clause-running c = λ w r t frames typed e. running_is_typed w r t frames typed e
-
-pub returns-clause-frames : goal.returns-clause-frames
-returns-clause-frames c = λ w r t frames typed good. frames_keep w r t frames typed good

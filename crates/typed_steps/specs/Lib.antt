@@ -1,4 +1,0 @@
-pub mod Namings
-pub mod StepLaws
-pub mod OpeningLaws
-pub mod MethodKinds

@@ -1,7 +1,0 @@
-use Rattle.std.proofs.Common.{◌≡◌}
-use Rattle.class_resolution.specs.Tables.{tabulate}
-use Rattle.world_model.specs.InstanceFields.{instance_fields}
-use Rattle.world_tables.proofs.instance_fields.all_instance_fields.Given as goal
-
-abbrev pub invariant-loop-class : goal.invariant-loop-class
-invariant-loop-class l = l.all.items ≡ tabulate (instance_fields l.members) l.class

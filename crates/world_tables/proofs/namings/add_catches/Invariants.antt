@@ -1,7 +1,0 @@
-use Rattle.std.proofs.Common.{◌≡◌, ◌++◌, map, take}
-use Rattle.world_tables.specs.Linkings.{linking_in}
-use Rattle.world_model.specs.Sites.{method_catches}
-use Rattle.world_tables.proofs.namings.add_catches.Given as goal
-
-abbrev pub invariant-loop-method : goal.invariant-loop-method
-invariant-loop-method l = l.catches.items ≡ l.fn.catches.items ++ map (method_catches (linking_in l.l) l.file.pool) (take l.method-index l.file.methods)

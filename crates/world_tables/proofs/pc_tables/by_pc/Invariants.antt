@@ -1,6 +1,0 @@
-use Rattle.std.proofs.Common.{take}
-use Rattle.world_tables.specs.PcTables.{IsByPc}
-use Rattle.world_tables.proofs.pc_tables.by_pc.Given as goal
-
-abbrev pub invariant-loop-index : goal.invariant-loop-index
-invariant-loop-index l = IsByPc (take l.index l.instrs) l.table.items
