@@ -3,10 +3,9 @@
 
 usage: gate.py [--log FILE] [--out FILE] [-- COMMAND ..]
 
-Runs `rt ci`, or the command that is given, at the top of the repository, prints what it prints with the time before
-each line, to FILE too, and ends with its status. Twice a second the processor time of all processes that it started is
-read from /proc: for which crate one works, and at what, its words and its folder tell. At the end the table is written
-to bench/gate.md, or to the file after --out. It holds only what an earlier run on the machine has not passed.
+Runs `rt ci`, or the command that is given, at the top of the repository, prints its lines with the time, to FILE too,
+and ends with its status. Twice a second it reads the processor time of all processes below that from /proc: words and
+folders tell for which crate they work, and at what. At the end it writes the table to bench/gate.md or to --out FILE.
 """
 import argparse
 import os
@@ -24,7 +23,8 @@ COLUMNS = ("proof", "tests", "seed", "edits")
 TEXT = """# What the gate costs
 
 Made by `bench/gate.py` on {day}. `{command}` took {wall:,.0f} seconds on {processors} processors, with a load of
-{load:.1f} on average and {most:.1f} at most, and {minutes:.1f} minutes of processor time, and ended with `{last}`.
+{load:.1f} on average and {most:.1f} at most, and {minutes:.1f} minutes of processor time. Its last line:
+`{last}`.
 
 Processor time in seconds, and in minutes in the last column. Proof: of the crate alone. Tests: the proof of its tests,
 and what builds and runs them and its program. Seed: the two checks of the crate that its edits stand on, if they are
@@ -121,7 +121,7 @@ def main():
     reader.add_argument("--log", type=argparse.FileType("w"), default=os.devnull)
     reader.add_argument("--out", type=Path, default=TOP / "bench/gate.md")
     reader.add_argument("command", nargs="*", default=["rt", "ci"])
-    given, lines, loads, begun = reader.parse_args(), [], [], time.monotonic()
+    given, lines, loads, begun = reader.parse_args(), [], [os.getloadavg()[0]], time.monotonic()
     how = {"stdout": subprocess.PIPE, "stderr": subprocess.STDOUT, "errors": "replace"}
     ran = subprocess.Popen(given.command, cwd=TOP, **how)
 
