@@ -1,5 +1,5 @@
 /// An operation on two ints (JVMS 6.5).
-#[derive(Clone, Copy, Debug, PartialEq, Eq)]
+#[derive(Clone, Copy)]
 pub enum IntOp {
     Add,
     Sub,
@@ -15,7 +15,7 @@ pub enum IntOp {
 }
 
 /// An operation on two longs (JVMS 6.5).
-#[derive(Clone, Copy, Debug, PartialEq, Eq)]
+#[derive(Clone, Copy)]
 pub enum LongOp {
     Add,
     Sub,
@@ -28,7 +28,7 @@ pub enum LongOp {
 }
 
 /// A shift of a long by an int (JVMS 6.5).
-#[derive(Clone, Copy, Debug, PartialEq, Eq)]
+#[derive(Clone, Copy)]
 pub enum ShiftOp {
     Shl,
     Shr,
@@ -36,7 +36,7 @@ pub enum ShiftOp {
 }
 
 /// A type whose values are ints on the operand stack, and take fewer bits in a variable (JVMS 2.11.1).
-#[derive(Clone, Copy, Debug, PartialEq, Eq)]
+#[derive(Clone, Copy)]
 pub enum Narrow {
     /// One bit.
     Bool,

@@ -8,7 +8,7 @@ use Rattle.opcodes.specs.declared.op.Op.{Op}
 use Rattle.opcodes.specs.declared.op.Instr.{Instr}
 use Rattle.opcodes.specs.Operands.{op_at}
 use Rattle.opcodes.specs.Code.{BeginsWith, BeginsWithAll, IsCode, IsFirstBad}
-use Rattle.opcodes.proofs.RowLaws.{op_exact}
+use Rattle.opcodes.proofs.OperandLaws.{op_exact}
 use Rattle.opcodes.proofs.CodeLaws.{some_bytes}
 use Rattle.link_rules.specs.Faults.{Decoded, decoded, decoded_from, read_at, with_first}
 

@@ -22,7 +22,7 @@ pub struct MethodInfo {
 }
 
 /// The code of a method (JVMS 4.7.3). `map` is the body of its StackMapTable, or that of a table without frames.
-#[derive(Debug, Drop)]
+#[derive(Drop)]
 pub struct MethodCode {
     pub max_stack: u16,
     pub max_locals: u16,

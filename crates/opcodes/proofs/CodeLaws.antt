@@ -13,7 +13,7 @@ use Rattle.byte_reader.specs.declared.fault.Stop.TheVariants as stops
 use Rattle.opcodes.specs.Operands.{op_at}
 use Rattle.opcodes.specs.Code.{BeginsWith, BeginsWithAll, IsCode, BeginsWithNone, IsFirstBad, error_at}
 use Rattle.byte_reader.proofs.ReaderLaws.{IsBytes, ok_is}
-use Rattle.opcodes.proofs.RowLaws.{op_exact}
+use Rattle.opcodes.proofs.OperandLaws.{op_exact}
 
 -- what is read where instructions begin is the first of them
 begins_read : (pc : ℕ) (code : List ℕ) (i : Instr) (rest : List ℕ) → BeginsWith pc code i rest → op_at pc code ≡ Ok (i.op, rest)

@@ -1,5 +1,5 @@
 pub mod Table
 pub mod SwitchLaws
-pub mod RowLaws
+pub mod OperandLaws
 pub mod CodeLaws
 pub mod IndexLaws

@@ -1,16 +1,19 @@
 -- The operands of the two switches are read just where they are encoded.
-use Rattle.std.proofs.Common.{◌≡◌, ℕ, ℤ, pos, negsuc, ◌<ℤ◌, ◌≤ℤ◌, true, List, [], ◌∷◌, length, refl, sym, ap, ◌∙◌, arith}
+use Rattle.std.proofs.Common.{◌≡◌, ℕ, ℤ, pos, negsuc, ◌<ℤ◌, ◌≤ℤ◌, true, List, [], ◌∷◌, length, Result, Ok, Err, refl, sym, ap, ◌∙◌, arith}
 use Rattle.std.specs.Prelude.{FitsSigned, unsigned_abs, int_lt, int_le}
 use Rattle.std.specs.Int.{w32}
 use Rattle.std.specs.List.{flat_map, AllByRecursion}
 use Rattle.std.proofs.lemmas.Int.{ints}
+use Rattle.byte_reader.specs.declared.fault.Fault.{Fault}
 use Rattle.byte_reader.specs.Reader.{bytes_at, map_value}
 use Rattle.byte_reader.proofs.ReaderLaws.{IsReader, bytes_again, bytes_reads, both_reads, verify_reads, Carries, map_value_reads, carried, same_reads, signed16, signed32, AllByState, list_by_reads}
 use Rattle.byte_reader.proofs.SequenceLaws.{then_reads, many_reads}
+use Rattle.opcodes.specs.declared.error.CodeWhy.{CodeWhy}
 use Rattle.opcodes.specs.declared.error.CodeWhy.TheVariants.{Short, Operand}
+use Rattle.opcodes.specs.declared.op.Op.TheVariants as ops
 use Rattle.opcodes.specs.declared.switch.Match.{Match}
-use Rattle.opcodes.specs.Encoding.{offset_to, near_offset, IsNear, far_offset, IsFar, padding_of, Table, table_bytes, count_of, IsTable, match_bytes, IsMatch, AreAbove, AreRising, Lookup, lookup_bytes, IsLookup}
-use Rattle.opcodes.specs.Operands.{target, target_at, s2_at, table_at, match_with, match_at, next_floor, matches_at, below_all, lookup_at}
+use Rattle.opcodes.specs.Encoding.{offset_to, near_offset, IsNear, far_offset, IsFar, padding_of, Table, table_bytes, count_of, IsTable, table_switch, table_op, match_bytes, IsMatch, AreAbove, AreRising, Lookup, lookup_bytes, IsLookup, lookup_switch, lookup_op}
+use Rattle.opcodes.specs.Operands.{target, near_target_at, target_at, table_at, match_with, match_at, next_floor, matches_at, below_all, lookup_at}
 
 -- ---- tests of signed numbers
 
@@ -34,7 +37,7 @@ offset_to-target pc offset = omega (arith, ints)
 target-offset_to : (pc : ℕ) (to : ℤ) → target pc (offset_to pc to) ≡ to
 target-offset_to pc to = omega (arith, ints)
 
-pub near_reads : (pc : ℕ) → IsReader (map_value (target pc) s2_at) (near_offset pc) (IsNear pc)
+pub near_reads : (pc : ℕ) → IsReader (near_target_at pc) (near_offset pc) (IsNear pc)
 near_reads pc = map_value_reads (carried (target pc) (offset_to pc) (offset_to-target pc) (target-offset_to pc)) (signed16 Short)
 
 pub far_reads : (pc : ℕ) → IsReader (target_at pc) (far_offset pc) (IsFar pc)
@@ -157,3 +160,16 @@ lookup_reads pc =
     (λ padding fit. then_reads {R = λ default t. CountFits (pos (length t.matches)) × HasMatches pc padding default (pos (length t.matches)) t} (λ t. t.default) (far_reads pc) (λ default t fit has. has.1.1)
     (λ default fit. then_reads {R = λ count t. HasMatches pc padding default count t} (λ t. pos (length t.matches)) (verify_reads (int_le (pos 0)) Operand (signed32 Short)) (λ count t fit has. count_is count t.matches fit has.2.0)
     (λ count fit. map_value_reads (lookup_carries pc padding default count) (matches_reads pc below_all (unsigned_abs count))))))
+
+-- ---- as instructions
+
+-- a value that is made in two steps
+in_two : {A B C : Type 0} (f : A → B) (g : B → C) (r : Result (A × List ℕ) (Fault CodeWhy)) → map_value (λ x. g (f x)) (λ bytes. r) [] ≡ map_value g (map_value f (λ bytes. r)) []
+in_two f g (Ok x) = refl
+in_two f g (Err fault) = refl
+
+pub table_boxed : (pc : ℕ) (bytes : List ℕ) → map_value table_op (table_at pc) bytes ≡ map_value ops.TableSwitch (map_value table_switch (table_at pc)) bytes
+table_boxed pc bytes = in_two table_switch ops.TableSwitch (table_at pc bytes)
+
+pub lookup_boxed : (pc : ℕ) (bytes : List ℕ) → map_value lookup_op (lookup_at pc) bytes ≡ map_value ops.LookupSwitch (map_value lookup_switch (lookup_at pc)) bytes
+lookup_boxed pc bytes = in_two lookup_switch ops.LookupSwitch (lookup_at pc bytes)

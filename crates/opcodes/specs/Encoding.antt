@@ -1,13 +1,16 @@
--- The bytes of each instruction (JVMS 6.5), by cases of its row.
+-- The bytes of each instruction (JVMS 6.5), by cases of its format.
 use Rattle.std.specs.Prelude.{◌≡◌, ℕ, ◌+◌, ◌-◌, ◌%◌, ◌<◌, ◌≤◌, ◌^◌, ℤ, pos, ◌-ℤ◌, ◌<ℤ◌, ◌≤ℤ◌, unsigned_abs, FitsSigned, List, [], ◌∷◌, ◌++◌, length, get_or}
 use Rattle.std.specs.List.{flat_map, AllByRecursion}
 use Rattle.std.specs.Int.{w8, w16, w32, to_be_bytes, cast_unsigned}
 use Rattle.opcodes.specs.declared.op.Op.{Op}
-use Rattle.opcodes.specs.declared.op.Op.TheVariants.{PushInt, PushConstant, Increment, TableSwitch, LookupSwitch, InvokeInterface, InvokeDynamic, NewArray, MultiANewArray}
+use Rattle.opcodes.specs.declared.op.Op.TheVariants as ops
+use Rattle.opcodes.specs.declared.op.Op.TheVariants.{PushInt, PushConstant, Increment, InvokeInterface, InvokeDynamic, NewArray, MultiANewArray}
 use Rattle.opcodes.specs.declared.op.Primitive.{Primitive}
 use Rattle.opcodes.specs.declared.op.Primitive.TheVariants.{Boolean, Char, Float, Double, Byte, Short, Int, Long}
+use Rattle.opcodes.specs.declared.switch.TableSwitch.{TableSwitch}
 use Rattle.opcodes.specs.declared.switch.Match.{Match}
-use Rattle.opcodes.specs.Rows.{Row, undefined, plain, byte, short, constant, index, local, increment, branch, far_branch, table, lookup, interface, dynamic, primitive, dimensions, wide, row}
+use Rattle.opcodes.specs.declared.switch.LookupSwitch.{LookupSwitch}
+use Rattle.opcodes.specs.Formats.{Format, undefined, plain, byte, short, constant, index, local, increment, branch, far_branch, table, lookup, interface, dynamic, primitive, dimensions, wide, format}
 
 -- ---- numbers, the highest byte first
 
@@ -87,8 +90,12 @@ pub record IsTable (pc : ℕ) (t : Table) : Type 0 where
   pub count : length t.targets ≡ count_of t.low t.high
   pub targets : AllByRecursion (IsFar pc) t.targets
 
+-- what is kept of them
+abbrev pub table_switch : Table → TableSwitch
+table_switch t = record { default = t.default; low = t.low; targets = t.targets }
+
 abbrev pub table_op : Table → Op
-table_op t = TableSwitch (record { default = t.default; low = t.low; targets = t.targets })
+table_op t = ops.TableSwitch (table_switch t)
 
 -- a match of lookupswitch, with the offset of its target
 abbrev pub match_bytes : ℕ → Match → List ℕ
@@ -124,8 +131,11 @@ pub record IsLookup (pc : ℕ) (t : Lookup) : Type 0 where
   pub matches : AllByRecursion (IsMatch pc) t.matches
   pub rising : AreRising t.matches
 
+abbrev pub lookup_switch : Lookup → LookupSwitch
+lookup_switch t = record { default = t.default; matches = t.matches }
+
 abbrev pub lookup_op : Lookup → Op
-lookup_op t = LookupSwitch (record { default = t.default; matches = t.matches })
+lookup_op t = ops.LookupSwitch (lookup_switch t)
 
 -- ---- instructions
 
@@ -163,7 +173,7 @@ abbrev pub primitive_op : ℕ → Op
 primitive_op code = NewArray (primitive_of code)
 
 -- the operands of an opcode after wide
-abbrev pub AreWideOperands : Row → List ℕ → Op → Type 0
+abbrev pub AreWideOperands : Format → List ℕ → Op → Type 0
 AreWideOperands (local op_of) bytes op = IsOf IsU2 u2 op_of bytes op
 AreWideOperands increment bytes op =
     IsOf AreWideIncrement (λ x. u2 x.0 ++ s2 x.1) increment_op bytes op
@@ -175,9 +185,9 @@ BehindOpcode Are [] op = ⊥
 BehindOpcode Are (opcode ∷ bytes) op = Are opcode bytes op
 
 -- the operands of an instruction at pc
-abbrev pub AreOperands : ℕ → Row → List ℕ → Op → Type 0
+abbrev pub AreOperands : ℕ → Format → List ℕ → Op → Type 0
 AreOperands pc undefined bytes op = ⊥
-AreOperands pc (plain row_op) bytes op = (bytes ≡ []) × (row_op ≡ op)
+AreOperands pc (plain plain_op) bytes op = (bytes ≡ []) × (plain_op ≡ op)
 AreOperands pc byte bytes op = IsOf (FitsSigned w8) s1 PushInt bytes op
 AreOperands pc short bytes op = IsOf (FitsSigned w16) s2 PushInt bytes op
 AreOperands pc constant bytes op = IsOf IsU1 u1 PushConstant bytes op
@@ -194,8 +204,8 @@ AreOperands pc dynamic bytes op = IsOf IsU2 (λ n. (u2 n ++ 0 ∷ []) ++ 0 ∷ [
 AreOperands pc primitive bytes op = IsOf (λ code. (4 ≤ code) × (code < 12)) u1 primitive_op bytes op
 AreOperands pc dimensions bytes op =
     IsOf (λ x. AreIndexAndNumber x × (0 < x.1)) index_and_number dimensions_op bytes op
-AreOperands pc wide bytes op = BehindOpcode (λ opcode. AreWideOperands (row opcode)) bytes op
+AreOperands pc wide bytes op = BehindOpcode (λ opcode. AreWideOperands (format opcode)) bytes op
 
 -- these bytes are one encoding of an instruction at pc; an instruction may have several
 abbrev pub IsEncoded : ℕ → Op → List ℕ → Type 0
-IsEncoded pc op bytes = BehindOpcode (λ opcode. AreOperands pc (row opcode)) bytes op
+IsEncoded pc op bytes = BehindOpcode (λ opcode. AreOperands pc (format opcode)) bytes op

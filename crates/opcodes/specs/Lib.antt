@@ -1,6 +1,6 @@
-pub mod Rows
+pub mod Formats
 pub mod Encoding
 pub mod Operands
-pub mod Forms
+pub mod Meaning
 pub mod Code
 pub mod Indexes

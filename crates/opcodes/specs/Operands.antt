@@ -7,7 +7,7 @@ use Rattle.opcodes.specs.declared.error.CodeWhy.TheVariants.{Opcode, Short, Oper
 use Rattle.opcodes.specs.declared.op.Op.{Op}
 use Rattle.opcodes.specs.declared.op.Op.TheVariants.{PushInt, PushConstant, InvokeDynamic}
 use Rattle.opcodes.specs.declared.switch.Match.{Match}
-use Rattle.opcodes.specs.Rows.{Row, undefined, plain, byte, short, constant, index, local, increment, branch, far_branch, table, lookup, interface, dynamic, primitive, dimensions, wide, row}
+use Rattle.opcodes.specs.Formats.{Format, undefined, plain, byte, short, constant, index, local, increment, branch, far_branch, table, lookup, interface, dynamic, primitive, dimensions, wide, format}
 use Rattle.opcodes.specs.Encoding.{padding_of, count_of, Table, table_op, Lookup, lookup_op, increment_op, interface_op, primitive_op, dimensions_op}
 
 abbrev pub u1_at : Reader CodeWhy ℕ
@@ -29,7 +29,10 @@ s4_at = signed_at Short w32
 abbrev pub target : ℕ → ℤ → ℤ
 target pc offset = pos pc +ℤ offset
 
--- a target by an offset in four bytes
+-- a target by an offset in two bytes, and in four
+abbrev pub near_target_at : ℕ → Reader CodeWhy ℤ
+near_target_at pc = map_value (target pc) s2_at
+
 abbrev pub target_at : ℕ → Reader CodeWhy ℤ
 target_at pc = map_value (target pc) s4_at
 
@@ -46,21 +49,29 @@ before_zero reader = map_value (λ x. x.0) (both reader zero_at)
 abbrev pub targets_at : ℕ → ℕ → Reader CodeWhy (List ℤ)
 targets_at pc = many (target_at pc)
 
+-- the highest int of a tableswitch, which is at least the lowest
+abbrev pub high_at : ℤ → Reader CodeWhy ℤ
+high_at low = verify (int_le low) Operand s4_at
+
 unfoldable pub table_at : ℕ → Reader CodeWhy Table
 table_at pc bytes = do
   padding ← bytes_at Short (padding_of pc) bytes
   default ← target_at pc padding.1
   low ← s4_at default.1
-  high ← verify (λ high. int_le low.0 high) Operand s4_at low.1
+  high ← high_at low.0 low.1
   targets ← targets_at pc (count_of low.0 high.0) high.1
   Ok (record { padding = padding.0; default = default.0; low = low.0; high = high.0; targets = targets.0 }, targets.1)
 
 abbrev pub match_with : ℤ × ℤ → Match
 match_with x = record { value = x.0; target = x.1 }
 
+-- an int above the floor
+abbrev pub value_at : ℤ → Reader CodeWhy ℤ
+value_at floor = verify (int_lt floor) Operand s4_at
+
 -- a match above the one before
 abbrev pub match_at : ℕ → ℤ → Reader CodeWhy Match
-match_at pc floor = map_value match_with (both (verify (int_lt floor) Operand s4_at) (target_at pc))
+match_at pc floor = map_value match_with (both (value_at floor) (target_at pc))
 
 abbrev pub next_floor : ℤ → Match → ℤ
 next_floor floor m = m.value
@@ -86,7 +97,7 @@ abbrev pub is_primitive : ℕ → Bool
 is_primitive code = nat_le 4 code && nat_lt code 12
 
 -- the operands of an opcode after wide
-abbrev pub wide_operands_at : Row → Reader CodeWhy Op
+abbrev pub wide_operands_at : Format → Reader CodeWhy Op
 wide_operands_at (local op_of) bytes = map_value op_of u2_at bytes
 wide_operands_at increment bytes = map_value increment_op (both u2_at s2_at) bytes
 wide_operands_at other bytes = Err (fault_at bytes Operand)
@@ -95,10 +106,10 @@ wide_operands_at other bytes = Err (fault_at bytes Operand)
 abbrev pub wide_at : Reader CodeWhy Op
 wide_at bytes = do
   opcode ← u1_at bytes
-  wide_operands_at (row opcode.0) opcode.1
+  wide_operands_at (format opcode.0) opcode.1
 
 -- the operands of an instruction at pc
-abbrev pub operands_at : ℕ → Row → Reader CodeWhy Op
+abbrev pub operands_at : ℕ → Format → Reader CodeWhy Op
 operands_at pc undefined bytes = Err (fault_at bytes Opcode)
 operands_at pc (plain op) bytes = Ok (op, bytes)
 operands_at pc byte bytes = map_value PushInt s1_at bytes
@@ -107,7 +118,7 @@ operands_at pc constant bytes = map_value PushConstant u1_at bytes
 operands_at pc (index op_of) bytes = map_value op_of u2_at bytes
 operands_at pc (local op_of) bytes = map_value op_of u1_at bytes
 operands_at pc increment bytes = map_value increment_op (both u1_at s1_at) bytes
-operands_at pc (branch op_of) bytes = map_value op_of (map_value (target pc) s2_at) bytes
+operands_at pc (branch op_of) bytes = map_value op_of (near_target_at pc) bytes
 operands_at pc (far_branch op_of) bytes = map_value op_of (target_at pc) bytes
 operands_at pc table bytes = map_value table_op (table_at pc) bytes
 operands_at pc lookup bytes = map_value lookup_op (lookup_at pc) bytes
@@ -122,4 +133,4 @@ operands_at pc wide bytes = wide_at bytes
 unfoldable pub op_at : ℕ → Reader CodeWhy Op
 op_at pc bytes = do
   opcode ← u1_at bytes
-  operands_at pc (row opcode.0) opcode.1
+  operands_at pc (format opcode.0) opcode.1

@@ -1,3 +1,5 @@
+//! Decoding a code array.
+
 ghost use Rattle.std.specs.Prelude.{◌≡◌, ℕ, ◌<◌, ◌^◌, List, length, IfOk};
 ghost use Rattle.items.specs.Memory.{OkUnless};
 ghost use Rattle.opcodes.specs.declared.error.CodeWhy.{CodeWhy};

@@ -1,3 +1,5 @@
+//! Why code is refused.
+
 ghost use Rattle.std.specs.Prelude.{◌≡◌};
 
 use byte_reader::Reason;

@@ -3,7 +3,7 @@
 
 mod code;
 mod error;
-mod forms;
+mod formats;
 mod laws;
 mod op;
 mod operands;

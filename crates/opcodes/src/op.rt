@@ -3,7 +3,7 @@ use items::Boxed;
 use jvm_words::{IntOp, LongOp, Narrow, ShiftOp};
 
 /// The kind of a value in a local variable or of a result, but for float and double (JVMS 2.11.1).
-#[derive(Clone, Copy, Debug, PartialEq, Eq)]
+#[derive(Clone, Copy, PartialEq, Eq)]
 pub enum ValueKind {
     Int,
     Long,
@@ -11,7 +11,7 @@ pub enum ValueKind {
 }
 
 /// The type of the elements that an array instruction loads or stores (JVMS 6.5). `Byte` is for boolean too.
-#[derive(Clone, Copy, Debug, PartialEq, Eq)]
+#[derive(Clone, Copy)]
 pub enum Element {
     Int,
     Long,
@@ -22,7 +22,7 @@ pub enum Element {
 }
 
 /// The type of the elements of an array that `newarray` creates (JVMS 6.5).
-#[derive(Clone, Copy, Debug, PartialEq, Eq)]
+#[derive(Clone, Copy)]
 pub enum Primitive {
     Boolean,
     Char,
@@ -35,7 +35,7 @@ pub enum Primitive {
 }
 
 /// How two ints compare (JVMS 6.5).
-#[derive(Clone, Copy, Debug, PartialEq, Eq)]
+#[derive(Clone, Copy)]
 pub enum Comparison {
     Equal,
     Unequal,
@@ -46,14 +46,14 @@ pub enum Comparison {
 }
 
 /// How two references compare (JVMS 6.5).
-#[derive(Clone, Copy, Debug, PartialEq, Eq)]
+#[derive(Clone, Copy)]
 pub enum Sameness {
     Same,
     Different,
 }
 
 /// An instruction without operands (JVMS 6.5).
-#[derive(Clone, Copy, Debug, PartialEq, Eq)]
+#[derive(Clone, Copy)]
 pub enum Simple {
     /// nop.
     Nop,
@@ -104,7 +104,7 @@ pub enum Simple {
 /// iload_1, iload 1 and wide iload 1; so do those that differ only in the kind or the operation that the variant
 /// names. A `u16` is the index of a local variable or of an entry of the constant pool. An `i64` is the pc that a branch
 /// goes to, which may lie outside the code.
-#[derive(Debug, Drop)]
+#[derive(Drop)]
 pub enum Op {
     Simple(Simple),
     /// iconst_m1 to iconst_5, bipush and sipush, by what they push.
@@ -156,12 +156,12 @@ pub enum Op {
     Jsr(i64),
     /// ret, which later layers refuse.
     Ret(u16),
-    /// An instruction of float or double, by its opcode. No layer executes it, so its operand isn't kept.
+    /// An instruction of float or double, by its opcode. No layer executes it, so it has no operand here.
     Floating(u8),
 }
 
 /// An instruction, its pc and the pc of the instruction after it (JVMS 4.9).
-#[derive(Debug, Drop)]
+#[derive(Drop)]
 pub struct Instr {
     pub pc: u32,
     pub next: u32,

@@ -3,12 +3,12 @@
 ghost use Rattle.std.specs.Prelude.{◌≡◌, ℕ, ◌≤◌, ◌<◌};
 ghost use Rattle.byte_reader.specs.Reader.{Reads, GivesBy};
 ghost use Rattle.opcodes.specs.Encoding.{primitive_of};
-ghost use Rattle.opcodes.specs.Forms.{meaning, local_op, index_op, branch_op};
-ghost use Rattle.opcodes.specs.Operands.{target_at, zero_at, op_at, operands_at, wide_operands_at, wide_at};
-ghost use Rattle.opcodes.specs.Rows.{byte, short, constant, index, local, increment, branch, far_branch, interface, dynamic, primitive, dimensions};
+ghost use Rattle.opcodes.specs.Meaning.{meaning, local_op, index_op, branch_op};
+ghost use Rattle.opcodes.specs.Operands.{target, near_target_at, target_at, zero_at, op_at, operands_at, wide_operands_at, wide_at};
+ghost use Rattle.opcodes.specs.Formats.{byte, short, constant, index, local, increment, branch, far_branch, interface, dynamic, primitive, dimensions};
 
 use crate::error::CodeWhy;
-use crate::forms::{BranchForm, Form, IndexForm, LocalForm, form_of};
+use crate::formats::{BranchFormat, Format, IndexFormat, LocalFormat, format_of};
 use crate::switch_operands::{lookup_switch_of, table_switch_of};
 use crate::{Op, Primitive};
 use byte_reader::{Stop, i1_of, i2_of, i4_of, u1_of, u2_of};
@@ -20,39 +20,39 @@ pub fn op_of(alloc: Global, pc: u32, code: &[u8]) -> Result<(Op, &[u8]), Stop<Co
     ensures { Reads result (op_at pc code.now) }
 {
     let (opcode, rest) = u1_of(code)?;
-    operands_of(alloc, pc, form_of(opcode), rest)
+    operands_of(alloc, pc, format_of(opcode), rest)
 }
 
 fn operands_of(
     alloc: Global,
     pc: u32,
-    form: Form,
+    format: Format,
     rest: &[u8],
 ) -> Result<(Op, &[u8]), Stop<CodeWhy>>
-    ensures { Reads result (operands_at pc (meaning form) rest.now) }
+    ensures { Reads result (operands_at pc (meaning format) rest.now) }
 {
-    match form {
-        Form::Undefined => Err(Stop::at(rest, CodeWhy::Opcode)),
-        Form::Simple(simple) => Ok((Op::Simple(simple), rest)),
-        Form::PushInt(value) => Ok((Op::PushInt(value), rest)),
-        Form::PushLong(value) => Ok((Op::PushLong(value), rest)),
-        Form::LocalAt(form, index) => Ok((local_op(form, index), rest)),
-        Form::Floating(opcode) => Ok((Op::Floating(opcode), rest)),
-        Form::Byte => bipush_of(rest),
-        Form::Short => sipush_of(rest),
-        Form::Ldc => ldc_of(rest),
-        Form::Index(form) => index_of(form, rest),
-        Form::Local(form) => local_of(form, rest),
-        Form::Increment => iinc_of(rest),
-        Form::Branch(form) => branch_of(pc, form, rest),
-        Form::FarBranch(form) => far_branch_of(pc, form, rest),
-        Form::TableSwitch => table_switch_of(alloc, pc, rest),
-        Form::LookupSwitch => lookup_switch_of(alloc, pc, rest),
-        Form::InvokeInterface => invoke_interface_of(rest),
-        Form::InvokeDynamic => invoke_dynamic_of(rest),
-        Form::NewArray => new_array_of(rest),
-        Form::MultiANewArray => multi_a_new_array_of(rest),
-        Form::Wide => wide_of(rest),
+    match format {
+        Format::Undefined => Err(Stop::at(rest, CodeWhy::Opcode)),
+        Format::Simple(simple) => Ok((Op::Simple(simple), rest)),
+        Format::PushInt(value) => Ok((Op::PushInt(value), rest)),
+        Format::PushLong(value) => Ok((Op::PushLong(value), rest)),
+        Format::LocalAt(format, index) => Ok((local_op(format, index), rest)),
+        Format::Floating(opcode) => Ok((Op::Floating(opcode), rest)),
+        Format::Byte => bipush_of(rest),
+        Format::Short => sipush_of(rest),
+        Format::Ldc => ldc_of(rest),
+        Format::Index(format) => index_of(format, rest),
+        Format::Local(format) => local_of(format, rest),
+        Format::Increment => iinc_of(rest),
+        Format::Branch(format) => branch_of(pc, format, rest),
+        Format::FarBranch(format) => far_branch_of(pc, format, rest),
+        Format::TableSwitch => table_switch_of(alloc, pc, rest),
+        Format::LookupSwitch => lookup_switch_of(alloc, pc, rest),
+        Format::InvokeInterface => invoke_interface_of(rest),
+        Format::InvokeDynamic => invoke_dynamic_of(rest),
+        Format::NewArray => new_array_of(rest),
+        Format::MultiANewArray => multi_a_new_array_of(rest),
+        Format::Wide => wide_of(rest),
     }
 }
 
@@ -77,48 +77,48 @@ fn ldc_of(rest: &[u8]) -> Result<(Op, &[u8]), Stop<CodeWhy>>
     Ok((Op::PushConstant(u16::from(index)), rest))
 }
 
-fn index_of(form: IndexForm, rest: &[u8]) -> Result<(Op, &[u8]), Stop<CodeWhy>>
-    ensures { Reads result (operands_at 0 (index (index_op form)) rest.now) }
+fn index_of(format: IndexFormat, rest: &[u8]) -> Result<(Op, &[u8]), Stop<CodeWhy>>
+    ensures { Reads result (operands_at 0 (index (index_op format)) rest.now) }
 {
     let (index, rest) = u2_of(rest)?;
-    Ok((index_op(form, index), rest))
+    Ok((index_op(format, index), rest))
 }
 
-fn index_op(form: IndexForm, index: u16) -> Op
-    ensures { result ≡ index_op form index }
+fn index_op(format: IndexFormat, index: u16) -> Op
+    ensures { result ≡ index_op format index }
 {
-    match form {
-        IndexForm::PushConstant => Op::PushConstant(index),
-        IndexForm::PushWideConstant => Op::PushWideConstant(index),
-        IndexForm::GetStatic => Op::GetStatic(index),
-        IndexForm::PutStatic => Op::PutStatic(index),
-        IndexForm::GetField => Op::GetField(index),
-        IndexForm::PutField => Op::PutField(index),
-        IndexForm::InvokeVirtual => Op::InvokeVirtual(index),
-        IndexForm::InvokeSpecial => Op::InvokeSpecial(index),
-        IndexForm::InvokeStatic => Op::InvokeStatic(index),
-        IndexForm::New => Op::New(index),
-        IndexForm::ANewArray => Op::ANewArray(index),
-        IndexForm::CheckCast => Op::CheckCast(index),
-        IndexForm::InstanceOf => Op::InstanceOf(index),
+    match format {
+        IndexFormat::PushConstant => Op::PushConstant(index),
+        IndexFormat::PushWideConstant => Op::PushWideConstant(index),
+        IndexFormat::GetStatic => Op::GetStatic(index),
+        IndexFormat::PutStatic => Op::PutStatic(index),
+        IndexFormat::GetField => Op::GetField(index),
+        IndexFormat::PutField => Op::PutField(index),
+        IndexFormat::InvokeVirtual => Op::InvokeVirtual(index),
+        IndexFormat::InvokeSpecial => Op::InvokeSpecial(index),
+        IndexFormat::InvokeStatic => Op::InvokeStatic(index),
+        IndexFormat::New => Op::New(index),
+        IndexFormat::ANewArray => Op::ANewArray(index),
+        IndexFormat::CheckCast => Op::CheckCast(index),
+        IndexFormat::InstanceOf => Op::InstanceOf(index),
     }
 }
 
-fn local_of(form: LocalForm, rest: &[u8]) -> Result<(Op, &[u8]), Stop<CodeWhy>>
-    ensures { Reads result (operands_at 0 (local (local_op form)) rest.now) }
+fn local_of(format: LocalFormat, rest: &[u8]) -> Result<(Op, &[u8]), Stop<CodeWhy>>
+    ensures { Reads result (operands_at 0 (local (local_op format)) rest.now) }
 {
     let (index, rest) = u1_of(rest)?;
-    Ok((local_op(form, u16::from(index)), rest))
+    Ok((local_op(format, u16::from(index)), rest))
 }
 
-fn local_op(form: LocalForm, index: u16) -> Op
-    ensures { result ≡ local_op form index }
+fn local_op(format: LocalFormat, index: u16) -> Op
+    ensures { result ≡ local_op format index }
 {
-    match form {
-        LocalForm::Load(kind) => Op::Load(kind, index),
-        LocalForm::Store(kind) => Op::Store(kind, index),
-        LocalForm::Ret => Op::Ret(index),
-        LocalForm::Floating(opcode) => Op::Floating(opcode),
+    match format {
+        LocalFormat::Load(kind) => Op::Load(kind, index),
+        LocalFormat::Store(kind) => Op::Store(kind, index),
+        LocalFormat::Ret => Op::Ret(index),
+        LocalFormat::Floating(opcode) => Op::Floating(opcode),
     }
 }
 
@@ -130,38 +130,53 @@ fn iinc_of(rest: &[u8]) -> Result<(Op, &[u8]), Stop<CodeWhy>>
     Ok((Op::Increment(u16::from(index), i16::from(amount)), rest))
 }
 
-fn branch_of(pc: u32, form: BranchForm, rest: &[u8]) -> Result<(Op, &[u8]), Stop<CodeWhy>>
-    ensures { Reads result (operands_at pc (branch (branch_op form)) rest.now) }
+fn branch_of(pc: u32, format: BranchFormat, rest: &[u8]) -> Result<(Op, &[u8]), Stop<CodeWhy>>
+    ensures { Reads result (operands_at pc (branch (branch_op format)) rest.now) }
 {
-    let (offset, rest) = i2_of(rest)?;
-    Ok((branch_op(form, i64::from(pc) + i64::from(offset)), rest))
+    let (target, rest) = near_target_of(pc, rest)?;
+    Ok((branch_op(format, target), rest))
 }
 
-fn far_branch_of(pc: u32, form: BranchForm, rest: &[u8]) -> Result<(Op, &[u8]), Stop<CodeWhy>>
-    ensures { Reads result (operands_at pc (far_branch (branch_op form)) rest.now) }
+fn far_branch_of(pc: u32, format: BranchFormat, rest: &[u8]) -> Result<(Op, &[u8]), Stop<CodeWhy>>
+    ensures { Reads result (operands_at pc (far_branch (branch_op format)) rest.now) }
 {
     let (target, rest) = target_of(pc, rest)?;
-    Ok((branch_op(form, target), rest))
+    Ok((branch_op(format, target), rest))
 }
 
-// A target at the offset from `pc` that is in four bytes.
+// A target, from its offset in two bytes.
+fn near_target_of(pc: u32, bytes: &[u8]) -> Result<(i64, &[u8]), Stop<CodeWhy>>
+    ensures { Reads result (near_target_at pc bytes.now) }
+{
+    let (offset, rest) = i2_of(bytes)?;
+    Ok((target(pc, i32::from(offset)), rest))
+}
+
+// A target, from its offset in four bytes.
 pub fn target_of(pc: u32, bytes: &[u8]) -> Result<(i64, &[u8]), Stop<CodeWhy>>
     ensures { Reads result (target_at pc bytes.now) }
 {
     let (offset, rest) = i4_of(bytes)?;
-    Ok((i64::from(pc) + i64::from(offset), rest))
+    Ok((target(pc, offset), rest))
 }
 
-fn branch_op(form: BranchForm, target: i64) -> Op
-    ensures { result ≡ branch_op form target }
+// The pc at this offset from the instruction's own pc (JVMS 6.5).
+fn target(pc: u32, offset: i32) -> i64
+    ensures { result ≡ target pc offset }
 {
-    match form {
-        BranchForm::IfZero(comparison) => Op::IfZero(comparison, target),
-        BranchForm::IfInts(comparison) => Op::IfInts(comparison, target),
-        BranchForm::IfReferences(sameness) => Op::IfReferences(sameness, target),
-        BranchForm::IfNull(sameness) => Op::IfNull(sameness, target),
-        BranchForm::Goto => Op::Goto(target),
-        BranchForm::Jsr => Op::Jsr(target),
+    i64::from(pc) + i64::from(offset)
+}
+
+fn branch_op(format: BranchFormat, target: i64) -> Op
+    ensures { result ≡ branch_op format target }
+{
+    match format {
+        BranchFormat::IfZero(comparison) => Op::IfZero(comparison, target),
+        BranchFormat::IfInts(comparison) => Op::IfInts(comparison, target),
+        BranchFormat::IfReferences(sameness) => Op::IfReferences(sameness, target),
+        BranchFormat::IfNull(sameness) => Op::IfNull(sameness, target),
+        BranchFormat::Goto => Op::Goto(target),
+        BranchFormat::Jsr => Op::Jsr(target),
     }
 }
 
@@ -238,22 +253,30 @@ fn wide_of(rest: &[u8]) -> Result<(Op, &[u8]), Stop<CodeWhy>>
     ensures { Reads result (wide_at rest.now) }
 {
     let (opcode, rest) = u1_of(rest)?;
-    wide_operands_of(form_of(opcode), rest)
+    wide_operands_of(format_of(opcode), rest)
 }
 
-fn wide_operands_of(form: Form, rest: &[u8]) -> Result<(Op, &[u8]), Stop<CodeWhy>>
-    ensures { Reads result (wide_operands_at (meaning form) rest.now) }
+fn wide_operands_of(format: Format, rest: &[u8]) -> Result<(Op, &[u8]), Stop<CodeWhy>>
+    ensures { Reads result (wide_operands_at (meaning format) rest.now) }
 {
-    match form {
-        Form::Local(form) => {
-            let (index, rest) = u2_of(rest)?;
-            Ok((local_op(form, index), rest))
-        }
-        Form::Increment => {
-            let (index, rest) = u2_of(rest)?;
-            let (amount, rest) = i2_of(rest)?;
-            Ok((Op::Increment(index, amount), rest))
-        }
+    match format {
+        Format::Local(format) => wide_local_of(format, rest),
+        Format::Increment => wide_iinc_of(rest),
         _ => Err(Stop::at(rest, CodeWhy::Operand)),
     }
+}
+
+fn wide_local_of(format: LocalFormat, rest: &[u8]) -> Result<(Op, &[u8]), Stop<CodeWhy>>
+    ensures { Reads result (wide_operands_at (local (local_op format)) rest.now) }
+{
+    let (index, rest) = u2_of(rest)?;
+    Ok((local_op(format, index), rest))
+}
+
+fn wide_iinc_of(rest: &[u8]) -> Result<(Op, &[u8]), Stop<CodeWhy>>
+    ensures { Reads result (wide_operands_at increment rest.now) }
+{
+    let (index, rest) = u2_of(rest)?;
+    let (amount, rest) = i2_of(rest)?;
+    Ok((Op::Increment(index, amount), rest))
 }

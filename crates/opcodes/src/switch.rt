@@ -2,7 +2,7 @@ use items::Items;
 
 /// The operands of `tableswitch` (JVMS 6.5): the targets are those for `low` and the ints after it, so that the highest
 /// is `low` plus their number less 1. A target is a pc.
-#[derive(Debug, Drop)]
+#[derive(Drop)]
 pub struct TableSwitch {
     pub default: i64,
     pub low: i32,
@@ -10,14 +10,14 @@ pub struct TableSwitch {
 }
 
 /// An int, and the pc that a `lookupswitch` goes to for it (JVMS 6.5).
-#[derive(Clone, Copy, Debug, PartialEq, Eq)]
+#[derive(Clone, Copy)]
 pub struct Match {
     pub value: i32,
     pub target: i64,
 }
 
 /// The operands of `lookupswitch` (JVMS 6.5). The values rise.
-#[derive(Debug, Drop)]
+#[derive(Drop)]
 pub struct LookupSwitch {
     pub default: i64,
     pub matches: Items<Match>,

@@ -15,39 +15,39 @@ use Rattle.opcodes.specs.declared.op.Comparison.TheVariants as orders
 use Rattle.opcodes.specs.declared.op.Sameness.TheVariants as samenesses
 
 -- the operands of an opcode
-pub data Row : Type 0 where
+pub data Format : Type 0 where
   -- no instruction has the opcode
-  undefined : Row
+  undefined : Format
   -- no operand
-  plain : Op → Row
+  plain : Op → Format
   -- a number with a sign in one byte, and in two
-  byte : Row
-  short : Row
+  byte : Format
+  short : Format
   -- the index of a constant in one byte
-  constant : Row
+  constant : Format
   -- the index of an entry of the constant pool in two bytes
-  index : (ℕ → Op) → Row
+  index : (ℕ → Op) → Format
   -- the index of a local variable in one byte, or in two after wide
-  local : (ℕ → Op) → Row
+  local : (ℕ → Op) → Format
   -- the index of a local variable, and what is added to it
-  increment : Row
+  increment : Format
   -- the offset of a target in two bytes, and in four
-  branch : (ℤ → Op) → Row
-  far_branch : (ℤ → Op) → Row
+  branch : (ℤ → Op) → Format
+  far_branch : (ℤ → Op) → Format
   -- those with operands of their own
-  table : Row
-  lookup : Row
-  interface : Row
-  dynamic : Row
-  primitive : Row
-  dimensions : Row
-  wide : Row
+  table : Format
+  lookup : Format
+  interface : Format
+  dynamic : Format
+  primitive : Format
+  dimensions : Format
+  wide : Format
 
-abbrev pub simple : Simple → Row
+abbrev pub simple : Simple → Format
 simple s = plain (ops.Simple s)
 
 -- opcodes 0 to 20
-abbrev pub constants : List Row
+abbrev pub constants : List Format
 constants =
     simple Nop ∷  -- 0 nop
     simple PushNull ∷  -- 1 aconst_null
@@ -73,7 +73,7 @@ constants =
     []
 
 -- opcodes 21 to 53
-abbrev pub loads : List Row
+abbrev pub loads : List Format
 loads =
     local (Load kinds.Int) ∷  -- 21 iload
     local (Load kinds.Long) ∷  -- 22 lload
@@ -111,7 +111,7 @@ loads =
     []
 
 -- opcodes 54 to 86
-abbrev pub stores : List Row
+abbrev pub stores : List Format
 stores =
     local (Store kinds.Int) ∷  -- 54 istore
     local (Store kinds.Long) ∷  -- 55 lstore
@@ -149,7 +149,7 @@ stores =
     []
 
 -- opcodes 87 to 95
-abbrev pub stack : List Row
+abbrev pub stack : List Format
 stack =
     simple Pop ∷  -- 87 pop
     simple Pop2 ∷  -- 88 pop2
@@ -163,7 +163,7 @@ stack =
     []
 
 -- opcodes 96 to 132
-abbrev pub math : List Row
+abbrev pub math : List Format
 math =
     simple (IntBinary ints.Add) ∷  -- 96 iadd
     simple (LongBinary longs.Add) ∷  -- 97 ladd
@@ -205,7 +205,7 @@ math =
     []
 
 -- opcodes 133 to 147
-abbrev pub conversions : List Row
+abbrev pub conversions : List Format
 conversions =
     simple IntToLong ∷  -- 133 i2l
     plain (Floating 134) ∷  -- 134 i2f
@@ -225,7 +225,7 @@ conversions =
     []
 
 -- opcodes 148 to 166
-abbrev pub comparisons : List Row
+abbrev pub comparisons : List Format
 comparisons =
     simple LongCompare ∷  -- 148 lcmp
     plain (Floating 149) ∷  -- 149 fcmpl
@@ -249,7 +249,7 @@ comparisons =
     []
 
 -- opcodes 167 to 177
-abbrev pub control : List Row
+abbrev pub control : List Format
 control =
     branch Goto ∷  -- 167 goto
     branch Jsr ∷  -- 168 jsr
@@ -265,7 +265,7 @@ control =
     []
 
 -- opcodes 178 to 195
-abbrev pub references : List Row
+abbrev pub references : List Format
 references =
     index GetStatic ∷  -- 178 getstatic
     index PutStatic ∷  -- 179 putstatic
@@ -288,7 +288,7 @@ references =
     []
 
 -- opcodes 196 to 201
-abbrev pub extended : List Row
+abbrev pub extended : List Format
 extended =
     wide ∷  -- 196 wide
     dimensions ∷  -- 197 multianewarray
@@ -298,10 +298,10 @@ extended =
     far_branch Jsr ∷  -- 201 jsr_w
     []
 
-abbrev pub rows : List Row
-rows =
+abbrev pub formats : List Format
+formats =
     constants ++ loads ++ stores ++ stack ++ math ++ conversions ++ comparisons ++ control ++ references ++ extended
 
 -- the operands of the opcode
-unfoldable pub row : ℕ → Row
-row opcode = get_or rows opcode undefined
+unfoldable pub format : ℕ → Format
+format opcode = get_or formats opcode undefined

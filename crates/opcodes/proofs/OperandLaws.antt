@@ -1,4 +1,4 @@
--- The operands of each row are read just where they are encoded.
+-- The operands of each format are read just where they are encoded.
 use Rattle.std.proofs.Common.{◌≡◌, ℕ, ◌<◌, ◌≤◌, true, ltb, eqb, List, [], ◌∷◌, ◌++◌, Result, Ok, Err, refl, ap, subst, ◌∙◌, arith}
 use Rattle.std.proofs.lemmas.Bool.{lt-ltb, ltb-true, eqb-true}
 use Rattle.std.proofs.lemmas.Bool.Decides.{nat_tests}
@@ -9,7 +9,7 @@ use Rattle.byte_reader.proofs.SequenceLaws.{then_next}
 use Rattle.opcodes.specs.declared.error.CodeWhy.{CodeWhy}
 use Rattle.opcodes.specs.declared.error.CodeWhy.TheVariants.{Short, Operand}
 use Rattle.opcodes.specs.declared.op.Op.{Op}
-use Rattle.opcodes.specs.Rows.{Row, undefined, plain, byte, short, constant, index, local, increment, branch, far_branch, table, lookup, interface, dynamic, primitive, dimensions, wide, row}
+use Rattle.opcodes.specs.Formats.{Format, undefined, plain, byte, short, constant, index, local, increment, branch, far_branch, table, lookup, interface, dynamic, primitive, dimensions, wide, format}
 use Rattle.opcodes.specs.Encoding.{IsOf, u1, IsU1, u2, IsU2, AreIndexAndNumber, index_and_number, AreWideOperands, AreOperands, BehindOpcode, IsEncoded}
 use Rattle.opcodes.specs.Operands.{u1_at, u2_at, zero_at, before_zero, is_primitive, wide_operands_at, operands_at, op_at}
 use Rattle.opcodes.proofs.SwitchLaws.{near_reads, far_reads, table_reads, lookup_reads}
@@ -38,11 +38,11 @@ of_value {r = r} {s = s} {P = P} op_of reads = record {
       ap (λ (bytes : List ℕ). map_value op_of r (bytes ++ rest)) is.spelling ∙ rw (reads.again is.operand rest is.fits) (ap (λ (o : Op). done {W = CodeWhy} (o, rest)) is.same);
 }
 
-plain_exact : (row_op : Op) → IsExact (λ bytes. Ok (row_op, bytes)) (λ bytes op. (bytes ≡ []) × (row_op ≡ op))
-plain_exact row_op = record {
+plain_exact : (plain_op : Op) → IsExact (λ bytes. Ok (plain_op, bytes)) (λ bytes op. (bytes ≡ []) × (plain_op ≡ op))
+plain_exact plain_op = record {
   takes = λ bytes x fits e.
-      subst (λ (y : Op × List ℕ). Found (λ bytes op. (bytes ≡ []) × (row_op ≡ op)) bytes y) (ok_is (row_op, bytes) x e) (record { front = []; parts = refl; are = (refl, refl); rest_fits = fits });
-  again = λ front op rest is. ap (λ (bytes : List ℕ). done {W = CodeWhy} (row_op, bytes ++ rest)) is.0 ∙ ap (λ (o : Op). done {W = CodeWhy} (o, rest)) is.1;
+      subst (λ (y : Op × List ℕ). Found (λ bytes op. (bytes ≡ []) × (plain_op ≡ op)) bytes y) (ok_is (plain_op, bytes) x e) (record { front = []; parts = refl; are = (refl, refl); rest_fits = fits });
+  again = λ front op rest is. ap (λ (bytes : List ℕ). done {W = CodeWhy} (plain_op, bytes ++ rest)) is.0 ∙ ap (λ (o : Op). done {W = CodeWhy} (o, rest)) is.1;
 }
 
 none_exact : (why : CodeWhy) → IsExact (λ bytes. Err (fault_at bytes why)) (λ bytes op. ⊥)
@@ -89,9 +89,9 @@ dimensions_reads =
     same_reads (λ x. AreIndexAndNumber x × (0 < x.1)) (λ x h. ((h.0, h.1.0), ltb-true 0 x.1 h.1.1)) (λ x h. (h.0.0, (h.0.1, lt-ltb 0 x.1 h.1)))
     (both_reads u2_reads (verify_reads (ltb 0) Operand u1_reads))
 
--- ---- each row
+-- ---- each format
 
-wide_exact : (r : Row) → IsExact (wide_operands_at r) (AreWideOperands r)
+wide_exact : (f : Format) → IsExact (wide_operands_at f) (AreWideOperands f)
 wide_exact undefined = none_exact _
 wide_exact (plain op) = none_exact _
 wide_exact byte = none_exact _
@@ -125,7 +125,7 @@ behind_opcode {next = next} {Are = Are} exact = record {
     again [] op rest is = absurd is
     again (opcode ∷ front) op rest is = ap (λ (r : Result (ℕ × List ℕ) (Fault CodeWhy)). r >>= λ x. next x.0 x.1) (byte_again Short opcode (front ++ rest)) ∙ (exact opcode).again front op rest is
 
-operands_exact : (pc : ℕ) (r : Row) → IsExact (operands_at pc r) (AreOperands pc r)
+operands_exact : (pc : ℕ) (f : Format) → IsExact (operands_at pc f) (AreOperands pc f)
 operands_exact pc undefined = none_exact _
 operands_exact pc (plain op) = plain_exact op
 operands_exact pc byte = of_value _ (signed8 Short)
@@ -142,9 +142,9 @@ operands_exact pc interface = of_value _ (before_zero_reads (both_reads u2_reads
 operands_exact pc dynamic = of_value _ (before_zero_reads (before_zero_reads u2_reads))
 operands_exact pc primitive = of_value _ primitive_reads
 operands_exact pc dimensions = of_value _ dimensions_reads
-operands_exact pc wide = behind_opcode (λ opcode. wide_exact (row opcode))
+operands_exact pc wide = behind_opcode (λ opcode. wide_exact (format opcode))
 
 -- what is read at the front of a code is just what is encoded there
 pub op_exact : (pc : ℕ) → IsExact (op_at pc) (λ bytes op. IsEncoded pc op bytes)
 unfolding op_at
-op_exact pc = behind_opcode (λ opcode. operands_exact pc (row opcode))
+op_exact pc = behind_opcode (λ opcode. operands_exact pc (format opcode))
