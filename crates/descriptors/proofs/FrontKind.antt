@@ -111,21 +111,21 @@ some_is o n e = subst IsSome (sym e) refl
 
 -- ---- as the code finds them
 
-pub brackets_found : (units : List ℕ) (skipped : ℕ) (o : Option ℕ) → KindInFront units → skipped ≡ 91 → o ≡ position (λ u. not (eqb u skipped)) units → (n : ℕ) × (o ≡ Some n) × BracketsAt units n
-brackets_found units skipped o front is e =
+pub brackets_found : (units : List ℕ) (o : Option ℕ) → KindInFront units → o ≡ position (λ u. not (eqb u 91)) units → (n : ℕ) × (o ≡ Some n) × BracketsAt units n
+brackets_found units o front e =
     let at = brackets_at units front in
-    (at.0, e ∙ ap (λ (k : ℕ). position (λ u. not (eqb u k)) units) is ∙ at.1.found, at.1)
+    (at.0, e ∙ at.1.found, at.1)
 
-pub brackets_here : (units : List ℕ) (skipped : ℕ) (o : Option ℕ) (n : ℕ) → KindInFront units → skipped ≡ 91 → o ≡ position (λ u. not (eqb u skipped)) units → o ≡ Some n → BracketsAt units n
-brackets_here units skipped o n front is e f = let at = brackets_found units skipped o front is e in subst (λ (k : ℕ). BracketsAt units k) (same_Some at.0 n (sym at.1 ∙ f)) at.2
+pub brackets_here : (units : List ℕ) (o : Option ℕ) (n : ℕ) → KindInFront units → o ≡ position (λ u. not (eqb u 91)) units → o ≡ Some n → BracketsAt units n
+brackets_here units o n front e f = let at = brackets_found units o front e in subst (λ (k : ℕ). BracketsAt units k) (same_Some at.0 n (sym at.1 ∙ f)) at.2
 
-pub name_found : (units : List ℕ) (wanted : ℕ) (o : Option ℕ) → NameInFront units → wanted ≡ 59 → o ≡ position (λ u. eqb u wanted) units → (n : ℕ) × (o ≡ Some n) × NameAt units n
-name_found units wanted o front is e =
+pub name_found : (units : List ℕ) (o : Option ℕ) → NameInFront units → o ≡ position (λ u. eqb u 59) units → (n : ℕ) × (o ≡ Some n) × NameAt units n
+name_found units o front e =
     let at = name_at units front in
-    (at.0, e ∙ ap (λ (k : ℕ). position (λ u. eqb u k) units) is ∙ at.1.found, at.1)
+    (at.0, e ∙ at.1.found, at.1)
 
-pub name_here : (units : List ℕ) (wanted : ℕ) (o : Option ℕ) (n : ℕ) → NameInFront units → wanted ≡ 59 → o ≡ position (λ u. eqb u wanted) units → o ≡ Some n → NameAt units n
-name_here units wanted o n front is e f = let at = name_found units wanted o front is e in subst (λ (k : ℕ). NameAt units k) (same_Some at.0 n (sym at.1 ∙ f)) at.2
+pub name_here : (units : List ℕ) (o : Option ℕ) (n : ℕ) → NameInFront units → o ≡ position (λ u. eqb u 59) units → o ≡ Some n → NameAt units n
+name_here units o n front e f = let at = name_found units o front e in subst (λ (k : ℕ). NameAt units k) (same_Some at.0 n (sym at.1 ∙ f)) at.2
 
 -- ---- the whole units are the descriptor of a kind
 

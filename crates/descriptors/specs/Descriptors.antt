@@ -1,5 +1,5 @@
 -- The descriptor of a field and of a method (JVMS 4.3.2, 4.3.3).
-use Rattle.std.specs.Prelude.{ℕ, ◌≡◌, ◌≤◌, Bool, true, false, not, List, [], ◌∷◌, ◌++◌, Option, Some, None, ◌==◌, ◌&&◌, ◌||◌, if◌then◌else◌, codes}
+use Rattle.std.specs.Prelude.{ℕ, ◌≡◌, ◌≤◌, Bool, true, false, not, List, [], ◌∷◌, ◌++◌, Option, Some, None, ◌==◌, ◌&&◌, ◌||◌, if◌then◌else◌}
 use Rattle.std.specs.List.{flat_map, list_any, repeat, sum_by, AllByRecursion}
 use Rattle.descriptors.specs.declared.kind.ElementType.{ElementType}
 use Rattle.descriptors.specs.declared.kind.ElementType.TheVariants.{Byte, Char, Double, Float, Int, Long, Short, Class}
@@ -33,11 +33,34 @@ class_letter = 76  -- L
 abbrev pub void_letter : ℕ
 void_letter = 86  -- V
 
+abbrev pub byte_letter : ℕ
+byte_letter = 66  -- B
+
+abbrev pub char_letter : ℕ
+char_letter = 67  -- C
+
 abbrev pub double_letter : ℕ
 double_letter = 68  -- D
 
+abbrev pub float_letter : ℕ
+float_letter = 70  -- F
+
+abbrev pub int_letter : ℕ
+int_letter = 73  -- I
+
 abbrev pub long_letter : ℕ
 long_letter = 74  -- J
+
+abbrev pub short_letter : ℕ
+short_letter = 83  -- S
+
+abbrev pub bool_letter : ℕ
+bool_letter = 90  -- Z
+
+-- the letters of the types that are no class and no array
+abbrev pub base_letters : List ℕ
+base_letters =
+    byte_letter ∷ char_letter ∷ double_letter ∷ float_letter ∷ int_letter ∷ long_letter ∷ short_letter ∷ bool_letter ∷ []
 
 -- ---- descriptors of fields
 
@@ -47,14 +70,14 @@ brackets n = repeat n (bracket ∷ [])
 
 -- the descriptor of a type that is no array
 abbrev pub element_spelling : ElementType → List ℕ
-element_spelling Byte = codes "B"
-element_spelling Char = codes "C"
-element_spelling Double = codes "D"
-element_spelling Float = codes "F"
-element_spelling Int = codes "I"
-element_spelling Long = codes "J"
-element_spelling Short = codes "S"
-element_spelling elements.Bool = codes "Z"
+element_spelling Byte = byte_letter ∷ []
+element_spelling Char = char_letter ∷ []
+element_spelling Double = double_letter ∷ []
+element_spelling Float = float_letter ∷ []
+element_spelling Int = int_letter ∷ []
+element_spelling Long = long_letter ∷ []
+element_spelling Short = short_letter ∷ []
+element_spelling elements.Bool = bool_letter ∷ []
 element_spelling (Class name) = class_letter ∷ (name ++ semicolon ∷ [])
 
 -- the descriptor of a kind
@@ -117,4 +140,4 @@ pub record IsSignature (s : Signature) : Type 0 where
 
 -- the units that are a kind by themselves
 abbrev pub is_base : ℕ → Bool
-is_base u = list_any (λ b. u == b) (codes "BCDFIJSZ")
+is_base u = list_any (λ b. u == b) base_letters

@@ -1,3 +1,5 @@
+//! Why a descriptor was not read.
+
 ghost use Rattle.std.specs.Prelude.{◌≡◌};
 ghost use Rattle.descriptors.specs.declared.error.DescriptorError.TheVariants.{NoMemory};
 

@@ -1,3 +1,5 @@
+//! Descriptors of fields (JVMS 4.3.2).
+
 ghost use Rattle.std.specs.Prelude.{◌≡◌, ℕ, ◌<◌, ◌≤◌, ◌+◌, ◌^◌, [], ◌∷◌, ◌++◌, Err, length, take, drop, true, false, not, position, ◌==◌, IfOk};
 ghost use Rattle.items.specs.Memory.{OkUnless};
 ghost use Rattle.descriptors.specs.declared.error.DescriptorError.TheVariants as errors;
@@ -8,8 +10,12 @@ ghost use Rattle.descriptors.specs.States as spec;
 ghost use Rattle.descriptors.specs.Meaning as meaning;
 
 use crate::error::DescriptorError;
-use crate::fronts::{BYTE, CHAR, DOUBLE, FLOAT, INT, LONG, SHORT, field_bad};
+use crate::fronts::field_bad;
 use crate::kind::{ElementType, Kind};
+use crate::letters::{
+    BRACKET, BYTE_LETTER, CHAR_LETTER, CLASS_LETTER, DOUBLE_LETTER, FLOAT_LETTER, INT_LETTER,
+    LONG_LETTER, SEMICOLON, SHORT_LETTER,
+};
 use items::Items;
 use std::alloc::{AllocError, Global};
 use std::marker::Brand;
@@ -40,7 +46,7 @@ pub fn is_field_counted<L: Ledger>(units: &[u16], steps: &mut Steps<L>) -> bool
     // Each unit takes one step, whatever the answer is.
     ensures cost { steps.new ≡ steps.old + length units.now }
 {
-    field_bad(units, 0, steps).is_none()
+    field_bad(units, steps).is_none()
 }
 
 /// The kind whose descriptor the units are (JVMS 4.3.2): of a class with a name by JVMS 4.2.1, of
@@ -94,10 +100,10 @@ pub fn field_kind_counted<L: Ledger>(
         → OkUnless result errors.NoMemory (λ found. found ≡ kind) }
     ensures bad { (at : ℕ) → result ≡ Err (errors.Bad at) → IsFirstBad IsField units.now at }
     ensures none { (at : ℕ) → result ≡ Err (errors.Bad at) → spec.is_field units.now ≡ false }
-    // Each unit takes one step, whatever the answer is. What is kept of it is part of that step.
+    // Each unit takes one step, whatever the answer is. To copy it is part of that step.
     ensures cost { steps.new ≡ steps.old + length units.now }
 {
-    if let Some(at) = field_bad(units, 0, steps) {
+    if let Some(at) = field_bad(units, steps) {
         return Err(DescriptorError::Bad { at: at as u32 });
     }
     let (kind, _) = kind_at(alloc, units)?;
@@ -127,7 +133,7 @@ fn brackets_in(units: &[u16]) -> usize
     ensures brackets { units.now ≡ brackets result ++ drop result units.now }
     ensures element { ElementInFront (drop result units.now) }
 {
-    first_other(units, u16::from(b'[')).unwrap()
+    first_other(units, BRACKET).unwrap()
 }
 
 // The type in front, which is no array, and the units after it.
@@ -138,7 +144,7 @@ fn element_at(alloc: Global, units: &[u16]) -> Result<(ElementType, &[u16]), All
 {
     let first = units[0];
     let rest = &units[1..];
-    if first != u16::from(b'L') {
+    if first != CLASS_LETTER {
         return Ok((base(first), rest));
     }
     let end = name_len(rest);
@@ -153,7 +159,7 @@ fn name_len(units: &[u16]) -> usize
     ensures name { IsClassName (take result units.now) }
     ensures end { units.now ≡ take result units.now ++ semicolon ∷ drop (result + 1) units.now }
 {
-    first_same(units, u16::from(b';')).unwrap()
+    first_same(units, SEMICOLON).unwrap()
 }
 
 // The offset of the first unit that is this one.
@@ -176,13 +182,13 @@ fn base(unit: u16) -> ElementType
     ensures { IsElement result × (element_spelling result ≡ unit ∷ []) }
 {
     match unit {
-        BYTE => ElementType::Byte,
-        CHAR => ElementType::Char,
-        DOUBLE => ElementType::Double,
-        FLOAT => ElementType::Float,
-        INT => ElementType::Int,
-        LONG => ElementType::Long,
-        SHORT => ElementType::Short,
+        BYTE_LETTER => ElementType::Byte,
+        CHAR_LETTER => ElementType::Char,
+        DOUBLE_LETTER => ElementType::Double,
+        FLOAT_LETTER => ElementType::Float,
+        INT_LETTER => ElementType::Int,
+        LONG_LETTER => ElementType::Long,
+        SHORT_LETTER => ElementType::Short,
         _ => ElementType::Bool,
     }
 }

@@ -6,36 +6,25 @@ ghost use Rattle.descriptors.specs.Descriptors as chars;
 ghost use Rattle.descriptors.specs.declared.fronts.Front.TheVariants as fronts;
 ghost use Rattle.descriptors.specs.States as spec;
 
+use crate::letters::{
+    BOOL_LETTER, BRACKET, BYTE_LETTER, CHAR_LETTER, CLASS_LETTER, CLOSE_PARENTHESIS, DOT,
+    DOUBLE_LETTER, FLOAT_LETTER, INT_LETTER, LONG_LETTER, OPEN_PARENTHESIS, SEMICOLON,
+    SHORT_LETTER, SLASH, VOID_LETTER,
+};
 use std::sync::ledger::Ledger;
 use steps::Steps;
 
-pub const BYTE: u16 = b'B' as u16;
-
-pub const CHAR: u16 = b'C' as u16;
-
-pub const DOUBLE: u16 = b'D' as u16;
-
-pub const FLOAT: u16 = b'F' as u16;
-
-pub const INT: u16 = b'I' as u16;
-
-pub const LONG: u16 = b'J' as u16;
-
-pub const SHORT: u16 = b'S' as u16;
-
-pub const BOOL: u16 = b'Z' as u16;
-
 /// What was read of the descriptor of a kind.
-#[derive(Clone, Copy, Debug)]
+#[derive(Clone, Copy)]
 pub enum Front {
-    /// So many `[`.
+    /// This many `[`.
     Brackets(u8),
     /// The name of a class, whose last part has a unit or has none yet.
     Name(bool),
 }
 
 /// What one more unit does to the descriptor of a kind.
-#[derive(Clone, Copy, Debug)]
+#[derive(Clone, Copy)]
 pub enum Turn {
     Ends,
     GoesOn(Front),
@@ -51,7 +40,14 @@ fn is_base(unit: u16) -> bool
 {
     matches!(
         unit,
-        BYTE | CHAR | DOUBLE | FLOAT | INT | LONG | SHORT | BOOL
+        BYTE_LETTER
+            | CHAR_LETTER
+            | DOUBLE_LETTER
+            | FLOAT_LETTER
+            | INT_LETTER
+            | LONG_LETTER
+            | SHORT_LETTER
+            | BOOL_LETTER
     )
 }
 
@@ -60,7 +56,7 @@ fn slots_by(unit: u16) -> u16
     ensures { result ≡ chars.unit_slots unit }
 {
     match unit {
-        DOUBLE | LONG => 2,
+        DOUBLE_LETTER | LONG_LETTER => 2,
         _ => 1,
     }
 }
@@ -96,19 +92,19 @@ impl Front {
 fn is_letter(unit: u16) -> bool
     ensures { result ≡ spec.is_letter unit }
 {
-    unit > u16::from(b'[') || u16::from(b'A') <= unit && unit <= u16::from(b'Z')
+    unit > BRACKET || u16::from(b'A') <= unit && unit <= u16::from(b'Z')
 }
 
 fn bracket_turn(count: u8, unit: u16) -> Turn
     ensures { result ≡ spec.bracket_turn count unit }
 {
-    if unit == u16::from(b'[') {
+    if unit == BRACKET {
         if count < 255 {
             Turn::GoesOn(Front::Brackets(count + 1))
         } else {
             Turn::Stops
         }
-    } else if unit == u16::from(b'L') {
+    } else if unit == CLASS_LETTER {
         Turn::GoesOn(Front::Name(false))
     } else if is_base(unit) {
         Turn::Ends
@@ -120,15 +116,15 @@ fn bracket_turn(count: u8, unit: u16) -> Turn
 fn name_turn(begun: bool, unit: u16) -> Turn
     ensures { result ≡ spec.name_turn begun unit }
 {
-    if unit == u16::from(b';') {
+    if unit == SEMICOLON {
         if begun { Turn::Ends } else { Turn::Stops }
-    } else if unit == u16::from(b'/') {
+    } else if unit == SLASH {
         if begun {
             Turn::GoesOn(Front::Name(false))
         } else {
             Turn::Stops
         }
-    } else if unit == u16::from(b'.') || unit == u16::from(b'[') {
+    } else if unit == DOT || unit == BRACKET {
         Turn::Stops
     } else {
         Turn::GoesOn(Front::Name(true))
@@ -160,90 +156,92 @@ fn whole_bad(units: &[u16], start: usize) -> Option<usize>
     }
 }
 
-/// The offset of the first unit from `start` on that is not allowed in the descriptor of a kind,
-/// the number of units where they end too early, or none. Each unit takes a step.
-pub fn field_bad<L: Ledger>(units: &[u16], start: usize, steps: &mut Steps<L>) -> Option<usize>
+// The same in the descriptor of a field. Where the units end too early, it is their number.
+fn bad_in_field(units: &[u16], start: usize) -> Option<usize>
     requires { start ≤ length units.now }
     ensures first { result ≡
         spec.first_bad (spec.Field (fronts.Brackets 0)) start (drop start units.now) }
     ensures within { IfSome result (λ at. at ≤ length units.now) }
-    ensures cost { steps.new + start ≡ steps.old + length units.now }
 {
     let mut front = START;
     for index in start..units.len() {
         if front.is_letter_of_name(units[index]) {
-            steps.spend(1);
             front = Front::Name(true);
             continue;
         }
         match front.turn(units[index]) {
-            Turn::Ends => {
-                steps.spend(units.len() - index);
-                return whole_bad(units, index + 1);
-            }
+            Turn::Ends => return whole_bad(units, index + 1),
             Turn::GoesOn(more) => front = more,
-            Turn::Stops => {
-                steps.spend(units.len() - index);
-                return Some(index);
-            }
+            Turn::Stops => return Some(index),
         }
-        steps.spend(1);
     }
     Some(units.len())
 }
 
-// The same for the result of a method.
-fn result_bad<L: Ledger>(units: &[u16], start: usize, steps: &mut Steps<L>) -> Option<usize>
+// The same in the result of a method.
+fn bad_in_result(units: &[u16], start: usize) -> Option<usize>
     requires { start ≤ length units.now }
     ensures first { result ≡ spec.first_bad spec.Result start (drop start units.now) }
     ensures within { IfSome result (λ at. at ≤ length units.now) }
-    ensures cost { steps.new + start ≡ steps.old + length units.now }
 {
-    if start < units.len() && units[start] == u16::from(b'V') {
-        steps.spend(units.len() - start);
+    if start < units.len() && units[start] == VOID_LETTER {
         return whole_bad(units, start + 1);
     }
-    field_bad(units, start, steps)
+    bad_in_field(units, start)
 }
 
-/// The same for the descriptor of a method, from its first unit on.
-pub fn method_bad<L: Ledger>(units: &[u16], steps: &mut Steps<L>) -> Option<usize>
-    ensures first { result ≡ spec.first_bad spec.Method 0 units.now }
+// The same in the arguments and the result of a method, which begin after the first unit.
+fn bad_behind_parenthesis(units: &[u16]) -> Option<usize>
+    requires { 1 ≤ length units.now }
+    ensures first { result ≡
+        spec.first_bad (spec.Args 0 (fronts.Brackets 0)) 1 (drop 1 units.now) }
     ensures within { IfSome result (λ at. at ≤ length units.now) }
-    ensures cost { steps.new ≡ steps.old + length units.now }
 {
-    if units.is_empty() || units[0] != u16::from(b'(') {
-        steps.spend(units.len());
-        return Some(0);
-    }
-    steps.spend(1);
     let mut slots = 0u16;
     let mut front = START;
     for index in 1..units.len() {
         let unit = units[index];
         if front.is_letter_of_name(unit) {
-            steps.spend(1);
             front = Front::Name(true);
             continue;
         }
-        if front.is_start() && unit == u16::from(b')') {
-            steps.spend(1);
-            return result_bad(units, index + 1, steps);
+        if front.is_start() && unit == CLOSE_PARENTHESIS {
+            return bad_in_result(units, index + 1);
         }
         slots = slots_with(slots, front, unit);
         if slots > 255 {
-            steps.spend(units.len() - index);
             return Some(index);
         }
         match front.turn(unit) {
             Turn::Ends => front = START,
             Turn::GoesOn(more) => front = more,
-            Turn::Stops => {
-                steps.spend(units.len() - index);
-                return Some(index);
-            }
+            Turn::Stops => return Some(index),
         }
-        steps.spend(1);
     }
     Some(units.len())
+}
+
+/// The offset of the first unit that is not allowed in the descriptor of a field, the number of units where they end too
+/// early, or none. Each unit takes a step.
+pub fn field_bad<L: Ledger>(units: &[u16], steps: &mut Steps<L>) -> Option<usize>
+    ensures first { result ≡ spec.first_bad (spec.Field (fronts.Brackets 0)) 0 units.now }
+    ensures within { IfSome result (λ at. at ≤ length units.now) }
+    ensures cost { steps.new ≡ steps.old + length units.now }
+{
+    steps.spend(units.len());
+    bad_in_field(units, 0)
+}
+
+/// The same in the descriptor of a method.
+pub fn method_bad<L: Ledger>(units: &[u16], steps: &mut Steps<L>) -> Option<usize>
+    ensures first { result ≡ spec.first_bad spec.Method 0 units.now }
+    ensures within { IfSome result (λ at. at ≤ length units.now) }
+    ensures cost { steps.new ≡ steps.old + length units.now }
+{
+    let count = units.len();
+    steps.spend(count);
+    if count == 0 || units[0] != OPEN_PARENTHESIS {
+        return Some(0);
+    }
+    bad_behind_parenthesis(units)
 }

@@ -15,8 +15,8 @@ pub enum ElementType {
     Class(Items<u16>),
 }
 
-/// A type of a field, a parameter or a result (JVMS 4.3.2): an array of so many dimensions of the
-/// element type, or the element type itself where there are none.
+/// A type of a field, a parameter or a result (JVMS 4.3.2): an array of the element type, or with no
+/// dimensions the element type itself.
 #[derive(Debug, Drop)]
 pub struct Kind {
     pub dimensions: u8,

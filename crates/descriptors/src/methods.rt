@@ -1,3 +1,5 @@
+//! Descriptors of methods (JVMS 4.3.3).
+
 ghost use Rattle.std.specs.Prelude.{◌≡◌, ℕ, ◌+◌, ◌<◌, ◌^◌, Err, false, length, IfOk};
 ghost use Rattle.items.specs.Memory.{OkUnless};
 ghost use Rattle.descriptors.specs.declared.error.DescriptorError.TheVariants as errors;
@@ -11,6 +13,7 @@ use crate::error::DescriptorError;
 use crate::fields::kind_at;
 use crate::fronts::method_bad;
 use crate::kind::{Kind, Signature};
+use crate::letters::{CLOSE_PARENTHESIS, VOID_LETTER};
 use items::Items;
 use std::alloc::{AllocError, Global};
 use std::marker::Brand;
@@ -96,7 +99,7 @@ pub fn method_kind_counted<L: Ledger>(
         → OkUnless result errors.NoMemory (λ found. found ≡ s) }
     ensures bad { (at : ℕ) → result ≡ Err (errors.Bad at) → IsFirstBad IsMethod units.now at }
     ensures none { (at : ℕ) → result ≡ Err (errors.Bad at) → spec.is_method units.now ≡ false }
-    // Each unit takes one step, whatever the answer is. What is kept of it is part of that step.
+    // Each unit takes one step, whatever the answer is. To copy it is part of that step.
     ensures cost { steps.new ≡ steps.old + length units.now }
 {
     if let Some(at) = method_bad(units, steps) {
@@ -112,7 +115,7 @@ fn signature_of(alloc: Global, units: &[u16]) -> Result<Signature, AllocError>
 {
     let mut args = Items::new(alloc);
     let mut rest = &units[1..];
-    while rest[0] != u16::from(b')') {
+    while rest[0] != CLOSE_PARENTHESIS {
         let (kind, behind) = kind_at(alloc, rest)?;
         args.push(kind)?;
         rest = behind;
@@ -126,7 +129,7 @@ fn result_of(alloc: Global, units: &[u16]) -> Result<Option<Kind>, AllocError>
     requires { IsResultText units.now }
     ensures { IfOk result (λ r. IsResult r × (units.now ≡ result_spelling r)) }
 {
-    if units[0] == u16::from(b'V') {
+    if units[0] == VOID_LETTER {
         return Ok(None);
     }
     let (kind, _) = kind_at(alloc, units)?;
