@@ -2,14 +2,14 @@ use items::{Boxed, Items};
 use shared_slices::SharedSlice;
 
 /// An attribute of a class, a field or a method (JVMS 4.7). The name is an index of the constant pool.
-#[derive(Clone, Debug, Drop, PartialEq, Eq)]
+#[derive(Drop, PartialEq, Eq)]
 pub struct Attribute {
     pub name: u16,
     pub body: Body,
 }
 
 /// The contents of an attribute.
-#[derive(Clone, Debug, Drop, PartialEq, Eq)]
+#[derive(Drop, PartialEq, Eq)]
 pub enum Body {
     /// A method's Code (JVMS 4.7.3). It lies by itself, since other attributes are many and small.
     Code(Boxed<CodeBody>),
@@ -20,7 +20,7 @@ pub enum Body {
 }
 
 /// A method's code (JVMS 4.7.3).
-#[derive(Clone, Debug, Drop, PartialEq, Eq)]
+#[derive(Drop, PartialEq, Eq)]
 pub struct CodeBody {
     /// The greatest depth of the operand stack, in slots.
     pub max_stack: u16,
@@ -43,14 +43,14 @@ pub struct Row {
 }
 
 /// An attribute of a Code attribute (JVMS 4.7). The name is an index of the constant pool.
-#[derive(Clone, Debug, Drop, PartialEq, Eq)]
+#[derive(Drop, PartialEq, Eq)]
 pub struct CodeAttribute {
     pub name: u16,
     pub body: CodeExtra,
 }
 
 /// The contents of an attribute of a Code attribute.
-#[derive(Clone, Debug, Drop, PartialEq, Eq)]
+#[derive(Drop, PartialEq, Eq)]
 pub enum CodeExtra {
     /// The bytes of a StackMapTable (JVMS 4.7.4).
     StackMap(SharedSlice<u8>),

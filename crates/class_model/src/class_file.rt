@@ -3,7 +3,7 @@ use items::Items;
 
 /// A class file (JVMS 4.1). `own` is its this_class and `parent` its super_class; these and `interfaces` are indices of the
 /// constant pool. `pool` has an entry for each index from 0 on, so the first is `Const::Unused`.
-#[derive(Clone, Debug, Drop, PartialEq, Eq)]
+#[derive(Drop, PartialEq, Eq)]
 pub struct ClassFile {
     pub minor: u16,
     pub major: u16,

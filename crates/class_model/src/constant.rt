@@ -2,7 +2,7 @@ use shared_slices::SharedSlice;
 
 /// An entry of the constant pool (JVMS 4.4). A number is the index of another entry, unless the variant's line says
 /// otherwise.
-#[derive(Clone, Debug, Drop, PartialEq, Eq)]
+#[derive(Drop, PartialEq, Eq)]
 pub enum Const {
     /// The entry at index 0, and the one after a Long or a Double (JVMS 4.1, 4.4.5).
     Unused,

@@ -2,7 +2,7 @@ use crate::Attribute;
 use items::Items;
 
 /// A field or a method (JVMS 4.5, 4.6). The name and the descriptor are indices of the constant pool.
-#[derive(Clone, Debug, Drop, PartialEq, Eq)]
+#[derive(Drop, PartialEq, Eq)]
 pub struct Member {
     pub flags: u16,
     pub name: u16,
