@@ -1,5 +1,5 @@
 -- The recognized attributes (JVMS 4.7): the Code of a method, the ConstantValue of a field and the StackMapTable of a Code, each
--- at most once in one holder. Every other attribute is kept as bytes. (own)
+-- at most once in one holder. Every other attribute is its bytes.
 use Rattle.std.specs.Prelude.{◌≡◌, ℕ, Bool, true, false, not, List, [], ◌∷◌, codes, ◌&&◌, if◌then◌else◌}
 use Rattle.std.specs.Option.{option_map_or}
 use Rattle.std.specs.List.{AllByRecursion}

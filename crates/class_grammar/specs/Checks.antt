@@ -29,7 +29,7 @@ pub record Item : Type 0 where
   pub size : ℕ
   pub fault : Option ClassWhy
 
--- so many bytes that can't be wrong
+-- this many bytes, which can't be wrong
 abbrev pub sound_bytes : ℕ → Item
 sound_bytes size = record { size = size; fault = None }
 
@@ -89,7 +89,7 @@ is_descriptor units = if is_like_method units then is_method units else is_field
 abbrev pub text_items : List ℕ → List Item
 text_items units = map (λ u. sound_bytes (length (unit u))) units
 
--- What MethodHandle, Dynamic, InvokeDynamic, Module and Package refer to isn't checked. (own)
+-- What MethodHandle, Dynamic, InvokeDynamic, Module and Package refer to isn't checked.
 abbrev pub constant_items : List Const → Const → List Item
 constant_items pool Unused = []
 constant_items pool (Utf8 units) = sound_bytes 3 ∷ text_items units
@@ -183,7 +183,7 @@ is_value c = false
 abbrev pub is_value_of : List Const → ℕ → ℕ → Bool
 is_value_of pool descriptor index = option_map_or (λ type. holds (has_type type) pool index) (text_at pool descriptor) false
 
--- A static field's ConstantValue has the field's type. Any other field's is ignored, but refers to a value. (own)
+-- A static field's ConstantValue has the field's type. Any other field's is ignored, but refers to a value.
 abbrev pub value_fault : List Const → Member → ℕ → Option ClassWhy
 value_fault pool m index =
     if is_static m.flags then unless (is_value_of pool m.descriptor index) whys.Index
@@ -241,7 +241,7 @@ items f = pool_items f ++ (class_items f ++ member_items f)
 
 -- ---- the first fault
 
--- how many bytes are left after the items, where so many were left before them, or the first fault
+-- how many of the bytes left are left after the items, or the first fault
 abbrev pub left_after : ℕ → List Item → Result ℕ (Fault ClassWhy)
 left_after left [] = Ok left
 left_after left (i ∷ is) = elim i.fault [ None ↦ left_after (left - i.size) is | Some why ↦ Err (record { left = left; why = why }) ]
@@ -250,7 +250,7 @@ abbrev pub fault_of : {A : Type 0} → Result A (Fault ClassWhy) → Option (Fau
 fault_of (Ok x) = None
 fault_of (Err f) = Some f
 
--- the first fault of a file of so many bytes
+-- the first fault of a file of this size
 unfoldable pub first_fault : ℕ → ClassFile → Option (Fault ClassWhy)
 first_fault size f = fault_of (left_after size (items f))
 

@@ -21,9 +21,21 @@ is_some_text (u ∷ us) = true
 abbrev pub is_field_name : List ℕ → Bool
 is_field_name units = is_some_text units && list_all is_name_unit units
 
--- the names with angle brackets that a method may have (JVMS 2.9)
+-- the names with angle brackets that a method may have: of an instance's initialization, and of a class's (JVMS 2.9)
+abbrev pub init_name : List ℕ
+init_name = codes "<init>"
+
+abbrev pub clinit_name : List ℕ
+clinit_name = codes "<clinit>"
+
+abbrev pub is_init : List ℕ → Bool
+is_init units = same_text units init_name
+
+abbrev pub is_clinit : List ℕ → Bool
+is_clinit units = same_text units clinit_name
+
 abbrev pub is_initializer : List ℕ → Bool
-is_initializer units = same_text units (codes "<init>") || same_text units (codes "<clinit>")
+is_initializer units = is_init units || is_clinit units
 
 -- a name of a method (JVMS 4.2.2, 2.9)
 abbrev pub is_method_name : List ℕ → Bool

@@ -1,5 +1,5 @@
 /// What has an attribute (JVMS 4.7). An attribute's name is recognized in certain holders only.
-#[derive(Clone, Copy, Debug, PartialEq, Eq)]
+#[derive(Clone, Copy)]
 pub enum Holder {
     Class,
     Field,

@@ -1,3 +1,5 @@
+//! Comparing texts with names.
+
 ghost use Rattle.std.specs.Prelude.{◌≡◌, ◌≢◌, ◌<◌, ◌≤◌, ◌+◌, length};
 ghost use Rattle.class_grammar.specs.Text.{same_text};
 
