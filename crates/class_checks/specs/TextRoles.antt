@@ -22,7 +22,7 @@ roles_of text = record {
   is_string = option_map_or (is_text string_descriptor) text false;
 }
 
-abbrev pub entry_roles : Const → TextRoles
+unfoldable pub entry_roles : Const → TextRoles
 entry_roles c = roles_of (text_of c)
 
 -- why an index is refused whose text, if there is one, is wrong for this reason

@@ -31,7 +31,7 @@ pub fn check_class<L: Ledger>(
     check_interfaces(pool, left.saturating_sub(2), &file.interfaces)
 }
 
-// The file isn't that of a module (own).
+// The fault of the flags of a module.
 fn flags_fault(flags: u16) -> Option<ClassWhy>
     ensures { result ≡ checks.flags_fault flags }
 {

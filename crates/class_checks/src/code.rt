@@ -1,4 +1,4 @@
-//! The bodies of methods (JVMS 4.7.3).
+//! The code of methods (JVMS 4.7.3).
 
 ghost use Rattle.std.specs.Prelude.{◌≡◌, length};
 ghost use Rattle.class_grammar.specs.Layout.{code_extra};

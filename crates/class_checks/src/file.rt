@@ -1,3 +1,5 @@
+//! The checks of a whole class file.
+
 ghost use Rattle.std.specs.Prelude.{◌≡◌, ◌≤◌, ◌<◌, ◌+◌, ◌++◌, Some, None, Err, OnOk};
 ghost use Rattle.std.specs.List.{sum_by};
 ghost use Rattle.byte_reader.specs.declared.fault.Fault.{Fault as AnyFault};

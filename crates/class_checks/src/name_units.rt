@@ -3,6 +3,7 @@
 ghost use Rattle.std.specs.Prelude.{◌≡◌, ◌<◌, ◌+◌, length, take, drop};
 ghost use Rattle.class_checks.specs.NameUnits as spec;
 
+use descriptors::{BRACKET, DOT, SEMICOLON, SLASH};
 use std::simd::prelude::*;
 use std::sync::ledger::Ledger;
 use steps::Steps;
@@ -10,20 +11,12 @@ use steps::Steps;
 /// How many units are looked at together.
 pub const LANES: usize = 8;
 
-const DOT: u16 = b'.' as u16;
+pub const LESS: u16 = b'<' as u16;
 
-const SLASH: u16 = b'/' as u16;
-
-const SEMICOLON: u16 = b';' as u16;
-
-const LESS: u16 = b'<' as u16;
-
-const GREATER: u16 = b'>' as u16;
-
-const BRACKET: u16 = b'[' as u16;
+pub const GREATER: u16 = b'>' as u16;
 
 /// Which units that decide on names a text has.
-#[derive(Clone, Copy, Debug)]
+#[derive(Clone, Copy)]
 pub struct NameUnits {
     /// One of `.`, `;` and `[`, which no name has.
     pub stop: bool,

@@ -6,13 +6,14 @@ ghost use Rattle.class_grammar.specs.Names as grammar;
 ghost use Rattle.class_checks.specs.Names as spec;
 ghost use Rattle.class_checks.specs.NameUnits as units_spec;
 
-use crate::name_units::{LANES, NameUnits, name_units_behind_first};
-use class_grammar::is_same_counted;
+use crate::name_units::{GREATER, LANES, LESS, NameUnits, name_units_behind_first};
+use class_grammar::{CLINIT_NAME, INIT_NAME, is_same_counted};
+use descriptors::{BRACKET, DOT, SEMICOLON, SLASH};
 use std::sync::ledger::Ledger;
 use steps::Steps;
 
 /// What a text may be the name of.
-#[derive(Clone, Copy, Debug)]
+#[derive(Clone, Copy)]
 pub struct Names {
     pub of_field: bool,
     pub of_method: bool,
@@ -28,11 +29,11 @@ pub const NOTHING: Names = Names {
 };
 
 /// Whether a text begins with this unit.
-pub fn begins_with(unit: u8, units: &[u16]) -> bool
+pub fn begins_with(unit: u16, units: &[u16]) -> bool
     ensures { result ≡ grammar.begins_with (unit ∷ []) units.now }
 {
     match units {
-        [first, ..] => *first == u16::from(unit),
+        [first, ..] => *first == unit,
         [] => false,
     }
 }
@@ -42,7 +43,7 @@ pub fn ends_with_semicolon(units: &[u16]) -> bool
     ensures { result ≡ units_spec.ends_with_semicolon units.now }
 {
     match units {
-        [.., last] => *last == u16::from(b';'),
+        [.., last] => *last == SEMICOLON,
         [] => false,
     }
 }
@@ -68,10 +69,10 @@ fn is_initializer<L: Ledger>(units: &[u16], steps: &mut Steps<L>) -> bool
     ensures test { result ≡ grammar.is_initializer units.now }
     ensures cost { steps.new ≤ steps.old + 8 }
 {
-    if is_same_counted(units, b"<init>", steps) {
+    if is_same_counted(units, &INIT_NAME, steps) {
         return true;
     }
-    is_same_counted(units, b"<clinit>", steps)
+    is_same_counted(units, &CLINIT_NAME, steps)
 }
 
 /// What the text may be by its units alone.
@@ -84,7 +85,8 @@ pub fn names_by_units<L: Ledger>(units: &[u16], steps: &mut Steps<L>) -> Names
         return NOTHING;
     }
     if units.len() <= LANES {
-        return names_by_unit(units, steps);
+        steps.spend(units.len());
+        return names_by_unit(units);
     }
     names_by_lanes(units, steps)
 }
@@ -117,20 +119,18 @@ fn names_from(first: u16, last: u16, behind: NameUnits) -> Names
 
 // The same unit by unit.
 #[inline(never)]
-fn names_by_unit<L: Ledger>(units: &[u16], steps: &mut Steps<L>) -> Names
-    ensures names { result ≡ spec.names_by false false false units.now }
-    ensures cost { steps.new ≤ steps.old + length units.now }
+fn names_by_unit(units: &[u16]) -> Names
+    ensures { result ≡ spec.names_by false false false units.now }
 {
     let mut slashed = false;
     let mut angled = false;
     let mut begun = false;
     for unit in units {
-        steps.spend(1);
         if is_in_every_name(*unit) {
             begun = true;
             continue;
         }
-        if *unit == u16::from(b'/') {
+        if *unit == SLASH {
             if !begun {
                 return NOTHING;
             }
@@ -154,24 +154,24 @@ fn names_by_unit<L: Ledger>(units: &[u16], steps: &mut Steps<L>) -> Names
 fn is_in_every_name(unit: u16) -> bool
     ensures { result ≡ spec.is_in_every_name unit }
 {
-    unit > u16::from(b'[') || u16::from(b'A') <= unit && unit <= u16::from(b'Z')
+    unit > BRACKET || u16::from(b'A') <= unit && unit <= u16::from(b'Z')
 }
 
 // Whether no name has the unit (JVMS 4.2.2).
 fn is_never_in_a_name(unit: u16) -> bool
     ensures { result ≡ is_one_of (codes ".;[") unit }
 {
-    unit == u16::from(b'.') || unit == u16::from(b';') || unit == u16::from(b'[')
+    unit == DOT || unit == SEMICOLON || unit == BRACKET
 }
 
 fn is_slash(unit: u16) -> bool
     ensures { result ≡ units_spec.is_slash unit }
 {
-    unit == u16::from(b'/')
+    unit == SLASH
 }
 
 fn is_angle(unit: u16) -> bool
     ensures { result ≡ is_one_of (codes "<>") unit }
 {
-    unit == u16::from(b'<') || unit == u16::from(b'>')
+    unit == LESS || unit == GREATER
 }

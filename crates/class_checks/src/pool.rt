@@ -1,6 +1,6 @@
 //! The constant pool with the roles of its texts, and what is wrong with an index of it (JVMS 4.4).
 
-ghost use Rattle.std.specs.Prelude.{◌≡◌, ◌≤◌, ◌+◌, IfOk, false};
+ghost use Rattle.std.specs.Prelude.{◌≡◌, ◌≤◌, ◌+◌, IfOk, false, not};
 ghost use Rattle.std.specs.List.{sum_by};
 ghost use Rattle.std.specs.Option.{option_map, option_map_or};
 ghost use Rattle.descriptors.specs.States as descriptors;
@@ -13,16 +13,17 @@ ghost use Rattle.class_checks.specs.TextRoles as spec;
 
 use crate::names::begins_with;
 use crate::text_roles::{NO_TEXT, TextRoles, roles_of};
-use crate::values::has_type;
+use crate::values::{has_type, is_value};
 use class_grammar::{ClassWhy, class_name_at, is_same_counted, text_at};
 use class_model::{ACC_STATIC, Const, Member};
+use descriptors::OPEN_PARENTHESIS;
 use std::alloc::{AllocError, Global};
 use std::marker::Model;
 use std::sync::ledger::Ledger;
 use steps::Steps;
 
 /// A constant pool with the roles of its texts. Contracts see the list of its constants.
-#[derive(Debug, Drop)]
+#[derive(Drop)]
 pub struct Pool<'a> {
     constants: &'a [Const],
     roles: Vec<TextRoles>,
@@ -47,6 +48,13 @@ pub fn unless(passed: bool, why: ClassWhy) -> Option<ClassWhy>
     if passed { None } else { Some(why) }
 }
 
+// Whether the constant is a class.
+fn is_class(constant: &Const) -> bool
+    ensures { result ≡ checks.is_class constant.now }
+{
+    matches!(constant, Const::Class(_))
+}
+
 impl<'a> Pool<'a> {
     /// The pool of these constants.
     pub fn new<L: Ledger>(
@@ -61,6 +69,7 @@ impl<'a> Pool<'a> {
         Ok(Pool { constants, roles })
     }
 
+    #[tactic(auto, unfolding(crate::specs::TextRoles::entry_roles))]
     fn roles(&self, index: u16) -> TextRoles
         ensures { result ≡ spec.roles_of (entries.text_at self.now index) }
     {
@@ -153,8 +162,8 @@ impl<'a> Pool<'a> {
         ensures { result ≡ checks.class_fault self.now index }
     {
         match self.constants.get(usize::from(index)) {
-            Some(Const::Class(_)) => None,
-            _ => Some(ClassWhy::Index),
+            Some(constant) => unless(is_class(constant), ClassWhy::Index),
+            None => Some(ClassWhy::Index),
         }
     }
 
@@ -173,7 +182,7 @@ impl<'a> Pool<'a> {
         ensures { result ≡ option_map grammar.is_like_method (entries.text_at self.now index) }
     {
         let units = text_at(self.constants, index)?;
-        Some(begins_with(b'(', units))
+        Some(begins_with(OPEN_PARENTHESIS, units))
     }
 
     /// The index of the name in a NameAndType (JVMS 4.4.6), which its descriptor makes a field's or a method's.
@@ -191,7 +200,18 @@ impl<'a> Pool<'a> {
         ensures { result ≡ checks.of_field_fault self.now index }
     {
         match self.constants.get(usize::from(index)) {
-            Some(Const::NameAndType(_, descriptor)) => match self.is_like_method(*descriptor) {
+            Some(constant) => self.field_type_fault(constant),
+            None => Some(ClassWhy::Index),
+        }
+    }
+
+    // The constant as the NameAndType of a field.
+    fn field_type_fault(&self, constant: &Const) -> Option<ClassWhy>
+        ensures { result ≡
+            checks.descriptor_fault (λ units. not (grammar.is_like_method units)) self.now constant.now }
+    {
+        match constant {
+            Const::NameAndType(_, descriptor) => match self.is_like_method(*descriptor) {
                 Some(true) => Some(ClassWhy::Descriptor),
                 _ => None,
             },
@@ -204,7 +224,17 @@ impl<'a> Pool<'a> {
         ensures { result ≡ checks.of_method_fault self.now index }
     {
         match self.constants.get(usize::from(index)) {
-            Some(Const::NameAndType(_, descriptor)) => match self.is_like_method(*descriptor) {
+            Some(constant) => self.method_type_fault(constant),
+            None => Some(ClassWhy::Index),
+        }
+    }
+
+    // The constant as the NameAndType of a method.
+    fn method_type_fault(&self, constant: &Const) -> Option<ClassWhy>
+        ensures { result ≡ checks.descriptor_fault grammar.is_like_method self.now constant.now }
+    {
+        match constant {
+            Const::NameAndType(_, descriptor) => match self.is_like_method(*descriptor) {
                 Some(false) => Some(ClassWhy::Descriptor),
                 _ => None,
             },
@@ -243,16 +273,10 @@ impl<'a> Pool<'a> {
     fn is_value(&self, index: u16) -> bool
         ensures { result ≡ checks.holds checks.is_value self.now index }
     {
-        matches!(
-            self.constants.get(usize::from(index)),
-            Some(
-                Const::Integer(_)
-                    | Const::Float(_)
-                    | Const::Long(_)
-                    | Const::Double(_)
-                    | Const::Text(_)
-            )
-        )
+        match self.constants.get(usize::from(index)) {
+            Some(constant) => is_value(constant),
+            None => false,
+        }
     }
 
     // Whether the constant at the index is the value of a field with this descriptor.

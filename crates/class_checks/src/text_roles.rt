@@ -14,33 +14,16 @@ ghost use Rattle.class_checks.specs.TextRoles as spec;
 use crate::names::{NOTHING, Names, begins_with, ends_with_semicolon, names_by_units, names_of};
 use class_grammar::is_same_counted;
 use class_model::Const;
-use descriptors::{is_field_counted, is_method_counted};
+use descriptors::{
+    BOOL_LETTER, BRACKET, BYTE_LETTER, CHAR_LETTER, CLASS_LETTER, DOUBLE_LETTER, FLOAT_LETTER,
+    INT_LETTER, LONG_LETTER, OPEN_PARENTHESIS, SHORT_LETTER, is_field_counted, is_method_counted,
+};
 use std::alloc::{AllocError, Global};
 use std::sync::ledger::Ledger;
 use steps::Steps;
 
-const BYTE: u16 = b'B' as u16;
-
-const CHAR: u16 = b'C' as u16;
-
-const DOUBLE: u16 = b'D' as u16;
-
-const FLOAT: u16 = b'F' as u16;
-
-const INT: u16 = b'I' as u16;
-
-const LONG: u16 = b'J' as u16;
-
-const SHORT: u16 = b'S' as u16;
-
-const BOOL: u16 = b'Z' as u16;
-
-const CLASS: u16 = b'L' as u16;
-
-const ARRAY: u16 = b'[' as u16;
-
 /// What the text at an index of the pool may be used as. Where there is no text, all are false.
-#[derive(Clone, Copy, Debug)]
+#[derive(Clone, Copy)]
 pub struct TextRoles {
     /// The name of a field (JVMS 4.2.2).
     pub is_field_name: bool,
@@ -82,6 +65,7 @@ pub fn roles_of<L: Ledger>(
     Ok(roles)
 }
 
+#[tactic(auto, unfolding(crate::specs::TextRoles::entry_roles))]
 fn entry_roles<L: Ledger>(constant: &Const, steps: &mut Steps<L>) -> TextRoles
     ensures roles { result ≡ spec.entry_roles constant.now }
     ensures cost { steps.new ≤ steps.old + costs.judging constant.now }
@@ -118,7 +102,7 @@ fn is_class_descriptor(is_field: bool, units: &[u16]) -> bool
     requires { is_field ≡ descriptors_spec.is_field units.now }
     ensures { result ≡ spec.is_class_descriptor units.now }
 {
-    is_field && begins_with(b'L', units)
+    is_field && begins_with(CLASS_LETTER, units)
 }
 
 // Whether the text is the name of a class, or the descriptor of an array.
@@ -127,7 +111,7 @@ fn is_class_name(of_class: bool, is_field: bool, units: &[u16]) -> bool
     requires field { is_field ≡ descriptors_spec.is_field units.now }
     ensures { result ≡ grammar.is_class_text units.now }
 {
-    of_class || begins_with(b'[', units) && is_field
+    of_class || begins_with(BRACKET, units) && is_field
 }
 
 // Whether the text is the descriptor of a method. It is gone over where it begins as one.
@@ -137,7 +121,7 @@ fn is_method_text<L: Ledger>(units: &[u16], steps: &mut Steps<L>) -> bool
     ensures cost { steps.new ≤ steps.old + length units.now }
     ensures none { grammar.begins_with (40 ∷ []) units.now ≡ false → steps.new ≡ steps.old }
 {
-    if !begins_with(b'(', units) {
+    if !begins_with(OPEN_PARENTHESIS, units) {
         return false;
     }
     is_method_counted(units, steps)
@@ -153,7 +137,7 @@ fn is_field_text<L: Ledger>(units: &[u16], steps: &mut Steps<L>) -> bool
     if !may_be_field(units) {
         return false;
     }
-    if begins_with(b'L', units) {
+    if begins_with(CLASS_LETTER, units) {
         return is_class_by_name(units, steps);
     }
     is_field_counted(units, steps)
@@ -175,9 +159,10 @@ fn may_be_field(units: &[u16]) -> bool
 {
     match units {
         [first, rest @ ..] => match *first {
-            ARRAY => true,
-            CLASS => ends_with_semicolon(rest),
-            BYTE | CHAR | DOUBLE | FLOAT | INT | LONG | SHORT | BOOL => rest.is_empty(),
+            BRACKET => true,
+            CLASS_LETTER => ends_with_semicolon(rest),
+            BYTE_LETTER | CHAR_LETTER | DOUBLE_LETTER | FLOAT_LETTER | INT_LETTER | LONG_LETTER
+            | SHORT_LETTER | BOOL_LETTER => rest.is_empty(),
             _ => false,
         },
         [] => false,
