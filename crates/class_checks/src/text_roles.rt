@@ -161,8 +161,14 @@ fn may_be_field(units: &[u16]) -> bool
         [first, rest @ ..] => match *first {
             BRACKET => true,
             CLASS_LETTER => ends_with_semicolon(rest),
-            BYTE_LETTER | CHAR_LETTER | DOUBLE_LETTER | FLOAT_LETTER | INT_LETTER | LONG_LETTER
-            | SHORT_LETTER | BOOL_LETTER => rest.is_empty(),
+            BYTE_LETTER
+            | CHAR_LETTER
+            | DOUBLE_LETTER
+            | FLOAT_LETTER
+            | INT_LETTER
+            | LONG_LETTER
+            | SHORT_LETTER
+            | BOOL_LETTER => rest.is_empty(),
             _ => false,
         },
         [] => false,

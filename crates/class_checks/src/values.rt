@@ -17,11 +17,7 @@ pub fn is_value(constant: &Const) -> bool
 {
     matches!(
         constant,
-        Const::Integer(_)
-            | Const::Float(_)
-            | Const::Long(_)
-            | Const::Double(_)
-            | Const::Text(_)
+        Const::Integer(_) | Const::Float(_) | Const::Long(_) | Const::Double(_) | Const::Text(_)
     )
 }
 
