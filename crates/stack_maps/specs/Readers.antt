@@ -39,15 +39,25 @@ type_at bytes = do
 abbrev pub types_at : Reader MapWhy (List VType)
 types_at bytes = count_then whys.Short 2 (many type_at) bytes
 
+-- what comes after the delta of a frame with the same locals and one item, with more locals, and with locals and stack of its own
+abbrev pub item_frame_at : ℕ → Reader MapWhy Frame
+item_frame_at delta = map_value (SameLocals1StackItemExtended delta) type_at
+
+abbrev pub append_frame_at : ℕ → ℕ → Reader MapWhy Frame
+append_frame_at delta count = map_value (Append delta) (many type_at count)
+
+abbrev pub full_frame_at : ℕ → Reader MapWhy Frame
+full_frame_at delta = map_value (λ (x : List VType × List VType). Full delta x.0 x.1) (both types_at types_at)
+
 -- a frame of a type from 247 on, after this type
 unfoldable pub wide_frame_at : ℕ → Reader MapWhy Frame
 wide_frame_at kind bytes = do
   delta ← u2_at bytes
-  if kind == 247 then map_value (SameLocals1StackItemExtended delta.0) type_at delta.1
+  if kind == 247 then item_frame_at delta.0 delta.1
       else if nat_lt kind 251 then Ok (Chop delta.0 (251 - kind), delta.1)
       else if kind == 251 then Ok (SameExtended delta.0, delta.1)
-      else if nat_lt kind 255 then map_value (Append delta.0) (many type_at (kind - 251)) delta.1
-      else map_value (λ (x : List VType × List VType). Full delta.0 x.0 x.1) (both types_at types_at) delta.1
+      else if nat_lt kind 255 then append_frame_at delta.0 (kind - 251) delta.1
+      else full_frame_at delta.0 delta.1
 
 -- a frame after one with that many locals
 unfoldable pub frame_at : ℕ → Reader MapWhy Frame

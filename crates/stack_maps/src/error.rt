@@ -1,3 +1,5 @@
+//! Why a stack map is refused.
+
 ghost use Rattle.std.specs.Prelude.{◌≡◌};
 ghost use Rattle.stack_maps.specs.declared.error.MapWhy.TheVariants as whys;
 

@@ -5,7 +5,7 @@ ghost use Rattle.byte_reader.specs.Reader.{Reads, map_value};
 ghost use Rattle.stack_maps.specs.declared.types.LocalsChange.TheVariants as changes;
 ghost use Rattle.stack_maps.specs.declared.types.VType.{VType as OneType};
 ghost use Rattle.stack_maps.specs.Changes.{locals_after};
-ghost use Rattle.stack_maps.specs.Readers.{delta_frame, frame_at, wide_frame_at};
+ghost use Rattle.stack_maps.specs.Readers.{append_frame_at, delta_frame, frame_at, full_frame_at, item_frame_at, wide_frame_at};
 
 use crate::error::MapWhy;
 use crate::types::{FrameChange, LocalsChange, VType};
@@ -46,6 +46,38 @@ fn with_item(alloc: Global, delta: u16, item: VType) -> Result<DeltaFrame, Alloc
     Ok(DeltaFrame { delta, change })
 }
 
+// A frame with the same locals and one item on the stack, after its delta.
+fn item_frame(alloc: Global, delta: u16, bytes: &[u8]) -> Result<(DeltaFrame, &[u8]), Stop<MapWhy>>
+    ensures { Reads result (map_value delta_frame (item_frame_at delta) bytes.now) }
+{
+    let (item, rest) = type_of(bytes)?;
+    Ok((with_item(alloc, delta, item)?, rest))
+}
+
+// A frame with this many more locals, after its delta.
+fn append_frame(
+    alloc: Global,
+    delta: u16,
+    count: u16,
+    bytes: &[u8],
+) -> Result<(DeltaFrame, &[u8]), Stop<MapWhy>>
+    ensures { Reads result (map_value delta_frame (append_frame_at delta count) bytes.now) }
+{
+    let (added, rest) = more_types(Items::new(alloc), count, bytes)?;
+    Ok((with_locals(alloc, delta, LocalsChange::Append(added)), rest))
+}
+
+// A frame with locals and a stack of its own, after its delta.
+fn full_frame(alloc: Global, delta: u16, bytes: &[u8]) -> Result<(DeltaFrame, &[u8]), Stop<MapWhy>>
+    ensures { Reads result (map_value delta_frame (full_frame_at delta) bytes.now) }
+{
+    let (locals, rest) = types_of(alloc, bytes)?;
+    let (stack, rest) = types_of(alloc, rest)?;
+    let locals = LocalsChange::Full(locals);
+    let change = FrameChange { locals, stack };
+    Ok((DeltaFrame { delta, change }, rest))
+}
+
 // A frame of a type from 247 on, after its type.
 #[tactic(auto, unfolding(crate::specs::Readers::wide_frame_at))]
 fn wide_frame(alloc: Global, kind: u8, bytes: &[u8]) -> Result<(DeltaFrame, &[u8]), Stop<MapWhy>>
@@ -55,10 +87,7 @@ fn wide_frame(alloc: Global, kind: u8, bytes: &[u8]) -> Result<(DeltaFrame, &[u8
     let (delta, rest) = u2_of(bytes)?;
     match kind {
         // same_locals_1_stack_item_frame_extended
-        ..=247 => {
-            let (item, rest) = type_of(rest)?;
-            Ok((with_item(alloc, delta, item)?, rest))
-        }
+        ..=247 => item_frame(alloc, delta, rest),
         // chop_frame
         248..=250 => {
             let locals = LocalsChange::Chop(251 - kind);
@@ -67,18 +96,9 @@ fn wide_frame(alloc: Global, kind: u8, bytes: &[u8]) -> Result<(DeltaFrame, &[u8
         // same_frame_extended
         251 => Ok((with_locals(alloc, delta, LocalsChange::Same), rest)),
         // append_frame
-        252..=254 => {
-            let (added, rest) = more_types(Items::new(alloc), u16::from(kind - 251), rest)?;
-            Ok((with_locals(alloc, delta, LocalsChange::Append(added)), rest))
-        }
+        252..=254 => append_frame(alloc, delta, u16::from(kind - 251), rest),
         // full_frame
-        255 => {
-            let (locals, rest) = types_of(alloc, rest)?;
-            let (stack, rest) = types_of(alloc, rest)?;
-            let locals = LocalsChange::Full(locals);
-            let change = FrameChange { locals, stack };
-            Ok((DeltaFrame { delta, change }, rest))
-        }
+        255 => full_frame(alloc, delta, rest),
     }
 }
 

@@ -1,3 +1,5 @@
+//! The frames of a whole stack map (JVMS 4.7.4).
+
 ghost use Rattle.std.specs.Prelude.{◌≡◌, ◌<◌, ◌^◌, ◌↔◌, ◌==◌, ℕ, List, length, slice_index, IfOk, Ok, Err, if◌then◌else◌};
 ghost use Rattle.items.specs.Memory.{OkUnless};
 ghost use Rattle.byte_reader.specs.Reader.{GivesBy, fault_at};

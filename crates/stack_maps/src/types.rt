@@ -2,29 +2,29 @@ use items::Items;
 
 /// The types of the locals and of the operand stack at one pc, the first local and the bottom of
 /// the stack first (JVMS 4.10.1.2). A long or a double is one item.
-#[derive(Clone, Debug, Drop, PartialEq, Eq)]
+#[derive(Drop, PartialEq, Eq)]
 pub struct FrameTypes {
     pub locals: Items<VType>,
     pub stack: Items<VType>,
 }
 
 /// What a frame changes of the one before it (JVMS 4.7.4). Its operand stack is always named whole, the bottom first.
-#[derive(Debug, Drop)]
+#[derive(Drop)]
 pub struct FrameChange {
     pub locals: LocalsChange,
     pub stack: Items<VType>,
 }
 
 /// What a frame changes of the locals of the one before it (JVMS 4.7.4).
-#[derive(Debug, Drop)]
+#[derive(Drop)]
 pub enum LocalsChange {
     /// They are the same.
     Same,
-    /// The last so many are dropped.
+    /// The last ones are dropped, this many.
     Chop(u8),
     /// After them come these.
     Append(Items<VType>),
-    /// There are these alone.
+    /// All are these.
     Full(Items<VType>),
 }
 
@@ -42,11 +42,11 @@ pub enum VType {
     Object(u16),
     /// An object before its constructor ran, by the pc of its `new`.
     Uninit(u16),
-    /// A class by its number, or an array of that many dimensions (own). It is in no map.
+    /// A class by its number, or an array with this many dimensions. No map has it.
     Named(u8, Base),
 }
 
-/// What a named type is an array of, or the class itself where it has no dimensions (own).
+/// The element type of a named array type, or the class that a type without dimensions names.
 #[derive(Clone, Copy, Debug, PartialEq, Eq)]
 pub enum Base {
     Bool,

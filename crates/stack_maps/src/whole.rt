@@ -7,21 +7,21 @@ use crate::types::{FrameChange, FrameTypes, LocalsChange, VType};
 use items::Items;
 use std::alloc::{AllocError, Global};
 
-// These types in memory of their own.
+// A copy of the types.
 fn copied(alloc: Global, types: &[VType]) -> Result<Items<VType>, AllocError>
     ensures { IfOk result (λ ts. ts ≡ types.now) }
 {
     Ok(Items::from(Vec::from_slice(alloc, types)?))
 }
 
-// Those without the last so many.
+// The types without the last ones.
 fn without_last(types: &[VType], dropped: u8) -> &[VType]
     ensures { result.now ≡ take (length types.now - dropped) types.now }
 {
     &types[..types.len().saturating_sub(usize::from(dropped))]
 }
 
-// These types, and after them those that a frame adds.
+// The types, and after them those that a frame adds.
 fn appended(alloc: Global, before: &[VType], added: &[VType]) -> Result<Items<VType>, AllocError>
     ensures { IfOk result (λ ts. ts ≡ before.now ++ added.now) }
 {
