@@ -12,7 +12,7 @@ use Rattle.thread_lists.specs.declared.ring.Place.{Place}
 use Rattle.thread_lists.specs.declared.ring.Place.TheVariants.{Head, Thread}
 use Rattle.thread_lists.specs.declared.ring.Link.{Link}
 use Rattle.thread_lists.specs.Lists.{Lists, append, count, total, list_at, push, without}
-use Rattle.thread_lists.specs.Ring.{IsLinked, IsPlace, Leads, Joined, Spells, alone, link_of, next_of, previous_of, spelled, start_of, threads_from}
+use Rattle.thread_lists.specs.Ring.{IsLinked, IsPlace, Leads, Joined, Spells, ring_of_one, link_of, next_of, previous_of, spelled, start_of, threads_from}
 use Rattle.thread_lists.proofs.CountLaws.{count-append, count-cons, count-same, count-here, count-other, count-closed, length-le, never, Split, found, split, total-append, total-le, total-one_more, total-push, total-set, total-two, without-split}
 use Rattle.thread_lists.proofs.RingLaws.{Leads-back, Leads-closed, Leads-append, Leads-front, Leads-kept, Leads-last, Leads-outside, Leads-push, Outside, Outside-head, Outside-thread, threads_from-Leads, Leads-next, start-head, start-thread}
 
@@ -37,7 +37,7 @@ pub spelled_is : (heads threads : List Link) (lists : List (List ℕ)) → Spell
 spelled_is heads threads lists s =
     ext_get_or [] (spelled heads threads) lists (length-map heads _ ∙ sym s.sizes) (λ k h.
     let inside : k < length heads = omega (arith, length-map heads (λ (head : Link). threads_from (next_of heads threads) (length threads) head.next)) in
-    get_or-map _ heads k (alone (Head k)) [] inside
+    get_or-map _ heads k (ring_of_one (Head k)) [] inside
     ∙ threads_from-Leads (next_of heads threads) (previous_of heads threads) (Head k) k (list_at lists k) (length threads) (s.rings k inside) (length_at heads threads lists s k inside))
 
 -- a place of one list's ring isn't in another's
@@ -124,12 +124,12 @@ module _ (h s h1 s1 h2 s2 : List Link) (lists : List (List ℕ)) (k t : ℕ) (sa
           | inr ne ↦ omega (arith, spells.once x, total-push x lists k (t ∷ []) in_lists, count-other x t [] (λ e. ne (sym e)))
         ];
         within = λ x le. omega (arith, spells.within x (omega arith), total-push x lists k (t ∷ []) in_lists, count-other x t [] (λ e. omega arith));
-        alone = λ x none_of.
+        outside = λ x none_of.
             let ne : x ≡ t → ⊥ = λ e. omega (arith, total-push t lists k (t ∷ []) in_lists, count-same t [], subst (λ y. total (count y) (push lists k (t ∷ [])) ≡ 0) e none_of) in
             let before : total (count x) lists ≡ 0 = omega (arith, total-push x lists k (t ∷ []) in_lists) in
             j2.other_next (Thread x) (λ e. ne cc)
             ∙ j1.other_next (Thread x) (not_in_ring k (list_at lists k) _ last x (omega (arith, total-le x lists k in_lists)))
-            ∙ spells.alone x before;
+            ∙ spells.outside x before;
         few = omega (arith, spells.few);
         few_lists = omega (arith, spells.few_lists);
       }
@@ -160,14 +160,14 @@ module _ (h s h1 s1 h2 s2 : List Link) (lists : List (List ℕ)) (k t : ℕ) (sa
             others j (omega arith);
         once = λ x. omega (arith, spells.once x, total_after x);
         within = λ x le. omega (arith, spells.within x (omega arith), total_after x);
-        alone = λ x none. elim (cases_eq x t) [
+        outside = λ x none. elim (cases_eq x t) [
           | inl e ↦ subst (λ y. next_of h2 s2 (Thread y) ≡ Thread y) (sym e) j2.next
           | inr ne ↦
               let before : total (count x) lists ≡ 0 = omega (arith, total-set (count x) lists k rest in_lists, ap (count x) cut.is, count-closed x t cut.before cut.after ne) in
               let nowhere : count x (list_at lists k) ≡ 0 = omega (arith, total-le x lists k in_lists) in
               j2.other_next (Thread x) (λ e. ne cc)
               ∙ j1.other_next (Thread x) (not_in_ring k (list_at lists k) _ first x nowhere)
-              ∙ spells.alone x before
+              ∙ spells.outside x before
         ];
         few = omega (arith, spells.few);
         few_lists = omega (arith, spells.few_lists);
@@ -289,7 +289,7 @@ is_linked_by_next heads threads lists s t next e =
           ap not (same.0 ∙ sym (eq-eqb (total (count t) lists) 0 (held_leads_on heads threads lists s t (e ∙ ap Thread same.1))))
       | inr differs ↦
           elim (eqb_tells (total (count t) lists) 0) [
-            | inl none ↦ let i : Thread next ≡ Thread t = sym e ∙ s.alone t none.1 in absurd (differs.1 cc)
+            | inl none ↦ let i : Thread next ≡ Thread t = sym e ∙ s.outside t none.1 in absurd (differs.1 cc)
             | inr some ↦ ap not (differs.0 ∙ sym some.0)
           ]
     ]
@@ -313,12 +313,12 @@ module _ (h s h1 s1 h2 s2 h3 s3 : List Link) (lists : List (List ℕ)) (from to 
             (λ i hi ni. rings-set-one i hi ni) j (omega arith);
         once = λ t. omega (arith, spells.once t, total-append t lists from to in_from in_to ne);
         within = λ t le. omega (arith, spells.within t (omega arith), total-append t lists from to in_from in_to ne);
-        alone = λ t none.
+        outside = λ t none.
             let before : total (count t) lists ≡ 0 = omega (arith, total-append t lists from to in_from in_to ne) in
             j3.other_next (Thread t) (λ e. cc)
             ∙ j2.other_next (Thread t) (not_in_ring from (list_at lists from) _ last t (omega (arith, total-le t lists from in_from)))
             ∙ j1.other_next (Thread t) (not_in_ring to (list_at lists to) _ end t (omega (arith, total-le t lists to in_to)))
-            ∙ spells.alone t before;
+            ∙ spells.outside t before;
         few = omega (arith, spells.few);
         few_lists = omega (arith, spells.few_lists);
       }
@@ -370,66 +370,66 @@ get_or-one_more [] d (suc j) = refl
 get_or-one_more (x ∷ xs) d zero = refl
 get_or-one_more (x ∷ xs) d (suc j) = get_or-one_more xs (λ i. d (suc i)) j
 
-link_of-list : (h s : List Link) (p : Place) → link_of (h ++ alone (Head (length h)) ∷ []) s p ≡ link_of h s p
-link_of-list h s (Head k) = get_or-one_more h (λ k. alone (Head k)) k
+link_of-list : (h s : List Link) (p : Place) → link_of (h ++ ring_of_one (Head (length h)) ∷ []) s p ≡ link_of h s p
+link_of-list h s (Head k) = get_or-one_more h (λ k. ring_of_one (Head k)) k
 link_of-list h s (Thread t) = refl
 
-link_of-thread : (h s : List Link) (p : Place) → link_of h (s ++ alone (Thread (length s)) ∷ []) p ≡ link_of h s p
+link_of-thread : (h s : List Link) (p : Place) → link_of h (s ++ ring_of_one (Thread (length s)) ∷ []) p ≡ link_of h s p
 link_of-thread h s (Head k) = refl
-link_of-thread h s (Thread t) = get_or-one_more s (λ t. alone (Thread t)) t
+link_of-thread h s (Thread t) = get_or-one_more s (λ t. ring_of_one (Thread t)) t
 
 pub Leads-same : (h s h' s' : List Link) → ((p : Place) → link_of h' s' p ≡ link_of h s p) → (a b : Place) (xs : List ℕ) → Leads (next_of h s) (previous_of h s) a xs b → Leads (next_of h' s') (previous_of h' s') a xs b
 Leads-same h s h' s' e a b xs r =
     Leads-kept (next_of h s) (previous_of h s) (next_of h' s') (previous_of h' s') a b xs r (ap (λ (l : Link). l.next) (e a)) (ap (λ (l : Link). l.previous) (e b)) (λ x c. ap (λ (l : Link). l.next) (e (Thread x))) (λ x c. ap (λ (l : Link). l.previous) (e (Thread x)))
 
-pub Spells-add_list : (h s : List Link) (lists : List (List ℕ)) → length h < 2 ^ 32 → Spells h s lists → Spells (h ++ alone (Head (length h)) ∷ []) s (lists ++ [] ∷ [])
+pub Spells-add_list : (h s : List Link) (lists : List (List ℕ)) → length h < 2 ^ 32 → Spells h s lists → Spells (h ++ ring_of_one (Head (length h)) ∷ []) s (lists ++ [] ∷ [])
 Spells-add_list h s lists fits spells =
     record {
-      sizes = omega (arith, spells.sizes, length-append lists ([] ∷ []), length-append h (alone (Head (length h)) ∷ []));
+      sizes = omega (arith, spells.sizes, length-append lists ([] ∷ []), length-append h (ring_of_one (Head (length h)) ∷ []));
       rings = λ j hj.
           elim (cases_lt j (length h)) [
             | inl l ↦
-                subst (λ ys. Leads (next_of (h ++ alone (Head (length h)) ∷ []) s) (previous_of (h ++ alone (Head (length h)) ∷ []) s) (Head j) ys (Head j)) (sym (get_or_append_left lists ([] ∷ []) [] j (omega (arith, spells.sizes))))
-                (Leads-same h s (h ++ alone (Head (length h)) ∷ []) s (link_of-list h s) (Head j) (Head j) (list_at lists j) (spells.rings j l))
+                subst (λ ys. Leads (next_of (h ++ ring_of_one (Head (length h)) ∷ []) s) (previous_of (h ++ ring_of_one (Head (length h)) ∷ []) s) (Head j) ys (Head j)) (sym (get_or_append_left lists ([] ∷ []) [] j (omega (arith, spells.sizes))))
+                (Leads-same h s (h ++ ring_of_one (Head (length h)) ∷ []) s (link_of-list h s) (Head j) (Head j) (list_at lists j) (spells.rings j l))
             | inr g ↦
-                let beyond : get_or h j (alone (Head j)) ≡ alone (Head j) = get_or-eq_default h (alone (Head j)) g in
-                let link : link_of (h ++ alone (Head (length h)) ∷ []) s (Head j) ≡ alone (Head j) = link_of-list h s (Head j) ∙ beyond in
-                let here : j ≡ length lists = omega (arith, spells.sizes, length-append h (alone (Head (length h)) ∷ [])) in
-                subst (λ ys. Leads (next_of (h ++ alone (Head (length h)) ∷ []) s) (previous_of (h ++ alone (Head (length h)) ∷ []) s) (Head j) ys (Head j))
+                let beyond : get_or h j (ring_of_one (Head j)) ≡ ring_of_one (Head j) = get_or-eq_default h (ring_of_one (Head j)) g in
+                let link : link_of (h ++ ring_of_one (Head (length h)) ∷ []) s (Head j) ≡ ring_of_one (Head j) = link_of-list h s (Head j) ∙ beyond in
+                let here : j ≡ length lists = omega (arith, spells.sizes, length-append h (ring_of_one (Head (length h)) ∷ [])) in
+                subst (λ ys. Leads (next_of (h ++ ring_of_one (Head (length h)) ∷ []) s) (previous_of (h ++ ring_of_one (Head (length h)) ∷ []) s) (Head j) ys (Head j))
                 (sym (ap (list_at (lists ++ [] ∷ [])) here ∙ get_or-append_seam lists [] [] []))
                 (ap (λ (l : Link). l.next) link, ap (λ (l : Link). l.previous) link)
           ];
       once = λ t. omega (arith, spells.once t, total-one_more t lists);
       within = λ t le. omega (arith, spells.within t le, total-one_more t lists);
-      alone = λ t none. ap (λ (l : Link). l.next) (link_of-list h s (Thread t)) ∙ spells.alone t (omega (arith, total-one_more t lists));
+      outside = λ t none. ap (λ (l : Link). l.next) (link_of-list h s (Thread t)) ∙ spells.outside t (omega (arith, total-one_more t lists));
       few = spells.few;
-      few_lists = omega (arith, length-append h (alone (Head (length h)) ∷ []));
+      few_lists = omega (arith, length-append h (ring_of_one (Head (length h)) ∷ []));
     }
 
-pub Spells-add_thread : (h s : List Link) (lists : List (List ℕ)) → length s + 1 < 2 ^ 32 → Spells h s lists → Spells h (s ++ alone (Thread (length s)) ∷ []) lists
+pub Spells-add_thread : (h s : List Link) (lists : List (List ℕ)) → length s + 1 < 2 ^ 32 → Spells h s lists → Spells h (s ++ ring_of_one (Thread (length s)) ∷ []) lists
 Spells-add_thread h s lists fits spells =
     record {
       sizes = spells.sizes;
-      rings = λ j hj. Leads-same h s h (s ++ alone (Thread (length s)) ∷ []) (link_of-thread h s) (Head j) (Head j) (list_at lists j) (spells.rings j hj);
+      rings = λ j hj. Leads-same h s h (s ++ ring_of_one (Thread (length s)) ∷ []) (link_of-thread h s) (Head j) (Head j) (list_at lists j) (spells.rings j hj);
       once = spells.once;
-      within = λ t le. spells.within t (omega (arith, length-append s (alone (Thread (length s)) ∷ [])));
-      alone = λ t none. ap (λ (l : Link). l.next) (link_of-thread h s (Thread t)) ∙ spells.alone t none;
-      few = omega (arith, length-append s (alone (Thread (length s)) ∷ []));
+      within = λ t le. spells.within t (omega (arith, length-append s (ring_of_one (Thread (length s)) ∷ [])));
+      outside = λ t none. ap (λ (l : Link). l.next) (link_of-thread h s (Thread t)) ∙ spells.outside t none;
+      few = omega (arith, length-append s (ring_of_one (Thread (length s)) ∷ []));
       few_lists = spells.few_lists;
     }
 
-pub added_list : (h s h' : List Link) (link : Link) (k : ℕ) (lists : List (List ℕ)) → h' ≡ h ++ link ∷ [] → link ≡ alone (Head k) → k ≡ length h → k < 2 ^ 32 → Spells h s lists → Spells h' s (lists ++ [] ∷ [])
+pub added_list : (h s h' : List Link) (link : Link) (k : ℕ) (lists : List (List ℕ)) → h' ≡ h ++ link ∷ [] → link ≡ ring_of_one (Head k) → k ≡ length h → k < 2 ^ 32 → Spells h s lists → Spells h' s (lists ++ [] ∷ [])
 added_list h s h' link k lists items is at fits spells =
-    subst (λ hs. Spells hs s (lists ++ [] ∷ [])) (sym (items ∙ ap (λ l. h ++ l ∷ []) (is ∙ ap (λ n. alone (Head n)) at))) (Spells-add_list h s lists (omega arith) spells)
+    subst (λ hs. Spells hs s (lists ++ [] ∷ [])) (sym (items ∙ ap (λ l. h ++ l ∷ []) (is ∙ ap (λ n. ring_of_one (Head n)) at))) (Spells-add_list h s lists (omega arith) spells)
 
-pub one_more_list : (h s h' : List Link) (link : Link) (k : ℕ) (lists : List (List ℕ)) (n m : ℕ) → h' ≡ h ++ link ∷ [] → link ≡ alone (Head k) → k ≡ length h → k < 2 ^ 32 → n + 1 ≡ m → Spells h s (lists ++ replicate n []) → Spells h' s (lists ++ replicate m [])
+pub one_more_list : (h s h' : List Link) (link : Link) (k : ℕ) (lists : List (List ℕ)) (n m : ℕ) → h' ≡ h ++ link ∷ [] → link ≡ ring_of_one (Head k) → k ≡ length h → k < 2 ^ 32 → n + 1 ≡ m → Spells h s (lists ++ replicate n []) → Spells h' s (lists ++ replicate m [])
 one_more_list h s h' link k lists n m items is at fits more spells =
     subst (Spells h' s) (append_assoc lists (replicate n []) ([] ∷ []) ∙ ap (λ ls. lists ++ ls) (replicate_more n [] ∙ ap (λ i. replicate i []) more))
     (added_list h s h' link k (lists ++ replicate n []) items is at fits spells)
 
-pub added_thread : (h s s' : List Link) (link : Link) (t : ℕ) (lists : List (List ℕ)) → s' ≡ s ++ link ∷ [] → link ≡ alone (Thread t) → t ≡ length s → t + 1 < 2 ^ 32 → Spells h s lists → Spells h s' lists
+pub added_thread : (h s s' : List Link) (link : Link) (t : ℕ) (lists : List (List ℕ)) → s' ≡ s ++ link ∷ [] → link ≡ ring_of_one (Thread t) → t ≡ length s → t + 1 < 2 ^ 32 → Spells h s lists → Spells h s' lists
 added_thread h s s' link t lists items is at fits spells =
-    subst (λ ss. Spells h ss lists) (sym (items ∙ ap (λ l. s ++ l ∷ []) (is ∙ ap (λ n. alone (Thread n)) at))) (Spells-add_thread h s lists (omega arith) spells)
+    subst (λ ss. Spells h ss lists) (sym (items ∙ ap (λ l. s ++ l ∷ []) (is ∙ ap (λ n. ring_of_one (Thread n)) at))) (Spells-add_thread h s lists (omega arith) spells)
 
 -- a place stays one while the links change
 pub IsPlace-same : (h s h' s' : List Link) (p : Place) → length h' ≡ length h → length s' ≡ length s → IsPlace h s p → IsPlace h' s' p

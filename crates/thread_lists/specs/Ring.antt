@@ -6,13 +6,13 @@ use Rattle.thread_lists.specs.declared.ring.Link.{Link}
 use Rattle.thread_lists.specs.Lists.{list_at, count, total}
 
 -- a ring of one place
-abbrev pub alone : Place → Link
-alone p = record { next = p; previous = p }
+abbrev pub ring_of_one : Place → Link
+ring_of_one p = record { next = p; previous = p }
 
 -- the neighbours of a place
 abbrev pub link_of : List Link → List Link → Place → Link
-link_of heads threads (Head k) = slice_index_or heads k (alone (Head k))
-link_of heads threads (Thread t) = slice_index_or threads t (alone (Thread t))
+link_of heads threads (Head k) = slice_index_or heads k (ring_of_one (Head k))
+link_of heads threads (Thread t) = slice_index_or threads t (ring_of_one (Thread t))
 
 abbrev pub next_of : List Link → List Link → Place → Place
 next_of heads threads p = (link_of heads threads p).next
@@ -72,7 +72,7 @@ pub record Spells (heads threads : List Link) (lists : List (List ℕ)) : Type 0
   pub rings : (k : ℕ) → k < length heads → Leads (next_of heads threads) (previous_of heads threads) (Head k) (list_at lists k) (Head k)
   pub once : (t : ℕ) → total (count t) lists ≤ 1
   pub within : (t : ℕ) → length threads ≤ t → total (count t) lists ≡ 0
-  pub alone : (t : ℕ) → total (count t) lists ≡ 0 → next_of heads threads (Thread t) ≡ Thread t
+  pub outside : (t : ℕ) → total (count t) lists ≡ 0 → next_of heads threads (Thread t) ≡ Thread t
   pub few : length threads < 2 ^ 32
   pub few_lists : length heads ≤ 2 ^ 32
 

@@ -1,3 +1,5 @@
+//! Lists of threads, as a value that its callers hold.
+
 ghost use Rattle.std.specs.Prelude.{◌≡◌, ◌≢◌, ◌+◌, ◌^◌, ◌<◌, ◌≤◌, ◌==◌, ℕ, [], ◌∷◌, ◌++◌, length, max, not, replicate, slice_get, IfOk, OnOk, OnErr};
 ghost use Rattle.thread_lists.specs.Lists.{append, count, drop_first, first, leave, list_at, push, total};
 
@@ -10,7 +12,7 @@ use std::marker::Model;
 
 /// Lists of threads by number. A thread is in at most one list. Each call but `get`, `len` and `to_vec` takes the same time however
 /// long the lists are, and none but `add_lists`, `add_thread` and `room` takes memory.
-#[derive(Debug, Drop)]
+#[derive(Drop)]
 pub struct ThreadLists {
     heads: Vec<Link>,
     threads: Vec<Link>,
@@ -61,7 +63,7 @@ impl ThreadLists {
             Ok(thread) if thread < u32::MAX => thread,
             _ => return Err(NoMemory),
         };
-        self.threads.push(Link::alone(Place::Thread(thread)))?;
+        self.threads.push(Link::ring_of_one(Place::Thread(thread)))?;
         Ok(thread)
     }
 

@@ -1,3 +1,5 @@
+//! Rings of linked places, one for each list: a head and the threads of the list.
+
 ghost use Rattle.std.specs.Prelude.{◌≡◌, ◌≢◌, ◌<◌, ◌==◌, ℕ, List, [], ◌∷◌, ◌++◌, length, not, replicate, slice_get, slice_set, IfOk, OnErr, OnOk};
 ghost use Rattle.thread_lists.specs.declared.ring.Link.{Link};
 ghost use Rattle.thread_lists.specs.Lists.{append, count, leave, list_at, push, total};
@@ -10,14 +12,14 @@ use std::alloc::{AllocError, Global};
 const MOST_LISTS: usize = 1 << 32;
 
 /// A place of a ring. After a head comes the first thread of its list, and before it the last.
-#[derive(Clone, Copy, Debug)]
+#[derive(Clone, Copy)]
 pub enum Place {
     Head(u32),
     Thread(u32),
 }
 
 /// The neighbours of a place. Those of a thread that is in no list are the thread itself.
-#[derive(Clone, Copy, Debug)]
+#[derive(Clone, Copy)]
 pub struct Link {
     pub next: Place,
     pub previous: Place,
@@ -25,7 +27,7 @@ pub struct Link {
 
 impl Link {
     /// A ring of one place.
-    pub fn alone(place: Place) -> Self
+    pub fn ring_of_one(place: Place) -> Self
         ensures { result ≡ record { next = place; previous = place } }
     {
         Link {
@@ -91,7 +93,7 @@ pub fn add_heads(heads: &mut Vec<Link>, count: u32) -> Result<(), NoMemory>
     }
     heads.reserve(count as usize)?;
     for list in first..first + count as usize {
-        heads.push_reserved(Link::alone(Place::Head(list as u32)));
+        heads.push_reserved(Link::ring_of_one(Place::Head(list as u32)));
     }
     Ok(())
 }

@@ -12,7 +12,7 @@ loop-list-preserved c =
     record {
       len = omega (arith, c.push_reserved.ensures.len, c.loop-list.invariant.len);
       room = omega (arith, c.push_reserved.ensures.capacity, c.loop-list.invariant.room);
-      spells = λ threads lists s. one_more_list h threads c.push_reserved.new.self.items c.alone.result c.loop-list.list lists _ _ c.push_reserved.ensures.items c.alone.ensures at fits more (c.loop-list.invariant.spells threads lists s);
+      spells = λ threads lists s. one_more_list h threads c.push_reserved.new.self.items c.ring_of_one.result c.loop-list.list lists _ _ c.push_reserved.ensures.items c.ring_of_one.ensures at fits more (c.loop-list.invariant.spells threads lists s);
     }
 
 pub returns-clause-ok : goal.returns-clause-ok
