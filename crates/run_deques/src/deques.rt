@@ -1,3 +1,5 @@
+//! The deques of the carriers, and what a carrier takes next.
+
 ghost use Rattle.std.specs.Prelude.{◌≡◌, ◌↔◌, ◌<◌, ◌≤◌, ◌==◌, ℕ, [], ◌∷◌, All, drop, length, max, not, replicate, take, IfOk, IsNone, OnOk};
 ghost use Rattle.thread_lists.specs.Lists.{count, push, total};
 ghost use Rattle.run_deques.specs.Take.{after_take, front, next};
@@ -8,7 +10,7 @@ use std::marker::Model;
 use thread_lists::ThreadLists;
 
 /// One deque of threads for each carrier. A thread is in at most one deque, once.
-#[derive(Debug, Drop)]
+#[derive(Drop)]
 pub struct Deques {
     carriers: u32,
     lists: ThreadLists,
