@@ -38,7 +38,7 @@ objects_twice xs ys a b c h e =
     let sum : h.used + a + b ≡ h.used + c = omega arith in
     λ i. record { objects = append_assoc h.objects xs ys i; cells = h.cells; used = sum i }
 
--- ---- the arrays below an outer one, so many of them
+-- ---- the arrays below an outer one
 
 pub record AreSomeMade (w : World) (below : List ℕ) (inner number count : ℕ) (base new : Heap) : Type 0 where
   pub objects : List Object

@@ -9,7 +9,7 @@ use Rattle.state_model.specs.Objects.{Object, instance}
 use Rattle.heap_objs.specs.Heap.{Heap}
 use Rattle.ref_model.specs.Arrays.{array_count, arrays_from, cells_of_lengths, ints_popped}
 
--- so many ints on top, the lowest first
+-- the ints on top, the lowest first
 abbrev pub AreInts : ℕ → List ℤ → List Slot → Type 0
 AreInts count ns stack = ints_popped count stack ≡ Some (ns, drop count stack)
 
@@ -18,11 +18,11 @@ abbrev pub IsCounted : Option ℕ → ℕ → Type 0
 IsCounted (Some n) number = n ≡ number
 IsCounted None number = 4294967295 < number
 
--- references to so many objects, of which each comes so many numbers after the one before it
+-- references to objects whose numbers are evenly spaced
 abbrev pub references : ℕ → ℕ → ℕ → List Value
 references first step n = map (λ index. values.Ref (first + index * step)) (range_with_len 0 n)
 
--- the heap with more objects, which use so many cells
+-- the heap with more objects, which use this number of cells
 abbrev pub with_objects : List Object → ℕ → Heap → Heap
 with_objects objects cells h = record h { objects = h.objects ++ objects; used = h.used + cells }
 

@@ -34,7 +34,7 @@ KeptUnlessDone (outcomes.Throws e) old new = new ≡ old
 KeptUnlessDone (outcomes.ThrowsObject o) old new = new ≡ old
 KeptUnlessDone outcomes.Undefined old new = new ≡ old
 
--- Whichever effect gives this value in place of so many operands, and leaves this state, the outcome is that of it.
+-- The outcome is that of each effect that replaces the topmost operands by this value and leaves this state.
 abbrev pub IsGiven : ℕ → Value → Continuation → Continuation → Outcome → Type 0
 IsGiven count v old new outcome = (q : State) (effect : Option Effect) → effect ≡ Some (gives q v (drop count (operands old))) →
     IsEffect outcome effect q (operands new)

@@ -53,7 +53,7 @@ pub(crate) fn magnitudes(alloc: Global, ints: &[i32]) -> Result<Items<u32>, NoMe
     Ok(lengths)
 }
 
-// The cells of an array of so many elements, below each of which are so many.
+// The cells that an array uses, with those of the arrays below each of its elements.
 fn cells_over(n: u32, below: Option<u32>) -> Option<u32>
     ensures { (cells : ℕ) → IsCounted below cells → IsCounted result (1 + n + n * cells) }
 {
@@ -95,14 +95,14 @@ fn count_of(lengths: &[u32]) -> Option<u32>
     }
 }
 
-// The number that comes so many steps after another.
+// The number a number of steps after another.
 fn number_behind(first: u32, step: u32, index: u32) -> Option<u32>
     ensures { IfSome result (λ o. o ≡ first + index * step) }
 {
     first.checked_add(index.checked_mul(step)?)
 }
 
-// References to so many objects, of which each comes so many numbers after the one before it.
+// References to objects whose numbers are evenly spaced.
 #[tactic(auto, using(crate::proofs::ArrayMakingLaws::references_more))]
 fn references_to(alloc: Global, first: u32, step: u32, n: u32) -> Result<Items<Value>, NoMemory>
     ensures { IfOk result (λ values. values ≡ references first step n) }

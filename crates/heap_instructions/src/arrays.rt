@@ -53,7 +53,7 @@ pub fn array_length<W: EventWorld>(world: &W, heap: &Heap, mounted: &mut Mounted
     }
 }
 
-// The place that an index names in an array of so many elements.
+// The place that an index names in an array of this length.
 #[inline(always)]
 fn place_in(index: i32, len: u32) -> Option<u32>
     ensures place { (a : Array) → length a.values ≡ len → spec.place_in index a ≡ result }

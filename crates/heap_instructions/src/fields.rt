@@ -114,7 +114,7 @@ pub fn put_static<W: EventWorld>(
     Outcome::Done
 }
 
-/// What is thrown where an object isn't an instance of the class that an instruction names (own).
+/// What is thrown where an object isn't an instance of the class that an instruction names.
 #[inline(never)]
 pub fn late_failure<W: EventWorld>(world: &W, class: u32) -> Exception
     ensures { result ≡ effects.late_failure (W.world world.now) class }

@@ -23,7 +23,7 @@ pub fn make_object(heap: &mut Heap, class: u32, values: &[Value]) -> Result<Opti
     }
 }
 
-/// An array of so many elements of one value: its number. `None`: it has no room in the heap.
+/// Makes an array whose elements all have one value, and returns its number. `None`: the heap has no room for it.
 pub fn make_array(
     heap: &mut Heap,
     class: u32,

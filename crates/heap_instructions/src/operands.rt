@@ -107,7 +107,7 @@ pub fn value_operand(mounted: &Mounted, kind: ValueKind, depth: u16) -> Value
     }
 }
 
-/// Drops so many operands.
+/// Drops the topmost operands.
 #[inline(always)]
 pub fn drop_operands(mounted: &mut Mounted, count: u16)
     requires { count ≤ length (operands mounted.old) }
@@ -143,7 +143,7 @@ pub fn slots_of(value: Value) -> u16
     }
 }
 
-/// Drops so many operands and pushes a value in their place. Where the value has no room, it is undefined, and nothing changes.
+/// Replaces the topmost operands by a value. Undefined if the value has no room; then nothing changes.
 #[inline(always)]
 pub fn give(mounted: &mut Mounted, count: u16, value: Value) -> Outcome
     requires top { HasTop mounted.old }

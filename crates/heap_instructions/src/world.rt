@@ -1,3 +1,5 @@
+//! What the instructions on fields, arrays and objects ask of a linked world.
+
 ghost use Rattle.std.specs.Prelude.{◌≡◌, codes, slice_get};
 ghost use Rattle.std.specs.Option.{option_copied};
 ghost use Rattle.link_rules.specs.Program as program;

@@ -71,7 +71,7 @@ trace_entries bytes xs es rest are e takes = lines_same xs es rest (last_line (l
 pub no_first_line : (text : List ℕ) → first_line_at text ≡ None → NoFirstLine text
 no_first_line text e = record { none = λ c rest small is. let here : first_line_at text ≡ Some (c, rest) = ap first_line_at is ∙ first_line_again c rest small in absurd cc }
 
--- a text begins with a first line and so many entries
+-- a text begins with a first line and a number of entries
 pub record Begins (text : List ℕ) (carriers count : ℕ) (entries : List Entry) (rest : List ℕ) : Type 0 where
   pub lines : List ℕ
   pub first : first_line_at text ≡ Some (carriers, lines)

@@ -1,4 +1,4 @@
--- The text of a history (own): a line that names the number of carriers, a line for each entry, and a line with the number of
+-- The text of a history: a line that names the number of carriers, a line for each entry, and a line with the number of
 -- entries. Each line ends with a line feed, and numbers are in decimal without leading zeros.
 use Rattle.std.specs.Prelude.{ℕ, ◌^◌, ◌<◌, List, ◌++◌, length, Option, Some, None, codes, decimal}
 use Rattle.std.specs.List.{flat_map, AllByRecursion}
@@ -40,7 +40,7 @@ first_line carriers = codes "jvt-trace carriers" ++ (field carriers ++ newline)
 abbrev pub last_line : ℕ → List ℕ
 last_line count = codes "end" ++ (field count ++ newline)
 
--- the text of a history of so many carriers
+-- the text of a history with its number of carriers
 abbrev pub trace_text : ℕ → List Entry → List ℕ
 trace_text carriers entries = first_line carriers ++ (flat_map line entries ++ last_line (length entries))
 

@@ -12,7 +12,7 @@ pub enum What {
     Mount(u32),
     /// The carrier put this thread down.
     Unmount(u32),
-    /// This thread did so many steps, at least one. The last of them may have picked a thread.
+    /// The thread did `steps` steps, at least one. The last of them may have picked a thread.
     Step {
         thread: u32,
         steps: u32,

@@ -1,3 +1,5 @@
+//! What is wrong with the text of a history.
+
 ghost use Rattle.std.specs.Prelude.{◌≡◌};
 ghost use Rattle.history.specs.declared.error.TraceError.TheVariants as errors;
 

@@ -1,3 +1,5 @@
+//! The entries of a history that change the state of the Java program.
+
 ghost use Rattle.std.specs.Prelude.{◌≡◌, IfOk};
 ghost use Rattle.history.specs.Java.{is_java, java as java_of};
 
@@ -5,7 +7,7 @@ use crate::entry::{Entry, What};
 use items::NoMemory;
 use std::alloc::Global;
 
-/// The entries that change the state of the Java program: steps and times (own).
+/// The entries that change the state of the Java program: steps and times.
 pub fn java(alloc: Global, history: &[Entry]) -> Result<Vec<Entry>, NoMemory>
     ensures { IfOk result (λ v. v.items ≡ java_of history.now) }
 {

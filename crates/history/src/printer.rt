@@ -1,3 +1,5 @@
+//! The text of a history.
+
 ghost use Rattle.std.specs.Prelude.{◌≡◌, ◌++◌, ◌<◌, length, codes, IfOk, OnOk};
 ghost use Rattle.std.specs.List.{flat_map};
 ghost use Rattle.history.specs.TraceText.{field, pick_field, fields, line, trace_text, newline};
@@ -7,7 +9,7 @@ use items::NoMemory;
 use itoa::{Buffer, Integer};
 use std::alloc::{AllocError, Global};
 
-/// The text of a history of so many carriers (own).
+/// The text of a history with its number of carriers.
 pub fn print(alloc: Global, carriers: u32, history: &[Entry]) -> Result<Vec<u8>, NoMemory>
     ensures { IfOk result (λ v. v.items ≡ trace_text carriers history.now) }
 {

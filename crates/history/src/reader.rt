@@ -1,3 +1,5 @@
+//! Reads a history from its text.
+
 ghost use Rattle.std.specs.Prelude.{◌≡◌, ◌<◌, ◌^◌, List, ℕ, length, IfOk, Err};
 ghost use Rattle.items.specs.Memory.{OkUnless};
 ghost use Rattle.history.specs.declared.entry.Entry.{Entry as OneEntry};
@@ -11,7 +13,7 @@ use crate::error::TraceError;
 use crate::line_parser::{entry_at, first_line_at, last_line_at};
 use std::alloc::{AllocError, Global};
 
-/// The number of carriers and the history whose text this is (own).
+/// The number of carriers and the history whose text this is.
 pub fn read(alloc: Global, text: &[u8]) -> Result<(u32, Vec<Entry>), TraceError>
     requires { length text.now < 2 ^ 32 }
     // The text is that of what it returns.

@@ -66,7 +66,7 @@ turned a b = omega arith
 one_behind : (n : ℕ) → n + 1 ≡ 1 + n
 one_behind n = omega arith
 
--- so many more were made
+-- more of them were made
 pub ran_more : (w : World) (a b : ℕ) (first mid last : List Frame) → rows w a first ≡ Some mid → rows w b mid ≡ Some last → rows w (a + b) first ≡ Some last
 ran_more w a b first mid last made more = rows_join w a b (a + b) first mid last (turned a b) made more
 

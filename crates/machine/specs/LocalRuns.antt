@@ -13,7 +13,7 @@ abbrev pub returned_kind : Row → Option (Option ValueKind)
 returned_kind (returns kind) = Some kind
 returned_kind r = None
 
--- A run of local instructions ends with these frames: the next instruction isn't local, or it is an invokestatic. (own)
+-- A run of local instructions ends with these frames: the next instruction isn't local, or it is an invokestatic.
 abbrev pub ends_run : World → List Frame → Bool
 ends_run w frames = not (is_some (row w frames)) || stands_at_static_call w frames
 

@@ -34,7 +34,7 @@ at_first p = record { setting = p; history = []; spare = 0; given_up = false }
 abbrev pub state_after : Known → Option State
 state_after m = run m.setting (java m.history)
 
--- How a run with so many entries has ended: as the program did; or the program goes on, and fewer entries than one more step needs are left.
+-- How a run with this number of entries has ended: as the program did; or at the limit, if fewer entries are left than one more step needs.
 abbrev pub ending_within : Limits → ℕ → Option Ending → Option Ending
 ending_within limits entries (Some e) = Some e
 ending_within limits entries None =

@@ -14,7 +14,7 @@ use Rattle.ref_model.specs.Step.{root_left}
 use Rattle.machine.specs.declared.parts.Parts.{Parts}
 use Rattle.machine.specs.States.{state_of, IsRunStep}
 
--- the status of a thread that has so many frames left
+-- the status of a thread that has this number of frames left
 abbrev pub status_left : ℕ → Status → Status
 status_left zero status = Done
 status_left (suc n) status = status

@@ -25,11 +25,11 @@ IsMainStep what = ⊥
 abbrev pub IsMainEntry : Entry → Type 0
 IsMainEntry e = (e.carrier ≡ 0) × IsMainStep e.what
 
--- so many local instructions of the main thread, and one more step
+-- a run of local instructions of the main thread, and one more step
 abbrev pub main_entry : ℕ → Entry
 main_entry n = record { carrier = 0; what = Step 0 (suc n) None }
 
--- how many more entries than it has a history has to have room for, where one more is made (own)
+-- the number of further entries that the limit must allow before one more is made
 abbrev pub entries_left : ℕ
 entries_left = 3
 
@@ -39,11 +39,11 @@ IsTold p entries (Some e) told = told ≡ e
 IsTold p entries None told = (told ≡ Limit Events p.limits.events) × (p.limits.events < entries + entries_left)
 
 -- In each entry of the history all steps but the last are local instructions; the last is none, or it is an invokestatic, or the step after
--- 10,000 local instructions. (own)
+-- 10,000 local instructions.
 abbrev pub AreGrouped : Setting → List Entry → Type 0
 AreGrouped p history = (r : State) → opening p ≡ Some r → are_grouped_from p history (first_outcome r) ≡ true
 
--- A program that ends in so many steps of the main thread alone, and whose history surely has room for them, has ended in that state: an
+-- A program that ends in a number of steps of the main thread alone, which the limit of events allows, has ended in that state: an
 -- entry has one step at least, and a step of a thread that is mounted and unmounted again takes three entries.
 abbrev pub IsComplete : Setting → State → Type 0
 IsComplete p last = (n : ℕ) (q : State) (e : Ending) → alone p n ≡ Some q → ending q ≡ Some e → 3 * n + 3 ≤ p.limits.events → last ≡ q

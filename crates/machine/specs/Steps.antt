@@ -12,7 +12,7 @@ use Rattle.history.specs.declared.entry.Entry.{Entry}
 use Rattle.machine.specs.Runs.{main_entry}
 use Rattle.machine.specs.States.{IsStep}
 
--- A thread whose frames are those of the state after so many local instructions, which the history doesn't have yet. (own)
+-- The frames of a thread after local instructions that the history doesn't have yet.
 -- One that isn't in phase Run has made none.
 pub record IsAhead (w : World) (r : State) (t n : ℕ) (frames : List Frame) : Type 0 where
   pub thread : JavaThread
@@ -25,7 +25,7 @@ pub record IsKept (w : World) (r q : State) : Type 0 where
   pub step : IsStep w r q
   pub typed : IsTypedState w q
 
--- so many local instructions, and one more step, which an entry may end with
+-- a number of local instructions, and one more step, with which an entry may end
 pub record Advances (w : World) (n : ℕ) (r q : State) : Type 0 where
   pub frames : List Frame
   pub ahead : IsAhead w r 0 n frames

@@ -73,7 +73,8 @@ fn throwing_entry(
     Ok(0)
 }
 
-// The steps of the main thread's next entry: the answer is how many local instructions come before its last step. The gate is passed before them.
+// Makes the steps of the main thread's next entry, and returns how many local instructions come before the last one. The gate is passed
+// before them.
 #[inline(always)]
 fn advance<G: Gate>(
     alloc: Global,
@@ -103,7 +104,7 @@ fn advance<G: Gate>(
     }
 }
 
-// An entry of carrier 0: so many local instructions of thread 0, and one more step.
+// An entry of carrier 0: a run of local instructions of thread 0, and one more step.
 #[inline(always)]
 fn entry(local: u32) -> Entry
     requires { local ≤ 10000 }

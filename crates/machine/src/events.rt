@@ -105,8 +105,8 @@ fn other_step<W: MachineWorld>(
     conclude(world, parts, mounted, instr.next, outcome)
 }
 
-/// The step of a thread whose top frame is at such an instruction. Those on fields, and those without operands in the code, have functions of
-/// their own, since they are short and come often.
+/// The step of a thread whose top frame is at such an instruction. Instructions on fields and those without operands in the code have
+/// functions of their own, since they are short and frequent.
 #[inline(always)]
 pub(crate) fn event_step<W: MachineWorld>(
     alloc: Global,

@@ -57,7 +57,7 @@ pub(crate) fn return_at(op: &Op) -> Option<Return>
     }
 }
 
-// Executes the instructions that stay in the top frame, at most so many.
+// Executes instructions that stay in the top frame, at most `most`.
 #[inline(always)]
 fn run_top<'a>(program: &'a ReadyProgram, mounted: &mut Mounted, most: u32) -> TopRun<'a>
     requires { Typed program.now mounted.old.stack.frames }
@@ -72,8 +72,8 @@ fn run_top<'a>(program: &'a ReadyProgram, mounted: &mut Mounted, most: u32) -> T
     run_and_fetch(program.prepared(), mounted, most)
 }
 
-// Goes back to the caller, where the instruction of the top frame, which doesn't stay in it, is a return that isn't from a root frame: whether
-// it does. A return that the definitions don't have counts as memory run out.
+// Returns to the caller if the top frame is at a return that isn't from a root frame; false if it isn't. A return that the definitions
+// don't have counts as memory run out.
 #[inline(always)]
 fn go_back(
     program: &ReadyProgram,
@@ -154,8 +154,8 @@ fn go_over(
     go_back(program, mounted, fetched)
 }
 
-/// Makes the local instructions of a thread, in its top frame, in the frames to which it returns and in those of methods that invokestatic begins,
-/// until one isn't local, or 10,001 were made.
+/// Executes the local instructions of a thread, in its top frame, in the frames to which it returns and in those that invokestatic begins,
+/// until one isn't local or 10,001 were executed.
 #[inline(always)]
 pub(crate) fn run_local<'a>(
     program: &'a ReadyProgram,

@@ -31,8 +31,8 @@ use std::marker::Model;
 use step_soundness::linked_worlds_open;
 use vthread_state::{Phase, Status};
 
-/// A program that runs, as thread 0 on carrier 0, with the history of its run. Contracts see what it was given and the history; that its heap,
-/// its static fields, its thread and its output are those that the history gives is kept by the type.
+/// A program that runs, as thread 0 on carrier 0, with the history of its run. Contracts see what it was given and the history. The type's
+/// invariant says that its heap, its static fields, its thread and its output are those that the history gives.
 #[derive(Drop)]
 pub struct Machine<'p> {
     program: &'p ReadyProgram,
@@ -91,7 +91,7 @@ fn first_parts(alloc: Global, heap: Heap, statics: Vec<Value>) -> Parts
     }
 }
 
-// That a run with so many entries has reached the limit of events, if it has.
+// Whether a run with this number of entries has reached the limit of events.
 #[inline(always)]
 fn limit_within(limits: Limits, entries: usize) -> Option<Ending>
     ensures { result ≡ ending_within limits entries None }
@@ -103,7 +103,7 @@ fn limit_within(limits: Limits, entries: usize) -> Option<Ending>
     }
 }
 
-// How a run with so many entries has ended, if it has.
+// How a run with this number of entries has ended, if it has.
 #[inline(always)]
 fn ended_within(parts: &Parts, limits: Limits, entries: usize) -> Option<Ending>
     ensures { (frames : List Frame) → result
@@ -116,8 +116,7 @@ fn ended_within(parts: &Parts, limits: Limits, entries: usize) -> Option<Ending>
 }
 
 impl<'p> Machine<'p> {
-    /// The state in which a program begins whose main method has this number, with an empty history. A program that can't begin counts as memory
-    /// run out.
+    /// Begins a program whose main method has this number, with an empty history. A program that can't begin counts as memory run out.
     pub fn begin(
         alloc: Global,
         program: &'p ReadyProgram,
@@ -175,7 +174,7 @@ impl<'p> Machine<'p> {
         self.given_up
     }
 
-    /// Room for so many more entries, whose place in the history then needs no memory. Nothing else changes.
+    /// Makes room in the history for this many more entries, which then need no memory there. Nothing else changes.
     pub fn room(&mut self, entries: u32) -> Result<(), NoMemory>
         ensures ok { OnOk result (entries ≤ self.new.spare) }
         ensures spare { self.old.spare ≤ self.new.spare }
@@ -210,8 +209,8 @@ impl<'p> Machine<'p> {
         self.parts.natives.err.split_at(n).1
     }
 
-    /// Makes the next entry of the history: a run of local instructions, before which the gate is passed, and one more step. Where memory runs
-    /// out the machine gives up, with the history as it was.
+    /// Makes the next entry of the history: a run of local instructions, before which the gate is passed, and one more step. If memory runs
+    /// out, the machine gives up and the history stays as it was.
     #[inline(always)]
     pub fn advance<G: Gate>(&mut self, alloc: Global, gate: &G) -> Result<(), NoMemory>
         requires works { self.old.given_up ≡ false }

@@ -49,7 +49,7 @@ fn run_ready<G: Gate>(
     Ok(machine.execution(ending))
 }
 
-/// Runs the main method with this number to the program's end, as thread 0 on carrier 0, or until the history may have no more entries. Each
+/// Runs the main method with this number, as thread 0 on carrier 0, until the program ends or the history may have no more entries. Each
 /// entry is a run of local instructions, before which the gate is passed, and one more instruction.
 pub fn run<G: Gate>(
     alloc: Global,

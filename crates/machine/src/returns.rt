@@ -14,14 +14,14 @@ use items::NoMemory;
 use opcodes::ValueKind;
 use vthread_state::Status;
 
-// The status of a thread with so many frames, which is done when it has none.
+// The status of a thread with this many frames left; it is done when it has none.
 fn status_over(depth: u32, status: Status) -> Status
     ensures { result ≡ status_left depth status }
 {
     if depth == 0 { Status::Done } else { status }
 }
 
-// Leaves a root frame: with the bottom frame the thread is done, and below the frame of a class initializer the next one begins (own).
+// Leaves a root frame: with the bottom frame the thread is done, and below the frame of a class initializer the next one begins.
 fn leave_root(parts: &mut Parts, mounted: &mut Mounted)
     requires { 0 < length mounted.old.stack.frames }
     ensures { LeavesRoot parts.old mounted.old.stack.frames parts.new mounted.new.stack.frames }

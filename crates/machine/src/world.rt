@@ -1,3 +1,5 @@
+//! What the machine asks of a linked world.
+
 ghost use Rattle.std.specs.Prelude.{◌≡◌, IfOk};
 ghost use Rattle.link_model.specs.World as spec;
 ghost use Rattle.ref_model.specs.Classes as classes;

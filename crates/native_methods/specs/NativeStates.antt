@@ -62,12 +62,12 @@ IsAnswerEffect (answers.Gives v) effect q rest = effect ≡ Some (gives q v rest
 IsAnswerEffect (answers.Throws e) effect q rest = effect ≡ Some (throws e)
 IsAnswerEffect answers.Undefined effect q rest = Unit {0}
 
--- With its arguments topmost on an operand stack, a native method answered this, and the answer takes the place of so many slots.
+-- With its arguments on top of the operand stack, a native method answered this; the answer replaces this number of slots.
 abbrev pub AnswersOn : World → Native → List Slot → ℕ → NativeState → NativeState → Answer → Type 0
 AnswersOn w n stack count old new answer = (r : State) →
     IsAnswerEffect answer (native_effect w n (with_natives old r) stack) (with_natives new r) (drop count stack)
 
--- Whichever effect an answer is of that takes the place of so many operands, the outcome is of that effect.
+-- The outcome is that of each effect of the answer, which replaces this number of operands.
 abbrev pub IsAnswered : ℕ → Answer → Continuation → Continuation → Outcome → Type 0
 IsAnswered count answer old new outcome = (q : State) (effect : Option Effect) →
     IsAnswerEffect answer effect q (drop count (operands old)) → IsEffect outcome effect q (operands new)

@@ -1,4 +1,4 @@
-//! The native methods of java.lang.StringBuilder. A builder has one field, the String of its text so far. (own)
+//! The native methods of java.lang.StringBuilder. A builder has one field, the String of its text so far.
 
 ghost use Rattle.std.specs.Prelude.{◌≡◌, Some, IfOk};
 ghost use Rattle.std.specs.Option.{option_copied};

@@ -55,7 +55,7 @@ fn number_as_int(o: u32) -> i32
     o.cast_signed()
 }
 
-/// hashCode(): the number of the object (own).
+/// hashCode(): the number of the object.
 pub(crate) fn identity_hash(state: &NativeState, this: Option<u32>) -> Answer
     ensures { Answers (λ r. Some (spec.identity_hash r this)) state.now state.now result }
 {

@@ -1,4 +1,4 @@
-//! The numbers of array classes by their types (own).
+//! The numbers of array classes by their types.
 
 ghost use Rattle.std.specs.Prelude.{◌≡◌, ◌+◌, ◌∷◌, ◌++◌, [], map, position, IfOk, OnOk};
 ghost use Rattle.ref_model.specs.Classes as classes;
@@ -40,7 +40,7 @@ fn same_type(a: ArrayType, b: ArrayType) -> bool
     a.dimensions == b.dimensions && same_base(a.base, b.base)
 }
 
-// The number at a place after so many.
+// The number of a place, counted from a first number.
 fn behind(count: u32, place: usize) -> Result<u32, NoMemory>
     ensures { IfOk result (λ n. n ≡ count + place) }
 {

@@ -1,5 +1,5 @@
 //! A program that is ready to run: a checked world with tables for what the machine asks of it at each step, so that each answer takes
-//! constant time. The answers are the definitions of `world_model` and `ref_model`.
+//! constant time. The answers are the definitions of `link_model` and `ref_model`.
 #![tactic(auto)]
 
 mod array_classes;

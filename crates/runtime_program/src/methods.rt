@@ -137,7 +137,7 @@ fn is_native_class(tables: &Tables, class: u32) -> bool
     }
 }
 
-/// Whether a method is jvt.Native.hold, whose frame pins its thread (own).
+/// Whether a method is jvt.Native.hold, whose frame pins its thread.
 pub(crate) fn is_hold(tables: &Tables, method: &MethodInfo) -> bool
     ensures { result ≡ spec.is_hold tables.now method.now }
 {

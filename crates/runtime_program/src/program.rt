@@ -1,3 +1,5 @@
+//! A program that is ready to run, and its look-ups.
+
 ghost use Rattle.std.specs.Prelude.{◌≡◌, false, codes, slice_get, IfOk, IfSome};
 ghost use Rattle.std.specs.Option.{option_copied, option_map, option_map_or};
 ghost use Rattle.link_rules.specs.Program.{is_interface as is_interface_of};
@@ -167,7 +169,7 @@ impl ReadyProgram {
         is_synchronized(method)
     }
 
-    /// Whether a method is jvt.Native.hold, whose frame pins its thread (own). This compares the names of a class and of the method.
+    /// Whether a method is jvt.Native.hold, whose frame pins its thread. This compares the names of a class and of the method.
     pub fn is_hold(&self, method: &MethodInfo) -> bool
         ensures { result ≡ members.is_hold self.now method.now }
     {

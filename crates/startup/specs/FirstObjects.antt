@@ -32,7 +32,7 @@ machine_objects w l =
 abbrev pub first_objects : World → Library → List Object
 first_objects w l = machine_objects w l ++ map text (strings_of w.program) ++ instance l.words [] ∷ []
 
--- a heap of these objects, which use none of so many cells
+-- a heap of these objects, which use none of its cells
 abbrev pub heap_of : ℕ → List Object → Heap
 heap_of cells objects = record { objects = objects; cells = cells; used = 0 }
 

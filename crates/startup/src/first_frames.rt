@@ -1,4 +1,4 @@
-//! The frames with which a program begins: main's, and above it those of the class initializers, the first to run on top (own).
+//! The frames with which a program begins: main's, and above it those of the class initializers, the first to run on top.
 
 ghost use Rattle.std.specs.Prelude.{◌≡◌, [], Some, IfOk, OnOk};
 ghost use Rattle.ref_model.specs.Opening as spec;

@@ -1,5 +1,5 @@
-//! The state in which a program begins (JVMS 5.2, 5.5, 2.9.2): its first objects, its static fields, and the frames of main and of the class
-//! initializers.
+//! The state in which a program begins (JVMS 5.2, 5.5, 2.9.2): its first objects, its static fields, and the frames of main and of the
+//! class initializers.
 #![tactic(auto)]
 
 mod begin;

@@ -82,8 +82,8 @@ fn check_opening(alloc: Global, program: &ReadyProgram, statics: &[Value]) -> Re
     }
 }
 
-/// The same as `open`, of a program whose main method takes an array of Strings, where the state in which it begins keeps to the typing. One
-/// where it doesn't counts as memory run out.
+/// The same as `open` for a program whose main method takes an array of Strings, with a state that keeps to the typing. A state that
+/// doesn't counts as memory run out.
 pub fn open_typed(
     alloc: Global,
     program: &ReadyProgram,

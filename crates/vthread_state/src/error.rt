@@ -1,3 +1,5 @@
+//! Why a thread isn't added or started.
+
 ghost use Rattle.std.specs.Prelude.{◌≡◌};
 ghost use Rattle.vthread_state.specs.declared.error.ThreadError.TheVariants as errors;
 

@@ -1,3 +1,5 @@
+//! The state of a thread as the program sees it (java.lang.Thread.State).
+
 ghost use Rattle.std.specs.Prelude.{◌≡◌};
 ghost use Rattle.vthread_state.specs.JavaState.{waiting};
 

@@ -7,13 +7,13 @@ pub enum Phase {
     Throwing(u32),
     /// It waits to enter a monitor.
     Entering(u32),
-    /// It waits in `Object.wait`, and entered the monitor so many times before.
+    /// It waits in `Object.wait`; `count` is how often it had entered the monitor.
     Waiting {
         monitor: u32,
         count: u32,
         deadline: Option<u64>,
     },
-    /// Its wait ended, and it waits to enter the monitor again, so many times.
+    /// Its wait ended, and it waits to enter the monitor again, `count` times.
     Reenter {
         monitor: u32,
         count: u32,

@@ -1,3 +1,5 @@
+//! The table of threads, and the calls that change it.
+
 ghost use Rattle.std.specs.Prelude.{◌≡◌, ◌↔◌, ◌<◌, ℕ, [], ◌∷◌, ◌++◌, length, Some, Ok, Err, IsSome, IsTrue, IfOk, OnOk, OnErr, Contains};
 ghost use Rattle.std.specs.List.Sorted.{IsStrictlyIncreasing};
 ghost use Rattle.std.specs.Option.{option_map};
@@ -39,7 +41,7 @@ impl Model for ThreadTable {
 }
 
 impl ThreadTable {
-    /// No threads, of which there may be so many.
+    /// Makes a table without threads, with a limit on their number.
     pub fn new(alloc: Global, limit: u32) -> Result<Self, NoMemory>
         ensures { IfOk result (λ table. table ≡ record { threads = []; limit = limit }) }
     {
