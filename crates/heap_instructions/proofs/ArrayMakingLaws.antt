@@ -1,5 +1,5 @@
 -- Arrays of several dimensions, made one by one.
-use Rattle.std.proofs.Common.{ℕ, suc, ◌≡◌, ◌<◌, ◌+◌, ◌*◌, List, [], ◌∷◌, ◌++◌, Option, Some, None, length, map, replicate, refl, sym, subst, ap, ◌∙◌, arith, zero-add, append_assoc}
+use Rattle.std.proofs.Common.{ℕ, zero, suc, ◌≡◌, ◌<◌, ◌+◌, ◌*◌, List, [], ◌∷◌, ◌++◌, Option, Some, None, length, map, replicate, refl, sym, subst, ap, ◌∙◌, arith, zero-add, append_assoc}
 use Rattle.std.specs.List.{range_with_len}
 use Rattle.std.proofs.Math.Nat.{add-mul}
 use Rattle.std.proofs.lemmas.List.{length-append, length-replicate, append-nil}
@@ -13,7 +13,7 @@ use Rattle.state_model.specs.Objects.{Object, instance}
 use Rattle.heap_objs.specs.Heap.{Heap, made}
 use Rattle.ref_model.specs.Kinds.{zero_of_kind, kind_of_elements}
 use Rattle.ref_model.specs.Arrays.{all_joined, array_count, arrays_from, cells_of_lengths, element_class, element_zero, inner_number}
-use Rattle.heap_instructions.specs.ArrayMaking.{AreMade, IsOuter, references, with_objects}
+use Rattle.heap_instructions.specs.ArrayMaking.{AreMade, IsOuter, references, step_between, with_objects}
 
 pub references_more : (first step n : ℕ) → references first step (n + 1) ≡ references first step n ++ values.Ref (first + n * step) ∷ []
 references_more first step n = map-range_with_len_more (λ index. values.Ref (first + index * step)) 0 n n (zero-add n)
@@ -98,22 +98,27 @@ all_made w n m ns class inner old base new is outer some =
 
 pub last_made : (w : World) (n class : ℕ) (t : ArrayType) (v : Value) (old new : Heap) → Some t ≡ array_type w class → v ≡ zero_of_kind (kind_of_elements t) →
     new ≡ made (instance class (replicate n v)) old → AreMade w (n ∷ []) class old new
-last_made w n class t v old new type zero is =
+last_made w n class t v old new type value is =
     let len = length-replicate n v in
     let sum : old.used + (1 + length (replicate n v)) ≡ old.used + (1 + n + n * 0) = omega arith in
     record {
       objects = instance class (replicate n v) ∷ [];
       from = bind_is (element_zero w class) (λ u. Some (instance class (replicate n u) ∷ [])) v (Some (instance class (replicate n v) ∷ []))
-          (bind_is (array_type w class) _ t _ (sym type) (ap Some (sym zero))) refl;
+          (bind_is (array_type w class) _ t _ (sym type) (ap Some (sym value))) refl;
       new_is = is ∙ (λ i. record { objects = old.objects ++ instance class (replicate n v) ∷ []; cells = old.cells; used = sum i });
       count = omega arith;
     }
 
-pub outer_made : (below : List ℕ) (n class first step : ℕ) (items : List Value) (old new : Heap) → first ≡ length old.objects + 1 → step ≡ array_count below →
+steps_are : (n first count : ℕ) → references first (step_between n count) n ≡ references first count n
+steps_are zero first count = refl
+steps_are (suc n) first count = refl
+
+pub outer_made : (below : List ℕ) (n class first step : ℕ) (items : List Value) (old new : Heap) → first ≡ length old.objects + 1 → step ≡ step_between n (array_count below) →
     items ≡ references first step n → new ≡ made (instance class items) old → IsOuter below n class old new
 outer_made below n class first step items old new start steps are is =
     let all : items ≡ references (length old.objects + 1) (array_count below) n =
-    are ∙ ap (λ k. references k step n) start ∙ ap (λ k. references (length old.objects + 1) k n) steps in
+    are ∙ ap (λ k. references k step n) start ∙ ap (λ k. references (length old.objects + 1) k n) steps
+    ∙ steps_are n (length old.objects + 1) (array_count below) in
     let len : length items ≡ n = ap length are ∙ length-map-range_with_len (λ index. values.Ref (first + index * step)) 0 n in
     let sum : old.used + (1 + length items) ≡ old.used + (1 + n) = omega arith in
     is ∙ (λ i. record { objects = old.objects ++ instance class (all i) ∷ []; cells = old.cells; used = sum i })

@@ -1,5 +1,5 @@
 -- Arrays of several dimensions, made one by one.
-use Rattle.std.specs.Prelude.{ℕ, ℤ, ◌≡◌, ◌+◌, ◌*◌, ◌<◌, ◌++◌, List, [], ◌∷◌, Option, Some, None, drop, length, map}
+use Rattle.std.specs.Prelude.{ℕ, zero, suc, ℤ, ◌≡◌, ◌+◌, ◌*◌, ◌<◌, ◌++◌, List, [], ◌∷◌, Option, Some, None, drop, length, map}
 use Rattle.std.specs.List.{range_with_len}
 use Rattle.instruction_rows.specs.declared.value.Slot.{Slot}
 use Rattle.instruction_rows.specs.declared.value.Value.{Value}
@@ -21,6 +21,12 @@ IsCounted None number = 4294967295 < number
 -- references to objects whose numbers are evenly spaced
 abbrev pub references : ℕ → ℕ → ℕ → List Value
 references first step n = map (λ index. values.Ref (first + index * step)) (range_with_len 0 n)
+
+-- How far the numbers of the arrays in one array of this number of elements lie apart: by all that is below an element. Without
+-- elements nothing is below.
+abbrev pub step_between : ℕ → ℕ → ℕ
+step_between zero count = 0
+step_between (suc n) count = count
 
 -- the heap with more objects, which use this number of cells
 abbrev pub with_objects : List Object → ℕ → Heap → Heap

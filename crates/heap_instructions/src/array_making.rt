@@ -5,7 +5,7 @@ ghost use Rattle.opcodes.specs.declared.op.ValueKind.TheVariants as kinds;
 ghost use Rattle.std.specs.List.{list_any};
 ghost use Rattle.ref_model.specs.Arrays as spec;
 ghost use Rattle.ref_model.specs.Operands.{HasOperands};
-ghost use Rattle.heap_instructions.specs.ArrayMaking.{AreInts, AreMade, IsCounted, IsOuter, references};
+ghost use Rattle.heap_instructions.specs.ArrayMaking.{AreInts, AreMade, IsCounted, IsOuter, references, step_between};
 ghost use Rattle.heap_instructions.specs.Operands.{operands};
 
 use crate::kinds::element_zero;
@@ -85,14 +85,32 @@ pub(crate) fn have_room(heap: &Heap, lengths: &[u32]) -> bool
     }
 }
 
+// An array of so many elements, and the arrays below it, of which each element has so many.
+fn arrays_over(n: u32, below: Option<u32>) -> Option<u32>
+    ensures { (count : ℕ) → IsCounted below count → IsCounted result (1 + n * count) }
+{
+    match below {
+        Some(count) => u32::try_from(1 + u64::from(n) * u64::from(count)).ok(),
+        None if n == 0 => Some(1),
+        None => None,
+    }
+}
+
 // How many arrays those of such lengths are. `None`: they are more than a `u32` counts.
 fn count_of(lengths: &[u32]) -> Option<u32>
-    ensures { IfSome result (λ n. n ≡ spec.array_count lengths.now) }
+    ensures { IsCounted result (spec.array_count lengths.now) }
 {
     match lengths.split_first() {
-        Some((n, below)) => n.checked_mul(count_of(below)?)?.checked_add(1),
+        Some((n, below)) => arrays_over(*n, count_of(below)),
         None => Some(0),
     }
+}
+
+// How far the numbers of the arrays in one array of `n` elements lie apart. `None`: further than a `u32` counts.
+fn step_of(n: u32, below: &[u32]) -> Option<u32>
+    ensures { IsCounted result (step_between n (spec.array_count below.now)) }
+{
+    if n == 0 { Some(0) } else { count_of(below) }
 }
 
 // The number a number of steps after another.
@@ -140,7 +158,7 @@ fn make_outer(
 ) -> Result<(), NoMemory>
     ensures { OnOk result (IsOuter below.now n class heap.old heap.new) }
 {
-    let Some(step) = count_of(below) else {
+    let Some(step) = step_of(n, below) else {
         return Err(NoMemory);
     };
     let Ok(number) = u32::try_from(heap.count()) else {
