@@ -260,6 +260,13 @@ def many_nops(c):
     c.method(NOP * 65534 + RETURN, locals=0)
 
 
+def array_types(c):
+    """1,000 array classes of 255 dimensions, each of a class of its own, which makes 255,000 array types, and a main method."""
+    for number in range(1000):
+        c.pool.of_class(b"[" * 255 + b"LC%d;" % number)
+    c.method(RETURN, locals=1, descriptor=b"([Ljava/lang/String;)V", name=b"main")
+
+
 def new_stores(c):
     """15,000 stores of ever new types into a local variable, under 3,000 rows of an exception table to 3,000 handlers."""
     throwable = u1(7) + u2(c.pool.of_class(b"java/lang/Throwable"))
@@ -515,6 +522,7 @@ KINDS = {
     "branches-apart": lambda: methods_of(branches_apart, 23),
     "other-frames": lambda: methods_of(other_frames, 1),
     "many-nops": lambda: methods_of(many_nops, 60),
+    "array-types": lambda: methods_of(array_types, 1),
     "new-stores": lambda: methods_of(new_stores, 1),
     "moving-frames": lambda: methods_of(moving_frames, 1),
     "branches-in-turn": lambda: methods_of(branches_in_turn, 1),

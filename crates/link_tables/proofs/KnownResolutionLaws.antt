@@ -9,17 +9,17 @@ use Rattle.link_tables.specs.declared.known_resolutions.Use.{Use}
 use Rattle.link_tables.specs.declared.known_resolutions.KnownResolution.{KnownResolution}
 use Rattle.link_tables.specs.declared.known_resolutions.KnownResolutions.{KnownResolutions}
 use Rattle.link_tables.specs.KnownResolutions.{AreKnown, Knows, is_derived, known_for, noted, use_resolution}
-use Rattle.link_tables.specs.ResolutionTables.{Begins, IsKept}
+use Rattle.link_tables.specs.ResolutionTables.{Begins, Extends}
 
-pub begins_kept : (l : Linking) (old new : List Resolution) → IsKept old new → Begins l old → Begins l new
-begins_kept l old new kept b = record { plain_first = kept 0 _ b.plain_first; arrays = λ p. kept _ _ (b.arrays p) }
+pub begins_extended : (l : Linking) (old new : List Resolution) → Extends old new → Begins l old → Begins l new
+begins_extended l old new extends b = record { plain_first = extends 0 _ b.plain_first; arrays = λ p. extends _ _ (b.arrays p) }
 
 -- what is known stays known while the table grows
-pub knows_kept : (l : Linking) (c : ℕ) (pool : List Const) (old new : List Resolution) (known : KnownResolutions) → IsKept old new → Knows l c pool old known → Knows l c pool new known
-knows_kept l c pool old new known kept k = record {
-  begins = begins_kept l old new kept k.begins;
-  direct = λ i x e. kept _ _ (k.direct i x e);
-  derived = λ i x e. kept _ _ (k.derived i x e);
+pub knows_extended : (l : Linking) (c : ℕ) (pool : List Const) (old new : List Resolution) (known : KnownResolutions) → Extends old new → Knows l c pool old known → Knows l c pool new known
+knows_extended l c pool old new known extends k = record {
+  begins = begins_extended l old new extends k.begins;
+  direct = λ i x e. extends _ _ (k.direct i x e);
+  derived = λ i x e. extends _ _ (k.derived i x e);
 }
 
 -- each number of what is known of a use

@@ -14,7 +14,7 @@ use Rattle.link_model.specs.declared.members.MethodCode.{MethodCode}
 use Rattle.link_model.specs.LookUps.{index_at, index_in}
 use Rattle.link_resolution.proofs.Positions.{position_push}
 use Rattle.link_numbers.specs.Decodings.{instrs_in}
-use Rattle.link_tables.specs.PcTables.{IsByPc, AreByPc, entry, told}
+use Rattle.link_tables.specs.PcTables.{IsByPc, AreByPc, stored_index, some_index}
 
 or_here : (o : Option ℕ) (b : Bool) (k : ℕ) → is_some o ≡ true → o ≡ option_or o (cond b (Some k) None)
 or_here None b k s = absurd cc
@@ -29,8 +29,8 @@ or_new None b k s e = sym (ap (λ c. cond c (Some k) None) e)
 or_new (Some x) b k s e = absurd cc
 
 -- where the table has an instruction at the pc
-pub kept : (table : List (Option ℕ)) (pc k : ℕ) → is_some (get_or table pc None) ≡ true → (q : ℕ) → get_or table q None ≡ option_or (get_or table q None) (cond (nat_eq pc q) (Some k) None)
-kept table pc k s q =
+pub has_entry : (table : List (Option ℕ)) (pc k : ℕ) → is_some (get_or table pc None) ≡ true → (q : ℕ) → get_or table q None ≡ option_or (get_or table q None) (cond (nat_eq pc q) (Some k) None)
+has_entry table pc k s q =
     ⊎_elim
     (λ (e : q ≡ pc). or_here (get_or table q None) (nat_eq pc q) k (ap (λ n. is_some (get_or table n None)) e ∙ s))
     (λ (ne : q ≢ pc). or_off (get_or table q None) (nat_eq pc q) k (grind (arith, nat_tests)))
@@ -49,26 +49,26 @@ added table pc k h s q =
 -- ---- two bytes an entry
 
 -- where the table has an instruction at the pc
-pub kept_index : (table : List ℕ) (pc k : ℕ) → is_some (entry table pc) ≡ true → (q : ℕ) → entry table q ≡ option_or (entry table q) (cond (nat_eq pc q) (Some k) None)
-kept_index table pc k s q =
+pub has_index : (table : List ℕ) (pc k : ℕ) → is_some (stored_index table pc) ≡ true → (q : ℕ) → stored_index table q ≡ option_or (stored_index table q) (cond (nat_eq pc q) (Some k) None)
+has_index table pc k s q =
     ⊎_elim
-    (λ (e : q ≡ pc). or_here (entry table q) (nat_eq pc q) k (ap (λ n. is_some (entry table n)) e ∙ s))
-    (λ (ne : q ≢ pc). or_off (entry table q) (nat_eq pc q) k (grind (arith, nat_tests)))
+    (λ (e : q ≡ pc). or_here (stored_index table q) (nat_eq pc q) k (ap (λ n. is_some (stored_index table n)) e ∙ s))
+    (λ (ne : q ≢ pc). or_off (stored_index table q) (nat_eq pc q) k (grind (arith, nat_tests)))
     (cases_eq q pc)
 
 -- where it has none
-pub added_index : (table : List ℕ) (pc k : ℕ) → pc < length table → told k ≡ Some k → is_some (entry table pc) ≡ false
-    → (q : ℕ) → entry (slice_set table pc k) q ≡ option_or (entry table q) (cond (nat_eq pc q) (Some k) None)
+pub added_index : (table : List ℕ) (pc k : ℕ) → pc < length table → some_index k ≡ Some k → is_some (stored_index table pc) ≡ false
+    → (q : ℕ) → stored_index (slice_set table pc k) q ≡ option_or (stored_index table q) (cond (nat_eq pc q) (Some k) None)
 added_index table pc k h t s q =
     ⊎_elim
-    (λ (e : q ≡ pc). ap (λ n. entry (slice_set table pc k) n) e ∙ ap told (get_or-set_same table pc k 65535 h) ∙ t
-    ∙ or_new (entry table q) (nat_eq pc q) k (ap (λ n. is_some (entry table n)) e ∙ s) (grind (arith, nat_tests)))
-    (λ (ne : q ≢ pc). ap told (get_or-set_other table pc q k 65535 ne) ∙ or_off (entry table q) (nat_eq pc q) k (grind (arith, nat_tests)))
+    (λ (e : q ≡ pc). ap (λ n. stored_index (slice_set table pc k) n) e ∙ ap some_index (get_or-set_same table pc k 65535 h) ∙ t
+    ∙ or_new (stored_index table q) (nat_eq pc q) k (ap (λ n. is_some (stored_index table n)) e ∙ s) (grind (arith, nat_tests)))
+    (λ (ne : q ≢ pc). ap some_index (get_or-set_other table pc q k 65535 ne) ∙ or_off (stored_index table q) (nat_eq pc q) k (grind (arith, nat_tests)))
     (cases_eq q pc)
 
 -- one instruction more
 pub one_more : (instrs : List Instr) (i : ℕ) (x : Instr) (old new : List ℕ) → i < length instrs → x ≡ get_or instrs i x → IsByPc (take i instrs) old
-    → ((q : ℕ) → entry new q ≡ option_or (entry old q) (cond (nat_eq x.pc q) (Some i) None)) → IsByPc (take (i + 1) instrs) new
+    → ((q : ℕ) → stored_index new q ≡ option_or (stored_index old q) (cond (nat_eq x.pc q) (Some i) None)) → IsByPc (take (i + 1) instrs) new
 one_more instrs i x old new h e before step q =
     let t : take (i + 1) instrs ≡ take i instrs ++ x ∷ [] = grind (arith, common_steps) in
     let l : length (take i instrs) ≡ i = grind (arith, common_steps) in
@@ -101,25 +101,25 @@ one_method codes tables code table l before new n pc =
     ⊎_elim
     (λ (lt : n < length codes).
     let inside : n < length tables = omega arith in
-    ap (λ (t : List ℕ). entry t pc) (get_or-append tables (table ∷ []) [] n inside) ∙ before n pc
+    ap (λ (t : List ℕ). stored_index t pc) (get_or-append tables (table ∷ []) [] n inside) ∙ before n pc
     ∙ ap (option_and_then (option_and_then (index_at pc))) (sym (get_front codes code n lt)))
     (λ (ge : length codes ≤ n).
     ⊎_elim
     (λ (e : n ≡ length codes).
-    ap (λ k. entry (get_or (tables ++ table ∷ []) k []) pc) (e ∙ sym l) ∙ ap (λ (t : List ℕ). entry t pc) (get_or-append_seam tables table [] [])
+    ap (λ k. stored_index (get_or (tables ++ table ∷ []) k []) pc) (e ∙ sym l) ∙ ap (λ (t : List ℕ). stored_index t pc) (get_or-append_seam tables table [] [])
     ∙ new pc ∙ of_code code pc
     ∙ ap (option_and_then (option_and_then (index_at pc))) (sym (get_last codes code))
     ∙ ap (λ k. index_in (codes ++ code ∷ []) k pc) (sym e))
     (λ (ne : n ≢ length codes).
     let past : length (tables ++ table ∷ []) ≤ n = simp length-append (omega arith) in
     let past' : length (codes ++ code ∷ []) ≤ n = simp length-append (omega arith) in
-    ap (λ (t : List ℕ). entry t pc) (get_or_past (tables ++ table ∷ []) n [] past) ∙ nothing pc
+    ap (λ (t : List ℕ). stored_index t pc) (get_or_past (tables ++ table ∷ []) n [] past) ∙ nothing pc
     ∙ ap (option_and_then (option_and_then (index_at pc))) (sym (slice_get_past (codes ++ code ∷ []) n past')))
     (cases_eq n (length codes)))
     (cases_lt n (length codes))
   where
-    nothing : (q : ℕ) → entry [] q ≡ option_and_then (option_and_then (index_at q)) None
-    nothing q = ap told (get_or_past [] q 65535 (omega arith))
+    nothing : (q : ℕ) → stored_index [] q ≡ option_and_then (option_and_then (index_at q)) None
+    nothing q = ap some_index (get_or_past [] q 65535 (omega arith))
 
 -- one method more of these
 pub next_method : (codes : List (Option MethodCode)) (i : ℕ) (code : Option MethodCode) (tables new : List (List ℕ)) (table : List ℕ) → i < length codes → code ≡ get_or codes i code
@@ -132,4 +132,4 @@ next_method codes i code tables new table h e l before one n =
     subst (λ cs. AreByPc cs new) (sym t) first
 
 pub no_method : AreByPc [] []
-no_method n pc = ap told (get_or_past [] pc 65535 (omega arith))
+no_method n pc = ap some_index (get_or_past [] pc 65535 (omega arith))

@@ -1,4 +1,4 @@
--- What sites are told by, as the code has it.
+-- What resolution needs, as the code has it.
 use Rattle.link_model.specs.Sites.{Linking}
 use Rattle.link_tables.specs.declared.sites.Linker.{Linker}
 

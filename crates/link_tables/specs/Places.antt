@@ -5,7 +5,7 @@ use Rattle.link_model.specs.declared.members.FieldInfo.{FieldInfo}
 use Rattle.link_model.specs.Fields.{declares, is_static_field}
 use Rattle.link_resolution.specs.Tables.{row_at}
 
--- the place of a field, where it is static and so many static fields come before it
+-- the place of a field, if it is static: the number of static fields before it
 abbrev pub if_static : FieldInfo → ℕ → Option ℕ
 if_static f before = cond (is_static_field f) (Some before) None
 
@@ -26,7 +26,7 @@ abbrev pub place_by : List FieldInfo → List (List ℕ) → ℕ → Option ℕ
 place_by fields rows n =
     option_and_then (λ f. place_in rows f (length (filter is_static_field (take n fields))) n) (slice_get fields n)
 
--- the same where the instance fields of the first so many classes alone have a place
+-- the same where only the instance fields of the first c classes have a place
 abbrev pub place_in_first : ℕ → List (List ℕ) → FieldInfo → ℕ → ℕ → Option ℕ
 place_in_first c rows f before n =
     cond (is_static_field f) (Some before) (cond (nat_lt f.class c) (position (λ m. m == n) (row_at rows f.class)) None)

@@ -27,8 +27,8 @@ pub record Begins (l : Linking) (table : List Resolution) : Type 0 where
   pub arrays : (p : Primitive) → slice_get table (primitive_number p) ≡ Some (primitive_resolution l p)
 
 -- what has a number keeps it
-abbrev pub IsKept : List Resolution → List Resolution → Type 0
-IsKept old new = (n : ℕ) (x : Resolution) → slice_get old n ≡ Some x → slice_get new n ≡ Some x
+abbrev pub Extends : List Resolution → List Resolution → Type 0
+Extends old new = (n : ℕ) (x : Resolution) → slice_get old n ≡ Some x → slice_get new n ≡ Some x
 
 -- the numbers of these
 abbrev pub AreNumbersOf : List Resolution → List ℕ → List Resolution → Type 0

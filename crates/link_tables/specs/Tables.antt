@@ -13,22 +13,22 @@ use Rattle.link_tables.specs.declared.tables.Tables.TheInside.{Inside}
 
 -- the known classes are those of the names, each method has a number, and the tables of pcs are those of the codes
 pub record AreNumbered (a : Inside) : Type 0 where
-  pub known : a.known ≡ known_in a.numbers.names
-  pub numbering : a.numbers ≡ numbering_of a.members
-  pub instance_fields : a.instance_fields.items ≡ tabulate (instance_fields a.members) (length a.members.classes)
-  pub fields : a.fields.items ≡ fields_of a.members
-  pub places : (n : ℕ) → get_or a.places.items n None ≡ place_by a.fields.items a.instance_fields.items n
-  pub by_pc : AreByPc a.codes a.by_pc.items
-  pub few : length a.methods.items < 2 ^ 32
+  pub known : a.number_tables.known ≡ known_in a.number_tables.numbers.names
+  pub numbering : a.number_tables.numbers ≡ numbering_of a.members
+  pub instance_fields : a.member_tables.instance_fields.items ≡ tabulate (instance_fields a.members) (length a.members.classes)
+  pub fields : a.member_tables.fields.items ≡ fields_of a.members
+  pub places : (n : ℕ) → get_or a.member_tables.places.items n None ≡ place_by a.member_tables.fields.items a.member_tables.instance_fields.items n
+  pub by_pc : AreByPc a.codes a.code_tables.by_pc.items
+  pub few : length a.member_tables.methods.items < 2 ^ 32
 
 abbrev pub world_in : Inside → World
 world_in a = record {
   program = a.members;
-  names = a.numbers.names;
-  arrays = a.arrays.items;
-  fields = a.fields.items;
-  methods = a.methods.items;
+  names = a.number_tables.numbers.names;
+  arrays = a.number_tables.arrays.items;
+  fields = a.member_tables.fields.items;
+  methods = a.member_tables.methods.items;
   codes = a.codes;
-  resolutions = map (map (numbered a.resolutions.table.items)) a.resolutions.numbers.items;
-  catches = a.catches.items;
+  resolutions = map (map (numbered a.code_tables.resolutions.table.items)) a.code_tables.resolutions.numbers.items;
+  catches = a.code_tables.catches.items;
 }

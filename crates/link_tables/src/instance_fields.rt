@@ -1,4 +1,4 @@
-//! The fields of the objects of each class (JVMS 2.7; their order: own).
+//! The fields of the objects of each class (JVMS 2.7).
 
 ghost use Rattle.std.specs.Prelude.{◌≡◌, ◌++◌, length, reverse, IfOk, OnOk};
 ghost use Rattle.std.specs.List.{flat_map};

@@ -3,7 +3,7 @@
 ghost use Rattle.std.specs.Prelude.{◌≡◌, None, Some, not, IfOk, IfSome, OnOk, replicate, slice_get, slice_set};
 ghost use Rattle.link_tables.specs.KnownResolutions.{Knows, is_derived, known_for, noted, use_resolution};
 ghost use Rattle.link_tables.specs.Linkings.{linking_in};
-ghost use Rattle.link_tables.specs.ResolutionTables.{IsKept};
+ghost use Rattle.link_tables.specs.ResolutionTables.{Extends};
 
 use crate::resolution_table::add_resolution;
 use crate::sites::{Linker, array_of_named, field_at, method_at, named_class, push_at};
@@ -14,7 +14,7 @@ use std::alloc::Global;
 
 /// What an instruction takes its constant for: a value, a field, a method, one from which invokespecial selects, a class, or the elements of
 /// an array.
-#[derive(Clone, Copy, Debug, PartialEq, Eq)]
+#[derive(Clone, Copy, PartialEq, Eq)]
 pub enum Use {
     Value,
     Field,
@@ -34,7 +34,7 @@ impl Use {
 }
 
 /// The number of what a constant means where it is used so.
-#[derive(Clone, Copy, Debug)]
+#[derive(Clone, Copy)]
 pub struct KnownResolution {
     pub used: Use,
     pub number: u32,
@@ -70,7 +70,7 @@ fn note(known: &mut [Option<KnownResolution>], used: Use, number: u32, index: u1
 }
 
 impl KnownResolutions {
-    /// Those of a pool of so many constants, of which nothing is known.
+    /// A table for a pool of this size, in which nothing is known.
     pub fn new(alloc: Global, constants: usize) -> Result<Self, NoMemory>
         ensures direct { IfOk result (λ known. known.direct.items ≡ replicate constants None) }
         ensures derived { IfOk result (λ known. known.derived.items ≡ replicate constants None) }
@@ -142,7 +142,7 @@ pub fn known_number(
     requires { Knows (linking_in l) class pool.now table.old.items known.old }
     ensures number { IfOk result (λ n. slice_get table.new.items n ≡
         Some (use_resolution (linking_in l.entry) class pool.now used index)) }
-    ensures kept { OnOk result (IsKept table.old.items table.new.items) }
+    ensures extends { OnOk result (Extends table.old.items table.new.items) }
     ensures known { OnOk result
         (Knows (linking_in l.entry) class pool.now table.new.items known.new) }
 {

@@ -1,5 +1,5 @@
 //! The tables of a world: what the constants of instructions mean, where fields lie, where instructions begin, and main (JVMS 5.4, 6.5).
-//! They are those of `world_model`'s definitions.
+//! They are those that `link_model` defines.
 #![tactic(auto)]
 
 mod code_tables;

@@ -11,9 +11,9 @@ use link_numbers::instrs_in;
 use opcodes::Instr;
 use std::alloc::Global;
 
-// Adds entries that tell of no instruction, up to that of a pc.
+// Adds empty entries, up to that of a pc.
 fn reach(table: &mut Vec<Option<u32>>, pc: u32) -> Result<(), NoMemory>
-    ensures room { OnOk result (pc < vec_len table.new) }
+    ensures long_enough { OnOk result (pc < vec_len table.new) }
     ensures same { (q : ℕ) → get_or table.new.items q None ≡ get_or table.old.items q None }
 {
     if table.len() <= pc as usize {
@@ -38,20 +38,20 @@ pub fn add_first(table: &mut Vec<Option<u32>>, pc: u32, index: u32) -> Result<()
 /// In place of an index, where no instruction begins.
 const NONE: u16 = 0xffff;
 
-// The index that an entry of a table tells, if it tells one.
-fn told(entry: u16) -> Option<u32>
-    ensures { result ≡ spec.told entry }
+// The index that a table has in two bytes. `None`: it is `NONE`.
+fn some_index(stored: u16) -> Option<u32>
+    ensures { result ≡ spec.some_index stored }
 {
-    if entry == NONE {
+    if stored == NONE {
         None
     } else {
-        Some(u32::from(entry))
+        Some(u32::from(stored))
     }
 }
 
-// Adds entries that tell of no instruction, up to that of a pc.
+// Adds empty entries, up to that of a pc.
 fn reach_pc(table: &mut Vec<u16>, pc: u32) -> Result<(), NoMemory>
-    ensures room { OnOk result (pc < vec_len table.new) }
+    ensures long_enough { OnOk result (pc < vec_len table.new) }
     ensures same { (q : ℕ) → get_or table.new.items q 65535 ≡ get_or table.old.items q 65535 }
 {
     if table.len() <= pc as usize {
@@ -63,8 +63,8 @@ fn reach_pc(table: &mut Vec<u16>, pc: u32) -> Result<(), NoMemory>
 // Adds the index of an instruction to a table, unless it has one at the pc.
 fn add_index(table: &mut Vec<u16>, pc: u32, index: u16) -> Result<(), NoMemory>
     requires { index < 65535 }
-    ensures { OnOk result ((q : ℕ) → spec.entry table.new.items q
-        ≡ option_or (spec.entry table.old.items q) (cond (nat_eq pc q) (Some index) None)) }
+    ensures { OnOk result ((q : ℕ) → spec.stored_index table.new.items q
+        ≡ option_or (spec.stored_index table.old.items q) (cond (nat_eq pc q) (Some index) None)) }
 {
     reach_pc(table, pc)?;
     if table[pc as usize] != NONE {
@@ -109,19 +109,19 @@ pub fn all_by_pc(alloc: Global, codes: &[Option<MethodCode>]) -> Result<Vec<Item
 
 /// The index of the instruction that begins at a pc of a method, by the tables.
 pub fn index_by(tables: &[Items<u16>], method: u32, pc: u32) -> Option<u32>
-    ensures { result ≡ spec.entry (get_or tables.now method []) pc }
+    ensures { result ≡ spec.stored_index (get_or tables.now method []) pc }
 {
     match tables.get(method as usize) {
-        Some(table) => entry(table, pc),
+        Some(table) => stored_index(table, pc),
         None => None,
     }
 }
 
-fn entry(table: &[u16], pc: u32) -> Option<u32>
-    ensures { result ≡ spec.entry table.now pc }
+fn stored_index(table: &[u16], pc: u32) -> Option<u32>
+    ensures { result ≡ spec.stored_index table.now pc }
 {
     match table.get(pc as usize) {
-        Some(entry) => told(*entry),
+        Some(stored) => some_index(*stored),
         None => None,
     }
 }

@@ -19,7 +19,7 @@ fn is_static(field: &FieldInfo) -> bool
     has_flag(field.flags, ACC_STATIC)
 }
 
-// The place of a field, where it is static and so many static fields come before it.
+// The place of a field, if it is static: the number of static fields before it.
 fn static_place(field: &FieldInfo, before: u32) -> Option<u32>
     ensures { result ≡ spec.if_static field.now before }
 {

@@ -3,7 +3,7 @@
 ghost use Rattle.std.specs.Prelude.{◌≡◌, Some, IfOk, OnOk, slice_get};
 ghost use Rattle.link_tables.specs.Linkings.{linking_in};
 ghost use Rattle.link_tables.specs.ResolutionTables as spec;
-ghost use Rattle.link_tables.specs.ResolutionTables.{Begins, IsKept};
+ghost use Rattle.link_tables.specs.ResolutionTables.{Begins, Extends};
 
 use crate::sites::{Linker, PLAIN, class_resolution};
 use items::NoMemory;
@@ -68,7 +68,7 @@ pub(crate) fn add_resolution(
     resolution: Resolution,
 ) -> Result<u32, NoMemory>
     ensures number { IfOk result (λ n. slice_get table.new.items n ≡ Some resolution) }
-    ensures kept { OnOk result (IsKept table.old.items table.new.items) }
+    ensures extends { OnOk result (Extends table.old.items table.new.items) }
 {
     let number = u32::try_from(table.len()).map_err(|_| NoMemory)?;
     table.push(resolution)?;

@@ -6,7 +6,7 @@ ghost use Rattle.link_model.specs.Infos.{codes_in, codes_of};
 ghost use Rattle.link_model.specs.Sites as spec;
 ghost use Rattle.link_tables.specs.KnownResolutions.{Knows};
 ghost use Rattle.link_tables.specs.Resolutions.{resolutions_in};
-ghost use Rattle.link_tables.specs.ResolutionTables.{AreListsOf, AreNumbersOf, Begins, IsKept};
+ghost use Rattle.link_tables.specs.ResolutionTables.{AreListsOf, AreNumbersOf, Begins, Extends};
 ghost use Rattle.link_tables.specs.Linkings.{linking_in};
 
 use crate::known_resolutions::KnownResolutions;
@@ -39,7 +39,7 @@ fn instr_numbers(
     requires { Knows (linking_in l) class pool.now table.old.items known.old }
     ensures numbers { IfOk result (λ ns. AreNumbersOf table.new.items ns
         (map (spec.instr_resolution (linking_in l.entry) class pool.now) instrs.now)) }
-    ensures kept { OnOk result (IsKept table.old.items table.new.items) }
+    ensures extends { OnOk result (Extends table.old.items table.new.items) }
     ensures known { OnOk result
         (Knows (linking_in l.entry) class pool.now table.new.items known.new) }
 {

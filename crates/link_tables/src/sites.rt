@@ -6,7 +6,7 @@ ghost use Rattle.link_model.specs.Sites as spec;
 ghost use Rattle.link_resolution.specs.Keys.{key_of};
 ghost use Rattle.link_tables.specs.KnownResolutions.{Knows};
 ghost use Rattle.link_tables.specs.Linkings.{linking_in};
-ghost use Rattle.link_tables.specs.ResolutionTables.{IsKept};
+ghost use Rattle.link_tables.specs.ResolutionTables.{Extends};
 
 use crate::known_resolutions::{KnownResolutions, Use, known_number};
 use crate::resolution_table::{PLAIN_NUMBER, primitive_number};
@@ -25,7 +25,7 @@ use link_rules::MemberPlace;
 use opcodes::Op;
 use std::alloc::Global;
 
-/// What sites are told by: the program with the numbers of its members, the numbers of classes, and the Strings.
+/// What resolution needs: the program with the numbers of its members, the numbers of classes, and the Strings.
 #[derive(Clone, Copy)]
 pub struct Linker<'a> {
     pub members: &'a MemberNumbers,
@@ -40,7 +40,7 @@ pub(crate) const PLAIN: Resolution = Resolution {
 };
 
 // A site that names nothing else.
-fn alone(site: Option<Site>) -> Resolution
+fn without_class(site: Option<Site>) -> Resolution
     ensures { result ≡ spec.alone site }
 {
     match site {
@@ -72,7 +72,7 @@ fn string_resolution(l: Linker, text: &[u16]) -> Result<Resolution, NoMemory>
     ensures { IfOk result (λ n. n ≡ spec.string_resolution (linking_in l.entry) text.now) }
 {
     match string_number(l.strings, text)? {
-        Some(number) => Ok(alone(Some(Site::Value(Value::Ref(number))))),
+        Some(number) => Ok(without_class(Some(Site::Value(Value::Ref(number))))),
         None => Ok(PLAIN),
     }
 }
@@ -92,8 +92,8 @@ fn push_resolution(l: Linker, pool: &[Const], constant: &Const) -> Result<Resolu
         spec.push_resolution (linking_in l.entry) pool.now constant.now) }
 {
     match constant {
-        Const::Integer(n) => Ok(alone(Some(Site::Value(Value::Int(*n))))),
-        Const::Long(n) => Ok(alone(Some(Site::Value(Value::Long(*n))))),
+        Const::Integer(n) => Ok(without_class(Some(Site::Value(Value::Int(*n))))),
+        Const::Long(n) => Ok(without_class(Some(Site::Value(Value::Long(*n))))),
         Const::Text(index) => string_at(l, pool, *index),
         _ => Ok(PLAIN),
     }
@@ -349,7 +349,7 @@ pub fn number_of(
     requires { Knows (linking_in l) class pool.now table.old.items known.old }
     ensures number { IfOk result (λ n. slice_get table.new.items n ≡
         Some (spec.resolution_of (linking_in l.entry) class pool.now op.now)) }
-    ensures kept { OnOk result (IsKept table.old.items table.new.items) }
+    ensures extends { OnOk result (Extends table.old.items table.new.items) }
     ensures known { OnOk result
         (Knows (linking_in l.entry) class pool.now table.new.items known.new) }
 {

@@ -38,17 +38,10 @@ use std::marker::Model;
 #[derive(Drop)]
 pub struct Tables {
     members: MemberNumbers,
-    numbers: ArrayNumbers,
-    arrays: Vec<ArrayType>,
-    fields: Vec<FieldInfo>,
-    methods: Vec<MethodInfo>,
     codes: Codes,
-    by_pc: Vec<Items<u16>>,
-    instance_fields: Vec<Items<u32>>,
-    places: Vec<Option<u32>>,
-    resolutions: NumberedResolutions,
-    catches: Vec<Items<Option<u32>>>,
-    known: KnownClasses,
+    number_tables: NumberTables,
+    member_tables: MemberTables,
+    code_tables: CodeTables,
 }
 
 impl Model for Tables {
@@ -76,49 +69,26 @@ fn element_of(class: u32, array: ArrayType) -> Option<u32>
     }
 }
 
-// The tables of which these are the parts.
-fn joined(
+// The tables of a program, from its codes and the tables of each part.
+fn tables_of(
     members: MemberNumbers,
     codes: Codes,
-    numbers: NumberTables,
-    of_members: MemberTables,
-    of_codes: CodeTables,
+    number_tables: NumberTables,
+    member_tables: MemberTables,
+    code_tables: CodeTables,
 ) -> Tables
     requires codes { codes ≡ codes_of members }
-    requires numbers { AreNumbers members numbers }
-    requires of_members { AreMembers members of_members }
-    requires of_codes { AreOfCodes members of_codes }
+    requires numbers { AreNumbers members number_tables }
+    requires of_members { AreMembers members member_tables }
+    requires of_codes { AreOfCodes members code_tables }
     ensures { result ≡ world_of members }
 {
-    let NumberTables {
-        numbers,
-        arrays,
-        known,
-    } = numbers;
-    let MemberTables {
-        fields,
-        methods,
-        instance_fields,
-        places,
-    } = of_members;
-    let CodeTables {
-        by_pc,
-        resolutions,
-        catches,
-    } = of_codes;
     Tables {
         members,
-        numbers,
-        arrays,
-        fields,
-        methods,
         codes,
-        by_pc,
-        instance_fields,
-        places,
-        resolutions,
-        catches,
-        known,
+        number_tables,
+        member_tables,
+        code_tables,
     }
 }
 
@@ -132,7 +102,7 @@ impl Tables {
         let numbers = number_tables(alloc, members.hierarchy(), codes.as_slice())?;
         let of_codes = code_tables(alloc, &members, &numbers.numbers, codes.as_slice())?;
         let of_members = member_tables(alloc, &members)?;
-        Ok(joined(members, codes, numbers, of_members, of_codes))
+        Ok(tables_of(members, codes, numbers, of_members, of_codes))
     }
 
     /// The classes of the program.
@@ -146,21 +116,21 @@ impl Tables {
     pub fn name_number(&self, name: &[u16]) -> Option<u32>
         ensures { result ≡ spec.name_number self.now name.now }
     {
-        self.numbers.names().number(name)
+        self.number_tables.numbers.names().number(name)
     }
 
     /// How many names have a number. The array types have those after them.
     pub fn name_count(&self) -> u32
         ensures { result ≡ length self.now.names }
     {
-        self.numbers.names().count()
+        self.number_tables.numbers.names().count()
     }
 
     /// The name of a class, where it is no array class; else none.
     pub fn name(&self, n: u32) -> &[u16]
         ensures { result.now ≡ get_or self.now.names n [] }
     {
-        match self.numbers.names().text(n) {
+        match self.number_tables.numbers.names().text(n) {
             Some(name) => name,
             None => &[],
         }
@@ -170,70 +140,70 @@ impl Tables {
     pub fn arrays(&self) -> &[ArrayType]
         ensures { result.now ≡ self.now.arrays }
     {
-        &self.arrays
+        &self.number_tables.arrays
     }
 
     /// The fields, in the order of their numbers.
     pub fn fields(&self) -> &[FieldInfo]
         ensures { result.now ≡ self.now.fields }
     {
-        &self.fields
+        &self.member_tables.fields
     }
 
     /// A field. `None`: there is no field of this number.
     pub fn field(&self, n: u32) -> Option<&FieldInfo>
         ensures { option_copied result ≡ slice_get self.now.fields n }
     {
-        self.fields.get(n as usize)
+        self.member_tables.fields.get(n as usize)
     }
 
     /// The number of java/lang/Object.
     pub fn object(&self) -> Option<u32>
         ensures { result ≡ spec.name_number self.now object_class }
     {
-        self.known.object
+        self.number_tables.known.object
     }
 
     /// The number of java/lang/Cloneable.
     pub fn cloneable(&self) -> Option<u32>
         ensures { result ≡ spec.name_number self.now (codes "java/lang/Cloneable") }
     {
-        self.known.cloneable
+        self.number_tables.known.cloneable
     }
 
     /// The number of java/io/Serializable.
     pub fn serializable(&self) -> Option<u32>
         ensures { result ≡ spec.name_number self.now (codes "java/io/Serializable") }
     {
-        self.known.serializable
+        self.number_tables.known.serializable
     }
 
     /// The number of java/lang/String.
     pub fn string(&self) -> Option<u32>
         ensures { result ≡ spec.name_number self.now (codes "java/lang/String") }
     {
-        self.known.string
+        self.number_tables.known.string
     }
 
     /// The number of java/lang/Throwable.
     pub fn throwable(&self) -> Option<u32>
         ensures { result ≡ spec.name_number self.now (codes "java/lang/Throwable") }
     {
-        self.known.throwable
+        self.number_tables.known.throwable
     }
 
     /// How many methods there are.
     pub fn method_count(&self) -> u32
         ensures { result ≡ length self.now.methods }
     {
-        self.methods.len() as u32
+        self.member_tables.methods.len() as u32
     }
 
     /// A method. `None`: there is no method of this number.
     pub fn method(&self, n: u32) -> Option<&MethodInfo>
         ensures { option_copied result ≡ slice_get self.now.methods n }
     {
-        self.methods.get(n as usize)
+        self.member_tables.methods.get(n as usize)
     }
 
     /// The number of the first method of a class. A class that isn't there counts as memory run out.
@@ -264,8 +234,8 @@ impl Tables {
         ensures { meanings result ≡ get_or self.now.resolutions method [] }
     {
         Resolutions {
-            numbers: row_at(&self.resolutions.numbers, method),
-            table: &self.resolutions.table,
+            numbers: row_at(&self.code_tables.resolutions.numbers, method),
+            table: &self.code_tables.resolutions.table,
         }
     }
 
@@ -273,7 +243,7 @@ impl Tables {
     pub fn catches(&self, method: u32) -> &[Option<u32>]
         ensures { result.now ≡ get_or self.now.catches method [] }
     {
-        match self.catches.get(method as usize) {
+        match self.code_tables.catches.get(method as usize) {
             Some(catches) => catches,
             None => &[],
         }
@@ -283,7 +253,7 @@ impl Tables {
     pub fn index_at(&self, method: u32, pc: u32) -> Option<u32>
         ensures { result ≡ asked.index_in self.now.codes method pc }
     {
-        index_by(&self.by_pc, method, pc)
+        index_by(&self.code_tables.by_pc, method, pc)
     }
 
     /// What the instruction at a pc of a method names, in constant time; at a pc where none begins, nothing.
@@ -309,14 +279,17 @@ impl Tables {
     pub fn main_of(&self, name: &[u16]) -> Option<u32>
         ensures { result ≡ main_of self.now name.now }
     {
-        main_among(&self.methods, self.hierarchy().classes().class_named(name)?)
+        main_among(
+            &self.member_tables.methods,
+            self.hierarchy().classes().class_named(name)?,
+        )
     }
 
     /// The numbers of the fields of an object of a class, those of the superclass first, in constant time.
     pub fn instance_fields(&self, class: u32) -> &[u32]
         ensures { result.now ≡ instance_fields self.now class }
     {
-        row_at(&self.instance_fields, class)
+        row_at(&self.member_tables.instance_fields, class)
     }
 
     /// The place of a field, in constant time: a static field's among all static fields, another's among the fields of an object of its
@@ -324,14 +297,14 @@ impl Tables {
     pub fn place(&self, field: u32) -> Option<u32>
         ensures { result ≡ place self.now field }
     {
-        place_at(&self.places, field)
+        place_at(&self.member_tables.places, field)
     }
 
     /// The number of an array class, by the type of its objects. `None`: the program has no array of such elements as deep.
     pub fn array_of(&self, kind: &Kind) -> Option<u32>
         ensures { result ≡ asked.array_of self.now kind.now }
     {
-        self.numbers.array_number(kind)
+        self.number_tables.numbers.array_number(kind)
     }
 
     /// The array type with a number, in constant time. `None`: the number isn't that of an array class.
@@ -342,7 +315,7 @@ impl Tables {
         if n < count {
             return None;
         }
-        self.arrays.get((n - count) as usize).copied()
+        self.number_tables.arrays.get((n - count) as usize).copied()
     }
 
     /// The type of the objects of a class or an array class.
@@ -354,6 +327,7 @@ impl Tables {
             None => VType::Named(0, Base::Class(class)),
         }
     }
+
     // The type that the descriptor of the last elements of an array has.
     fn base_of(&self, element: &[u16]) -> Option<Base>
         ensures { result ≡ spec.base_of self.now element.now }

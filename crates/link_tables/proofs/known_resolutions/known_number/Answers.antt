@@ -2,7 +2,7 @@ use Rattle.std.proofs.Common.{Some, ap, ◌∙◌}
 use Rattle.link_model.specs.declared.sites.Resolution.{Resolution}
 use Rattle.link_tables.specs.KnownResolutions.{is_derived}
 use Rattle.link_tables.specs.Linkings.{linking_in}
-use Rattle.link_tables.proofs.KnownResolutionLaws.{known_there, knows_kept, knows_noted}
+use Rattle.link_tables.proofs.KnownResolutionLaws.{known_there, knows_extended, knows_noted}
 use Rattle.link_tables.proofs.known_resolutions.known_number.Goals as goal
 
 pub returns-in-Some-clause-number : goal.returns-in-Some-clause-number
@@ -17,4 +17,4 @@ returns-clause-known c =
     let table = c.add_resolution.new.table.items in
     knows_noted l c.args.class pool table c.args.known.now c.note.new.self c.args.used c.in_ok-number.number c.args.index
     (c.in_ok-number.ensures.number ∙ ap (λ (x : Resolution). Some x) c.in_ok-resolution.ensures) c.note.ensures.direct c.note.ensures.derived
-    (knows_kept l c.args.class pool c.args.table.now.items table c.args.known.now c.in_ok-number.ensures.kept c.requires)
+    (knows_extended l c.args.class pool c.args.table.now.items table c.args.known.now c.in_ok-number.ensures.extends c.requires)

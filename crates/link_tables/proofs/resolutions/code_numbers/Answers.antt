@@ -25,7 +25,7 @@ loop-code-preserved c =
     subst (λ (is : List Instr). AreNumbersOf new c.in_ok-numbers.numbers (map (instr_resolution l c.args.class pool) is)) c.instrs_in-instrs.ensures c.in_ok-numbers.ensures.numbers in (
       c.in_ok-numbers.ensures.known,
       λ xss e.
-          let lists = list_more old new c.loop-code.resolutions.numbers.items c.in_ok-numbers.numbers (xss ++ done) x c.in_ok-numbers.ensures.kept (c.loop-code.invariant.1 xss e) here in
+          let lists = list_more old new c.loop-code.resolutions.numbers.items c.in_ok-numbers.numbers (xss ++ done) x c.in_ok-numbers.ensures.extends (c.loop-code.invariant.1 xss e) here in
           subst (λ (nss : List (List ℕ)). AreListsOf new nss (xss ++ map named (take (c.loop-code.code-index + 1) c.args.codes.now))) (sym c.in_ok-push.ensures.items)
           (subst (λ (yss : List (List Resolution)). AreListsOf new (c.loop-code.resolutions.numbers.items ++ c.in_ok-numbers.numbers ∷ []) yss)
           (append_assoc xss done (x ∷ []) ∙ ap (λ (yss : List (List Resolution)). xss ++ yss) (sym more)) lists),

@@ -5,7 +5,7 @@ use Rattle.link_model.specs.declared.sites.Resolution.{Resolution}
 use Rattle.link_model.specs.Sites.{instr_resolution}
 use Rattle.link_tables.specs.Linkings.{linking_in}
 use Rattle.link_tables.specs.ResolutionTables.{AreNumbersOf}
-use Rattle.link_tables.proofs.NumberLaws.{kept_twice, number_more}
+use Rattle.link_tables.proofs.NumberLaws.{extends_twice, number_more}
 use Rattle.link_tables.proofs.resolutions.instr_numbers.Goals as goal
 
 pub loop-instr-preserved : goal.loop-instr-preserved
@@ -17,10 +17,10 @@ loop-instr-preserved c =
     let x = resolution c.instr-item.result in
     let more : map resolution (take (c.loop-instr.instr-index + 1) c.args.instrs.now) ≡ done ++ x ∷ [] =
     map_more resolution c.args.instrs.now c.loop-instr.instr-index c.instr-item.result c.loop-instr-test.true ∙ ap (λ (i : Instr). done ++ resolution i ∷ []) (sym c.instr-item.is) in
-    let kept = c.in_ok-number_of.ensures.kept in
-    let numbers = number_more old new c.loop-instr.numbers.items c.in_ok-number_of.field-0 done x kept c.loop-instr.invariant.2 c.in_ok-number_of.ensures.number in (
+    let extends = c.in_ok-number_of.ensures.extends in
+    let numbers = number_more old new c.loop-instr.numbers.items c.in_ok-number_of.field-0 done x extends c.loop-instr.invariant.2 c.in_ok-number_of.ensures.number in (
       c.in_ok-number_of.ensures.known,
-      kept_twice c.args.table.now.items old new c.loop-instr.invariant.1 kept,
+      extends_twice c.args.table.now.items old new c.loop-instr.invariant.1 extends,
       subst (λ (ns : List ℕ). AreNumbersOf new ns (map resolution (take (c.loop-instr.instr-index + 1) c.args.instrs.now))) (sym c.in_ok-push.ensures.items)
           (subst (λ (xs : List Resolution). AreNumbersOf new (c.loop-instr.numbers.items ++ c.in_ok-number_of.field-0 ∷ []) xs) (sym more) numbers),
     )

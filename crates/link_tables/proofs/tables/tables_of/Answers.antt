@@ -1,12 +1,12 @@
 use Rattle.link_model.specs.Sites.{resolutions_of}
 use Rattle.link_model.specs.Worlds.{linking_of}
 use Rattle.link_tables.proofs.NumberLaws.{lists_are}
-use Rattle.link_tables.proofs.tables.joined.Goals as goal
+use Rattle.link_tables.proofs.tables.tables_of.Goals as goal
 
 pub returns : goal.returns
 returns c = λ i.
     let p = c.args.members in
-    let of = c.args.of_codes in
+    let of = c.args.code_tables in
     record {
       program = p;
       names = (c.requires.numbers.numbers i).names;
