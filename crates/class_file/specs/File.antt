@@ -86,7 +86,7 @@ file_of bytes = do
   f ← layout_of bytes
   unless_fault f (first_fault (length bytes) f)
 
--- the offset of a fault in a file of so many bytes, and its reason
+-- the offset of a fault in a file of this size, and its reason
 abbrev pub refusal_of : ℕ → Result ClassFile (Fault ClassWhy) → Option (ℕ × ClassWhy)
 refusal_of size (Ok f) = None
 refusal_of size (Err fault) = Some (offset_of size fault, fault.why)

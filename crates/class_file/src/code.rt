@@ -1,8 +1,8 @@
 //! A Code attribute (JVMS 4.7.3).
 
 ghost use Rattle.std.specs.Prelude.{◌≡◌, ◌≤◌, ◌+◌, ◌*◌, false, length, IfOk};
-ghost use Rattle.byte_reader.specs.Reader.{Reads, ReadsBytes};
-ghost use Rattle.class_file.specs.Numbers.{sized_value_at};
+ghost use Rattle.byte_reader.specs.Reader.{Reads, ReadsBytes, both};
+ghost use Rattle.class_file.specs.Numbers.{sized_value_at, table_at};
 ghost use Rattle.class_file.specs.Attributes.{extra_at, next_extra, extras_at, row_at, rows_at, code_bytes_at, code_at};
 
 use crate::bodies::body_of;
@@ -131,6 +131,27 @@ fn code_bytes_of(bytes: &[u8]) -> Result<(&[u8], &[u8]), Stop<ClassWhy>>
     bytes_of(count as usize, rest)
 }
 
+// The exception table and the attributes of a Code, each after its number.
+fn tables_of<'a, L: Ledger>(
+    alloc: Global,
+    pool: &[Const],
+    tail: &SharedVec<u8>,
+    bytes: &'a [u8],
+    steps: &mut Steps<L>,
+) -> Result<((Items<Row>, Items<CodeAttribute>), &'a [u8]), Stop<ClassWhy>>
+    ensures read { Reads result
+        (both (table_at rows_at) (table_at (extras_at pool.now false)) bytes.now) }
+    ensures cost { steps.new ≤ steps.old + 3 * length bytes.now + 7 }
+    ensures rest { IfOk result (λ x.
+        steps.new + 3 * length x.1.now ≤ steps.old + 3 * length bytes.now) }
+{
+    let (row_count, rest) = u2_of(bytes)?;
+    let (rows, rest) = rows_of(alloc, row_count, rest)?;
+    let (extra_count, rest) = u2_of(rest)?;
+    let (extras, rest) = extras_of(alloc, pool, tail, extra_count, rest, steps)?;
+    Ok(((rows, extras), rest))
+}
+
 // A Code after its length.
 #[tactic(auto, unfolding(crate::specs::Attributes::code_at))]
 fn code_of<'a, L: Ledger>(
@@ -146,12 +167,9 @@ fn code_of<'a, L: Ledger>(
         steps.new + 3 * length x.1.now ≤ steps.old + 3 * length bytes.now) }
 {
     let ((max_stack, max_locals), rest) = pair_of(bytes)?;
-    let (code, rest) = code_bytes_of(rest)?;
-    let code = body_of(alloc, tail, code, rest, steps)?;
-    let (row_count, rest) = u2_of(rest)?;
-    let (rows, rest) = rows_of(alloc, row_count, rest)?;
-    let (extra_count, rest) = u2_of(rest)?;
-    let (attributes, rest) = extras_of(alloc, pool, tail, extra_count, rest, steps)?;
+    let (code, behind) = code_bytes_of(rest)?;
+    let ((rows, attributes), rest) = tables_of(alloc, pool, tail, behind, steps)?;
+    let code = body_of(alloc, tail, code, behind, steps)?;
     let body = CodeBody {
         max_stack,
         max_locals,

@@ -1,6 +1,6 @@
 //! The constant pool (JVMS 4.4).
 
-ghost use Rattle.std.specs.Prelude.{◌≡◌, ◌<◌, ◌≤◌, ◌+◌, ◌*◌, ◌^◌, length, IfOk, OnOk};
+ghost use Rattle.std.specs.Prelude.{◌≡◌, ◌≢◌, ◌<◌, ◌≤◌, ◌+◌, ◌*◌, ◌^◌, length, IfOk, OnOk};
 ghost use Rattle.std.specs.Io.{StartsWith};
 ghost use Rattle.jvm_utf8.specs.Units as utf8;
 ghost use Rattle.byte_reader.specs.Reader.{GivesBy, Reads};
@@ -24,7 +24,7 @@ use std::alloc::Global;
 use std::sync::ledger::Ledger;
 use steps::Steps;
 
-// Appends the units of any text, where so many bytes are left before it.
+// Appends the units of any text. `left` is the number of bytes from the text to the end.
 fn units_by_form<L: Ledger>(
     alloc: Global,
     units: &mut Vec<u16>,
@@ -49,8 +49,8 @@ fn units_by_form<L: Ledger>(
     }
 }
 
-// Appends the units of a text in front of these bytes. Where each byte is a unit by itself, as in most texts, and enough bytes
-// follow, several are looked at together.
+// Appends the units of a text, which `front` begins with. Where each byte is a unit by itself, as in most texts, and enough bytes
+// follow, several bytes are looked at together.
 fn units_of<L: Ledger>(
     alloc: Global,
     units: &mut Vec<u16>,
@@ -176,6 +176,35 @@ fn reference_of(
     }
 }
 
+// The constant after a tag that is not TAG_UTF8 (JVMS 4.4).
+#[tactic(auto, unfolding(crate::specs::Constants::tagged_at))]
+fn other_of(unknown: ClassFault, tag: u8, bytes: &[u8]) -> Result<(Const, &[u8]), Stop<ClassWhy>>
+    requires { tag ≢ TAG_UTF8 }
+    ensures read { Reads result (spec.tagged_at unknown tag bytes.now) }
+    ensures rest { IfOk result (λ x. later x.0 + length x.1.now ≤ length bytes.now) }
+{
+    match tag {
+        TAG_INTEGER => {
+            let (bits, rest) = u4_of(bytes)?;
+            Ok((Const::Integer(bits.cast_signed()), rest))
+        }
+        TAG_FLOAT => {
+            let (bits, rest) = u4_of(bytes)?;
+            Ok((Const::Float(bits), rest))
+        }
+        TAG_LONG => {
+            let (bits, rest) = u8_of(bytes)?;
+            Ok((Const::Long(bits.cast_signed()), rest))
+        }
+        TAG_DOUBLE => {
+            let (bits, rest) = u8_of(bytes)?;
+            Ok((Const::Double(bits), rest))
+        }
+        TAG_CLASS.. => reference_of(unknown, tag, bytes),
+        _ => Err(Stop::Fault(unknown)),
+    }
+}
+
 // The constant after a tag (JVMS 4.4). `unknown` is the fault where no constant has the tag.
 #[tactic(auto, unfolding(crate::specs::Constants::tagged_at), using(crate::proofs::TextPlaces::appends_none, crate::proofs::TextPlaces::none_appended))]
 fn tagged_of<'a, L: Ledger>(
@@ -194,36 +223,16 @@ fn tagged_of<'a, L: Ledger>(
         steps.new + later (constant_of (appended units.old.items units.new.items) x.0)
         + 4 * length x.1.now ≤ steps.old + 4 * length bytes.now) }
 {
-    match tag {
-        TAG_UTF8 => {
-            let rest = text_of(alloc, units, bytes, steps)?;
-            Ok((Entry::Text, rest))
-        }
-        TAG_INTEGER => {
-            let (bits, rest) = u4_of(bytes)?;
-            Ok((Entry::Other(Const::Integer(bits.cast_signed())), rest))
-        }
-        TAG_FLOAT => {
-            let (bits, rest) = u4_of(bytes)?;
-            Ok((Entry::Other(Const::Float(bits)), rest))
-        }
-        TAG_LONG => {
-            let (bits, rest) = u8_of(bytes)?;
-            Ok((Entry::Other(Const::Long(bits.cast_signed())), rest))
-        }
-        TAG_DOUBLE => {
-            let (bits, rest) = u8_of(bytes)?;
-            Ok((Entry::Other(Const::Double(bits)), rest))
-        }
-        TAG_CLASS.. => {
-            let (constant, rest) = reference_of(unknown, tag, bytes)?;
-            Ok((Entry::Other(constant), rest))
-        }
-        _ => Err(Stop::Fault(unknown)),
+    if tag == TAG_UTF8 {
+        let rest = text_of(alloc, units, bytes, steps)?;
+        return Ok((Entry::Text, rest));
     }
+    let (constant, rest) = other_of(unknown, tag, bytes)?;
+    Ok((Entry::Other(constant), rest))
 }
 
-// An entry of the pool, where so many follow. Behind a Long or a Double it takes no bytes, and one of these needs it (JVMS 4.4.5).
+// An entry of the pool, with `more` entries after it. The entry after a Long or a Double takes no bytes, and may not be missing
+// (JVMS 4.4.5).
 #[tactic(auto, unfolding(crate::specs::Constants::constant_at), using(crate::proofs::TextPlaces::appends_none, crate::proofs::TextPlaces::none_appended))]
 fn entry_of<'a, L: Ledger>(
     alloc: Global,

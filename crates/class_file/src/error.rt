@@ -1,3 +1,5 @@
+//! Why a class file is not read.
+
 ghost use Rattle.std.specs.Prelude.{◌≡◌};
 ghost use Rattle.class_file.specs.declared.error.ReadError.TheVariants as errors;
 

@@ -22,14 +22,14 @@ use steps::Steps;
 const MAGIC: u32 = 0xcafe_babe;
 
 /// The version of a class file (JVMS 4.1).
-#[derive(Clone, Copy, Debug)]
+#[derive(Clone, Copy)]
 pub struct Version {
     pub minor: u16,
     pub major: u16,
 }
 
 /// What a class says of itself (JVMS 4.1).
-#[derive(Debug, Drop)]
+#[derive(Drop)]
 pub struct Class {
     pub flags: u16,
     pub own: u16,

@@ -14,7 +14,7 @@ use std::sync::ledger::Ledger;
 use steps::Steps;
 
 /// The name of an attribute: its index in the constant pool, and the text there.
-#[derive(Clone, Copy, Debug)]
+#[derive(Clone, Copy)]
 pub struct Name<'a> {
     pub index: u16,
     pub text: &'a [u16],

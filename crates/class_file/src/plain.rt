@@ -26,8 +26,8 @@ fn plain_run(bytes: &[u8], at: usize) -> usize
     }
 }
 
-/// Whether each of so many bytes in front is a unit by itself. That a byte is looked at here is part of the step in which its
-/// unit is made.
+/// Whether each of the first `count` bytes is a unit by itself. To look at a byte here is part of the step that makes its
+/// unit.
 #[inline(always)]
 pub fn are_plain(bytes: &[u8], count: usize) -> bool
     requires { count + LANES ≤ length bytes.now }
@@ -44,7 +44,7 @@ pub fn are_plain(bytes: &[u8], count: usize) -> bool
     true
 }
 
-/// Appends each of so many bytes in front as a unit.
+/// Appends each of the first `count` bytes as a unit.
 #[inline(always)]
 pub fn append_front(units: &mut Vec<u16>, bytes: &[u8], count: usize) -> Result<(), AllocError>
     requires { count + LANES ≤ length bytes.now }

@@ -1,3 +1,5 @@
+//! Reading a class file: its layout, and then the checks on it.
+
 ghost use Rattle.std.specs.Prelude.{◌≡◌, ◌<◌, ◌≤◌, ◌+◌, ◌*◌, ◌^◌, ℕ, Some, Err, length, IfOk};
 ghost use Rattle.items.specs.Memory.{OkUnless};
 ghost use Rattle.byte_reader.specs.Reader.{Gives};

@@ -10,7 +10,7 @@ use shared_slices::SharedVec;
 use std::alloc::{AllocError, Global};
 
 /// An entry of the pool as it is read.
-#[derive(Debug, Drop)]
+#[derive(Drop)]
 pub enum Entry {
     /// A text, whose units were appended to those of the texts before it.
     Text,
@@ -27,7 +27,7 @@ impl Entry {
 }
 
 /// Which constant is a text, and how many units it has.
-#[derive(Clone, Copy, Debug)]
+#[derive(Clone, Copy)]
 pub struct Mark {
     pub index: u16,
     pub len: u16,
