@@ -1,3 +1,5 @@
+//! What a clock is.
+
 ghost use Rattle.std.specs.Prelude.{ℕ, Bool, IsTrue};
 
 /// A clock that counts nanoseconds. A reading may be less than the one before. No call fails.
@@ -9,6 +11,6 @@ pub trait Clock {
     fn now(&self) -> u64
         ensures { IsTrue (gives self.now result) };
 
-    /// Waits for about so many nanoseconds.
+    /// Waits for about this many nanoseconds.
     fn nap(&self, nanos: u64);
 }

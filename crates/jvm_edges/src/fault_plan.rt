@@ -1,3 +1,5 @@
+//! Which calls of a fake fail.
+
 ghost use Rattle.std.specs.Prelude.{◌≡◌, ◌≤◌, ◌↔◌, IsTrue};
 ghost use Rattle.jvm_edges.specs.Plan.{Plan, FailsNext, new_plan, after_call, after_fault};
 
@@ -5,7 +7,7 @@ use std::marker::Model;
 
 /// Which calls of a store or a sink in memory fail, how many calls there were and how many of them failed. Calls
 /// are counted from 1, and each count stops at the greatest u64.
-#[derive(Debug, Drop)]
+#[derive(Drop)]
 pub(crate) struct FaultPlan {
     fail_at: Vec<u64>,
     calls: u64,

@@ -1,3 +1,5 @@
+//! A store of files on disk.
+
 ghost use Rattle.std.specs.Prelude.{◌≡◌, ◌≢◌, ◌≤◌, ℕ, None, IfOk, IfErr, vec_len};
 ghost use Rattle.std.specs.IoError.{error_kind};
 ghost use Rattle.jvm_edges.specs.Causes.{StoreHasCause};

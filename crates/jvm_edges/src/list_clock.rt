@@ -1,3 +1,5 @@
+//! A fake clock that gives readings from a list.
+
 ghost use Rattle.std.specs.Prelude.{◌≡◌, ◌<◌, List, ℕ, nat_eq, length, vec_len};
 ghost use Rattle.std.specs.List.{list_any};
 
@@ -8,7 +10,7 @@ use std::sync::atomic::{AtomicUsize, Ordering};
 
 /// A clock that gives the readings of a list in turn, and then its last one again and again. Clauses see the
 /// clock as that list.
-#[derive(Debug, Drop)]
+#[derive(Drop)]
 pub struct ListClock {
     readings: Vec<u64>,
     index: CachePadded<AtomicUsize>,

@@ -1,3 +1,5 @@
+//! A fake store of files in memory.
+
 ghost use Rattle.std.specs.Prelude.{◌≡◌, ◌↔◌, ◌≤◌, Some, IsErrOf, IsSome, IfOk, IfSome, option_map, vec_len};
 ghost use Rattle.jvm_edges.specs.Causes.{StoreHasCause};
 ghost use Rattle.jvm_edges.specs.Files.{file_named, first_bytes, found_bytes};
@@ -10,7 +12,7 @@ use std::alloc::{AllocError, Global};
 use std::marker::Model;
 
 /// A store in memory, of which chosen calls fail.
-#[derive(Debug, Drop)]
+#[derive(Drop)]
 pub struct MapStore {
     files: Vec<(String, Vec<u8>)>,
     plan: FaultPlan,

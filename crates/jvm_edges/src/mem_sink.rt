@@ -1,3 +1,5 @@
+//! A fake sink in memory.
+
 ghost use Rattle.std.specs.Prelude.{◌≡◌, ◌↔◌, ◌⊎◌, ◌++◌, Some, IsErr, IfOk, OnOk, OnErr, length, take};
 ghost use Rattle.jvm_edges.specs.Causes.{SinkHasCause};
 ghost use Rattle.jvm_edges.specs.States.{new_sink, next_taken, FindsNoRoom};
@@ -9,7 +11,7 @@ use std::alloc::{AllocError, Global};
 use std::marker::Model;
 
 /// A sink in memory with a fixed room, of which chosen puts fail.
-#[derive(Debug, Drop)]
+#[derive(Drop)]
 pub struct MemSink {
     bytes: Vec<u8>,
     most: usize,

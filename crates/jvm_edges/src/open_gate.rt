@@ -1,3 +1,5 @@
+//! A gate that lets every carrier pass.
+
 ghost use Rattle.std.specs.Prelude.{◌≡◌};
 
 use crate::gate::Gate;

@@ -4,7 +4,7 @@ ghost use Rattle.jvm_edges.specs.Causes.{Rose};
 
 use crate::sink::Sink;
 
-/// A sink failed after it had taken so many bytes.
+/// A sink failed, after it took the first bytes.
 #[derive(Clone, Copy, Debug, PartialEq, Eq)]
 pub struct PartWritten {
     pub taken: u64,

@@ -1,3 +1,5 @@
+//! A clock over that of the system.
+
 ghost use Rattle.std.specs.Prelude.{◌≡◌, true};
 ghost use Rattle.std.specs.Duration.{as_nanos};
 ghost use Rattle.jvm_edges.specs.Nanos.{clock_nanos, nap_nanos};
@@ -31,7 +33,7 @@ fn clock_nanos(elapsed: Duration) -> u64
     u64::try_from(elapsed.as_nanos()).unwrap_or(u64::MAX)
 }
 
-// How long a nap of so many nanoseconds takes.
+// How long a nap takes, in nanoseconds.
 fn nap_length(nanos: u64) -> Duration
     ensures { as_nanos result ≡ nap_nanos SHORT_NAP nanos }
 {

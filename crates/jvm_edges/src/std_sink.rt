@@ -1,3 +1,5 @@
+//! A sink over a writer of the system.
+
 ghost use Rattle.std.specs.Prelude.{◌≡◌, ◌<◌, ◌≤◌, ℕ, None, IfOk, length};
 ghost use Rattle.std.specs.Io.KnownBytes.{WriteAppends};
 ghost use Rattle.jvm_edges.specs.Causes.{SinkHasCause};

@@ -1,3 +1,5 @@
+//! A fake clock that naps move on.
+
 ghost use Rattle.std.specs.Prelude.{◌≡◌, ℕ, nat_le};
 
 use crate::clock::Clock;
@@ -7,7 +9,7 @@ use std::sync::atomic::{AtomicU64, Ordering};
 
 /// A clock that moves on only by naps. It counts the nanoseconds since its first reading, so no reading is less
 /// than that one. Clauses see the clock as its first reading.
-#[derive(Debug, Drop)]
+#[derive(Drop)]
 pub struct StepClock {
     first: u64,
     since_first: CachePadded<AtomicU64>,
@@ -40,8 +42,8 @@ impl Clock for StepClock {
         self.first.saturating_add(since_first)
     }
 
-    /// Moves the clock on, to so many nanoseconds after its reading at the call or later, and at most to the
-    /// greatest u64.
+    /// Moves the clock on by at least this many nanoseconds from its reading at the call, but not past the greatest
+    /// u64.
     fn nap(&self, nanos: u64) {
         let since_first = self.since_first.load(Ordering::SeqCst);
         self.since_first
