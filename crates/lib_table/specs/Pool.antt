@@ -1,5 +1,5 @@
 -- The constant pool of a class file that is made of a declaration (JVMS 4.4): a constant is in it once, at the place where it is
--- mentioned first, after the constants that it names. (own)
+-- mentioned first, after the constants that it names.
 use Rattle.std.specs.Prelude.{ℕ, Bool, false, List, [], ◌∷◌, ◌++◌, Option, Some, None, length, position, ◌==◌, ◌&&◌}
 use Rattle.class_model.specs.declared.constant.Const.{Const}
 use Rattle.class_model.specs.declared.constant.Const.TheVariants.{Utf8, Class, Text, Fieldref, Methodref, InterfaceMethodref, NameAndType}

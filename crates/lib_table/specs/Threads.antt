@@ -148,7 +148,7 @@ lock_support =
     ∷ native_method (public + static + native) "unpark" "(Ljava/lang/Thread;)V" natives.LockSupportUnpark
     ∷ [])
 
--- Its method runs under a native frame. (own)
+-- Its method runs under a native frame.
 abbrev pub native_holder : Class
 native_holder =
     class (public + final) "jvt/Native" (Some "java/lang/Object") []

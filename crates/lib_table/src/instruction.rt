@@ -1,3 +1,5 @@
+//! The instructions of the built-in classes, as their declarations name them.
+
 ghost use Rattle.std.specs.Prelude.{◌≡◌};
 ghost use Rattle.lib_table.specs.Instructions.{meaning, operand_of};
 

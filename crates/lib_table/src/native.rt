@@ -1,5 +1,5 @@
 /// What the machine itself does in place of code: one variant for each native method of the built-in classes, named by its class, its name
-/// and, where there are several of that name, what it takes. A name that begins with a digit is private, and Java source can't spell it. (own)
+/// and, where there are several of that name, what it takes. A name that begins with a digit is private, and Java source can't spell it.
 #[derive(Clone, Copy, Debug, PartialEq, Eq)]
 pub enum Native {
     /// `java/lang/Object.<init>()V`

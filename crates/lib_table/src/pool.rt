@@ -111,7 +111,7 @@ fn position_of_text(entries: &[Const], text: &str) -> Option<usize>
     entries.iter().position(|entry| is_text(entry, text))
 }
 
-// The index as it is in a class file. A pool or a code without room for it counts as want of memory.
+// The index as a class file has it. One of more than two bytes counts as want of memory.
 pub fn narrow(index: usize) -> Result<u16, NoMemory>
     ensures { IfOk result (λ n. n ≡ index) }
 {

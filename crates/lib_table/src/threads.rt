@@ -170,7 +170,7 @@ static CLASSES: [ClassDeclaration; 5] = [
             method!(public static native "unpark" "(Ljava/lang/Thread;)V" = LockSupportUnpark),
         ],
     },
-    // Its method runs under a native frame. (own)
+    // Its method runs under a native frame.
     ClassDeclaration {
         flags: flags!(public final),
         name: "jvt/Native",
