@@ -4,3 +4,4 @@ pub mod ResultLaws
 pub mod LocalLaws
 pub mod NewLaws
 pub mod StackLaws
+pub mod EffectLaws

@@ -1,5 +1,5 @@
 -- Local variables whose types are those of objects that aren't initialized: their slots are listed.
-use Rattle.std.proofs.Common.{◌≡◌, ℕ, zero, suc, ◌<◌, ◌≤◌, Bool, true, false, cond, eqb, ltb, List, [], ◌∷◌, ◌++◌, length, set, refl, ap, sym, subst, ◌∙◌, arith}
+use Rattle.std.proofs.Common.{◌≡◌, ℕ, zero, suc, ◌+◌, ◌<◌, ◌≤◌, Bool, true, false, cond, eqb, ltb, List, [], ◌∷◌, ◌++◌, length, set, refl, ap, sym, subst, ◌∙◌, arith}
 use Rattle.std.specs.Prelude.{◌&&◌, ◌||◌, not}
 use Rattle.std.proofs.lemmas.Bool.{eq-eqb, eqb-true, eqb-false, ltb-true, ltb-false}
 use Rattle.std.proofs.lemmas.List.{length-set, get_or-set_same, get_or-set_other}
@@ -49,6 +49,36 @@ still_listed slots n k was t e = more slots n k (is_unfinished t && not (is_unfi
 pub now_listed : (slots : List ℕ) (n : ℕ) (was t : VType) → is_unfinished t ≡ true → (is_unfinished was ≡ true → is_listed slots n ≡ true) → is_listed (listing n was t slots) n ≡ true
 now_listed slots n was t e h = now slots n (is_unfinished t) (is_unfinished was) e h
 
+-- the same list, or one slot more
+pub listed_still : (slots now : List ℕ) (ls after : List VType) (n : ℕ) (was t : VType) → now ≡ listing n was t slots → after ≡ ls → AreListed slots ls → AreListed now after
+listed_still slots now ls after n was t listed same h =
+    subst (λ us. AreListed now us) (sym same) (subst (λ ss. AreListed ss ls) (sym listed) (record { all = λ k is. still_listed slots n k was t (h.all k is) }))
+
+-- the slots below one are listed, and so are those below the next
+pub listed_next : (slots now : List ℕ) (ls : List VType) (n : ℕ) → now ≡ listing n types.Top (type_at ls n) slots → ((k : ℕ) → k < n → is_unfinished (type_at ls k) ≡ true → is_listed slots k ≡ true)
+    → (k : ℕ) → k < n + 1 → is_unfinished (type_at ls k) ≡ true → is_listed now k ≡ true
+listed_next slots now ls n listed h k low is = subst (λ ss. is_listed ss k ≡ true) (sym listed) (by_test (eqb n k) refl)
+  where
+    below : (n k : ℕ) → k < n + 1 → (n ≡ k → ⊥) → k < n
+    below n k low ne = omega arith
+
+    by_test : (b : Bool) → eqb n k ≡ b → is_listed (listing n types.Top (type_at ls n) slots) k ≡ true
+    by_test true e =
+        let same = eqb-true n k e in
+        subst (λ m. is_listed (listing n types.Top (type_at ls n) slots) m ≡ true) same
+        (now_listed slots n types.Top (type_at ls n) (ap (λ m. is_unfinished (type_at ls m)) same ∙ is) (λ e. absurd cc))
+    by_test false e = still_listed slots n k types.Top (type_at ls n) (h k (below n k low (eqb-false n k e)) is)
+
+-- all slots are listed
+pub listed_all : (slots : List ℕ) (ls : List VType) (n : ℕ) → length ls ≤ n → ((k : ℕ) → k < n → is_unfinished (type_at ls k) ≡ true → is_listed slots k ≡ true) → AreListed slots ls
+listed_all slots ls n high h = record { all = λ k is. by_place k (ltb k n) refl is }
+  where
+    by_place : (k : ℕ) (b : Bool) → ltb k n ≡ b → is_unfinished (type_at ls k) ≡ true → is_listed slots k ≡ true
+    by_place k true e is = h k (ltb-true k n e) is
+    by_place k false e is =
+        let none : is_unfinished (type_at ls k) ≡ false = ap is_unfinished (type_past ls k (omega (arith, ltb-false k n e))) in
+        absurd cc
+
 -- ---- a slot that is written
 
 pub set_listed : (slots : List ℕ) (ls : List VType) (n : ℕ) (t : VType) → n < length ls → AreListed slots ls → AreListed (listing n (type_at ls n) t slots) (set ls n t)
@@ -62,6 +92,19 @@ set_listed slots ls n t low h = record { all = λ k. by_test k (eqb n k) refl }
         (now_listed slots n (type_at ls n) t (ap is_unfinished (sym (get_or-set_same ls n t types.Top low)) ∙ here) (h.all n))
     by_test k false e is =
         still_listed slots n k (type_at ls n) t (h.all k (ap is_unfinished (sym (get_or-set_other ls n k t types.Top (λ s. eqb-false n k e (sym s)))) ∙ is))
+
+-- it becomes listed
+pub written_listed : (slots now : List ℕ) (n : ℕ) (was t : VType) → now ≡ listing n was t slots → (ls : List VType) → n < length ls → type_at ls n ≡ was → AreListed slots ls → AreListed now (set ls n t)
+written_listed slots now n was t listed ls low here h =
+    subst (λ ss. AreListed ss (set ls n t)) (ap (λ x. listing n x t slots) here ∙ sym listed) (set_listed slots ls n t low h)
+
+-- it is listed already
+pub among_listed : (slots : List ℕ) (n : ℕ) (t : VType) → is_listed slots n ≡ true → (ls : List VType) → n < length ls → AreListed slots ls → AreListed slots (set ls n t)
+among_listed slots n t there ls low h = record { all = λ k is. by_test k (eqb n k) refl is }
+  where
+    by_test : (k : ℕ) (b : Bool) → eqb n k ≡ b → is_unfinished (type_at (set ls n t) k) ≡ true → is_listed slots k ≡ true
+    by_test k true e is = subst (λ m. is_listed slots m ≡ true) (eqb-true n k e) there
+    by_test k false e is = h.all k (ap is_unfinished (sym (get_or-set_other ls n k t types.Top (λ s. eqb-false n k e (sym s)))) ∙ is)
 
 pub unset_listed : (slots : List ℕ) (ls : List VType) (n : ℕ) → n < length ls → AreListed slots ls → AreListed slots (set ls n types.Top)
 unset_listed slots ls n low h = set_listed slots ls n types.Top low h

@@ -1,11 +1,11 @@
 -- Operand stacks with the objects on them that aren't initialized.
-use Rattle.std.proofs.Common.{◌≡◌, ℕ, zero, suc, ◌<◌, ◌≤◌, Bool, true, false, cond, eqb, ltb, get_or, List, [], ◌∷◌, ◌++◌, length, Option, Some, refl, ap, sym, subst, ◌∙◌, arith}
+use Rattle.std.proofs.Common.{◌≡◌, ℕ, zero, suc, ◌+◌, ◌<◌, ◌≤◌, Bool, true, false, cond, eqb, ltb, get_or, take, List, [], ◌∷◌, ◌++◌, length, Option, Some, refl, ap, sym, subst, ◌∙◌, arith}
 use Rattle.std.specs.Prelude.{◌||◌}
 use Rattle.std.specs.Option.{option_to_list}
 use Rattle.std.specs.List.{list_any}
 use Rattle.std.proofs.lemmas.Bool.{eqb-true, eqb-false, ltb-true, ltb-false}
 use Rattle.std.proofs.lemmas.List.{get_or_append_left, length-append}
-use Rattle.std.proofs.lemmas.List.Folds.{list_any-append}
+use Rattle.std.proofs.lemmas.List.Folds.{list_any-append, list_any_more}
 use Rattle.std.proofs.Math.Seq.{get_or-append_seam}
 use Rattle.stack_maps.specs.declared.types.VType.{VType}
 use Rattle.stack_maps.specs.declared.types.VType.TheVariants as types
@@ -43,6 +43,11 @@ pushed_listed slots ls t h = record { all = λ k is. by_place k (ltb k (length l
     by_place k true e is =
         still_listed slots (length ls) k types.Top t (h.all k (ap is_unfinished (sym (get_or_append_left ls (t ∷ []) types.Top k (ltb-true k (length ls) e))) ∙ is))
     by_place k false e is = by_end k (ltb-false k (length ls) e) (eqb (length ls) k) refl is
+
+pub push_listed : (slots now : List ℕ) (ls after : List VType) (n : ℕ) (t : VType) → n ≡ length ls → now ≡ listing n types.Top t slots → after ≡ ls ++ t ∷ [] → AreListed slots ls → AreListed now after
+push_listed slots now ls after n t size listed pushed h =
+    subst (λ us. AreListed now us) (sym pushed)
+    (subst (λ ss. AreListed ss (ls ++ t ∷ [])) (sym (listed ∙ ap (λ m. listing m types.Top t slots) size)) (pushed_listed slots ls t h))
 
 pub popped_listed : (slots : List ℕ) (ls : List VType) (t : VType) → AreListed slots (ls ++ t ∷ []) → AreListed slots ls
 popped_listed slots ls t h = record { all = λ k is. by_place k (ltb k (length ls)) refl is }
@@ -144,6 +149,15 @@ not_yet m ls made none = record { all = λ is pc e. absurd cc }
 either_new : (a b : Bool) (P : Type 0) → (a || b) ≡ true → (a ≡ true → P) → (b ≡ true → P) → P
 either_new true b P e f g = f refl
 either_new false b P e f g = g e
+
+-- the types so far, and one more
+pub marked_next : (ts : List VType) (i : ℕ) (d t : VType) (made now : List Bool) → i < length ts → t ≡ get_or ts i d → AreMarked (take i ts) made → ((pc : ℕ) → get_or made pc false ≡ true → get_or now pc false ≡ true)
+    → ((pc : ℕ) → is_new pc t ≡ true → get_or now pc false ≡ true) → AreMarked (take (i + 1) ts) now
+marked_next ts i d t made now low is h kept marked = record {
+  all = λ pc e.
+      either_new (list_any (is_new pc) (take i ts)) (is_new pc (get_or ts i d)) (get_or now pc false ≡ true) (sym (list_any_more (is_new pc) ts i d low) ∙ e)
+      (λ x. kept pc (h.all pc x)) (λ x. marked pc (ap (is_new pc) is ∙ x));
+}
 
 pub marked_more : (m : Bool) (ls : List VType) (t : VType) (made now : List Bool) → AreMarkedWhere m ls made → ((pc : ℕ) → get_or made pc false ≡ true → get_or now pc false ≡ true) → (m ≡ true → (pc : ℕ) → is_new pc t ≡ true → get_or now pc false ≡ true) → AreMarkedWhere m (ls ++ t ∷ []) now
 marked_more m ls t made now h kept marked = record {

@@ -6,3 +6,4 @@ pub mod Unfinished
 pub mod LocalTypes
 pub mod Marks
 pub mod StackTypes
+pub mod RowKinds

@@ -9,6 +9,8 @@ ghost use Rattle.verify_types.specs.Operands.{all_wanted};
 ghost use Rattle.verify_types.specs.Assignability.{is_number};
 ghost use Rattle.verify_instructions.specs.Tables.{new_at};
 ghost use Rattle.verify_types.specs.Calls as spec;
+ghost use Rattle.verify_types.specs.Objects.{named_class};
+ghost use Rattle.instruction_rows.specs.Results.{◌then◌};
 ghost use Rattle.instruction_rows.specs.Rows as rows;
 ghost use Rattle.verify_instructions.specs.Answers.{Gives, Leaves};
 ghost use Rattle.verify_instructions.specs.Views.{state_in, environment_in};
@@ -225,16 +227,11 @@ impl State {
     }
 
     /// invokevirtual and invokeinterface.
-    pub fn invoke_virtual<L: Lookups>(
-        &mut self,
-        w: &L,
-        m: &Method<'_>,
-        pc: u16,
-        resolution: Resolution,
-    ) -> Result<(), Stop>
+    pub fn invoke_virtual<L: Lookups>(&mut self, w: &L, resolution: Resolution) -> Result<(), Stop>
         ensures { Leaves result (state_in self.new)
-            (spec.invoke_state (environment_in (L.world w.now) m.now) pc resolution rows.virtual
-            (state_in self.old)) }
+            (spec.method_of (L.world w.now) resolution.site then λ called.
+            named_class resolution then λ class.
+            spec.instance_called (L.world w.now) called class (state_in self.old)) }
     {
         let called = method_of(w, resolution.site)?;
         let class = named_class(resolution)?;
@@ -242,16 +239,11 @@ impl State {
     }
 
     /// invokestatic.
-    pub fn invoke_static<L: Lookups>(
-        &mut self,
-        w: &L,
-        m: &Method<'_>,
-        pc: u16,
-        resolution: Resolution,
-    ) -> Result<(), Stop>
+    pub fn invoke_static<L: Lookups>(&mut self, w: &L, resolution: Resolution) -> Result<(), Stop>
         ensures { Leaves result (state_in self.new)
-            (spec.invoke_state (environment_in (L.world w.now) m.now) pc resolution rows.static
-            (state_in self.old)) }
+            (spec.method_of (L.world w.now) resolution.site then λ called.
+            named_class resolution then λ class.
+            spec.static_called (L.world w.now) called (state_in self.old)) }
     {
         let called = method_of(w, resolution.site)?;
         named_class(resolution)?;

@@ -1,6 +1,6 @@
-//! The types of local variables (JVMS 4.10.1.4), and which of them may be those of unfinished objects.
+//! The types of local variables (JVMS 4.10.1.4), and which of them may be those of uninitialized objects.
 
-ghost use Rattle.std.specs.Prelude.{◌≡◌, ◌++◌, ◌∷◌, [], true, IfOk, List, MatchBool, MatchOption, OnErr, OnOk, length, slice_set};
+ghost use Rattle.std.specs.Prelude.{◌≡◌, ◌<◌, ◌++◌, ◌∷◌, [], true, IfOk, List, MatchBool, MatchOption, OnErr, OnOk, length, slice_set};
 ghost use Rattle.std.specs.List.{list_any};
 ghost use Rattle.stack_maps.specs.declared.types.VType.{VType as OneType};
 ghost use Rattle.verify_types.specs.TypeStates.{replaced};
@@ -12,10 +12,10 @@ use stack_maps::VType;
 use std::alloc::{AllocError, Global};
 use std::marker::Model;
 
-// A slot that is written is looked for among so many that are listed already.
+// How many of the listed slots are searched before a slot is listed again.
 const MOST: usize = 64;
 
-/// The types of local variables, slot by slot. An object that isn't initialized is found without a look at all of them.
+/// The types of local variables, slot by slot, with a list of the slots that may hold an uninitialized object.
 #[derive(Drop)]
 pub struct Locals {
     types: Vec<VType>,
@@ -35,14 +35,14 @@ impl Model for Locals {
     ghost invariant = { HasUnfinished };
 }
 
-/// Whether a type is that of an object that isn't initialized.
+/// Whether a type is that of an uninitialized object.
 pub fn is_unfinished(t: VType) -> bool
     ensures { result ≡ spec.is_unfinished t }
 {
     matches!(t, VType::UninitThis | VType::Uninit(_))
 }
 
-// Adds a slot whose type becomes that of an unfinished object, unless it was one.
+// Lists a slot whose type becomes that of an uninitialized object, unless it was one before.
 fn list(slots: &mut Vec<usize>, slot: usize, was: VType, t: VType) -> Result<(), AllocError>
     ensures listed { OnOk result
         (slots.new.items ≡ spec.listing slot was t slots.old.items) }
@@ -62,13 +62,27 @@ fn is_among_first(slots: &[usize], slot: usize) -> bool
     first.iter().any(|other| *other == slot)
 }
 
-// The slots of unfinished objects.
+// Lists a slot whose type becomes that of an uninitialized object, unless it is among the first that are listed.
+fn list_once(slots: &mut Vec<usize>, slot: usize, was: VType, t: VType) -> Result<(), AllocError>
+    ensures listed { OnOk result ((types : List OneType) → slot < length types
+        → spec.type_at types slot ≡ was → spec.AreListed slots.old.items types
+        → spec.AreListed slots.new.items (slice_set types slot t)) }
+    ensures same { OnErr result (slots.new.items ≡ slots.old.items) }
+{
+    if is_among_first(slots, slot) {
+        return Ok(());
+    }
+    list(slots, slot, was, t)?;
+    Ok(())
+}
+
+// The slots of the uninitialized objects among these types.
 fn unfinished_in(alloc: Global, types: &[VType]) -> Result<Vec<usize>, AllocError>
     ensures { IfOk result (λ slots. spec.AreListed slots.items types.now) }
 {
     let mut slots = Vec::new(alloc);
-    for (slot, t) in types.iter().enumerate() {
-        list(&mut slots, slot, VType::Top, *t)?;
+    for slot in 0..types.len() {
+        list(&mut slots, slot, VType::Top, type_at(types, slot))?;
     }
     Ok(slots)
 }
@@ -116,7 +130,7 @@ fn type_at(types: &[VType], slot: usize) -> VType
     }
 }
 
-// Takes a slot off the list that was the last of all, if it stands last there.
+// Takes a slot that no longer exists off the list, if it stands last there.
 fn unlist(slots: &mut Vec<usize>, slot: usize)
     ensures { (types : List OneType) → length types ≡ slot → spec.AreListed slots.old.items types
         → spec.AreListed slots.new.items types }
@@ -145,7 +159,7 @@ impl Locals {
         &self.types
     }
 
-    /// Slots, among them each whose type is that of an object that isn't initialized.
+    /// Slots, among them all that hold an uninitialized object.
     pub fn unfinished(&self) -> &[usize]
         ensures { spec.AreListed result.now self.now }
     {
@@ -189,9 +203,7 @@ impl Locals {
         if n >= self.types.len() {
             return Ok(());
         }
-        if !is_among_first(&self.unfinished, n) {
-            list(&mut self.unfinished, n, self.types[n], t)?;
-        }
+        list_once(&mut self.unfinished, n, type_at(&self.types, n), t)?;
         self.types[n] = t;
         Ok(())
     }

@@ -13,7 +13,7 @@ use class_model::Row;
 use link_model::{MethodCode, MethodInfo, Resolutions, Site};
 use opcodes::{Instr, Op};
 
-/// A method with code: what its constants mean, by instruction, and what the rows of its exception table catch.
+/// A method with code, what each instruction's constant resolves to, and what each row of its exception table catches.
 #[derive(Clone, Copy)]
 pub struct Method<'a> {
     pub info: &'a MethodInfo,

@@ -53,7 +53,7 @@ pub fn named_class(resolution: Resolution) -> Result<u32, Stop>
     }
 }
 
-// Whether a field of an object whose constructor runs may be set.
+// Whether a field may be set before the constructor that runs calls another one.
 fn may_set_early(own: u32, class: u32, field: &FieldInfo, t: VType) -> bool
     ensures { result ≡ spec.may_set_early own class field.now t }
 {
@@ -107,7 +107,7 @@ impl Types {
         self.push(type_of_kind(w, &field.kind))
     }
 
-    // Takes an object whose field is set.
+    // Takes the object whose field is set.
     fn pop_owner<L: Lookups>(
         &mut self,
         w: &L,
@@ -198,7 +198,7 @@ impl Types {
         }
     }
 
-    // Takes so many lengths.
+    // Takes this number of lengths.
     fn pop_lengths(&mut self, lengths: u8) -> Result<(), Stop>
         ensures stack { Leaves result self.new.stack
             (types_popped (replicate lengths ValueKind.Int) self.old.stack) }
@@ -211,7 +211,7 @@ impl Types {
         self.pop_lengths(lengths - 1)
     }
 
-    /// anewarray and multianewarray, with so many lengths.
+    /// anewarray and multianewarray, with this number of lengths.
     pub fn new_arrays<L: Lookups>(
         &mut self,
         w: &L,
@@ -239,7 +239,7 @@ impl Types {
     }
 
     // An instruction without operands in the code.
-    pub fn simple_event<L: Lookups>(&mut self, w: &L, simple: Simple) -> Result<(), Stop>
+    fn simple_event<L: Lookups>(&mut self, w: &L, simple: Simple) -> Result<(), Stop>
         ensures stack { (own pc : ℕ) (resolution : Resolution) → Leaves result self.new.stack
             (event_stack (L.world w.now) own pc resolution (simple_row simple) self.old.stack) }
         ensures locals { self.new.locals ≡ self.old.locals }
@@ -265,7 +265,7 @@ impl Types {
     }
 
     // newarray.
-    pub fn new_array(&mut self, primitive: Primitive) -> Result<(), Stop>
+    fn new_array(&mut self, primitive: Primitive) -> Result<(), Stop>
         ensures stack { (w : World) (own pc : ℕ) (resolution : Resolution) → Leaves result self.new.stack
             (event_stack w own pc resolution (new_array_row primitive) self.old.stack) }
         ensures locals { self.new.locals ≡ self.old.locals }

@@ -1,4 +1,4 @@
-//! The types of an operand stack, with the objects on it that aren't initialized (JVMS 4.10.1.4).
+//! The types of an operand stack, and the uninitialized objects on it (JVMS 4.10.1.4).
 
 ghost use Rattle.std.specs.Prelude.{◌≡◌, ℕ, ◌∷◌, [], IfOk, MatchBool, MatchOption, OnOk, get_or, length, reverse, true, false};
 ghost use Rattle.std.specs.List.{list_any};
@@ -12,14 +12,14 @@ use stack_maps::VType;
 use std::alloc::{AllocError, Global};
 use std::marker::Model;
 
-// With fewer unfinished objects a look at all of them costs less than marks.
+// With fewer uninitialized objects, a search through them costs less than marks.
 const MANY: usize = 64;
 
-/// The types of an operand stack, slot by slot. An object that isn't initialized is found without a look at all of them.
+/// The types of an operand stack, slot by slot, with marks by which an uninitialized object is found at once.
 #[derive(Drop)]
 pub struct OperandStack {
     types: Locals,
-    // For each pc whether an object of the `new` there may be on the stack, once they are marked.
+    // For each pc, once objects are marked: whether an object of the `new` there may be on the stack.
     made: Vec<bool>,
     are_marked: bool,
 }
@@ -119,7 +119,7 @@ impl OperandStack {
         self.types.as_slice().len()
     }
 
-    // Marks the pcs of all objects, if these are many.
+    // Marks the pcs of all objects, if there are many.
     fn mark_many(&mut self) -> Result<(), AllocError>
         ensures { self.new ≡ self.old }
     {

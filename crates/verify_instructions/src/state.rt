@@ -21,8 +21,8 @@ pub struct State {
     pub this_uninit: bool,
 }
 
-/// An object that isn't initialized.
-#[derive(Clone, Copy, Debug, PartialEq, Eq)]
+/// An uninitialized object.
+#[derive(Clone, Copy)]
 pub enum Uninitialized {
     /// The object whose constructor runs.
     This,
@@ -65,7 +65,7 @@ impl State {
         self.types.push_slot(VType::Uninit(pc))
     }
 
-    /// Gives the object this type wherever it lies.
+    /// Gives the object this type wherever it is.
     pub fn initialize(&mut self, object: Uninitialized, t: VType) -> Result<(), Stop>
         ensures after { OnOk result (state_in self.new ≡
             initialized (is_object object) t self.old.this_uninit (state_in self.old)) }

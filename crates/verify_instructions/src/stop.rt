@@ -1,11 +1,13 @@
+//! Why an instruction was not typed.
+
 ghost use Rattle.std.specs.Prelude.{◌≡◌};
 ghost use Rattle.verify_instructions.specs.declared.stop.Stop.TheVariants.{NoMemory};
 
 use instruction_rows::RowWhy;
 use std::alloc::{AllocError, AllocFailed};
 
-/// Why an instruction was not typed.
-#[derive(Clone, Copy, Debug, PartialEq, Eq)]
+/// Why an instruction was not typed: it breaks a rule, or there was no memory.
+#[derive(Clone, Copy, Debug)]
 pub enum Stop {
     /// It breaks a rule.
     Broken(RowWhy),

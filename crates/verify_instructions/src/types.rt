@@ -1,3 +1,5 @@
+//! The types of a frame (JVMS 4.10.1.4): values are taken and pushed, local variables read and written.
+
 ghost use Rattle.std.specs.Prelude.{◌≡◌, length, [], ◌∷◌, Ok, Err, IfOk, MatchOption, OnOk, OnErr, ok_or, reverse, slice_set};
 ghost use Rattle.instruction_rows.specs.Contents.{with_item};
 ghost use Rattle.instruction_rows.specs.Kinds.{is_kind, kind_of_type};
@@ -29,7 +31,7 @@ struct SlotTypes {
     stack: OperandStack,
 }
 
-/// The types of a frame, slot by slot (JVMS 4.10.1.4). They lie in memory of their own, since a state is handed on at each instruction.
+/// The types of a frame, slot by slot (JVMS 4.10.1.4). They are boxed, since a state is handed on at each instruction.
 #[derive(Drop)]
 pub struct Types {
     slots: Box<SlotTypes>,
@@ -76,7 +78,7 @@ impl Types {
         self.slots.locals.as_slice()
     }
 
-    /// Slots of local variables, among them each whose type is that of an object that isn't initialized.
+    /// Slots of local variables, among them all that hold an uninitialized object.
     pub fn unfinished(&self) -> &[usize]
         ensures { AreListed result.now self.now.locals }
     {
@@ -189,7 +191,7 @@ impl Types {
         Ok(())
     }
 
-    /// Writes the type of the local variable of a number, if there is one (own).
+    /// Writes the type of a local variable, if there is one of this number.
     pub fn overwrite(&mut self, slot: usize, t: VType) -> Result<(), AllocError>
         ensures locals { OnOk result (self.new.locals ≡ slice_set self.old.locals slot t) }
         ensures stack { self.new.stack ≡ self.old.stack }
@@ -197,7 +199,7 @@ impl Types {
         self.slots.locals.set(slot, t)
     }
 
-    // A long before this local variable loses its second slot.
+    // Unsets the long or double whose second slot is this local variable.
     fn split_before(&mut self, n: usize)
         ensures locals { self.new.locals ≡ spec.without_half n self.old.locals }
         ensures stack { self.new.stack ≡ self.old.stack }
@@ -227,7 +229,7 @@ impl Types {
         Ok(())
     }
 
-    // The type of a local variable, where it is of this kind.
+    // The type of a local variable, which must be of this kind.
     fn local(&self, kind: ValueKind, n: u16) -> Result<VType, Stop>
         ensures { Gives result (λ t. t) (spec.local_type kind n self.now.locals) }
     {
@@ -329,7 +331,7 @@ impl Types {
         self.slots.stack.has(object)
     }
 
-    /// Gives local variables that hold the object another type.
+    /// Gives the local variables that hold the object another type.
     pub fn replace_locals(&mut self, object: Uninitialized, t: VType)
         ensures locals { self.new.locals ≡ replaced (is_object object) t self.old.locals }
         ensures stack { self.new.stack ≡ self.old.stack }
@@ -337,7 +339,7 @@ impl Types {
         self.slots.locals.replace(object, t);
     }
 
-    /// Gives operands that are the object another type.
+    /// Gives the operands that are the object another type.
     pub fn replace_operands(&mut self, object: Uninitialized, t: VType) -> Result<(), Stop>
         ensures stack { OnOk result
             (self.new.stack ≡ replaced (is_object object) t self.old.stack) }

@@ -1,7 +1,7 @@
 use crate::VerifyWhy;
 
 /// What is wrong in the code of a method: the pc of an instruction or of a frame of the stack map, and why.
-#[derive(Clone, Copy, Debug, PartialEq, Eq)]
+#[derive(Clone, Copy)]
 pub struct PcFault {
     pub pc: u32,
     pub why: VerifyWhy,
