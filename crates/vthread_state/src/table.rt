@@ -20,7 +20,7 @@ use std::marker::Model;
 use thread_lists::ThreadLists;
 
 /// The threads by number, and who waits to join each of them.
-#[derive(Debug, Drop)]
+#[derive(Drop)]
 pub struct ThreadTable {
     alloc: Global,
     limit: u32,
