@@ -1,3 +1,5 @@
+//! The outcome of one file.
+
 ghost use Rattle.std.specs.Prelude.{◌≡◌, ◌≤◌, ◌^◌, length, IfSome};
 ghost use Rattle.jvm_edges.specs.Files.{file_named};
 ghost use Rattle.round_trip.specs.Outcomes.{ComesTo, FileComesTo, StoreFaults};
