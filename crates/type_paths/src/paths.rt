@@ -10,7 +10,7 @@ use std::marker::Model;
 
 /// The last type of a path, `None` for one that isn't known, the node at which the others end, and the slots that all of them take, `None`
 /// where one isn't known.
-#[derive(Clone, Copy, Debug, PartialEq, Eq)]
+#[derive(Clone, Copy)]
 pub struct Node {
     pub item: Option<VType>,
     pub below: u32,

@@ -13,7 +13,7 @@ use Rattle.link_model.specs.declared.members.MethodInfo.{MethodInfo}
 use Rattle.link_model.specs.World.{World}
 use Rattle.verify_types.specs.Environment.{MapFrame, map_frame, is_constructor}
 use Rattle.verify_frames.specs.declared.frame_paths.Entry.{Entry}
-use Rattle.verify_frames.specs.Entries.{AreRising, Rises, entry_at, stray_entry, pc_of}
+use Rattle.verify_frames.specs.Entries.{Rises, entry_at, stray_entry, pc_of}
 use Rattle.verify_frames.specs.StackMaps as maps
 use Rattle.verify_frames.specs.FramePaths.{Grows, IsEntry, entry_in, path_of}
 use Rattle.verify_frames.specs.Frames.{frame_at, stray_frame}
@@ -53,9 +53,9 @@ pub stray_pc : (ps : List Path) (constructor : Bool) (max pc next : ℕ) (is_las
 stray_pc ps constructor max pc next is_last es =
     pc_kept ps constructor max (stray_entry pc next is_last es) ∙ ap (λ o. option_map (λ (f : MapFrame). f.pc) o) (sym (stray_found ps constructor max pc next is_last es))
 
--- ---- frames that are kept one after the other
+-- ---- the entries of frames, one after the other
 
--- these are kept of the frames of a map, and the rest of its changes comes after local variables of these paths
+-- these are the entries of frames of a map, and the rest of its changes comes after local variables of this path
 pub record Built (w : World) (class : ℕ) (first : List VType) (changes : List (ℕ × FrameChange)) (paths : List Path) (entries : List Entry) (locals : ℕ) (rest : List (ℕ × FrameChange)) : Type 0 where
   pub before : List VType
   pub whole : List (ℕ × FrameTypes)
@@ -98,7 +98,7 @@ built_one w class first changes paths new entries locals e change left rest so_f
       is = append_assoc so_far.whole (f ∷ []) (made_whole (locals_after so_far.before change.1.locals) rest) ∙ ap (λ cs. so_far.whole ++ made_whole so_far.before cs) (sym parted) ∙ so_far.is;
     }
 
-all_are : (w : World) (m : MethodInfo) (max : ℕ) (ps : List Path) (es : List Entry) (fs : List (ℕ × FrameTypes)) → AllZip (IsEntry w m.class ps) es fs
+pub all_are : (w : World) (m : MethodInfo) (max : ℕ) (ps : List Path) (es : List Entry) (fs : List (ℕ × FrameTypes)) → AllZip (IsEntry w m.class ps) es fs
     → map (entry_in ps (is_constructor m) max) es ≡ map (map_frame w m max) fs
 all_are w m max ps [] [] h = refl
 all_are w m max ps [] (f ∷ fs) h = absurd h
@@ -112,22 +112,16 @@ all_whole : (w : World) (class : ℕ) (first : List VType) (changes : List (ℕ 
 all_whole w class first changes paths entries locals rest h none =
     sym (append-nil h.whole) ∙ ap (λ cs. h.whole ++ made_whole h.before cs) (sym (nil_from_length rest none)) ∙ h.is
 
-pub built_all : (w : World) (m : MethodInfo) (max : ℕ) (first : List VType) (changes : List (ℕ × FrameChange)) (paths : List Path) (entries : List Entry) (locals : ℕ) (rest : List (ℕ × FrameChange))
-    → Built w m.class first changes paths entries locals rest → length rest ≡ 0
-    → map (entry_in paths (is_constructor m) max) entries ≡ map (map_frame w m max) (made_whole first changes)
-built_all w m max first changes paths entries locals rest h none =
-    all_are w m max paths entries h.whole h.are ∙ ap (λ fs. map (map_frame w m max) fs) (all_whole w m.class first changes paths entries locals rest h none)
+pub built_whole : (w : World) (class : ℕ) (first : List VType) (changes : List (ℕ × FrameChange)) (paths : List Path) (entries : List Entry) (locals : ℕ) (rest : List (ℕ × FrameChange))
+    → Built w class first changes paths entries locals rest → length rest ≡ 0 → AllZip (IsEntry w class paths) entries (made_whole first changes)
+built_whole w class first changes paths entries locals rest h none =
+    subst (λ (fs : List (ℕ × FrameTypes)). AllZip (IsEntry w class paths) entries fs) (all_whole w class first changes paths entries locals rest h none) h.are
 
 -- ---- and rise
 
-entries_rise : (w : World) (class low : ℕ) (ps : List Path) (es : List Entry) (fs : List (ℕ × FrameTypes)) → AllZip (IsEntry w class ps) es fs → Rises maps.pc_of low fs → Rises pc_of low es
+pub entries_rise : (w : World) (class low : ℕ) (ps : List Path) (es : List Entry) (fs : List (ℕ × FrameTypes)) → AllZip (IsEntry w class ps) es fs → Rises maps.pc_of low fs → Rises pc_of low es
 entries_rise w class low ps [] [] h rises = tt
 entries_rise w class low ps [] (f ∷ fs) h rises = absurd h
 entries_rise w class low ps (e ∷ es) [] h rises = absurd h
 entries_rise w class low ps (e ∷ es) (f ∷ fs) h rises =
     (omega (arith, rises.0, h.0.pc), entries_rise w class (e.pc + 1) ps es fs h.1 (subst (λ (n : ℕ). Rises maps.pc_of (n + 1) fs) (sym h.0.pc) rises.1))
-
-pub built_rise : (w : World) (class : ℕ) (first : List VType) (changes : List (ℕ × FrameChange)) (paths : List Path) (entries : List Entry) (locals : ℕ) (rest : List (ℕ × FrameChange))
-    → Built w class first changes paths entries locals rest → length rest ≡ 0 → Rises maps.pc_of 0 (made_whole first changes) → AreRising entries
-built_rise w class first changes paths entries locals rest h none rises =
-    entries_rise w class 0 paths entries h.whole h.are (subst (Rises maps.pc_of 0) (sym (all_whole w class first changes paths entries locals rest h none)) rises)

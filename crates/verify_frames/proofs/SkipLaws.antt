@@ -1,14 +1,16 @@
 -- The type of one slot of a path.
-use Rattle.std.proofs.Common.{◌≡◌, ℕ, ◌+◌, ◌<◌, ◌≤◌, Bool, true, false, cond, List, [], ◌∷◌, ◌++◌, length, Option, Some, None, refl, ap, sym, subst, ◌∙◌, arith}
+use Rattle.std.proofs.Common.{◌≡◌, ℕ, ◌+◌, ◌<◌, ◌≤◌, Bool, true, false, cond, get_or, ltb, List, [], ◌∷◌, ◌++◌, length, Option, Some, None, refl, ap, sym, subst, ◌∙◌, arith}
 use Rattle.std.specs.Prelude.{IfSome}
+use Rattle.std.proofs.lemmas.Bool.{ltb-false, ltb-true}
 use Rattle.std.proofs.lemmas.List.{get_or_append_left, length-append}
+use Rattle.std.proofs.Math.Seq.{get_or-append_seam}
 use Rattle.instruction_rows.specs.Contents.{is_wide, slot_types, types_of}
 use Rattle.stack_maps.specs.declared.types.VType.{VType}
 use Rattle.stack_maps.specs.declared.types.VType.TheVariants as types
 use Rattle.type_paths.specs.declared.paths.Node.{Node}
 use Rattle.type_paths.specs.Paths.{IsAbove, IsTop, Path, count_on, path, types_on}
 use Rattle.verify_frames.specs.Overwrites.{type_at}
-use Rattle.verify_frames.specs.Skips.{IsInside, IsTypeOf}
+use Rattle.verify_frames.specs.Skips.{AreSkips, IsInside, IsTypeOf}
 use Rattle.verify_frames.proofs.NearLaws.{count_of, front_of, last_of, slots_both, slots_last}
 use Rattle.verify_frames.proofs.OverwriteLaws.{type_past}
 use Rattle.verify_frames.proofs.WantedLaws.{past_last, seam}
@@ -42,6 +44,20 @@ inside_second p item first slot count wide next = record {
         ap (λ (xs : List VType). type_at xs slot) whole ∙ past_last (slot_types l.under) item slot (is_wide item) (omega (arith, n, next)),
       );
 }
+
+-- the skips of the first nodes, and that of the next
+pub skip_more : (ps : List Path) (seen skips now : List ℕ) (skip : ℕ) → seen ≡ skips → (AreSkips ps seen → IsAbove ps (length seen) skip) → now ≡ skips ++ skip ∷ [] → AreSkips ps skips → AreSkips ps now
+skip_more ps seen skips now skip same next pushed h =
+    let here = subst (λ (xs : List ℕ). AreSkips ps xs → IsAbove ps (length xs) skip) same next h in
+    subst (λ (xs : List ℕ). AreSkips ps xs) (sym pushed) (record { each = λ k low. by_place here k low (ltb k (length skips)) refl })
+  where
+    by_place : IsAbove ps (length skips) skip → (k : ℕ) → k < length (skips ++ skip ∷ []) → (b : Bool) → ltb k (length skips) ≡ b → IsAbove ps k (get_or (skips ++ skip ∷ []) k 0)
+    by_place here k low true e =
+        subst (λ (n : ℕ). IsAbove ps k n) (sym (get_or_append_left skips (skip ∷ []) 0 k (ltb-true k (length skips) e))) (h.each k (ltb-true k (length skips) e))
+    by_place here k low false e =
+        let last : length skips ≡ k = omega (arith, low, length-append skips (skip ∷ []), ltb-false k (length skips) e) in
+        subst (λ (m : ℕ). IsAbove ps m (get_or (skips ++ skip ∷ []) m 0)) last
+        (subst (λ (n : ℕ). IsAbove ps (length skips) n) (sym (get_or-append_seam skips skip [] 0)) here)
 
 -- what a node has, all above it have
 inside_above : (ps : List Path) (from node slot : ℕ) (t : VType) → IsAbove ps from node → IsInside (path ps node) slot t → IsTypeOf (path ps from) slot t

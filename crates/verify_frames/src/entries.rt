@@ -1,4 +1,4 @@
-//! What is kept of the frames of a stack map, by rising pc.
+//! The entries of a stack map, by rising pc.
 
 ghost use Rattle.std.specs.Prelude.{◌≡◌};
 ghost use Rattle.verify_frames.specs.Entries as spec;

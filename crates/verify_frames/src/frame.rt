@@ -112,17 +112,31 @@ impl<'a> Frame<'a> {
         }
     }
 
-    /// The state that its types mean. `None`: it names a constant that is no class.
-    pub fn state(&self, alloc: Global) -> Result<Option<State>, NoMemory>
-        ensures { IfOk result (λ s. option_map state_in s ≡ (frame_in self.now).state) }
+    // Its types, one by one. `None`: it names a constant that is no class.
+    fn types(&self, alloc: Global) -> Result<Option<FrameTypes>, NoMemory>
+        ensures { IfOk result (λ types. types ≡
+            frame_types (path self.now.paths.now self.now.entry.locals)
+            (path self.now.paths.now self.now.entry.stack)) }
     {
         let Some(locals) = self.paths.types(alloc, self.entry.locals)? else {
             return Ok(None);
         };
-        let Some(stack) = self.paths.types(alloc, self.entry.stack)? else {
-            return Ok(None);
-        };
-        let types = FrameTypes { locals, stack };
-        Ok(Some(state_where(alloc, self.is_constructor, self.max_locals, &types)?))
+        match self.paths.types(alloc, self.entry.stack)? {
+            Some(stack) => Ok(Some(FrameTypes { locals, stack })),
+            None => Ok(None),
+        }
+    }
+
+    /// The state that its types mean. `None`: it names a constant that is no class.
+    pub fn state(&self, alloc: Global) -> Result<Option<State>, NoMemory>
+        ensures { IfOk result (λ s. option_map state_in s ≡ (frame_in self.now).state) }
+    {
+        match self.types(alloc)? {
+            Some(types) => {
+                let state = state_where(alloc, self.is_constructor, self.max_locals, &types)?;
+                Ok(Some(state))
+            }
+            None => Ok(None),
+        }
     }
 }

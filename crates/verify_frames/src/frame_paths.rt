@@ -2,25 +2,27 @@
 
 ghost use Rattle.std.specs.Prelude.{◌≡◌, IfOk, List, OnOk, is_some};
 ghost use Rattle.stack_maps.specs.declared.types.VType.{VType as OneType};
-ghost use Rattle.stack_maps.specs.Changes.{locals_after, types_after};
+ghost use Rattle.std.specs.List.{AllZip};
+ghost use Rattle.stack_maps.specs.Changes.{locals_after, made_whole, types_after};
 ghost use Rattle.type_paths.specs.Paths.{IsPath, Path, path};
 ghost use Rattle.verify_frames.specs.FramePaths.{Grows, IsEntry, frame_types, onto, path_of};
 
+use items::NoMemory;
 use link_model::Lookups;
 use stack_maps::{FrameChange, LocalsChange, VType};
-use std::alloc::AllocError;
+use std::alloc::{AllocError, Global};
 use type_paths::Paths;
 use verify_types::resolve;
 
-/// What is kept of a frame: its pc, and the paths of its local variables and of its operand stack.
-#[derive(Clone, Copy, Debug, PartialEq, Eq)]
+/// An entry of a stack map: the pc of a frame, and the nodes of its local variables and of its operand stack.
+#[derive(Clone, Copy)]
 pub struct Entry {
     pub pc: u32,
     pub locals: usize,
     pub stack: usize,
 }
 
-/// Whether none of the types of a frame that is kept so is a constant that is no class.
+/// Whether no type of an entry is a constant that is no class.
 #[tactic(auto, using(crate::proofs::FrameFitLaws::known))]
 pub fn is_known(paths: &Paths, entry: Entry) -> bool
     ensures { result ≡ is_some
@@ -29,7 +31,7 @@ pub fn is_known(paths: &Paths, entry: Entry) -> bool
     paths.slot_count(entry.locals).is_some() && paths.slot_count(entry.stack).is_some()
 }
 
-// Puts types on a path, each resolved in the code of a class.
+// Appends types to a path, each resolved in the code of a class.
 fn append<L: Lookups>(
     paths: &mut Paths,
     w: &L,
@@ -52,8 +54,8 @@ fn append<L: Lookups>(
     Ok(node)
 }
 
-/// Puts types on a path of their own.
-pub fn put<L: Lookups>(
+// Makes a path of these types.
+fn put<L: Lookups>(
     paths: &mut Paths,
     w: &L,
     class: u32,
@@ -88,8 +90,8 @@ fn changed<L: Lookups>(
     }
 }
 
-/// What is kept of a frame after one whose local variables have this path.
-pub fn entry_of<L: Lookups>(
+// The entry of a frame that follows one whose local variables have this path.
+fn entry_of<L: Lookups>(
     paths: &mut Paths,
     w: &L,
     class: u32,
@@ -109,4 +111,28 @@ pub fn entry_of<L: Lookups>(
         locals,
         stack,
     })
+}
+
+/// The entries of the frames with these changes, the first of them after local variables of these types.
+pub fn entries_of<L: Lookups>(
+    alloc: Global,
+    paths: &mut Paths,
+    w: &L,
+    class: u32,
+    first: &[VType],
+    changes: &[(u32, FrameChange)],
+) -> Result<Vec<Entry>, NoMemory>
+    ensures { IfOk result (λ es. AllZip (IsEntry (L.world w.now) class paths.new) es.items
+        (made_whole first.now changes.now)) }
+{
+    let mut locals = put(paths, w, class, first)?;
+    let mut entries = Vec::with_capacity(alloc, changes.len())?;
+    let mut rest = changes;
+    while let Some((change, behind)) = rest.split_first() {
+        let entry = entry_of(paths, w, class, locals, change)?;
+        entries.push(entry)?;
+        locals = entry.locals;
+        rest = behind;
+    }
+    Ok(entries)
 }

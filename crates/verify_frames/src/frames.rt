@@ -16,7 +16,7 @@ ghost use Rattle.verify_frames.specs.Wanted.{IsAsked};
 use crate::entries::{entry_at, stray_entry};
 use crate::flags::{flags_of, have_same_flag};
 use crate::frame::Frame;
-use crate::frame_paths::{Entry, entry_of, is_known, put};
+use crate::frame_paths::{Entry, entries_of, is_known};
 use crate::gathering::gathered;
 use crate::near::moved;
 use crate::overwritten::Like;
@@ -32,7 +32,7 @@ use std::marker::Model;
 use type_paths::Paths;
 use verify_instructions::is_constructor;
 
-// With fewer local variables the types of single ones aren't asked for.
+// With fewer local variables, no skips are made.
 const LONG: u16 = 64;
 
 /// The frames of a stack map, by rising pc. They take memory in proportion to its bytes.
@@ -42,9 +42,9 @@ pub struct Frames {
     is_constructor: bool,
     max_locals: u16,
     entries: Vec<Entry>,
-    // In a constructor, for each node whether the object that it makes is on its path.
+    // In a constructor, for each node: whether the uninitialized object is on its path.
     flags: Vec<bool>,
-    // For each node one further down its path, where there are many local variables.
+    // For each node its skip, where there are many local variables.
     skips: Vec<u32>,
 }
 
@@ -75,15 +75,7 @@ impl Frames {
             map (map_frame (L.world w.now) m.now max_locals) (made_whole first.now changes.now)) }
     {
         let mut paths = Paths::new(alloc);
-        let mut locals = put(&mut paths, w, m.class, first)?;
-        let mut entries = Vec::with_capacity(alloc, changes.len())?;
-        let mut rest = changes;
-        while let Some((change, behind)) = rest.split_first() {
-            let entry = entry_of(&mut paths, w, m.class, locals, change)?;
-            entries.push(entry)?;
-            locals = entry.locals;
-            rest = behind;
-        }
+        let entries = entries_of(alloc, &mut paths, w, m.class, first, changes)?;
         let is_constructor = is_constructor(m);
         let flags = flags_of(alloc, &paths, is_constructor)?;
         let skips = skips_of(alloc, &paths, max_locals >= LONG)?;
@@ -112,7 +104,7 @@ impl Frames {
         }
     }
 
-    /// A number that frames with the same local variables have in common, and 0 where there is no frame (own). It says nothing else.
+    /// A number that frames with the same local variables share; 0 where there is no frame. It says nothing else.
     pub fn group(&self, pc: u32) -> usize
         ensures none { frame_at pc self.now ≡ None → result ≡ 0 }
     {
@@ -143,7 +135,7 @@ impl Frames {
         })
     }
 
-    /// What a state is like that is like a frame, where the one at a pc has the same local variables but for a few. `None`: it wasn't found.
+    /// How a state that is like a frame is like the one at a pc, if the two differ in few local variables. `None`: not found.
     pub fn near(&self, alloc: Global, like: &Like, pc: u32) -> Result<Option<Like>, NoMemory>
         ensures { IfOk result (λ o. IfSome o (IsNear self.now like.now pc)) }
     {

@@ -1,5 +1,5 @@
-//! How what the frames of exception handlers want of local variables is gathered, along their paths. Nothing is said of the table until it is
-//! tested, and one that fails isn't used.
+//! Gathers what the frames of exception handlers want of local variables, along their paths. The table has no contract until it
+//! is tested, and one that fails the test isn't used.
 
 ghost use Rattle.std.specs.Prelude.{IfOk, IfSome};
 ghost use Rattle.verify_frames.specs.Entries.{AreRising};
@@ -16,10 +16,10 @@ use stack_maps::VType;
 use std::alloc::Global;
 use type_paths::Paths;
 
-// How many ranges may be joined, all in all, before sets are joined to one range each.
+// How many ranges may be joined in all. After that, a joined set is one range.
 const MOST_JOINED: usize = 1_048_576;
 
-// The sets of pcs that are made, the first of them empty, and how many ranges may still be joined.
+// The sets of pcs, the first of them empty, and how many ranges may still be joined.
 #[derive(Drop)]
 struct Sets {
     made: Vec<PcSet>,
@@ -34,7 +34,7 @@ fn hull(a: Span, b: Span) -> Span {
     }
 }
 
-// Adds a range that begins in or behind the last one, which becomes longer where they touch.
+// Adds a range that begins in or after the last one; the two become one if they touch.
 fn append(spans: &mut Vec<Span>, span: Span) -> Result<(), NoMemory> {
     if let Some(last) = spans.last_mut() {
         if span.from <= last.until {
@@ -271,7 +271,7 @@ fn wants_of(alloc: Global, sets: Sets, paths: &Paths, nodes: &[usize]) -> Result
     })
 }
 
-/// What the frames of the handlers of these rows, which begin in order, want of local variables. `None`: it wasn't found.
+/// What the frames of the handlers of these rows, which begin in order, want of local variables. `None`: not found.
 pub fn gathered(
     alloc: Global,
     paths: &Paths,

@@ -1,4 +1,4 @@
-//! States with the local variables of a frame of the stack map.
+//! States, and what is known of them: the frame that they are like, the frames that they fit, and where they satisfy handlers.
 
 ghost use Rattle.std.specs.Prelude.{◌≡◌, [], false, IfOk, IfSome, MatchBool, None, OnOk};
 ghost use Rattle.verify_types.specs.Environment.{Environment};
@@ -14,14 +14,14 @@ use items::{Boxed, NoMemory};
 use std::alloc::{AllocError, Global};
 use verify_instructions::State;
 
-// At most so many frames that a state fits are kept.
+// The most frames that are remembered to fit a state.
 const MOST: usize = 16;
 
-// With more local variables written, none are kept.
+// With more local variables written, no frame is remembered.
 const MOST_CHANGED: usize = 128;
 
 /// Where the exception handlers of a state are satisfied.
-#[derive(Clone, Copy, Debug, PartialEq, Eq)]
+#[derive(Clone, Copy)]
 pub struct Judged {
     /// A pc at which they are.
     pub at: u32,
@@ -34,7 +34,7 @@ pub struct Judged {
 pub enum Written {
     /// Those that a store to this one may change.
     Store(u16),
-    /// These alone, which were of these types.
+    /// Only these, which were of these types.
     Objects(Vec<Overwritten>),
 }
 
@@ -69,8 +69,8 @@ pub struct KnownState {
     pub fitted: Option<Boxed<Fitted>>,
 }
 
-// The frames that are kept, unless they are too many.
-fn kept(alloc: Global, fitted: Option<Boxed<Fitted>>) -> Fitted
+// The frames, or none if they are too many.
+fn bounded(alloc: Global, fitted: Option<Boxed<Fitted>>) -> Fitted
     ensures { (env : Environment) (s : TypeState) → spec.FitAll env s fitted
         → spec.AllFit env s result }
 {
@@ -159,7 +159,7 @@ impl Fitted {
         ensures { IfOk result (λ now. (env : Environment) (s : TypeState)
             → spec.FitAll env s fitted → spec.FitsLocals env s pc → spec.AllFit env s now) }
     {
-        let Fitted { pcs, changed } = kept(alloc, fitted);
+        let Fitted { pcs, changed } = bounded(alloc, fitted);
         let mut pcs = pcs;
         pcs.push(pc)?;
         Ok(Fitted { pcs, changed })
@@ -303,8 +303,8 @@ fn stored_by(
     }
 }
 
-/// A state after an instruction, and what is known of it where the one before it had this flag, was so judged and fitted these frames. It is
-/// like this frame if it has the same flag.
+/// A state after an instruction, and what is known of it: the state before had this flag, satisfied the handlers here and
+/// fitted these frames; the state after is like this frame if it has the same flag.
 pub fn known_after(
     alloc: Global,
     state: State,

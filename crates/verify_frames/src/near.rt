@@ -90,8 +90,8 @@ fn add_others(types: &mut Vec<Overwritten>, overwritten: &[Overwritten]) -> Resu
     Ok(())
 }
 
-/// What is other in local variables than on a path, where on another path, which has a node in common with it, this was overwritten.
-/// `None`: it wasn't found.
+/// What local variables have overwritten of one path, given what they have overwritten of another that shares a node with it.
+/// `None`: not found.
 pub fn moved(
     alloc: Global,
     paths: &Paths,

@@ -1,4 +1,4 @@
-//! Local variables that were overwritten since a frame of the stack map, and what they were there.
+//! Local variables that were overwritten since a frame of the stack map, and their types in that frame.
 
 ghost use Rattle.std.specs.Prelude.{◌≡◌, [], IfOk, IfSome, OnOk};
 ghost use Rattle.verify_instructions.specs.Views.{state_in};
@@ -12,14 +12,14 @@ use std::alloc::{AllocError, Global};
 use verify_instructions::{State, Types};
 use verify_types::assignable;
 
-// With more local variables overwritten, a state isn't compared by these any longer.
+// A state with more local variables overwritten is no longer like its frame.
 const MOST: usize = 128;
 
-/// With more unfinished objects in local variables, a state is like no frame after one is made or finished.
+/// With more uninitialized objects in local variables, a state is like no frame after one is created or initialized.
 pub const MOST_UNFINISHED: usize = 32;
 
 /// A local variable that was overwritten, and its type before.
-#[derive(Clone, Copy, Debug, PartialEq, Eq)]
+#[derive(Clone, Copy)]
 pub struct Overwritten {
     pub slot: usize,
     pub was: VType,
@@ -132,7 +132,7 @@ pub fn note_all(
     Ok(())
 }
 
-// What a state is like after an object is made or finished, which changes the types of unfinished objects alone.
+// What a state is like after an object is created or initialized, which changes only the types of uninitialized objects.
 fn behind_object(like: Like, types: &Types) -> Result<Option<Like>, NoMemory>
     ensures { IfOk result (λ o. IfSome o (NotedAll like types.now.locals)) }
 {
@@ -146,7 +146,7 @@ fn behind_object(like: Like, types: &Types) -> Result<Option<Like>, NoMemory>
     Ok(Some(Like { pc, overwritten }))
 }
 
-/// Whether an instruction makes an object, or may finish one.
+/// Whether an instruction creates an object, or may initialize one.
 pub fn finishes(op: &Op) -> bool
     ensures { result ≡ finishes op.now }
 {
@@ -157,7 +157,7 @@ pub fn finishes(op: &Op) -> bool
     }
 }
 
-/// Whether an instruction changes the operand stack alone.
+/// Whether an instruction leaves the local variables as they are.
 pub fn keeps_locals(op: &Op) -> bool
     ensures { result ≡ keeps_locals op.now }
 {

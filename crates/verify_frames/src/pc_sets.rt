@@ -8,7 +8,7 @@ ghost use Rattle.verify_frames.specs.PcSets.{Covers, IsSuffix};
 use class_model::Row;
 
 /// The pcs from one on and before another.
-#[derive(Clone, Copy, Debug, PartialEq, Eq)]
+#[derive(Clone, Copy)]
 pub struct Span {
     pub from: u32,
     pub until: u32,

@@ -1,4 +1,4 @@
-//! Nodes further down a path, so that the type of one slot is found without a walk over all that come after it.
+//! Skips: for each node one further down its path, so that the type of a slot is found in few steps.
 
 ghost use Rattle.std.specs.Prelude.{◌≡◌, ◌∷◌, IfOk, IfSome, List, Some, length};
 ghost use Rattle.type_paths.specs.Paths.{IsAbove, Path, count_on, path};
@@ -10,7 +10,7 @@ use stack_maps::VType;
 use std::alloc::Global;
 use type_paths::Paths;
 
-// The node that is kept with one; the first where none is.
+// The skip of a node.
 fn skip_at(skips: &[u32], n: usize) -> Option<usize>
     ensures { (ps : List Path) → AreSkips ps skips.now → IfSome result (IsAbove ps n) }
 {
@@ -28,14 +28,14 @@ fn depth_at(depths: &[u32], n: usize) -> u32 {
     }
 }
 
-// Whether a node is as far from the one that is kept with it, as that one from the next.
+// Whether two skips in a row have the same length.
 fn is_even(depths: &[u32], a: usize, b: usize, c: usize) -> bool {
     let near = depth_at(depths, a).saturating_sub(depth_at(depths, b));
     let far = depth_at(depths, b).saturating_sub(depth_at(depths, c));
     near == far
 }
 
-// The node to be kept with one that lies on this node: two steps on from it where they are of the same length.
+// The skip of a node that lies on this one: over both of its next skips if these have the same length.
 fn skip_from(skips: &[u32], depths: &[u32], below: usize) -> usize
     ensures { (ps : List Path) → AreSkips ps skips.now → IsAbove ps below result }
 {
@@ -52,7 +52,7 @@ fn skip_from(skips: &[u32], depths: &[u32], below: usize) -> usize
     }
 }
 
-// The node to be kept with the next one. `None`: there is none.
+// The skip of the next node. `None`: there is no such node.
 fn next_skip(paths: &Paths, skips: &[u32], depths: &[u32]) -> Option<u32>
     ensures { AreSkips paths.now skips.now
         → IfSome result (IsAbove paths.now (length skips.now)) }
@@ -77,7 +77,7 @@ fn next_depth(paths: &Paths, depths: &[u32]) -> u32 {
     }
 }
 
-/// For each node one further down its path, if the paths may be long.
+/// The skip of each node, if the paths may be long.
 pub fn skips_of(alloc: Global, paths: &Paths, are_long: bool) -> Result<Vec<u32>, NoMemory>
     ensures { IfOk result (λ v. AreSkips paths.now v.items) }
 {

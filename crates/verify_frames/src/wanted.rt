@@ -19,7 +19,7 @@ use type_paths::Paths;
 use verify_types::assignable;
 
 /// A type that frames of handlers want of a slot, and the number of a set that has all pcs at which they do.
-#[derive(Clone, Copy, Debug, PartialEq, Eq)]
+#[derive(Clone, Copy)]
 pub struct Want {
     pub item: VType,
     pub pcs: usize,
@@ -96,7 +96,7 @@ impl Wanted {
         }
     }
 
-    /// Whether all that is wanted of a slot at these pcs takes a type.
+    /// Whether a type is assignable to all that is wanted of a slot at these pcs.
     pub fn accepts<L: Lookups>(&self, w: &L, from: u32, until: u32, slot: usize, t: VType) -> bool
         ensures { result ≡ spec.accepts (L.world w.now) self.now from until slot t }
     {

@@ -12,7 +12,7 @@ use std::alloc::Global;
 use verify_instructions::Types;
 
 /// The types around a local variable, and its own.
-#[derive(Clone, Copy, Debug, PartialEq, Eq)]
+#[derive(Clone, Copy)]
 pub struct Around {
     pub before: VType,
     pub at: VType,
@@ -26,7 +26,7 @@ pub enum Watch {
     Kept,
     /// It stores to this one; before it, these were the types around it.
     Store(u16, Around),
-    /// It may change these alone, which were of these types before it.
+    /// It may change only these, which were of these types before it.
     Objects(Vec<Overwritten>),
     /// It may change any.
     Changed,
@@ -144,7 +144,8 @@ pub fn are_same(a: Around, b: Around) -> bool
     true
 }
 
-// What shows whether an instruction that makes or finishes an object changes local variables, where these types come before it.
+// What shows whether an instruction that creates or initializes an object changes local variables, where these types come
+// before it.
 fn watched_objects(alloc: Global, types: &Types) -> Result<Watch, NoMemory>
     ensures { IfOk result (WatchesObjects types.now.locals) }
 {

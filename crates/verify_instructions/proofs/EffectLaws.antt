@@ -1,8 +1,8 @@
 -- What an instruction does to a state, by the kind of its row.
-use Rattle.std.proofs.Common.{◌≡◌, ℕ, Bool, true, false, refl}
+use Rattle.std.proofs.Common.{◌≡◌, ℕ, true, refl}
 use Rattle.std.specs.Prelude.{Ok}
 use Rattle.instruction_rows.specs.Results.{◌then◌}
-use Rattle.instruction_rows.specs.Rows.{Row, local, constant, wide_constant, returns, invoke, event, refused, Event, get_static, put_static, get_field, put_field, new, new_array, new_array_of, new_arrays, array_length, array_load, array_store, check_cast, instance_of, throw, monitor_enter, monitor_exit}
+use Rattle.instruction_rows.specs.Rows.{Row, local, constant, wide_constant, returns, invoke, event, refused, get_static, put_static, get_field, put_field, new, new_array, new_array_of, new_arrays, array_length, array_load, array_store, check_cast, instance_of, throw, monitor_enter, monitor_exit}
 use Rattle.link_model.specs.declared.sites.Resolution.{Resolution}
 use Rattle.verify_types.specs.TypeStates.{TypeState, with_stack, with_types}
 use Rattle.verify_types.specs.Environment.{Environment}

@@ -1,35 +1,20 @@
-use Rattle.std.proofs.Common.{Bool, List, ap, subst, sym, ◌∙◌}
+use Rattle.std.proofs.Common.{Bool, ap, ◌∙◌}
 use Rattle.std.specs.Prelude.{map}
-use Rattle.verify_frames.specs.declared.frame_paths.Entry.{Entry}
+use Rattle.stack_maps.specs.Changes.{made_whole}
 use Rattle.verify_frames.specs.FramePaths.{entry_in}
-use Rattle.verify_frames.proofs.FrameLaws.{Built, built_none, built_one, built_all, built_rise}
+use Rattle.verify_frames.proofs.FrameLaws.{all_are, entries_rise}
 use Rattle.verify_frames.proofs.frames.Frames.new.Goals as goal
-
-pub loop-change-init : goal.loop-change-init
-loop-change-init g c =
-    let w = g.L.Lookups.world c.args.w.now in
-    subst (λ (es : List Entry). Built w c.args.m.now.class c.args.first.now c.args.changes.now c.put.new.paths es c.in_ok-locals.locals c.args.changes.now) (sym c.in_ok-entries.ensures.items)
-    (built_none w c.args.m.now.class c.args.first.now c.args.changes.now c.put.new.paths c.in_ok-locals.locals c.in_ok-locals.ensures.node)
-
-pub loop-change-preserved : goal.loop-change-preserved
-loop-change-preserved g c =
-    let w = g.L.Lookups.world c.args.w.now in
-    let built =
-    built_one w c.args.m.now.class c.args.first.now c.args.changes.now c.loop-change.paths c.entry_of.new.paths c.loop-change.entries.items c.loop-change.locals c.in_ok-entry.entry c.in-Some.change.now
-    c.loop-change.rest.now c.in-Some.behind.now c.loop-change.invariant c.in-Some.ensures.cases.0 c.in_ok-entry.ensures.grown c.in_ok-entry.ensures.entry in
-    subst (λ (es : List Entry). Built w c.args.m.now.class c.args.first.now c.args.changes.now c.entry_of.new.paths es c.in_ok-entry.entry.locals c.in-Some.behind.now) (sym c.in_ok-push.ensures.items) built
 
 pub invariant_of-result : goal.invariant_of-result
 invariant_of-result g c = record {
   rising =
-      built_rise (g.L.Lookups.world c.args.w.now) c.args.m.now.class c.args.first.now c.args.changes.now c.loop-change.paths c.loop-change.entries.items c.loop-change.locals c.loop-change.rest.now
-      c.loop-change.invariant c.in_default.ensures.cases c.requires;
+      entries_rise (g.L.Lookups.world c.args.w.now) c.args.m.now.class 0 c.entries_of.new.paths c.in_ok-entries.entries.items (made_whole c.args.first.now c.args.changes.now)
+      c.in_ok-entries.ensures c.requires;
   flagged = c.in_ok-flags.ensures;
   skipping = c.in_ok-skips.ensures;
 }
 
 pub returns : goal.returns
 returns g c =
-    ap (λ (b : Bool). map (entry_in c.loop-change.paths b c.args.max_locals) c.loop-change.entries.items) c.is_constructor-is_constructor.ensures
-    ∙ built_all (g.L.Lookups.world c.args.w.now) c.args.m.now c.args.max_locals c.args.first.now c.args.changes.now c.loop-change.paths c.loop-change.entries.items c.loop-change.locals c.loop-change.rest.now
-    c.loop-change.invariant c.in_default.ensures.cases
+    ap (λ (b : Bool). map (entry_in c.entries_of.new.paths b c.args.max_locals) c.in_ok-entries.entries.items) c.is_constructor-is_constructor.ensures
+    ∙ all_are (g.L.Lookups.world c.args.w.now) c.args.m.now c.args.max_locals c.entries_of.new.paths c.in_ok-entries.entries.items (made_whole c.args.first.now c.args.changes.now) c.in_ok-entries.ensures

@@ -7,6 +7,6 @@ use Rattle.verify_frames.proofs.known_state.Fitted.with.Goals as goal
 
 pub returns : goal.returns
 returns c = λ env s all here.
-    let kept = c.kept-pcs.result in
-    let P = FitsBut env kept.changed.items s in
-    subst (λ (ps : List _). All P ps) (sym c.in_ok-push.ensures.items) (All-push P kept.pcs.items c.args.pc (c.kept-pcs.ensures env s all) (fits_weaker env kept.changed.items s c.args.pc here))
+    let few = c.bounded-pcs.result in
+    let P = FitsBut env few.changed.items s in
+    subst (λ (ps : List _). All P ps) (sym c.in_ok-push.ensures.items) (All-push P few.pcs.items c.args.pc (c.bounded-pcs.ensures env s all) (fits_weaker env few.changed.items s c.args.pc here))
