@@ -4,7 +4,7 @@ use continuation::Mounted;
 use frames::{Stack, StackError};
 use heap_objs::{Heap, HeapError};
 use instruction_rows::{Slot, Value};
-use slot_block::{Cell, SlotBlock};
+use slot_block::{SlotBlock, StoredSlot};
 use std::alloc::Global;
 use std::test::Fail;
 
@@ -149,6 +149,6 @@ fn a_block_copies_its_top_and_stays(rt: HostRuntime) -> Result<(), Fail> {
         (from.get(0), from.get(1), from.get(2)),
         (first, second, Slot::Second)
     );
-    assert_eq!(rt; Cell::of(LONG).slot(), LONG);
+    assert_eq!(rt; StoredSlot::of(LONG).slot(), LONG);
     Ok(())
 }

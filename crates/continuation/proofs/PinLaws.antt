@@ -21,6 +21,6 @@ pub length-with_stack : (fs : List Frame) (stack : List Slot) → length (with_s
 length-with_stack [] stack = refl
 length-with_stack (f ∷ below) stack = refl
 
-pub length-read_from : (fs : List Frame) (row : List Slot) → length (read_from row fs) ≡ length fs
-length-read_from [] row = refl
-length-read_from (f ∷ below) row = ap suc (length-read_from below row)
+pub length-read_from : (fs : List Frame) (slots : List Slot) → length (read_from slots fs) ≡ length fs
+length-read_from [] slots = refl
+length-read_from (f ∷ below) slots = ap suc (length-read_from below slots)

@@ -8,17 +8,17 @@ pub record Continuation : Type 0 where
   pub stack : Frames
   pub pinned : List ℕ
 
--- those of pinned frames where one more frame is pushed over so many
+-- the pinned frames after one more frame is pushed over this many
 abbrev pub with_pin : Bool → ℕ → List ℕ → List ℕ
 with_pin true depth pinned = depth ∷ pinned
 with_pin false depth pinned = pinned
 
--- those of pinned frames where the frame over so many is left
+-- the pinned frames after the frame over this many is left
 abbrev pub without_pin : ℕ → List ℕ → List ℕ
 without_pin depth [] = []
 without_pin depth (p ∷ ps) = if p == depth then ps else p ∷ ps
 
--- each is a frame of a stack with so many, and none comes twice
+-- each is a frame of a stack with this many, and none comes twice
 abbrev pub ArePinned : ℕ → List ℕ → Type 0
 ArePinned depth [] = Unit {0}
 ArePinned depth (p ∷ ps) = (p < depth) × ArePinned p ps

@@ -1,13 +1,15 @@
+//! A continuation, mounted or frozen, and the calls that change its frames (JVMS 2.6, JEP 444).
+
 ghost use Rattle.std.specs.Prelude.{◌≡◌, ◌↔◌, ◌+◌, ◌-◌, ◌<◌, ◌≤◌, Err, IfErr, IfOk, IsOk, IsTrue, OnErr, OnOk, Some, [], drop, length, slice_get, reverse, vec_len};
 ghost use Rattle.std.specs.Vec.{vec_capacity};
 ghost use Rattle.std.specs.Borrow.{sem};
-ghost use Rattle.frames.specs.Frames.{HasRoom, at_pc, called, cleared, dropped, entered, left, popped, pushed, returned, room_left, row_of, settled, size_of, top_locals, top_method, top_pc, top_room, top_stack, with_frames, with_local};
+ghost use Rattle.frames.specs.Frames.{HasRoom, at_pc, called, cleared, dropped, entered, left, popped, pushed, returned, room_left, all_slots, with_pc_and_operands, size_of, top_locals, top_method, top_pc, top_room, top_stack, with_frames, with_local};
 ghost use Rattle.continuation.specs.Continuation.{with_pin, without_pin};
 
 use frames::{FrameView, MOST_FRAMES, Stack, StackError};
 use instruction_rows::Slot;
 use items::NoMemory;
-use slot_block::Cell;
+use slot_block::StoredSlot;
 use std::alloc::Global;
 use std::marker::Model;
 
@@ -67,7 +69,7 @@ impl Frozen {
 }
 
 impl Mounted {
-    ghost use Rattle.continuation.specs.Lending.{LendsCells};
+    ghost use Rattle.continuation.specs.Lending.{LendsSlots};
 
     /// The continuation of a thread without a frame. This takes no memory.
     pub fn new(alloc: Global, thread: u32) -> Self
@@ -217,7 +219,7 @@ impl Mounted {
         self.stack.pop()
     }
 
-    /// Drops so many of the top frame's operands, from the top on.
+    /// Drops the topmost `slots` operands of the top frame.
     #[inline(always)]
     pub fn drop_operands(&mut self, slots: u16)
         requires { slots ≤ length (top_stack self.old.stack.frames) }
@@ -308,36 +310,38 @@ impl Mounted {
         unmark(&mut self.pinned, self.stack.frame_count());
     }
 
-    /// Lends the row in which the slots of all frames lie, from the lowest on, and after them the spare ones.
+    /// Lends the slots of all frames, the lowest frame first, and the spare ones after them.
     #[inline(always)]
-    pub fn cells(&mut self) -> &mut [Cell]
-        ensures* writes_back { sem 𝓛 (LendsCells self.entry result) }
-        ensures value { result.now ≡ row_of self.old.stack }
+    pub fn slots(&mut self) -> &mut [StoredSlot]
+        ensures* writes_back { sem 𝓛 (LendsSlots self.entry result) }
+        ensures value { result.now ≡ all_slots self.old.stack }
     {
-        self.stack.cells()
+        self.stack.slots()
     }
 
-    /// The index in that row at which the top frame's local variables begin.
+    /// The index of the top frame's first local variable among those slots.
     #[inline(always)]
     pub fn base(&self) -> usize
         ensures value { result ≡ size_of (drop 1 self.now.stack.frames) }
         ensures room { result + length (top_locals self.now.stack.frames)
-            + top_room self.now.stack.frames ≤ length (row_of self.now.stack) }
+            + top_room self.now.stack.frames ≤ length (all_slots self.now.stack) }
     {
         self.stack.base()
     }
 
-    /// Sets the top frame's pc and how many operands it has: those that lie in the row after its local variables.
+    /// Sets the top frame's pc and how many operands it has: those that lie after its local variables.
     #[inline(always)]
-    pub fn settle(&mut self, pc: u32, operands: u16)
+    pub fn set_pc_and_operands(&mut self, pc: u32, operands: u16)
         requires { operands ≤ top_room self.old.stack.frames }
-        ensures { self.new ≡ record self.old { stack = settled pc operands self.old.stack } }
+        ensures { self.new ≡ record self.old {
+          stack = with_pc_and_operands pc operands self.old.stack;
+        } }
     {
-        self.stack.settle(pc, operands);
+        self.stack.set_pc_and_operands(pc, operands);
     }
 }
 
-// Marks the frame over so many as pinned, where it is.
+// Marks the frame with this many frames below it as pinned, if it is.
 #[inline(always)]
 fn mark(pinned: &mut Vec<u32>, pin: bool, depth: u32)
     requires { vec_len pinned.old < vec_capacity pinned.old }
@@ -348,7 +352,7 @@ fn mark(pinned: &mut Vec<u32>, pin: bool, depth: u32)
     }
 }
 
-// Takes away the mark of the frame over so many, if it has one.
+// Takes the mark off the frame with this many frames below it, if it has one.
 #[inline(always)]
 fn unmark(pinned: &mut Vec<u32>, depth: u32)
     ensures { reverse pinned.new.items ≡ without_pin depth (reverse pinned.old.items) }

@@ -8,7 +8,7 @@ use Rattle.instruction_rows.specs.declared.value.Slot.{Slot}
 use Rattle.instruction_rows.specs.Comparisons.{compares, are_so}
 use Rattle.instruction_rows.specs.Kinds.{Function}
 use Rattle.instruction_rows.specs.Rows.{branch}
-use Rattle.frame_instructions.specs.CellRows.{Acts, CanTest, way_of}
+use Rattle.frame_instructions.specs.SlotRows.{Acts, CanTest, way_of}
 
 -- the kinds of the operands, the topmost first, and whether the branch is taken
 pub record Condition : Type 0 where
@@ -37,9 +37,9 @@ null_condition s = record { takes = kinds.Reference ∷ []; test = λ a. are_so 
 
 -- the operands are there
 abbrev pub CanBranch : Condition → List Slot → ℕ → ℕ → Type 0
-CanBranch x row locals used = CanTest x.takes x.test row locals used
+CanBranch x slots locals used = CanTest x.takes x.test slots locals used
 
--- the branch leaves these slots with so many operands, and leads to its target where it is taken
+-- the branch leaves these slots with this number of operands, and leads to its target if it is taken
 abbrev pub Branches : Condition → List Slot → ℕ → ℕ → ℕ → Bool → Type 0
-Branches x row locals used left taken =
-    (target : ℤ) → Acts (branch x.takes x.test target) row locals used row left (way_of taken target)
+Branches x slots locals used left taken =
+    (target : ℤ) → Acts (branch x.takes x.test target) slots locals used slots left (way_of taken target)

@@ -1,2 +1,2 @@
-pub mod CellRows
+pub mod SlotRows
 pub mod Conditions

@@ -1,5 +1,5 @@
-//! The local rows of instructions (JVMS 6.5) on the slots of a frame, which lie in a row of cells: its local variables first, and its
-//! operands after them. Each call has as its condition that its row is defined there, and leaves what the row does.
+//! Local instructions (JVMS 6.5) on the slots of a frame: its local variables first, and its operands after them. A call requires that the
+//! row of its instruction is defined there, and leaves what that row does.
 #![tactic(auto)]
 
 mod branches;
@@ -7,7 +7,7 @@ mod constants;
 mod ints;
 mod longs;
 mod moves;
-mod row;
+mod slots;
 mod variables;
 mod words;
 

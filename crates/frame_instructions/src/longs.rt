@@ -8,36 +8,36 @@ ghost use Rattle.stack_maps.specs.declared.types.VType.TheVariants as types;
 ghost use Rattle.instruction_rows.specs.declared.value.Value.TheVariants as values;
 ghost use Rattle.jvm_words.specs.declared.operation.LongOp.TheVariants as long_ops;
 ghost use Rattle.jvm_words.specs.Words.{long_result, long_shift_result};
-ghost use Rattle.frame_instructions.specs.CellRows.{CanAct, Acts, shift_row};
+ghost use Rattle.frame_instructions.specs.SlotRows.{CanAct, Acts, shift_row};
 
 use crate::words::negated_long;
 use jvm_words::{LongOp, ShiftOp, l_binary, l_shift};
-use slot_block::{Cell, int_at, long_at, put_long};
+use slot_block::{StoredSlot, int_at, long_at, put_long};
 
 /// lconst, and ldc2_w of a long.
 #[inline(always)]
-pub fn push_long(row: &mut [Cell], locals: usize, used: usize, n: i64) -> usize
-    requires room { locals + used + 2 ≤ length row.old }
-    ensures { Acts (push types.Long (values.Long n)) row.old locals used row.new result on }
+pub fn push_long(slots: &mut [StoredSlot], locals: usize, used: usize, n: i64) -> usize
+    requires room { locals + used + 2 ≤ length slots.old }
+    ensures { Acts (push types.Long (values.Long n)) slots.old locals used slots.new result on }
 {
-    put_long(row, locals + used, n);
+    put_long(slots, locals + used, n);
     used + 2
 }
 
 /// ladd to lrem, land, lor and lxor.
 #[inline(always)]
-pub fn long_binary(op: LongOp, row: &mut [Cell], locals: usize, used: usize) -> usize
-    requires fits { locals + used ≤ length row.old }
+pub fn long_binary(op: LongOp, slots: &mut [StoredSlot], locals: usize, used: usize) -> usize
+    requires fits { locals + used ≤ length slots.old }
     requires acts { CanAct (long (kinds.Long ∷ kinds.Long ∷ []) (λ b a. long_result op a b))
-        row.old locals used }
+        slots.old locals used }
     ensures { Acts (long (kinds.Long ∷ kinds.Long ∷ []) (λ b a. long_result op a b))
-        row.old locals used row.new result on }
+        slots.old locals used slots.new result on }
 {
     let at = locals + used - 4;
-    let a = long_at(row, at);
-    let b = long_at(row, at + 2);
+    let a = long_at(slots, at);
+    let b = long_at(slots, at + 2);
     match l_binary(op, a, b) {
-        Some(n) => put_long(row, at, n),
+        Some(n) => put_long(slots, at, n),
         None => unreachable!(),
     }
     used - 2
@@ -45,59 +45,65 @@ pub fn long_binary(op: LongOp, row: &mut [Cell], locals: usize, used: usize) -> 
 
 /// lshl, lshr and lushr.
 #[inline(always)]
-pub fn long_shift(op: ShiftOp, row: &mut [Cell], locals: usize, used: usize) -> usize
-    requires fits { locals + used ≤ length row.old }
-    requires acts { CanAct (shift_row op) row.old locals used }
-    ensures { Acts (shift_row op) row.old locals used row.new result on }
+pub fn long_shift(op: ShiftOp, slots: &mut [StoredSlot], locals: usize, used: usize) -> usize
+    requires fits { locals + used ≤ length slots.old }
+    requires acts { CanAct (shift_row op) slots.old locals used }
+    ensures { Acts (shift_row op) slots.old locals used slots.new result on }
 {
     let at = locals + used - 3;
-    let a = long_at(row, at);
-    let b = int_at(row, at + 2);
-    put_long(row, at, l_shift(op, a, b));
+    let a = long_at(slots, at);
+    let b = int_at(slots, at + 2);
+    put_long(slots, at, l_shift(op, a, b));
     used - 1
 }
 
 /// lshl, lshr and lushr by this int, which isn't pushed.
 #[inline(always)]
-pub fn long_shift_by(op: ShiftOp, n: i32, row: &mut [Cell], locals: usize, used: usize) -> usize
-    requires fits { locals + used ≤ length row.old }
+pub fn long_shift_by(
+    op: ShiftOp,
+    n: i32,
+    slots: &mut [StoredSlot],
+    locals: usize,
+    used: usize,
+) -> usize
+    requires fits { locals + used ≤ length slots.old }
     requires acts { CanAct (long (kinds.Long ∷ []) (λ a. Some (long_shift_result op a n)))
-        row.old locals used }
+        slots.old locals used }
     ensures { Acts (long (kinds.Long ∷ []) (λ a. Some (long_shift_result op a n)))
-        row.old locals used row.new result on }
+        slots.old locals used slots.new result on }
 {
     let at = locals + used - 2;
-    let a = long_at(row, at);
-    put_long(row, at, l_shift(op, a, n));
+    let a = long_at(slots, at);
+    put_long(slots, at, l_shift(op, a, n));
     used
 }
 
 /// lneg.
 #[inline(always)]
-pub fn long_negate(row: &mut [Cell], locals: usize, used: usize) -> usize
-    requires fits { locals + used ≤ length row.old }
+pub fn long_negate(slots: &mut [StoredSlot], locals: usize, used: usize) -> usize
+    requires fits { locals + used ≤ length slots.old }
     requires acts { CanAct (long (kinds.Long ∷ []) (λ a. long_result long_ops.Sub (pos 0) a))
-        row.old locals used }
+        slots.old locals used }
     ensures { Acts (long (kinds.Long ∷ []) (λ a. long_result long_ops.Sub (pos 0) a))
-        row.old locals used row.new result on }
+        slots.old locals used slots.new result on }
 {
     let at = locals + used - 2;
-    let a = long_at(row, at);
-    put_long(row, at, negated_long(a));
+    let a = long_at(slots, at);
+    put_long(slots, at, negated_long(a));
     used
 }
 
 /// i2l.
 #[inline(always)]
-pub fn int_to_long(row: &mut [Cell], locals: usize, used: usize) -> usize
-    requires fits { locals + used + 1 ≤ length row.old }
+pub fn int_to_long(slots: &mut [StoredSlot], locals: usize, used: usize) -> usize
+    requires fits { locals + used + 1 ≤ length slots.old }
     requires acts { CanAct (long (kinds.Int ∷ []) (λ a. Some a))
-        row.old locals used }
+        slots.old locals used }
     ensures { Acts (long (kinds.Int ∷ []) (λ a. Some a))
-        row.old locals used row.new result on }
+        slots.old locals used slots.new result on }
 {
     let at = locals + used - 1;
-    let a = int_at(row, at);
-    put_long(row, at, i64::from(a));
+    let a = int_at(slots, at);
+    put_long(slots, at, i64::from(a));
     used + 1
 }

@@ -1,4 +1,4 @@
-//! What of ints and longs jvm_words leaves to the row: negation and i2l.
+//! Arithmetic that jvm_words leaves out: negation and i2l.
 
 ghost use Rattle.std.specs.Prelude.{◌≡◌, ◌-ℤ◌, ◌+ℤ◌, pos};
 ghost use Rattle.std.specs.Int.{w32, w64, int_wrap};

@@ -1,4 +1,4 @@
-pub mod RowLaws
+pub mod SlotLaws
 pub mod StackLaws
 pub mod SeenLaws
 pub mod Windows

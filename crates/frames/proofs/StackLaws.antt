@@ -1,15 +1,15 @@
--- The frames of a stack after a change of its top frame's record or of its row.
+-- The frames of a stack after a change of its top frame's record or of its slots.
 use Rattle.std.proofs.Common.{ℕ, suc, ◌≡◌, ◌+◌, ◌-◌, ◌<◌, ◌≤◌, List, [], ◌∷◌, ◌++◌, length, take, drop, reverse, replicate, Some, refl, ap, sym, ◌∙◌, arith, drop-drop, append_assoc}
 use Rattle.std.proofs.lemmas.List.{get_or-set_same, drop-set-lt, take_all}
 use Rattle.std.specs.Prelude.{slice_get, slice_set}
 use Rattle.instruction_rows.specs.declared.value.Slot.{Slot}
 use Rattle.instruction_rows.specs.declared.value.Slot.TheVariants.{Second}
 use Rattle.state_model.specs.Frames.{Frame}
-use Rattle.frames.specs.Rows.{slot_at, ascending, descending}
+use Rattle.frames.specs.Slots.{slot_at, ascending, descending}
 use Rattle.frames.specs.Frames.{Frames, top_locals, top_stack, top_method, top_pc, top_room, room_left, at_pc, with_stack, with_local, entered, slots_of, size_of, read_from}
 use Rattle.frames.specs.Layout.{end_of, frame_of, frames_of, ArePlaced}
 use Rattle.frames.specs.declared.record.Record.{Record}
-use Rattle.frames.proofs.RowLaws.{Agree, agree_within, agree_below, agree_above, ascending_agree, descending_agree, cons_is, length-ascending, length-descending, get_ascending, get_descending, set_ascending, take_descending, drop_descending, drop_ascending, reverse_descending, descending_drop, ascending_add, ascending_unset}
+use Rattle.frames.proofs.SlotLaws.{Agree, agree_within, agree_below, agree_above, ascending_agree, descending_agree, cons_is, length-ascending, length-descending, get_ascending, get_descending, set_ascending, take_descending, drop_descending, drop_ascending, reverse_descending, descending_drop, ascending_add, ascending_unset}
 
 abbrev pub kept : List Frame → List Slot → ℕ → Frames
 kept frames spare calls = record { frames = frames; spare = spare; calls = calls }
@@ -17,9 +17,9 @@ kept frames spare calls = record { frames = frames; spare = spare; calls = calls
 pub kept_is : {fs gs : List Frame} {xs ys : List Slot} {m n : ℕ} → fs ≡ gs → xs ≡ ys → m ≡ n → kept fs xs m ≡ kept gs ys n
 kept_is p q r = λ i. record { frames = p i; spare = q i; calls = r i }
 
-pub length-frames_of : (qs : List Record) (row : List Slot) (r : Record) → length (frames_of row r qs) ≡ length qs
-length-frames_of [] row r = refl
-length-frames_of (q ∷ qs) row r = ap suc (length-frames_of qs row q)
+pub length-frames_of : (qs : List Record) (slots : List Slot) (r : Record) → length (frames_of slots r qs) ≡ length qs
+length-frames_of [] slots r = refl
+length-frames_of (q ∷ qs) slots r = ap suc (length-frames_of qs slots q)
 
 -- a frame reads its own slots alone
 pub frame_agree : (xs ys : List Slot) (r : Record) → Agree r.base (end_of r) xs ys → frame_of ys r ≡ frame_of xs r
@@ -44,37 +44,37 @@ below_agree qs len xs ys r q placed agree =
     frames_agree qs len r.base xs ys q placed.1 (omega arith) agree
 
 -- what the top record says
-pub top_stack_is : (qs : List Record) (len : ℕ) (row : List Slot) (r : Record) → ArePlaced len r qs → top_stack (frames_of row r qs) ≡ descending row (r.base + r.locals) r.used
-top_stack_is [] len row r placed = let end = placed.end in let none : 0 ≡ r.used = omega arith in ap (descending row (r.base + r.locals)) none
-top_stack_is (q ∷ qs) len row r placed = refl
+pub top_stack_is : (qs : List Record) (len : ℕ) (slots : List Slot) (r : Record) → ArePlaced len r qs → top_stack (frames_of slots r qs) ≡ descending slots (r.base + r.locals) r.used
+top_stack_is [] len slots r placed = let end = placed.end in let none : 0 ≡ r.used = omega arith in ap (descending slots (r.base + r.locals)) none
+top_stack_is (q ∷ qs) len slots r placed = refl
 
-pub top_locals_is : (qs : List Record) (len : ℕ) (row : List Slot) (r : Record) → ArePlaced len r qs → top_locals (frames_of row r qs) ≡ ascending row r.base r.locals
-top_locals_is [] len row r placed = let end = placed.end in let none : 0 ≡ r.locals = omega arith in ap (ascending row r.base) none
-top_locals_is (q ∷ qs) len row r placed = refl
+pub top_locals_is : (qs : List Record) (len : ℕ) (slots : List Slot) (r : Record) → ArePlaced len r qs → top_locals (frames_of slots r qs) ≡ ascending slots r.base r.locals
+top_locals_is [] len slots r placed = let end = placed.end in let none : 0 ≡ r.locals = omega arith in ap (ascending slots r.base) none
+top_locals_is (q ∷ qs) len slots r placed = refl
 
-pub top_room_is : (qs : List Record) (len : ℕ) (row : List Slot) (r : Record) → ArePlaced len r qs → top_room (frames_of row r qs) ≡ r.room
-top_room_is [] len row r placed = sym placed.room
-top_room_is (q ∷ qs) len row r placed = refl
+pub top_room_is : (qs : List Record) (len : ℕ) (slots : List Slot) (r : Record) → ArePlaced len r qs → top_room (frames_of slots r qs) ≡ r.room
+top_room_is [] len slots r placed = sym placed.room
+top_room_is (q ∷ qs) len slots r placed = refl
 
-pub used_is : (qs : List Record) (len : ℕ) (row : List Slot) (r : Record) → ArePlaced len r qs → length (top_stack (frames_of row r qs)) ≡ r.used
-used_is qs len row r placed = ap length (top_stack_is qs len row r placed) ∙ length-descending r.used (r.base + r.locals) row
+pub used_is : (qs : List Record) (len : ℕ) (slots : List Slot) (r : Record) → ArePlaced len r qs → length (top_stack (frames_of slots r qs)) ≡ r.used
+used_is qs len slots r placed = ap length (top_stack_is qs len slots r placed) ∙ length-descending r.used (r.base + r.locals) slots
 
-pub locals_is : (qs : List Record) (len : ℕ) (row : List Slot) (r : Record) → ArePlaced len r qs → length (top_locals (frames_of row r qs)) ≡ r.locals
-locals_is qs len row r placed = ap length (top_locals_is qs len row r placed) ∙ length-ascending r.locals r.base row
+pub locals_is : (qs : List Record) (len : ℕ) (slots : List Slot) (r : Record) → ArePlaced len r qs → length (top_locals (frames_of slots r qs)) ≡ r.locals
+locals_is qs len slots r placed = ap length (top_locals_is qs len slots r placed) ∙ length-ascending r.locals r.base slots
 
-pub room_is : (qs : List Record) (len : ℕ) (row : List Slot) (r : Record) → ArePlaced len r qs → r.room - r.used ≡ room_left (frames_of row r qs)
-room_is [] len row r placed = let room = placed.room in omega arith
-room_is (q ∷ qs) len row r placed = let l = length-descending r.used (r.base + r.locals) row in omega arith
+pub room_is : (qs : List Record) (len : ℕ) (slots : List Slot) (r : Record) → ArePlaced len r qs → r.room - r.used ≡ room_left (frames_of slots r qs)
+room_is [] len slots r placed = let room = placed.room in omega arith
+room_is (q ∷ qs) len slots r placed = let l = length-descending r.used (r.base + r.locals) slots in omega arith
 
-pub method_is : (qs : List Record) (row : List Slot) (r : Record) → 0 < length (frames_of row r qs) → r.method ≡ top_method (frames_of row r qs)
-method_is [] row r h = absurd (omega arith)
-method_is (q ∷ qs) row r h = refl
+pub method_is : (qs : List Record) (slots : List Slot) (r : Record) → 0 < length (frames_of slots r qs) → r.method ≡ top_method (frames_of slots r qs)
+method_is [] slots r h = absurd (omega arith)
+method_is (q ∷ qs) slots r h = refl
 
-pub pc_is : (qs : List Record) (row : List Slot) (r : Record) → 0 < length (frames_of row r qs) → r.pc ≡ top_pc (frames_of row r qs)
-pc_is [] row r h = absurd (omega arith)
-pc_is (q ∷ qs) row r h = refl
+pub pc_is : (qs : List Record) (slots : List Slot) (r : Record) → 0 < length (frames_of slots r qs) → r.pc ≡ top_pc (frames_of slots r qs)
+pc_is [] slots r h = absurd (omega arith)
+pc_is (q ∷ qs) slots r h = refl
 
--- the top frame and its room lie in the row
+-- the top frame, with the operands that it may have, lies in the slots
 pub record IsWithin (len : ℕ) (r : Record) : Type 0 where
   pub held : r.used ≤ r.room
   pub end : end_of r ≤ len
@@ -95,103 +95,103 @@ pub placed_at : (qs : List Record) (len pc used : ℕ) (r : Record) → used ≤
 placed_at [] len pc used r h placed = let end = placed.end in let room = placed.room in record { end = omega arith; room = room }
 placed_at (q ∷ qs) len pc used r h placed = (record { placed = placed.0.placed; held = h; fits = placed.0.fits }, placed.1)
 
-pub frames_at : (qs : List Record) (pc used : ℕ) (row : List Slot) (r : Record)
-    → frames_of row (record r { pc = pc; used = used }) qs ≡ at_pc pc (with_stack (descending row (r.base + r.locals) used) (frames_of row r qs))
-frames_at [] pc used row r = refl
-frames_at (q ∷ qs) pc used row r = refl
+pub frames_at : (qs : List Record) (pc used : ℕ) (slots : List Slot) (r : Record)
+    → frames_of slots (record r { pc = pc; used = used }) qs ≡ at_pc pc (with_stack (descending slots (r.base + r.locals) used) (frames_of slots r qs))
+frames_at [] pc used slots r = refl
+frames_at (q ∷ qs) pc used slots r = refl
 
 -- the same count, as it stands
-pub frames_pc : (qs : List Record) (pc : ℕ) (row : List Slot) (r : Record) → frames_of row (record r { pc = pc }) qs ≡ at_pc pc (frames_of row r qs)
-frames_pc [] pc row r = refl
-frames_pc (q ∷ qs) pc row r = refl
+pub frames_pc : (qs : List Record) (pc : ℕ) (slots : List Slot) (r : Record) → frames_of slots (record r { pc = pc }) qs ≡ at_pc pc (frames_of slots r qs)
+frames_pc [] pc slots r = refl
+frames_pc (q ∷ qs) pc slots r = refl
 
-pub frames_used : (qs : List Record) (used : ℕ) (row : List Slot) (r : Record)
-    → frames_of row (record r { used = used }) qs ≡ with_stack (descending row (r.base + r.locals) used) (frames_of row r qs)
-frames_used [] used row r = refl
-frames_used (q ∷ qs) used row r = refl
+pub frames_used : (qs : List Record) (used : ℕ) (slots : List Slot) (r : Record)
+    → frames_of slots (record r { used = used }) qs ≡ with_stack (descending slots (r.base + r.locals) used) (frames_of slots r qs)
+frames_used [] used slots r = refl
+frames_used (q ∷ qs) used slots r = refl
 
-pub get_local : (qs : List Record) (len : ℕ) (row : List Slot) (r : Record) (i : ℕ) → ArePlaced len r qs → i < r.locals → slice_get (top_locals (frames_of row r qs)) i ≡ Some (slot_at row (r.base + i))
-get_local qs len row r i placed h = ap (λ xs. slice_get xs i) (top_locals_is qs len row r placed) ∙ get_ascending r.locals r.base i row h
+pub get_local : (qs : List Record) (len : ℕ) (slots : List Slot) (r : Record) (i : ℕ) → ArePlaced len r qs → i < r.locals → slice_get (top_locals (frames_of slots r qs)) i ≡ Some (slot_at slots (r.base + i))
+get_local qs len slots r i placed h = ap (λ xs. slice_get xs i) (top_locals_is qs len slots r placed) ∙ get_ascending r.locals r.base i slots h
 
-pub get_operand : (qs : List Record) (len : ℕ) (row : List Slot) (r : Record) (i at : ℕ) → ArePlaced len r qs → at + suc i ≡ end_of r → i < r.used → slice_get (top_stack (frames_of row r qs)) i ≡ Some (slot_at row at)
-get_operand qs len row r i at placed e h = ap (λ xs. slice_get xs i) (top_stack_is qs len row r placed) ∙ get_descending r.used (r.base + r.locals) i at row e h
+pub get_operand : (qs : List Record) (len : ℕ) (slots : List Slot) (r : Record) (i at : ℕ) → ArePlaced len r qs → at + suc i ≡ end_of r → i < r.used → slice_get (top_stack (frames_of slots r qs)) i ≡ Some (slot_at slots at)
+get_operand qs len slots r i at placed e h = ap (λ xs. slice_get xs i) (top_stack_is qs len slots r placed) ∙ get_descending r.used (r.base + r.locals) i at slots e h
 
 -- a local variable set
-local_set_at : (qs : List Record) (len : ℕ) (row : List Slot) (r : Record) (i : ℕ) (x : Slot) → ArePlaced len r qs → i < r.locals → len ≤ length row
-    → frames_of (slice_set row (r.base + i) x) r qs ≡ with_local i x (frames_of row r qs)
-local_set_at [] len row r i x placed h l = absurd (let end = placed.end in omega arith)
-local_set_at (q ∷ qs) len row r i x placed h l =
+local_set_at : (qs : List Record) (len : ℕ) (slots : List Slot) (r : Record) (i : ℕ) (x : Slot) → ArePlaced len r qs → i < r.locals → len ≤ length slots
+    → frames_of (slice_set slots (r.base + i) x) r qs ≡ with_local i x (frames_of slots r qs)
+local_set_at [] len slots r i x placed h l = absurd (let end = placed.end in omega arith)
+local_set_at (q ∷ qs) len slots r i x placed h l =
     let fits = placed.0.fits in
-    let locals : ascending (slice_set row (r.base + i) x) r.base r.locals ≡ slice_set (ascending row r.base r.locals) i x =
-    set_ascending r.locals r.base i (r.base + i) row x refl h (omega arith) in
-    let stack : descending (slice_set row (r.base + i) x) (r.base + r.locals) r.used ≡ descending row (r.base + r.locals) r.used =
-    descending_agree r.used (r.base + r.locals) row (slice_set row (r.base + i) x)
-    (agree_above (r.base + r.locals) (r.base + r.locals + r.used) (r.base + i) row x (omega arith)) in
+    let locals : ascending (slice_set slots (r.base + i) x) r.base r.locals ≡ slice_set (ascending slots r.base r.locals) i x =
+    set_ascending r.locals r.base i (r.base + i) slots x refl h (omega arith) in
+    let stack : descending (slice_set slots (r.base + i) x) (r.base + r.locals) r.used ≡ descending slots (r.base + r.locals) r.used =
+    descending_agree r.used (r.base + r.locals) slots (slice_set slots (r.base + i) x)
+    (agree_above (r.base + r.locals) (r.base + r.locals + r.used) (r.base + i) slots x (omega arith)) in
     cons_is (λ k. record { method = r.method; pc = r.pc; locals = locals k; stack = stack k; room = r.room })
-    (below_agree qs len row (slice_set row (r.base + i) x) r q placed (agree_below 0 r.base (r.base + i) row x (omega arith)))
+    (below_agree qs len slots (slice_set slots (r.base + i) x) r q placed (agree_below 0 r.base (r.base + i) slots x (omega arith)))
 
-pub local_set : (qs : List Record) (len : ℕ) (row : List Slot) (r : Record) (i : ℕ) (x y : Slot) → ArePlaced len r qs → y ≡ x → i < r.locals → len ≤ length row
-    → frames_of (slice_set row (r.base + i) y) r qs ≡ with_local i x (frames_of row r qs)
-local_set qs len row r i x y placed e h l = ap (λ z. frames_of (slice_set row (r.base + i) z) r qs) e ∙ local_set_at qs len row r i x placed h l
+pub local_set : (qs : List Record) (len : ℕ) (slots : List Slot) (r : Record) (i : ℕ) (x y : Slot) → ArePlaced len r qs → y ≡ x → i < r.locals → len ≤ length slots
+    → frames_of (slice_set slots (r.base + i) y) r qs ≡ with_local i x (frames_of slots r qs)
+local_set qs len slots r i x y placed e h l = ap (λ z. frames_of (slice_set slots (r.base + i) z) r qs) e ∙ local_set_at qs len slots r i x placed h l
 
-pub spare_set : (r : Record) (row : List Slot) (i : ℕ) (x : Slot) → i < r.locals → drop (end_of r) (slice_set row (r.base + i) x) ≡ drop (end_of r) row
-spare_set r row i x h = drop-set-lt (end_of r) row (r.base + i) x (omega arith)
+pub spare_set : (r : Record) (slots : List Slot) (i : ℕ) (x : Slot) → i < r.locals → drop (end_of r) (slice_set slots (r.base + i) x) ≡ drop (end_of r) slots
+spare_set r slots i x h = drop-set-lt (end_of r) slots (r.base + i) x (omega arith)
 
 -- an operand pushed
-pub operand_pushed : (qs : List Record) (len used at : ℕ) (row : List Slot) (r : Record) (x y : Slot) → ArePlaced len r qs → at ≡ end_of r → y ≡ x → end_of r < length row → used ≡ r.used + 1
-    → frames_of (slice_set row at y) (record r { used = used }) qs ≡ with_stack (x ∷ top_stack (frames_of row r qs)) (frames_of row r qs)
-operand_pushed qs len used at row r x y placed is_at is_x l e =
-    let row' = slice_set row (end_of r) x in
+pub operand_pushed : (qs : List Record) (len used at : ℕ) (slots : List Slot) (r : Record) (x y : Slot) → ArePlaced len r qs → at ≡ end_of r → y ≡ x → end_of r < length slots → used ≡ r.used + 1
+    → frames_of (slice_set slots at y) (record r { used = used }) qs ≡ with_stack (x ∷ top_stack (frames_of slots r qs)) (frames_of slots r qs)
+operand_pushed qs len used at slots r x y placed is_at is_x l e =
+    let slots' = slice_set slots (end_of r) x in
     let floor = r.base + r.locals in
     let more : used ≡ suc r.used = omega arith in
-    let stack : descending row' floor used ≡ x ∷ top_stack (frames_of row r qs) =
-    ap (descending row' floor) more
-    ∙ cons_is (get_or-set_same row (end_of r) x Second l)
-    (descending_agree r.used floor row row' (agree_below floor (floor + r.used) (end_of r) row x (omega arith)) ∙ sym (top_stack_is qs len row r placed)) in
-    (λ i. frames_of (slice_set row (is_at i) (is_x i)) (record r { used = used }) qs)
-    ∙ frames_used qs used row' r
-    ∙ (λ i. with_stack (stack i) (frames_agree qs len (end_of r) row row' r placed (omega arith) (agree_below 0 (end_of r) (end_of r) row x (omega arith)) i))
+    let stack : descending slots' floor used ≡ x ∷ top_stack (frames_of slots r qs) =
+    ap (descending slots' floor) more
+    ∙ cons_is (get_or-set_same slots (end_of r) x Second l)
+    (descending_agree r.used floor slots slots' (agree_below floor (floor + r.used) (end_of r) slots x (omega arith)) ∙ sym (top_stack_is qs len slots r placed)) in
+    (λ i. frames_of (slice_set slots (is_at i) (is_x i)) (record r { used = used }) qs)
+    ∙ frames_used qs used slots' r
+    ∙ (λ i. with_stack (stack i) (frames_agree qs len (end_of r) slots slots' r placed (omega arith) (agree_below 0 (end_of r) (end_of r) slots x (omega arith)) i))
 
-pub spare_pushed : (r : Record) (row : List Slot) (used at : ℕ) (y : Slot) → at ≡ end_of r → used ≡ r.used + 1
-    → drop (r.base + r.locals + used) (slice_set row at y) ≡ drop 1 (drop (end_of r) row)
-spare_pushed r row used at y is_at e =
+pub spare_pushed : (r : Record) (slots : List Slot) (used at : ℕ) (y : Slot) → at ≡ end_of r → used ≡ r.used + 1
+    → drop (r.base + r.locals + used) (slice_set slots at y) ≡ drop 1 (drop (end_of r) slots)
+spare_pushed r slots used at y is_at e =
     let more : r.base + r.locals + used ≡ end_of r + 1 = omega arith in
-    ap (λ n. drop n (slice_set row at y)) more ∙ drop-set-lt (end_of r + 1) row at y (omega arith) ∙ sym (drop-drop 1 (end_of r) row)
+    ap (λ n. drop n (slice_set slots at y)) more ∙ drop-set-lt (end_of r + 1) slots at y (omega arith) ∙ sym (drop-drop 1 (end_of r) slots)
 
 -- operands dropped
-pub operands_dropped : (qs : List Record) (len used args : ℕ) (row : List Slot) (r : Record) → ArePlaced len r qs → r.used ≡ used + args
-    → frames_of row (record r { used = used }) qs ≡ with_stack (drop args (top_stack (frames_of row r qs))) (frames_of row r qs)
-operands_dropped qs len used args row r placed e =
-    frames_used qs used row r
-    ∙ ap (λ xs. with_stack xs (frames_of row r qs))
-    (sym (ap (drop args) (top_stack_is qs len row r placed) ∙ drop_descending r.used args used (r.base + r.locals) row e))
+pub operands_dropped : (qs : List Record) (len used args : ℕ) (slots : List Slot) (r : Record) → ArePlaced len r qs → r.used ≡ used + args
+    → frames_of slots (record r { used = used }) qs ≡ with_stack (drop args (top_stack (frames_of slots r qs))) (frames_of slots r qs)
+operands_dropped qs len used args slots r placed e =
+    frames_used qs used slots r
+    ∙ ap (λ xs. with_stack xs (frames_of slots r qs))
+    (sym (ap (drop args) (top_stack_is qs len slots r placed) ∙ drop_descending r.used args used (r.base + r.locals) slots e))
 
 -- what becomes spare where operands are dropped
-pub spare_dropped : (qs : List Record) (len used args : ℕ) (row : List Slot) (r : Record) → ArePlaced len r qs → len ≤ length row → r.used ≡ used + args
-    → drop (r.base + r.locals + used) row ≡ reverse (take args (top_stack (frames_of row r qs))) ++ drop (end_of r) row
-spare_dropped qs len used args row r placed l e =
+pub spare_dropped : (qs : List Record) (len used args : ℕ) (slots : List Slot) (r : Record) → ArePlaced len r qs → len ≤ length slots → r.used ≡ used + args
+    → drop (r.base + r.locals + used) slots ≡ reverse (take args (top_stack (frames_of slots r qs))) ++ drop (end_of r) slots
+spare_dropped qs len used args slots r placed l e =
     let floor = r.base + r.locals in
     let end = (within qs len r placed).end in
     let at : floor + used + args ≡ end_of r = omega arith in
-    let dropped : reverse (take args (top_stack (frames_of row r qs))) ≡ ascending row (floor + used) args =
-    ap (λ xs. reverse (take args xs)) (top_stack_is qs len row r placed)
-    ∙ ap reverse (take_descending r.used args used floor row e) ∙ reverse_descending args (floor + used) row in
-    drop_ascending args (floor + used) row (omega arith)
-    ∙ (λ i. sym dropped i ++ drop (at i) row)
+    let dropped : reverse (take args (top_stack (frames_of slots r qs))) ≡ ascending slots (floor + used) args =
+    ap (λ xs. reverse (take args xs)) (top_stack_is qs len slots r placed)
+    ∙ ap reverse (take_descending r.used args used floor slots e) ∙ reverse_descending args (floor + used) slots in
+    drop_ascending args (floor + used) slots (omega arith)
+    ∙ (λ i. sym dropped i ++ drop (at i) slots)
 
-pub take_used : (qs : List Record) (len : ℕ) (row : List Slot) (r : Record) → ArePlaced len r qs → take r.used (top_stack (frames_of row r qs)) ≡ top_stack (frames_of row r qs)
-take_used qs len row r placed = let e = used_is qs len row r placed in take_all r.used (top_stack (frames_of row r qs)) (omega arith)
+pub take_used : (qs : List Record) (len : ℕ) (slots : List Slot) (r : Record) → ArePlaced len r qs → take r.used (top_stack (frames_of slots r qs)) ≡ top_stack (frames_of slots r qs)
+take_used qs len slots r placed = let e = used_is qs len slots r placed in take_all r.used (top_stack (frames_of slots r qs)) (omega arith)
 
 -- what becomes spare where the top frame is left
-pub spare_left : (qs : List Record) (len : ℕ) (row : List Slot) (r : Record) → ArePlaced len r qs → len ≤ length row
-    → drop r.base row ≡ top_locals (frames_of row r qs) ++ (reverse (top_stack (frames_of row r qs)) ++ drop (end_of r) row)
-spare_left qs len row r placed l =
+pub spare_left : (qs : List Record) (len : ℕ) (slots : List Slot) (r : Record) → ArePlaced len r qs → len ≤ length slots
+    → drop r.base slots ≡ top_locals (frames_of slots r qs) ++ (reverse (top_stack (frames_of slots r qs)) ++ drop (end_of r) slots)
+spare_left qs len slots r placed l =
     let floor = r.base + r.locals in
     let end = (within qs len r placed).end in
-    let stack : reverse (top_stack (frames_of row r qs)) ≡ ascending row floor r.used =
-    ap reverse (top_stack_is qs len row r placed) ∙ reverse_descending r.used floor row in
-    drop_ascending r.locals r.base row (omega arith)
-    ∙ (λ i. sym (top_locals_is qs len row r placed) i ++ (drop_ascending r.used floor row (omega arith) ∙ ap (λ xs. xs ++ drop (end_of r) row) (sym stack)) i)
+    let stack : reverse (top_stack (frames_of slots r qs)) ≡ ascending slots floor r.used =
+    ap reverse (top_stack_is qs len slots r placed) ∙ reverse_descending r.used floor slots in
+    drop_ascending r.locals r.base slots (omega arith)
+    ∙ (λ i. sym (top_locals_is qs len slots r placed) i ++ (drop_ascending r.used floor slots (omega arith) ∙ ap (λ xs. xs ++ drop (end_of r) slots) (sym stack)) i)
 
 pub reverse_one : (xs : List Slot) → reverse (take 1 xs) ≡ take 1 xs
 reverse_one [] = refl
@@ -209,95 +209,95 @@ pub callee_placed : (qs : List Record) (len base method locals room used : ℕ) 
 callee_placed qs len base method locals room used r placed h e fits =
     (record { placed = e; held = omega arith; fits = fits }, placed_at qs len r.pc used r h placed)
 
-pub callee_frames : (qs : List Record) (len base method locals room args used : ℕ) (row row' : List Slot) (r : Record) → ArePlaced len r qs
+pub callee_frames : (qs : List Record) (len base method locals room args used : ℕ) (slots slots' : List Slot) (r : Record) → ArePlaced len r qs
     → r.used ≡ used + args → base ≡ r.base + r.locals + used → args ≤ locals
-    → ((i : ℕ) → i < base + args → slot_at row' i ≡ slot_at row i)
-    → ((i : ℕ) → base + args ≤ i → i < base + locals → slot_at row' i ≡ Second)
-    → frames_of row' (callee_of base method locals room) (caller_of used r ∷ qs) ≡ entered method locals room args (frames_of row r qs)
-callee_frames qs len base method locals room args used row row' r placed e at h kept unset =
-    let given : ascending row' base args ≡ reverse (take args (top_stack (frames_of row r qs))) =
-    ascending_agree args base row row' (record { same = λ i a b. kept i (omega arith) })
-    ∙ ap (λ n. ascending row n args) at
-    ∙ sym (reverse_descending args (r.base + r.locals + used) row)
-    ∙ ap reverse (sym (take_descending r.used args used (r.base + r.locals) row e))
-    ∙ ap (λ xs. reverse (take args xs)) (sym (top_stack_is qs len row r placed)) in
-    let others : ascending row' (base + args) (locals - args) ≡ replicate (locals - args) Second =
-    ascending_unset (locals - args) (base + args) row' (λ i a b. unset i a (omega arith)) in
-    let slots : ascending row' base locals ≡ reverse (take args (top_stack (frames_of row r qs))) ++ replicate (locals - args) Second =
-    ascending_add args (locals - args) locals base row' (omega arith) ∙ (λ i. given i ++ others i) in
+    → ((i : ℕ) → i < base + args → slot_at slots' i ≡ slot_at slots i)
+    → ((i : ℕ) → base + args ≤ i → i < base + locals → slot_at slots' i ≡ Second)
+    → frames_of slots' (callee_of base method locals room) (caller_of used r ∷ qs) ≡ entered method locals room args (frames_of slots r qs)
+callee_frames qs len base method locals room args used slots slots' r placed e at h kept unset =
+    let given : ascending slots' base args ≡ reverse (take args (top_stack (frames_of slots r qs))) =
+    ascending_agree args base slots slots' (record { same = λ i a b. kept i (omega arith) })
+    ∙ ap (λ n. ascending slots n args) at
+    ∙ sym (reverse_descending args (r.base + r.locals + used) slots)
+    ∙ ap reverse (sym (take_descending r.used args used (r.base + r.locals) slots e))
+    ∙ ap (λ xs. reverse (take args xs)) (sym (top_stack_is qs len slots r placed)) in
+    let others : ascending slots' (base + args) (locals - args) ≡ replicate (locals - args) Second =
+    ascending_unset (locals - args) (base + args) slots' (λ i a b. unset i a (omega arith)) in
+    let variables : ascending slots' base locals ≡ reverse (take args (top_stack (frames_of slots r qs))) ++ replicate (locals - args) Second =
+    ascending_add args (locals - args) locals base slots' (omega arith) ∙ (λ i. given i ++ others i) in
     let held = (within qs len r placed).held in
-    cons_is (λ i. record { method = method; pc = 0; locals = slots i; stack = []; room = room })
-    (frames_agree qs len base row row' (caller_of used r) (placed_at qs len r.pc used r (omega arith) placed) (omega arith) (record { same = λ i a b. kept i (omega arith) })
-    ∙ operands_dropped qs len used args row r placed e)
+    cons_is (λ i. record { method = method; pc = 0; locals = variables i; stack = []; room = room })
+    (frames_agree qs len base slots slots' (caller_of used r) (placed_at qs len r.pc used r (omega arith) placed) (omega arith) (record { same = λ i a b. kept i (omega arith) })
+    ∙ operands_dropped qs len used args slots r placed e)
 
-pub callee_spare : (base locals args used : ℕ) (row row' : List Slot) (r : Record) → r.used ≡ used + args → base ≡ r.base + r.locals + used → args ≤ locals
-    → drop (base + locals) row' ≡ drop (base + locals) row
-    → drop (base + locals + 0) row' ≡ drop (locals - args) (drop (end_of r) row)
-callee_spare base locals args used row row' r e at h behind =
+pub callee_spare : (base locals args used : ℕ) (slots slots' : List Slot) (r : Record) → r.used ≡ used + args → base ≡ r.base + r.locals + used → args ≤ locals
+    → drop (base + locals) slots' ≡ drop (base + locals) slots
+    → drop (base + locals + 0) slots' ≡ drop (locals - args) (drop (end_of r) slots)
+callee_spare base locals args used slots slots' r e at h behind =
     let none : base + locals + 0 ≡ base + locals = omega arith in
     let more : base + locals ≡ end_of r + (locals - args) = omega arith in
-    ap (λ n. drop n row') none ∙ behind ∙ ap (λ n. drop n row) more ∙ sym (drop-drop (locals - args) (end_of r) row)
+    ap (λ n. drop n slots') none ∙ behind ∙ ap (λ n. drop n slots) more ∙ sym (drop-drop (locals - args) (end_of r) slots)
 
--- the row as the frames' slots, and what is spare
-pub size_is : (qs : List Record) (len : ℕ) (row : List Slot) (r : Record) → ArePlaced len r qs → size_of (frames_of row r qs) ≡ end_of r
-size_is [] len row r placed = sym placed.end
-size_is (q ∷ qs) len row r placed =
-    let below = size_is qs len row q placed.1 in
+-- the slots of the frames, and the spare ones
+pub size_is : (qs : List Record) (len : ℕ) (slots : List Slot) (r : Record) → ArePlaced len r qs → size_of (frames_of slots r qs) ≡ end_of r
+size_is [] len slots r placed = sym placed.end
+size_is (q ∷ qs) len slots r placed =
+    let below = size_is qs len slots q placed.1 in
     let base = placed.0.placed in
-    let l = length-ascending r.locals r.base row in
-    let s = length-descending r.used (r.base + r.locals) row in
+    let l = length-ascending r.locals r.base slots in
+    let s = length-descending r.used (r.base + r.locals) slots in
     omega arith
 
-pub row_is : (qs : List Record) (len : ℕ) (row : List Slot) (r : Record) → ArePlaced len r qs → len ≤ length row → slots_of (frames_of row r qs) ++ drop (end_of r) row ≡ row
-row_is [] len row r placed l = ap (λ n. drop n row) placed.end
-row_is (q ∷ qs) len row r placed l =
-    let mine = ascending row r.base r.locals ++ reverse (descending row (r.base + r.locals) r.used) in
-    append_assoc (slots_of (frames_of row q qs)) mine (drop (end_of r) row)
-    ∙ ap (λ xs. slots_of (frames_of row q qs) ++ xs)
-    (append_assoc (ascending row r.base r.locals) (reverse (descending row (r.base + r.locals) r.used)) (drop (end_of r) row)
-    ∙ sym (spare_left (q ∷ qs) len row r placed l) ∙ ap (λ n. drop n row) placed.0.placed)
-    ∙ row_is qs len row q placed.1 l
+pub slots_are : (qs : List Record) (len : ℕ) (slots : List Slot) (r : Record) → ArePlaced len r qs → len ≤ length slots → slots_of (frames_of slots r qs) ++ drop (end_of r) slots ≡ slots
+slots_are [] len slots r placed l = ap (λ n. drop n slots) placed.end
+slots_are (q ∷ qs) len slots r placed l =
+    let mine = ascending slots r.base r.locals ++ reverse (descending slots (r.base + r.locals) r.used) in
+    append_assoc (slots_of (frames_of slots q qs)) mine (drop (end_of r) slots)
+    ∙ ap (λ xs. slots_of (frames_of slots q qs) ++ xs)
+    (append_assoc (ascending slots r.base r.locals) (reverse (descending slots (r.base + r.locals) r.used)) (drop (end_of r) slots)
+    ∙ sym (spare_left (q ∷ qs) len slots r placed l) ∙ ap (λ n. drop n slots) placed.0.placed)
+    ∙ slots_are qs len slots q placed.1 l
 
-pub read_is : (qs : List Record) (len : ℕ) (row row' : List Slot) (r : Record) → ArePlaced len r qs → frames_of row' r qs ≡ read_from row' (frames_of row r qs)
-read_is [] len row row' r placed = refl
-read_is (q ∷ qs) len row row' r placed =
-    let below = size_is qs len row q placed.1 in
-    let base : r.base ≡ size_of (frames_of row q qs) = placed.0.placed ∙ sym below in
-    let l = length-ascending r.locals r.base row in
-    let s = length-descending r.used (r.base + r.locals) row in
+pub read_is : (qs : List Record) (len : ℕ) (slots slots' : List Slot) (r : Record) → ArePlaced len r qs → frames_of slots' r qs ≡ read_from slots' (frames_of slots r qs)
+read_is [] len slots slots' r placed = refl
+read_is (q ∷ qs) len slots slots' r placed =
+    let below = size_is qs len slots q placed.1 in
+    let base : r.base ≡ size_of (frames_of slots q qs) = placed.0.placed ∙ sym below in
+    let l = length-ascending r.locals r.base slots in
+    let s = length-descending r.used (r.base + r.locals) slots in
     cons_is (λ i. record {
       method = r.method;
       pc = r.pc;
-      locals = ascending row' (base i) (sym l i);
-      stack = descending row' (base i + sym l i) (sym s i);
+      locals = ascending slots' (base i) (sym l i);
+      stack = descending slots' (base i + sym l i) (sym s i);
       room = r.room;
-    }) (read_is qs len row row' q placed.1)
+    }) (read_is qs len slots slots' q placed.1)
 
--- the row from the top frame's operands on
-pub floor_row : (qs : List Record) (len : ℕ) (row : List Slot) (r : Record) → ArePlaced len r qs → len ≤ length row
-    → drop (r.base + r.locals) row ≡ reverse (top_stack (frames_of row r qs)) ++ drop (end_of r) row
-floor_row qs len row r placed l =
+-- the slots from the top frame's operands on
+pub floor_slots : (qs : List Record) (len : ℕ) (slots : List Slot) (r : Record) → ArePlaced len r qs → len ≤ length slots
+    → drop (r.base + r.locals) slots ≡ reverse (top_stack (frames_of slots r qs)) ++ drop (end_of r) slots
+floor_slots qs len slots r placed l =
     let none : r.base + r.locals ≡ r.base + r.locals + 0 = omega arith in
-    ap (λ n. drop n row) none ∙ spare_dropped qs len 0 r.used row r placed l (omega arith)
-    ∙ ap (λ xs. reverse xs ++ drop (end_of r) row) (take_used qs len row r placed)
+    ap (λ n. drop n slots) none ∙ spare_dropped qs len 0 r.used slots r placed l (omega arith)
+    ∙ ap (λ xs. reverse xs ++ drop (end_of r) slots) (take_used qs len slots r placed)
 
-pub settled_frames : (qs : List Record) (len pc used : ℕ) (row : List Slot) (r : Record) → ArePlaced len r qs → len ≤ length row
-    → frames_of row (record r { pc = pc; used = used }) qs
-    ≡ at_pc pc (with_stack (descending (reverse (top_stack (frames_of row r qs)) ++ drop (end_of r) row) 0 used) (frames_of row r qs))
-settled_frames qs len pc used row r placed l =
-    let stack : descending row (r.base + r.locals) used ≡ descending (reverse (top_stack (frames_of row r qs)) ++ drop (end_of r) row) 0 used =
-    sym (descending_drop used (r.base + r.locals) row) ∙ ap (λ xs. descending xs 0 used) (floor_row qs len row r placed l) in
-    frames_at qs pc used row r ∙ ap (λ xs. at_pc pc (with_stack xs (frames_of row r qs))) stack
+pub frames_set : (qs : List Record) (len pc used : ℕ) (slots : List Slot) (r : Record) → ArePlaced len r qs → len ≤ length slots
+    → frames_of slots (record r { pc = pc; used = used }) qs
+    ≡ at_pc pc (with_stack (descending (reverse (top_stack (frames_of slots r qs)) ++ drop (end_of r) slots) 0 used) (frames_of slots r qs))
+frames_set qs len pc used slots r placed l =
+    let stack : descending slots (r.base + r.locals) used ≡ descending (reverse (top_stack (frames_of slots r qs)) ++ drop (end_of r) slots) 0 used =
+    sym (descending_drop used (r.base + r.locals) slots) ∙ ap (λ xs. descending xs 0 used) (floor_slots qs len slots r placed l) in
+    frames_at qs pc used slots r ∙ ap (λ xs. at_pc pc (with_stack xs (frames_of slots r qs))) stack
 
-pub settled_spare : (qs : List Record) (len used : ℕ) (row : List Slot) (r : Record) → ArePlaced len r qs → len ≤ length row
-    → drop (r.base + r.locals + used) row ≡ drop used (reverse (top_stack (frames_of row r qs)) ++ drop (end_of r) row)
-settled_spare qs len used row r placed l =
-    sym (drop-drop used (r.base + r.locals) row) ∙ ap (drop used) (floor_row qs len row r placed l)
+pub spare_behind : (qs : List Record) (len used : ℕ) (slots : List Slot) (r : Record) → ArePlaced len r qs → len ≤ length slots
+    → drop (r.base + r.locals + used) slots ≡ drop used (reverse (top_stack (frames_of slots r qs)) ++ drop (end_of r) slots)
+spare_behind qs len used slots r placed l =
+    sym (drop-drop used (r.base + r.locals) slots) ∙ ap (drop used) (floor_slots qs len slots r placed l)
 
-pub base_is : (qs : List Record) (len : ℕ) (row : List Slot) (r : Record) → ArePlaced len r qs → r.base ≡ size_of (drop 1 (frames_of row r qs))
-base_is [] len row r placed = let end = placed.end in omega arith
-base_is (q ∷ qs) len row r placed = placed.0.placed ∙ sym (size_is qs len row q placed.1)
+pub base_is : (qs : List Record) (len : ℕ) (slots : List Slot) (r : Record) → ArePlaced len r qs → r.base ≡ size_of (drop 1 (frames_of slots r qs))
+base_is [] len slots r placed = let end = placed.end in omega arith
+base_is (q ∷ qs) len slots r placed = placed.0.placed ∙ sym (size_is qs len slots q placed.1)
 
-pub base_room : (qs : List Record) (len : ℕ) (row : List Slot) (r : Record) → ArePlaced len r qs → r.base + r.locals + r.room ≤ len
-base_room [] len row r placed = let end = placed.end in let room = placed.room in omega arith
-base_room (q ∷ qs) len row r placed = placed.0.fits
+pub base_room : (qs : List Record) (len : ℕ) (slots : List Slot) (r : Record) → ArePlaced len r qs → r.base + r.locals + r.room ≤ len
+base_room [] len slots r placed = let end = placed.end in let room = placed.room in omega arith
+base_room (q ∷ qs) len slots r placed = placed.0.fits

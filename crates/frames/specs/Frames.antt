@@ -4,7 +4,7 @@ use Rattle.std.specs.Prelude.{ℕ, ◌+◌, ◌-◌, ◌<◌, ◌≤◌, List, [
 use Rattle.instruction_rows.specs.declared.value.Slot.{Slot}
 use Rattle.instruction_rows.specs.declared.value.Slot.TheVariants.{Second}
 use Rattle.state_model.specs.Frames.{Frame}
-use Rattle.frames.specs.Rows.{ascending, descending}
+use Rattle.frames.specs.Slots.{ascending, descending}
 
 -- The frames of a stack; the slots after its top frame, as they were left; and how many frames it can take before it wants
 -- memory to save where they lie.
@@ -87,11 +87,11 @@ cleared s = record s { frames = with_stack [] s.frames; spare = reverse (top_sta
 abbrev pub left : Frames → Frames
 left s = record { frames = drop 1 s.frames; spare = top_locals s.frames ++ (reverse (top_stack s.frames) ++ s.spare); calls = s.calls + 1 }
 
--- the top frame with another pc, and with so many operands, which lie after its local variables
-abbrev pub settled : ℕ → ℕ → Frames → Frames
-settled pc used s =
-    let row = reverse (top_stack s.frames) ++ s.spare in
-    record s { frames = at_pc pc (with_stack (descending row 0 used) s.frames); spare = drop used row }
+-- the top frame with another pc, and with this number of operands, which lie after its local variables
+abbrev pub with_pc_and_operands : ℕ → ℕ → Frames → Frames
+with_pc_and_operands pc used s =
+    let slots = reverse (top_stack s.frames) ++ s.spare in
+    record s { frames = at_pc pc (with_stack (descending slots 0 used) s.frames); spare = drop used slots }
 
 -- the slots of all frames, those of the lowest first, and how many they are
 abbrev pub slots_of : List Frame → List Slot
@@ -102,31 +102,31 @@ abbrev pub size_of : List Frame → ℕ
 size_of [] = 0
 size_of (f ∷ below) = size_of below + length f.locals + length f.stack
 
--- the row in which all slots lie: those of the frames, then the spare ones
-abbrev pub row_of : Frames → List Slot
-row_of s = slots_of s.frames ++ s.spare
+-- all slots: those of the frames, then the spare ones
+abbrev pub all_slots : Frames → List Slot
+all_slots s = slots_of s.frames ++ s.spare
 
--- frames of the same sizes, with their slots read off a row
+-- frames of the same sizes, with their slots read off a list
 abbrev pub read_from : List Slot → List Frame → List Frame
-read_from row [] = []
-read_from row (f ∷ below) = record f {
-  locals = ascending row (size_of below) (length f.locals);
-  stack = descending row (size_of below + length f.locals) (length f.stack);
-} ∷ read_from row below
+read_from slots [] = []
+read_from slots (f ∷ below) = record f {
+  locals = ascending slots (size_of below) (length f.locals);
+  stack = descending slots (size_of below + length f.locals) (length f.stack);
+} ∷ read_from slots below
 
--- a row of the same length with other slots, as far as they reach
+-- as many slots, with new ones in place of the first
 abbrev pub over : List Slot → List Slot → List Slot
-over row slots = take (length row) (slots ++ drop (length slots) row)
+over slots new = take (length slots) (new ++ drop (length new) slots)
 
--- a stack with other slots in its row
-abbrev pub with_row : Frames → List Slot → Frames
-with_row s slots =
-    let row = over (row_of s) slots in
-    record s { frames = read_from row s.frames; spare = drop (size_of s.frames) row }
+-- a stack with other slots
+abbrev pub with_all_slots : Frames → List Slot → Frames
+with_all_slots s new =
+    let slots = over (all_slots s) new in
+    record s { frames = read_from slots s.frames; spare = drop (size_of s.frames) slots }
 
--- the row from the top frame's first slot on
+-- all slots from the top frame's first one on
 abbrev pub window : Frames → List Slot
-window s = drop (size_of (drop 1 s.frames)) (row_of s)
+window s = drop (size_of (drop 1 s.frames)) (all_slots s)
 
 -- the top frame and what is spare, read off other slots; the frames below are as they were
 abbrev pub top_read_from : List Slot → List Frame → List Frame

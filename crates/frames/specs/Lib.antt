@@ -1,4 +1,4 @@
-pub mod Rows
+pub mod Slots
 pub mod Frames
 pub mod Layout
 pub mod Lending

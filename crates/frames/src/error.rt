@@ -1,3 +1,5 @@
+//! Why a frame is not pushed.
+
 ghost use Rattle.std.specs.Prelude.{◌≡◌};
 ghost use Rattle.frames.specs.declared.error.StackError.TheVariants as errors;
 
@@ -8,7 +10,7 @@ use thiserror::Error;
 /// Why a frame wasn't pushed.
 #[derive(Clone, Copy, Debug, PartialEq, Eq, Error)]
 pub enum StackError {
-    /// The stack has 2,048 frames (`StackOverflowError`; the number: own).
+    /// The stack has 2,048 frames (`StackOverflowError`).
     #[error("too many frames")]
     Deep,
     /// Memory ran out.

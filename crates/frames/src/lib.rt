@@ -1,10 +1,10 @@
-//! The frames of a thread (JVMS 2.5.2, 2.6), one after the other in one row of slots: an invoked method's first local variables are
+//! The frames of a thread (JVMS 2.5.2, 2.6), one after the other in one run of slots: an invoked method's first local variables are
 //! its caller's last operands, where they lie.
 #![tactic(auto)]
 
 mod error;
 mod record;
-mod row;
+mod slots;
 mod stack;
 
 pub use error::StackError;

@@ -1,3 +1,5 @@
+//! Where a frame lies in the slots of its stack.
+
 ghost use Rattle.std.specs.Prelude.{◌≡◌, ◌+◌, ◌<◌, ◌^◌};
 
 /// What is known of a frame beside its slots: where they lie, and how many operands there are and may be.
@@ -12,7 +14,7 @@ pub(crate) struct Record {
 }
 
 impl Record {
-    // No frame, at the beginning of the row.
+    // The record of no frame, at the first slot.
     pub(crate) fn none() -> Self
         ensures { result ≡ record { base = 0; method = 0; pc = 0; locals = 0; used = 0; room = 0 } }
     {

@@ -1,22 +1,24 @@
+//! A stack of frames, and the calls that change it (JVMS 2.5.2, 2.6).
+
 ghost use Rattle.std.specs.Prelude.{ℕ, ◌≡◌, ◌↔◌, ◌+◌, ◌-◌, ◌<◌, ◌≤◌, Err, IsOk, IsTrue, OnErr, OnOk, Some, [], drop, length, slice_get};
 ghost use Rattle.std.specs.Borrow.{sem};
-ghost use Rattle.frames.specs.Frames.{HasRoom, at_pc, called, cleared, dropped, entered, left, popped, pushed, returned, room_left, row_of, settled, size_of, top_locals, top_method, top_pc, top_room, top_stack, with_frames, with_local};
+ghost use Rattle.frames.specs.Frames.{HasRoom, at_pc, called, cleared, dropped, entered, left, popped, pushed, returned, room_left, all_slots, with_pc_and_operands, size_of, top_locals, top_method, top_pc, top_room, top_stack, with_frames, with_local};
 ghost use Rattle.frames.specs.declared.error.StackError.TheVariants as errors;
 
 use crate::error::StackError;
 use crate::record::Record;
-use crate::row::{lengthen, unset};
+use crate::slots::{lengthen, unset};
 use instruction_rows::Slot;
 use items::NoMemory;
-use slot_block::Cell;
+use slot_block::StoredSlot;
 use std::alloc::Global;
 use std::marker::Model;
 
-/// The most frames that a stack has (own).
+/// The most frames that a stack has.
 pub const MOST_FRAMES: u32 = 2048;
 
 /// What the top frame is: the number of its method, the pc of its instruction, and how many local variables and operands it has.
-#[derive(Clone, Copy, Debug, PartialEq, Eq)]
+#[derive(Clone, Copy)]
 pub struct FrameView {
     pub method: u32,
     pub pc: u32,
@@ -27,7 +29,7 @@ pub struct FrameView {
 /// The frames of a thread (JVMS 2.5.2), at most 2,048.
 #[derive(Drop)]
 pub struct Stack {
-    cells: Vec<Cell>,
+    slots: Vec<StoredSlot>,
     // Where the frames below lie, under the record of no frame.
     saved: Vec<Record>,
     top: Record,
@@ -46,7 +48,7 @@ impl Model for Stack {
 }
 
 impl Stack {
-    ghost use Rattle.frames.specs.Lending.{LendsCells};
+    ghost use Rattle.frames.specs.Lending.{LendsSlots};
 
     /// No frame. This takes no memory.
     pub fn new(alloc: Global) -> Self
@@ -54,7 +56,7 @@ impl Stack {
         ensures spare { result.spare ≡ [] }
     {
         Stack {
-            cells: Vec::new(alloc),
+            slots: Vec::new(alloc),
             saved: Vec::new(alloc),
             top: Record::none(),
         }
@@ -92,8 +94,8 @@ impl Stack {
         requires { i < length (top_locals self.now.frames) }
         ensures { slice_get (top_locals self.now.frames) i ≡ Some result }
     {
-        let cell = self.cells[self.top.base + i as usize];
-        cell.slot()
+        let slot = self.slots[self.top.base + i as usize];
+        slot.slot()
     }
 
     /// The top frame's operand at this depth; that at depth 0 is the top.
@@ -102,8 +104,8 @@ impl Stack {
         requires { i < length (top_stack self.now.frames) }
         ensures { slice_get (top_stack self.now.frames) i ≡ Some result }
     {
-        let cell = self.cells[self.top.end() - 1 - i as usize];
-        cell.slot()
+        let slot = self.slots[self.top.end() - 1 - i as usize];
+        slot.slot()
     }
 
     /// How many more operands the top frame may have.
@@ -137,7 +139,7 @@ impl Stack {
         ensures { self.new ≡ with_frames (with_local i slot self.old.frames) self.old }
     {
         let at = self.top.base + i as usize;
-        self.cells[at] = Cell::of(slot);
+        self.slots[at] = StoredSlot::of(slot);
     }
 
     /// Pushes an operand on the top frame.
@@ -147,7 +149,7 @@ impl Stack {
         ensures { self.new ≡ pushed slot self.old }
     {
         let end = self.top.end();
-        self.cells[end] = Cell::of(slot);
+        self.slots[end] = StoredSlot::of(slot);
         self.top.used += 1;
     }
 
@@ -158,12 +160,12 @@ impl Stack {
         ensures value { slice_get (top_stack self.old.frames) 0 ≡ Some result }
         ensures popped { self.new ≡ popped self.old }
     {
-        let cell = self.cells[self.top.end() - 1];
+        let slot = self.slots[self.top.end() - 1];
         self.top.used -= 1;
-        cell.slot()
+        slot.slot()
     }
 
-    /// Drops so many of the top frame's operands, from the top on.
+    /// Drops the topmost `slots` operands of the top frame.
     #[inline(always)]
     pub fn drop_operands(&mut self, slots: u16)
         requires { slots ≤ length (top_stack self.old.frames) }
@@ -196,7 +198,7 @@ impl Stack {
     pub fn fits(&self, locals: u32, operands: u16) -> bool
         ensures { IsTrue result ↔ HasRoom self.now locals operands }
     {
-        let spare = self.cells.len() - self.top.end();
+        let spare = self.slots.len() - self.top.end();
         self.saved.len() < self.saved.capacity() && locals as usize + operands as usize <= spare
     }
 
@@ -210,8 +212,8 @@ impl Stack {
         ensures enough { HasRoom self.old locals operands → IsOk result }
     {
         self.saved.reserve(1)?;
-        let slots = self.top.end() + locals as usize + operands as usize;
-        lengthen(&mut self.cells, slots)?;
+        let wanted = self.top.end() + locals as usize + operands as usize;
+        lengthen(&mut self.slots, wanted)?;
         Ok(())
     }
 
@@ -229,7 +231,7 @@ impl Stack {
         caller.used -= args;
         let base = caller.end();
         unset(
-            &mut self.cells,
+            &mut self.slots,
             base + args as usize,
             base + locals as usize,
         );
@@ -317,32 +319,32 @@ impl Stack {
         self.push(top);
     }
 
-    /// The row in which the slots of all frames lie, from the lowest on, and after them the spare ones. What is written into it is in
-    /// the frames. This is for code that runs many instructions of one frame.
+    /// Lends the slots of all frames, the lowest frame first, and the spare ones after them. What is written there is in the frames. A
+    /// loop over the instructions of one frame uses it.
     #[inline(always)]
-    pub fn cells(&mut self) -> &mut [Cell]
-        ensures* writes_back { sem 𝓛 (LendsCells self.entry result) }
-        ensures value { result.now ≡ row_of self.old }
+    pub fn slots(&mut self) -> &mut [StoredSlot]
+        ensures* writes_back { sem 𝓛 (LendsSlots self.entry result) }
+        ensures value { result.now ≡ all_slots self.old }
     {
-        self.cells.as_mut_slice()
+        self.slots.as_mut_slice()
     }
 
-    /// The index in that row at which the top frame's local variables begin. Its operands lie after them, and the row has room for as
+    /// The index of the top frame's first local variable among those slots. Its operands lie after its local variables, with slots for as
     /// many as it may have.
     #[inline(always)]
     pub fn base(&self) -> usize
         ensures value { result ≡ size_of (drop 1 self.now.frames) }
         ensures room { result + length (top_locals self.now.frames) + top_room self.now.frames
-            ≤ length (row_of self.now) }
+            ≤ length (all_slots self.now) }
     {
         self.top.base
     }
 
-    /// Sets the top frame's pc and how many operands it has: those that lie in the row after its local variables.
+    /// Sets the top frame's pc and how many operands it has: those that lie after its local variables.
     #[inline(always)]
-    pub fn settle(&mut self, pc: u32, operands: u16)
+    pub fn set_pc_and_operands(&mut self, pc: u32, operands: u16)
         requires { operands ≤ top_room self.old.frames }
-        ensures { self.new ≡ settled pc operands self.old }
+        ensures { self.new ≡ with_pc_and_operands pc operands self.old }
     {
         self.top.pc = pc;
         self.top.used = operands;

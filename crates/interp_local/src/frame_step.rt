@@ -20,7 +20,7 @@ use crate::staying::does_stay;
 use crate::switching::switch_target;
 use link_model::Lookups;
 use opcodes::Instr;
-use slot_block::Cell;
+use slot_block::StoredSlot;
 use superinstructions::{Turn, is_left, make_quick};
 
 /// What stays the same in a frame: its method, the number of its local variables, and how many operands it may have.
@@ -38,7 +38,7 @@ pub(crate) struct Position {
     pub(crate) used: usize,
 }
 
-/// What a step does in its frame, after which so many operands are left and so many instructions were executed.
+/// What a step does in its frame: how many operands it leaves and how many instructions it executed.
 #[derive(Clone, Copy)]
 pub(crate) enum Step {
     /// Nothing, since the instruction doesn't stay in its frame.
@@ -107,16 +107,16 @@ pub(crate) fn stays_at<L: Lookups>(
     frame: &FrameLayout,
     at: usize,
     used: usize,
-    row: &[Cell],
+    slots: &[StoredSlot],
 ) -> bool
     requires typed { AreTyped p.now }
     requires code { IsCodeOf p.now frame.now.method code.now }
-    requires fits { frame.now.locals + frame.now.room ≤ length row.now }
-    requires at { IsAt p.now code.now.instrs.now frame.now row.now used at }
-    ensures { StaysAt p.now code.now.instrs.now frame.now row.now used at result }
+    requires fits { frame.now.locals + frame.now.room ≤ length slots.now }
+    requires at { IsAt p.now code.now.instrs.now frame.now slots.now used at }
+    ensures { StaysAt p.now code.now.instrs.now frame.now slots.now used at result }
 {
     let instr = instr_at(code.instrs, at);
-    does_stay(&instr.op, row, frame.locals, used)
+    does_stay(&instr.op, slots, frame.locals, used)
 }
 
 /// Executes the instruction with an index, which stays in its frame.
@@ -127,19 +127,19 @@ pub(crate) fn execute_at<L: Lookups>(
     frame: &FrameLayout,
     at: usize,
     used: usize,
-    row: &mut [Cell],
+    slots: &mut [StoredSlot],
 ) -> Position
     requires typed { AreTyped p.now }
     requires code { IsCodeOf p.now frame.now.method code.now }
-    requires fits { frame.now.locals + frame.now.room ≤ length row.old }
-    requires at { IsAt p.now code.now.instrs.now frame.now row.old used at }
-    requires stays { StaysAt p.now code.now.instrs.now frame.now row.old used at true }
-    ensures { Leads p.now code.now.instrs.now frame.now row.old used at
-        row.new result.used result.index 1 }
+    requires fits { frame.now.locals + frame.now.room ≤ length slots.old }
+    requires at { IsAt p.now code.now.instrs.now frame.now slots.old used at }
+    requires stays { StaysAt p.now code.now.instrs.now frame.now slots.old used at true }
+    ensures { Leads p.now code.now.instrs.now frame.now slots.old used at
+        slots.new result.used result.index 1 }
 {
     let instr = instr_at(code.instrs, at);
     let resolution = code.resolutions.at(at);
-    let left = execute(&instr.op, resolution, row, frame.locals, used);
+    let left = execute(&instr.op, resolution, slots, frame.locals, used);
     let pc = next_pc(instr.next, left.target);
     Position {
         index: place(code.instrs, code.places, pc),
@@ -155,17 +155,17 @@ fn switch_at<L: Lookups>(
     frame: &FrameLayout,
     at: usize,
     used: usize,
-    row: &[Cell],
+    slots: &[StoredSlot],
 ) -> Option<Position>
     requires typed { AreTyped p.now }
     requires code { IsCodeOf p.now frame.now.method code.now }
-    requires fits { frame.now.locals + frame.now.room ≤ length row.now }
-    requires at { IsAt p.now code.now.instrs.now frame.now row.now used at }
-    ensures { IfSome result (λ to. Leads p.now code.now.instrs.now frame.now row.now used at
-        row.now to.used to.index 1) }
+    requires fits { frame.now.locals + frame.now.room ≤ length slots.now }
+    requires at { IsAt p.now code.now.instrs.now frame.now slots.now used at }
+    ensures { IfSome result (λ to. Leads p.now code.now.instrs.now frame.now slots.now used at
+        slots.now to.used to.index 1) }
 {
     let instr = instr_at(code.instrs, at);
-    match switch_target(&instr.op, row, frame.locals, used) {
+    match switch_target(&instr.op, slots, frame.locals, used) {
         Some(target) => {
             let pc = next_pc(instr.next, Some(target));
             Some(Position {
@@ -203,33 +203,33 @@ pub(crate) fn step_at<L: Lookups>(
     frame: &FrameLayout,
     at: usize,
     used: usize,
-    row: &mut [Cell],
+    slots: &mut [StoredSlot],
 ) -> Step
     requires typed { AreTyped p.now }
     requires code { IsCodeOf p.now frame.now.method code.now }
-    requires fits { frame.now.locals + frame.now.room ≤ length row.old }
-    requires at { IsAt p.now code.now.instrs.now frame.now row.old used at }
-    ensures { IsStep p.now code.now.instrs.now frame.now row.old used at row.new result }
+    requires fits { frame.now.locals + frame.now.room ≤ length slots.old }
+    requires at { IsAt p.now code.now.instrs.now frame.now slots.old used at }
+    ensures { IsStep p.now code.now.instrs.now frame.now slots.old used at slots.new result }
 {
     let quick = quick_at(code.quicks, at);
     if is_left(quick) {
-        if let Some(Position { index, used }) = switch_at(p, code, frame, at, used, row) {
+        if let Some(Position { index, used }) = switch_at(p, code, frame, at, used, slots) {
             return Step::Jump {
                 used,
                 index,
                 count: 1,
             };
         }
-        if !stays_at(p, code, frame, at, used, row) {
+        if !stays_at(p, code, frame, at, used, slots) {
             return Step::Leave;
         }
-        let Position { index, used } = execute_at(p, code, frame, at, used, row);
+        let Position { index, used } = execute_at(p, code, frame, at, used, slots);
         return Step::Jump {
             used,
             index,
             count: 1,
         };
     }
-    let turn = make_quick(quick, row, frame.locals, used);
+    let turn = make_quick(quick, slots, frame.locals, used);
     step_of(turn)
 }

@@ -16,7 +16,7 @@ use continuation::Mounted;
 use link_model::Lookups;
 
 /// Where a run of local instructions stopped, after how many.
-#[derive(Clone, Copy, Debug, PartialEq, Eq)]
+#[derive(Clone, Copy)]
 pub enum Local {
     /// Before an instruction that doesn't stay in its frame: an event, an invocation, a return, or a division by 0.
     Need { steps: u32 },
@@ -32,7 +32,7 @@ pub struct TopRun<'a> {
     pub next: Fetched<'a>,
 }
 
-/// The top frame, and where its slots begin in the row of all frames.
+/// The top frame, and where its slots begin among those of all frames.
 #[derive(Clone, Copy)]
 pub(crate) struct TopFrame {
     pub(crate) layout: FrameLayout,
@@ -60,7 +60,7 @@ fn top_frame<L: Lookups>(p: &Prepared<L>, m: &Mounted) -> TopFrame
     }
 }
 
-// Executes the instructions of the top frame, as long as they stay in it, and at most so many.
+// Executes instructions of the top frame, at most `most`, as long as they stay in it.
 #[inline(always)]
 fn run_top<'a, L: Lookups>(p: &'a Prepared<L>, m: &mut Mounted, most: u32) -> Stop<'a>
     requires { Typed p.now m.old.stack.frames }
@@ -71,10 +71,10 @@ fn run_top<'a, L: Lookups>(p: &'a Prepared<L>, m: &mut Mounted, most: u32) -> St
     ensures pinned { m.new.pinned ≡ m.old.pinned }
 {
     let top = top_frame(p, m);
-    let cells = m.cells();
-    let row = &mut cells[top.base..];
-    let stop = run_frame(p, top.layout, top.pc, top.operands, row, most);
-    m.settle(stop.pc, stop.used as u16);
+    let slots = m.slots();
+    let slots = &mut slots[top.base..];
+    let stop = run_frame(p, top.layout, top.pc, top.operands, slots, most);
+    m.set_pc_and_operands(stop.pc, stop.used as u16);
     stop
 }
 
@@ -98,8 +98,8 @@ pub fn run_and_fetch<'a, L: Lookups>(p: &'a Prepared<L>, m: &mut Mounted, most: 
     }
 }
 
-/// Executes the local instructions of a thread (JVMS 6.5) as long as they stay in its top frame, and at most so many: pushes and loads,
-/// arithmetic but a division by 0, stack moves, stores, branches and switches. This takes no memory. Invocations and returns stop it.
+/// Executes local instructions of a thread (JVMS 6.5), at most `most`, as long as they stay in its top frame: pushes and loads, arithmetic
+/// but a division by 0, stack moves, stores, branches and switches. This takes no memory. Invocations and returns stop it.
 pub fn run_local<L: Lookups>(p: &Prepared<L>, m: &mut Mounted, most: u32) -> Local
     requires typed { Typed p.now m.old.stack.frames }
     ensures rows { rows p.now (steps_of result) m.old.stack.frames ≡ Some m.new.stack.frames }

@@ -4,74 +4,74 @@ ghost use Rattle.std.specs.Prelude.{◌≡◌, ◌+◌, ◌≤◌, length, not};
 ghost use Rattle.opcodes.specs.declared.op.Op.TheVariants as ops;
 ghost use Rattle.opcodes.specs.declared.op.Simple.TheVariants as simples;
 ghost use Rattle.instruction_rows.specs.Marks.{has_zero_divisor, is_zero_int_on, is_zero_long_on};
-ghost use Rattle.frames.specs.Rows.{descending};
-ghost use Rattle.frame_instructions.specs.CellRows.{CanAct};
+ghost use Rattle.frames.specs.Slots.{descending};
+ghost use Rattle.frame_instructions.specs.SlotRows.{CanAct};
 ghost use Rattle.interp_local.specs.FrameRows as spec;
 ghost use Rattle.interp_local.specs.FrameRows.{HasOperands, adds_ints, adds_longs};
 
 use jvm_words::{IntOp, LongOp, i_binary, l_binary};
 use opcodes::{Op, Simple};
-use slot_block::{Cell, int_at, long_at};
+use slot_block::{StoredSlot, int_at, long_at};
 
 // Whether the int on top isn't 0.
 #[inline(always)]
-fn has_int_divisor(row: &[Cell], locals: usize, used: usize) -> bool
-    requires fits { locals + used ≤ length row.now }
-    requires operands { CanAct adds_ints row.now locals used }
-    ensures { result ≡ not (is_zero_int_on (descending row.now locals used)) }
+fn has_int_divisor(slots: &[StoredSlot], locals: usize, used: usize) -> bool
+    requires fits { locals + used ≤ length slots.now }
+    requires operands { CanAct adds_ints slots.now locals used }
+    ensures { result ≡ not (is_zero_int_on (descending slots.now locals used)) }
 {
-    let divisor = int_at(row, locals + used - 1);
+    let divisor = int_at(slots, locals + used - 1);
     i_binary(IntOp::Div, 0, divisor).is_some()
 }
 
 #[inline(always)]
-fn int_stays(op: IntOp, row: &[Cell], locals: usize, used: usize) -> bool
-    requires fits { locals + used ≤ length row.now }
-    requires operands { CanAct adds_ints row.now locals used }
+fn int_stays(op: IntOp, slots: &[StoredSlot], locals: usize, used: usize) -> bool
+    requires fits { locals + used ≤ length slots.now }
+    requires operands { CanAct adds_ints slots.now locals used }
     ensures { result ≡ not (has_zero_divisor (ops.Simple (simples.IntBinary op))
-        (descending row.now locals used)) }
+        (descending slots.now locals used)) }
 {
     match op {
-        IntOp::Div => has_int_divisor(row, locals, used),
-        IntOp::Rem => has_int_divisor(row, locals, used),
+        IntOp::Div => has_int_divisor(slots, locals, used),
+        IntOp::Rem => has_int_divisor(slots, locals, used),
         _ => true,
     }
 }
 
 // Whether the long on top isn't 0.
 #[inline(always)]
-fn has_long_divisor(row: &[Cell], locals: usize, used: usize) -> bool
-    requires fits { locals + used ≤ length row.now }
-    requires operands { CanAct adds_longs row.now locals used }
-    ensures { result ≡ not (is_zero_long_on (descending row.now locals used)) }
+fn has_long_divisor(slots: &[StoredSlot], locals: usize, used: usize) -> bool
+    requires fits { locals + used ≤ length slots.now }
+    requires operands { CanAct adds_longs slots.now locals used }
+    ensures { result ≡ not (is_zero_long_on (descending slots.now locals used)) }
 {
-    let divisor = long_at(row, locals + used - 2);
+    let divisor = long_at(slots, locals + used - 2);
     l_binary(LongOp::Div, 0, divisor).is_some()
 }
 
 #[inline(always)]
-fn long_stays(op: LongOp, row: &[Cell], locals: usize, used: usize) -> bool
-    requires fits { locals + used ≤ length row.now }
-    requires operands { CanAct adds_longs row.now locals used }
+fn long_stays(op: LongOp, slots: &[StoredSlot], locals: usize, used: usize) -> bool
+    requires fits { locals + used ≤ length slots.now }
+    requires operands { CanAct adds_longs slots.now locals used }
     ensures { result ≡ not (has_zero_divisor (ops.Simple (simples.LongBinary op))
-        (descending row.now locals used)) }
+        (descending slots.now locals used)) }
 {
     match op {
-        LongOp::Div => has_long_divisor(row, locals, used),
-        LongOp::Rem => has_long_divisor(row, locals, used),
+        LongOp::Div => has_long_divisor(slots, locals, used),
+        LongOp::Rem => has_long_divisor(slots, locals, used),
         _ => true,
     }
 }
 
 #[inline(always)]
-fn simple_stays(simple: Simple, row: &[Cell], locals: usize, used: usize) -> bool
-    requires fits { locals + used ≤ length row.now }
-    requires operands { HasOperands (ops.Simple simple) row.now locals used }
-    ensures { result ≡ spec.stays (ops.Simple simple) (descending row.now locals used) }
+fn simple_stays(simple: Simple, slots: &[StoredSlot], locals: usize, used: usize) -> bool
+    requires fits { locals + used ≤ length slots.now }
+    requires operands { HasOperands (ops.Simple simple) slots.now locals used }
+    ensures { result ≡ spec.stays (ops.Simple simple) (descending slots.now locals used) }
 {
     match simple {
-        Simple::IntBinary(op) => int_stays(op, row, locals, used),
-        Simple::LongBinary(op) => long_stays(op, row, locals, used),
+        Simple::IntBinary(op) => int_stays(op, slots, locals, used),
+        Simple::LongBinary(op) => long_stays(op, slots, locals, used),
         Simple::ArrayLoad(_)
         | Simple::ArrayStore(_)
         | Simple::ReturnValue(_)
@@ -86,13 +86,13 @@ fn simple_stays(simple: Simple, row: &[Cell], locals: usize, used: usize) -> boo
 
 // Whether an instruction that may stay in its frame does.
 #[inline(never)]
-fn row_stays(op: &Op, row: &[Cell], locals: usize, used: usize) -> bool
-    requires fits { locals + used ≤ length row.now }
-    requires operands { HasOperands op.now row.now locals used }
-    ensures { result ≡ spec.stays op.now (descending row.now locals used) }
+fn row_stays(op: &Op, slots: &[StoredSlot], locals: usize, used: usize) -> bool
+    requires fits { locals + used ≤ length slots.now }
+    requires operands { HasOperands op.now slots.now locals used }
+    ensures { result ≡ spec.stays op.now (descending slots.now locals used) }
 {
     match op {
-        Op::Simple(simple) => simple_stays(*simple, row, locals, used),
+        Op::Simple(simple) => simple_stays(*simple, slots, locals, used),
         Op::PushInt(_)
         | Op::PushLong(_)
         | Op::PushConstant(_)
@@ -113,10 +113,10 @@ fn row_stays(op: &Op, row: &[Cell], locals: usize, used: usize) -> bool
 
 /// Whether the instruction stays in its frame. Those that end most runs are told apart here, without a call.
 #[inline(always)]
-pub(crate) fn does_stay(op: &Op, row: &[Cell], locals: usize, used: usize) -> bool
-    requires fits { locals + used ≤ length row.now }
-    requires operands { HasOperands op.now row.now locals used }
-    ensures { result ≡ spec.stays op.now (descending row.now locals used) }
+pub(crate) fn does_stay(op: &Op, slots: &[StoredSlot], locals: usize, used: usize) -> bool
+    requires fits { locals + used ≤ length slots.now }
+    requires operands { HasOperands op.now slots.now locals used }
+    ensures { result ≡ spec.stays op.now (descending slots.now locals used) }
 {
     match op {
         Op::GetStatic(_)
@@ -127,6 +127,6 @@ pub(crate) fn does_stay(op: &Op, row: &[Cell], locals: usize, used: usize) -> bo
         | Op::InvokeSpecial(_)
         | Op::InvokeStatic(_)
         | Op::InvokeInterface(_, _) => false,
-        _ => row_stays(op, row, locals, used),
+        _ => row_stays(op, slots, locals, used),
     }
 }

@@ -1,6 +1,8 @@
+//! A list of slots that grows at its end.
+
 ghost use Rattle.std.specs.Prelude.{◌≡◌, ◌+◌, ◌-◌, ◌<◌, ◌≤◌, [], ◌∷◌, ◌++◌, drop, take, length, slice_get, slice_set, Some, IfOk, IsTrue, OnErr, OnOk, ◌↔◌};
 
-use crate::cell::Cell;
+use crate::stored_slot::StoredSlot;
 use instruction_rows::Slot;
 use items::NoMemory;
 use std::alloc::Global;
@@ -9,7 +11,7 @@ use std::marker::Model;
 /// A list of slots, and how many more it can take without new memory.
 #[derive(Drop)]
 pub struct SlotBlock {
-    cells: Vec<Cell>,
+    slots: Vec<StoredSlot>,
 }
 
 impl Model for SlotBlock {
@@ -20,30 +22,30 @@ impl Model for SlotBlock {
     ghost Value = { Block };
 
     ghost view = { λ a. record {
-      slots = a.cells.items;
-      spare = vec_capacity a.cells - vec_len a.cells;
+      slots = a.slots.items;
+      spare = vec_capacity a.slots - vec_len a.slots;
     } };
 }
 
 impl SlotBlock {
-    /// An empty block with room for so many slots.
+    /// Makes an empty block that can take this many slots without new memory.
     pub fn new(alloc: Global, slots: usize) -> Result<Self, NoMemory>
         ensures empty { IfOk result (λ block. block.slots ≡ []) }
         ensures spare { IfOk result (λ block. slots ≤ block.spare) }
     {
         Ok(SlotBlock {
-            cells: Vec::with_capacity(alloc, slots)?,
+            slots: Vec::with_capacity(alloc, slots)?,
         })
     }
 
-    /// Room for so many more slots. After an error nothing has changed.
+    /// Makes room for this many more slots. After an error nothing has changed.
     pub fn reserve(&mut self, slots: usize) -> Result<(), NoMemory>
         ensures slots { self.new.slots ≡ self.old.slots }
         ensures ok { OnOk result (slots ≤ self.new.spare) }
         ensures spare { self.old.spare ≤ self.new.spare }
         ensures enough { slots ≤ self.old.spare → OnErr result ⊥ }
     {
-        self.cells.reserve(slots)?;
+        self.slots.reserve(slots)?;
         Ok(())
     }
 
@@ -53,7 +55,7 @@ impl SlotBlock {
         ensures { self.new ≡
             record { slots = self.old.slots ++ slot ∷ []; spare = self.old.spare - 1 } }
     {
-        self.cells.push_reserved(Cell::of(slot));
+        self.slots.push_reserved(StoredSlot::of(slot));
     }
 
     /// Takes the last slot.
@@ -62,8 +64,8 @@ impl SlotBlock {
         ensures slots { self.old.slots ≡ self.new.slots ++ result ∷ [] }
         ensures spare { self.new.spare ≡ self.old.spare + 1 }
     {
-        match self.cells.pop() {
-            Some(cell) => cell.slot(),
+        match self.slots.pop() {
+            Some(slot) => slot.slot(),
             None => unreachable!(),
         }
     }
@@ -73,8 +75,8 @@ impl SlotBlock {
         requires { i < length self.now.slots }
         ensures { slice_get self.now.slots i ≡ Some result }
     {
-        let cell = self.cells[i];
-        cell.slot()
+        let slot = self.slots[i];
+        slot.slot()
     }
 
     /// Puts a slot at an index.
@@ -82,10 +84,10 @@ impl SlotBlock {
         requires { i < length self.old.slots }
         ensures { self.new ≡ record self.old { slots = slice_set self.old.slots i slot } }
     {
-        self.cells[i] = Cell::of(slot);
+        self.slots[i] = StoredSlot::of(slot);
     }
 
-    /// Appends the last so many slots to another block, in order.
+    /// Appends the last `slots` slots to another block, in order.
     pub fn copy_top(&self, slots: usize, into: &mut SlotBlock)
         requires inside { slots ≤ length self.now.slots }
         requires spare { slots ≤ into.old.spare }
@@ -93,40 +95,40 @@ impl SlotBlock {
             into.old.slots ++ drop (length self.now.slots - slots) self.now.slots }
         ensures spare { into.new.spare + slots ≡ into.old.spare }
     {
-        let first = self.cells.len() - slots;
-        for cell in &self.cells[first..] {
-            into.cells.push_reserved(*cell);
+        let first = self.slots.len() - slots;
+        for slot in &self.slots[first..] {
+            into.slots.push_reserved(*slot);
         }
     }
 
-    /// Drops the last so many slots.
+    /// Drops the last `slots` slots.
     pub fn drop_top(&mut self, slots: usize)
         requires { slots ≤ length self.old.slots }
         ensures slots { self.new.slots ≡ take (length self.old.slots - slots) self.old.slots }
         ensures spare { self.new.spare ≡ self.old.spare + slots }
     {
-        let left = self.cells.len() - slots;
-        self.cells.truncate(left);
+        let left = self.slots.len() - slots;
+        self.slots.truncate(left);
     }
 
     /// How many slots it can take without new memory.
     pub fn spare(&self) -> usize
         ensures { result ≡ self.now.spare }
     {
-        self.cells.capacity() - self.cells.len()
+        self.slots.capacity() - self.slots.len()
     }
 
     /// How many slots there are.
     pub fn len(&self) -> usize
         ensures { result ≡ length self.now.slots }
     {
-        self.cells.len()
+        self.slots.len()
     }
 
     /// Whether there is none.
     pub fn is_empty(&self) -> bool
         ensures { IsTrue result ↔ (self.now.slots ≡ []) }
     {
-        self.cells.is_empty()
+        self.slots.is_empty()
     }
 }

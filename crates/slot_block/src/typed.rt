@@ -1,6 +1,8 @@
+//! Reads and writes of slots by kind.
+
 ghost use Rattle.std.specs.Prelude.{ℕ, ℤ, ◌≡◌, ◌+◌, ◌%◌, ◌^◌, ◌<◌, Some, length, slice_get, slice_set};
 
-use crate::cell::{Cell, CellKind};
+use crate::stored_slot::{StoredKind, StoredSlot};
 use instruction_rows::{Slot, Value};
 
 // The low 32 bits of a word.
@@ -13,102 +15,102 @@ fn low(word: u64) -> u32
 
 /// The slot at an index.
 #[inline(always)]
-pub fn slot_at(row: &[Cell], i: usize) -> Slot
-    requires { i < length row.now }
-    ensures { slice_get row.now i ≡ Some result }
+pub fn slot_at(slots: &[StoredSlot], i: usize) -> Slot
+    requires { i < length slots.now }
+    ensures { slice_get slots.now i ≡ Some result }
 {
-    let cell = row[i];
-    cell.slot()
+    let slot = slots[i];
+    slot.slot()
 }
 
 /// The int at an index where one lies.
 #[inline(always)]
-pub fn int_at(row: &[Cell], i: usize) -> i32
-    requires { i < length row.now }
-    ensures { (z : ℤ) → slice_get row.now i ≡ Some (Slot.One (Value.Int z)) → result ≡ z }
+pub fn int_at(slots: &[StoredSlot], i: usize) -> i32
+    requires { i < length slots.now }
+    ensures { (z : ℤ) → slice_get slots.now i ≡ Some (Slot.One (Value.Int z)) → result ≡ z }
 {
-    let cell = row[i];
-    low(cell.word).cast_signed()
+    let slot = slots[i];
+    low(slot.word).cast_signed()
 }
 
 /// The long at an index where one lies.
 #[inline(always)]
-pub fn long_at(row: &[Cell], i: usize) -> i64
-    requires { i < length row.now }
-    ensures { (z : ℤ) → slice_get row.now i ≡ Some (Slot.One (Value.Long z)) → result ≡ z }
+pub fn long_at(slots: &[StoredSlot], i: usize) -> i64
+    requires { i < length slots.now }
+    ensures { (z : ℤ) → slice_get slots.now i ≡ Some (Slot.One (Value.Long z)) → result ≡ z }
 {
-    let cell = row[i];
-    cell.word.cast_signed()
+    let slot = slots[i];
+    slot.word.cast_signed()
 }
 
 /// The number of the object at an index where a reference to one lies.
 #[inline(always)]
-pub fn reference_at(row: &[Cell], i: usize) -> u32
-    requires { i < length row.now }
-    ensures { (n : ℕ) → slice_get row.now i ≡ Some (Slot.One (Value.Ref n)) → result ≡ n }
+pub fn reference_at(slots: &[StoredSlot], i: usize) -> u32
+    requires { i < length slots.now }
+    ensures { (n : ℕ) → slice_get slots.now i ≡ Some (Slot.One (Value.Ref n)) → result ≡ n }
 {
-    let cell = row[i];
-    low(cell.word)
+    let slot = slots[i];
+    low(slot.word)
 }
 
 /// Puts a slot at an index.
 #[inline(always)]
-pub fn put_slot(row: &mut [Cell], i: usize, slot: Slot)
-    requires { i < length row.old }
-    ensures { row.new ≡ slice_set row.old i slot }
+pub fn put_slot(slots: &mut [StoredSlot], i: usize, slot: Slot)
+    requires { i < length slots.old }
+    ensures { slots.new ≡ slice_set slots.old i slot }
 {
-    row[i] = Cell::of(slot);
+    slots[i] = StoredSlot::of(slot);
 }
 
 /// Puts an int at an index.
 #[inline(always)]
-pub fn put_int(row: &mut [Cell], i: usize, x: i32)
-    requires { i < length row.old }
-    ensures { row.new ≡ slice_set row.old i (Slot.One (Value.Int x)) }
+pub fn put_int(slots: &mut [StoredSlot], i: usize, x: i32)
+    requires { i < length slots.old }
+    ensures { slots.new ≡ slice_set slots.old i (Slot.One (Value.Int x)) }
 {
-    row[i] = Cell {
-        kind: CellKind::Int,
+    slots[i] = StoredSlot {
+        kind: StoredKind::Int,
         word: u64::from(x.cast_unsigned()),
     };
 }
 
 /// Puts a long at an index, and its second half after it.
 #[inline(always)]
-pub fn put_long(row: &mut [Cell], i: usize, x: i64)
-    requires { i + 1 < length row.old }
-    ensures { row.new ≡
-        slice_set (slice_set row.old i (Slot.One (Value.Long x))) (i + 1) Slot.Second }
+pub fn put_long(slots: &mut [StoredSlot], i: usize, x: i64)
+    requires { i + 1 < length slots.old }
+    ensures { slots.new ≡
+        slice_set (slice_set slots.old i (Slot.One (Value.Long x))) (i + 1) Slot.Second }
 {
-    row[i] = Cell {
-        kind: CellKind::Long,
+    slots[i] = StoredSlot {
+        kind: StoredKind::Long,
         word: x.cast_unsigned(),
     };
-    row[i + 1] = Cell {
-        kind: CellKind::Second,
+    slots[i + 1] = StoredSlot {
+        kind: StoredKind::Second,
         word: 0,
     };
 }
 
 /// Puts the null reference at an index.
 #[inline(always)]
-pub fn put_null(row: &mut [Cell], i: usize)
-    requires { i < length row.old }
-    ensures { row.new ≡ slice_set row.old i (Slot.One Value.Null) }
+pub fn put_null(slots: &mut [StoredSlot], i: usize)
+    requires { i < length slots.old }
+    ensures { slots.new ≡ slice_set slots.old i (Slot.One Value.Null) }
 {
-    row[i] = Cell {
-        kind: CellKind::Null,
+    slots[i] = StoredSlot {
+        kind: StoredKind::Null,
         word: 0,
     };
 }
 
 /// Puts a reference to an object at an index.
 #[inline(always)]
-pub fn put_reference(row: &mut [Cell], i: usize, object: u32)
-    requires { i < length row.old }
-    ensures { row.new ≡ slice_set row.old i (Slot.One (Value.Ref object)) }
+pub fn put_reference(slots: &mut [StoredSlot], i: usize, object: u32)
+    requires { i < length slots.old }
+    ensures { slots.new ≡ slice_set slots.old i (Slot.One (Value.Ref object)) }
 {
-    row[i] = Cell {
-        kind: CellKind::Ref,
+    slots[i] = StoredSlot {
+        kind: StoredKind::Ref,
         word: u64::from(object),
     };
 }

@@ -6,16 +6,16 @@ use Rattle.frame_instructions.proofs.MadeRows.{reads_int, selects, selected}
 use Rattle.frame_instructions.proofs.branches.lookup_switch.Goals as goal
 
 pub overflow_sub-locals : goal.overflow_sub-locals
-overflow_sub-locals c = let few = selects (lookup_target c.args.s.now) (lookup_targets c.args.s.now) c.args.row.now c.args.locals c.args.used c.requires.acts in omega (arith, few)
+overflow_sub-locals c = let few = selects (lookup_target c.args.s.now) (lookup_targets c.args.s.now) c.args.slots.now c.args.locals c.args.used c.requires.acts in omega (arith, few)
 
 pub int_at-a-requires : goal.int_at-a-requires
-int_at-a-requires c = let few = selects (lookup_target c.args.s.now) (lookup_targets c.args.s.now) c.args.row.now c.args.locals c.args.used c.requires.acts in omega (arith, few)
+int_at-a-requires c = let few = selects (lookup_target c.args.s.now) (lookup_targets c.args.s.now) c.args.slots.now c.args.locals c.args.used c.requires.acts in omega (arith, few)
 
 pub returns : goal.returns
 returns c =
-    let row = c.args.row.now in
-    let few = selects (lookup_target c.args.s.now) (lookup_targets c.args.s.now) row c.args.locals c.args.used c.requires.acts in
+    let slots = c.args.slots.now in
+    let few = selects (lookup_target c.args.s.now) (lookup_targets c.args.s.now) slots c.args.locals c.args.used c.requires.acts in
     let at = c.args.locals + c.args.used - 1 in
-    let a = reads_int row at c.int_at-a.result (to_z-of_z w32 c.int_at-a.result (search rules)) c.int_at-a.ensures in
-    selected (lookup_target c.args.s.now) (lookup_targets c.args.s.now) row c.args.locals c.args.used at (c.args.used - 1) (to_z w32 (of_z w32 c.int_at-a.result)) (to_z w64 (of_z w64 c.lookup_choice.result))
+    let a = reads_int slots at c.int_at-a.result (to_z-of_z w32 c.int_at-a.result (search rules)) c.int_at-a.ensures in
+    selected (lookup_target c.args.s.now) (lookup_targets c.args.s.now) slots c.args.locals c.args.used at (c.args.used - 1) (to_z w32 (of_z w32 c.int_at-a.result)) (to_z w64 (of_z w64 c.lookup_choice.result))
     c.requires.acts a (omega (arith, few)) (omega (arith, few)) (to_z-of_z w64 c.lookup_choice.result (search rules) ∙ c.lookup_choice.ensures) (omega (arith, few))

@@ -1,11 +1,11 @@
 use Rattle.std.proofs.Common.{◌+◌, [], ◌∷◌, refl, arith}
 use Rattle.instruction_rows.specs.declared.value.Value.TheVariants as values
-use Rattle.instruction_rows.specs.declared.value.Slot.TheVariants as slots
+use Rattle.instruction_rows.specs.declared.value.Slot.TheVariants.{One}
 use Rattle.instruction_rows.specs.Rows.{push}
 use Rattle.frame_instructions.proofs.TopWrites.{top_written}
 use Rattle.frame_instructions.proofs.constants.push_reference.Goals as goal
 
 pub returns : goal.returns
 returns c =
-    λ t. top_written (push t (values.Ref c.args.object)) c.args.row.now c.put_reference.new.row c.args.locals c.args.used c.args.used (c.args.locals + c.args.used) (c.args.used + 1) (slots.One (values.Ref c.args.object) ∷ [])
+    λ t. top_written (push t (values.Ref c.args.object)) c.args.slots.now c.put_reference.new.slots c.args.locals c.args.used c.args.used (c.args.locals + c.args.used) (c.args.used + 1) (One (values.Ref c.args.object) ∷ [])
     refl c.put_reference.ensures refl (omega arith) refl

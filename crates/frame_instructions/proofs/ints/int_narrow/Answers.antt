@@ -8,19 +8,19 @@ use Rattle.frame_instructions.proofs.ints.int_narrow.Goals as goal
 
 pub overflow_sub-at : goal.overflow_sub-at
 overflow_sub-at c =
-    let row = c.args.row.now in
+    let slots = c.args.slots.now in
     let to = c.args.to in
     let can = c.requires.acts in
-    let few = int_takes_one kinds.Int (λ a. Some (narrow_result to a)) row c.args.locals c.args.used can in
+    let few = int_takes_one kinds.Int (λ a. Some (narrow_result to a)) slots c.args.locals c.args.used can in
     omega (arith, few)
 
 pub returns : goal.returns
 returns c =
-    let row = c.args.row.now in
+    let slots = c.args.slots.now in
     let to = c.args.to in
     let can = c.requires.acts in
-    let few = int_takes_one kinds.Int (λ a. Some (narrow_result to a)) row c.args.locals c.args.used can in
+    let few = int_takes_one kinds.Int (λ a. Some (narrow_result to a)) slots c.args.locals c.args.used can in
     let at = c.args.locals + c.args.used - 1 in
-    let a = reads_int row at c.int_at-a.result (to_z-of_z w32 c.int_at-a.result (search rules)) c.int_at-a.ensures in
-    int_of_one kinds.Int (λ a. Some (narrow_result to a)) row c.put_int.new.row c.args.locals c.args.used at (c.args.used) (to_z w32 (of_z w32 c.int_at-a.result)) (to_z w32 (of_z w32 c.narrow.result))
+    let a = reads_int slots at c.int_at-a.result (to_z-of_z w32 c.int_at-a.result (search rules)) c.int_at-a.ensures in
+    int_of_one kinds.Int (λ a. Some (narrow_result to a)) slots c.put_int.new.slots c.args.locals c.args.used at (c.args.used) (to_z w32 (of_z w32 c.int_at-a.result)) (to_z w32 (of_z w32 c.narrow.result))
     can a (omega (arith, few)) (omega (arith, few)) (ap Some (sym (to_z-of_z w32 c.narrow.result (search rules) ∙ c.narrow.ensures))) c.put_int.ensures (omega (arith, few))

@@ -9,17 +9,17 @@ use Rattle.frame_instructions.proofs.ints.int_negate.Goals as goal
 
 pub overflow_sub-at : goal.overflow_sub-at
 overflow_sub-at c =
-    let row = c.args.row.now in
+    let slots = c.args.slots.now in
     let can = c.requires.acts in
-    let few = int_takes_one kinds.Int (λ a. int_result int_ops.Sub (pos 0) a) row c.args.locals c.args.used can in
+    let few = int_takes_one kinds.Int (λ a. int_result int_ops.Sub (pos 0) a) slots c.args.locals c.args.used can in
     omega (arith, few)
 
 pub returns : goal.returns
 returns c =
-    let row = c.args.row.now in
+    let slots = c.args.slots.now in
     let can = c.requires.acts in
-    let few = int_takes_one kinds.Int (λ a. int_result int_ops.Sub (pos 0) a) row c.args.locals c.args.used can in
+    let few = int_takes_one kinds.Int (λ a. int_result int_ops.Sub (pos 0) a) slots c.args.locals c.args.used can in
     let at = c.args.locals + c.args.used - 1 in
-    let a = reads_int row at c.int_at-a.result (to_z-of_z w32 c.int_at-a.result (search rules)) c.int_at-a.ensures in
-    int_of_one kinds.Int (λ a. int_result int_ops.Sub (pos 0) a) row c.put_int.new.row c.args.locals c.args.used at (c.args.used) (to_z w32 (of_z w32 c.int_at-a.result)) (to_z w32 (of_z w32 c.negated_int.result))
+    let a = reads_int slots at c.int_at-a.result (to_z-of_z w32 c.int_at-a.result (search rules)) c.int_at-a.ensures in
+    int_of_one kinds.Int (λ a. int_result int_ops.Sub (pos 0) a) slots c.put_int.new.slots c.args.locals c.args.used at (c.args.used) (to_z w32 (of_z w32 c.int_at-a.result)) (to_z w32 (of_z w32 c.negated_int.result))
     can a (omega (arith, few)) (omega (arith, few)) (ap Some (sym (to_z-of_z w32 c.negated_int.result (search rules) ∙ c.negated_int.ensures))) c.put_int.ensures (omega (arith, few))

@@ -8,32 +8,32 @@ use Rattle.frame_instructions.proofs.ints.long_compare.Goals as goal
 
 pub overflow_sub-at : goal.overflow_sub-at
 overflow_sub-at c =
-    let row = c.args.row.now in
+    let slots = c.args.slots.now in
     let can = c.requires.acts in
-    let few = int_takes_two kinds.Long kinds.Long (λ b a. Some (long_order a b)) row c.args.locals c.args.used can in
+    let few = int_takes_two kinds.Long kinds.Long (λ b a. Some (long_order a b)) slots c.args.locals c.args.used can in
     omega (arith, few)
 
 pub returns : goal.returns
 returns c =
-    let row = c.args.row.now in
+    let slots = c.args.slots.now in
     let can = c.requires.acts in
-    let few = int_takes_two kinds.Long kinds.Long (λ b a. Some (long_order a b)) row c.args.locals c.args.used can in
+    let few = int_takes_two kinds.Long kinds.Long (λ b a. Some (long_order a b)) slots c.args.locals c.args.used can in
     let at = c.args.locals + c.args.used - 4 in
-    let a = reads_long row at c.long_at-a.result (to_z-of_z w64 c.long_at-a.result (search rules)) c.long_at-a.ensures in
-    let b = reads_long row (at + 2) c.long_at-b.result (to_z-of_z w64 c.long_at-b.result (search rules)) c.long_at-b.ensures in
-    int_of_two kinds.Long kinds.Long (λ b a. Some (long_order a b)) row c.put_int.new.row c.args.locals c.args.used at (at + 2) (c.args.used - 3) (to_z w64 (of_z w64 c.long_at-b.result)) (to_z w64 (of_z w64 c.long_at-a.result)) (to_z w32 (of_z w32 c.l_compare.result))
+    let a = reads_long slots at c.long_at-a.result (to_z-of_z w64 c.long_at-a.result (search rules)) c.long_at-a.ensures in
+    let b = reads_long slots (at + 2) c.long_at-b.result (to_z-of_z w64 c.long_at-b.result (search rules)) c.long_at-b.ensures in
+    int_of_two kinds.Long kinds.Long (λ b a. Some (long_order a b)) slots c.put_int.new.slots c.args.locals c.args.used at (at + 2) (c.args.used - 3) (to_z w64 (of_z w64 c.long_at-b.result)) (to_z w64 (of_z w64 c.long_at-a.result)) (to_z w32 (of_z w32 c.l_compare.result))
     can b a refl (omega (arith, few)) (omega (arith, few)) (ap Some (sym (to_z-of_z w32 c.l_compare.result (search rules) ∙ c.l_compare.ensures))) c.put_int.ensures (omega (arith, few))
 
 pub long_at-b-requires : goal.long_at-b-requires
 long_at-b-requires c =
-    let row = c.args.row.now in
+    let slots = c.args.slots.now in
     let can = c.requires.acts in
-    let few = int_takes_two kinds.Long kinds.Long (λ b a. Some (long_order a b)) row c.args.locals c.args.used can in
+    let few = int_takes_two kinds.Long kinds.Long (λ b a. Some (long_order a b)) slots c.args.locals c.args.used can in
     omega (arith, few)
 
 pub overflow_sub-result : goal.overflow_sub-result
 overflow_sub-result c =
-    let row = c.args.row.now in
+    let slots = c.args.slots.now in
     let can = c.requires.acts in
-    let few = int_takes_two kinds.Long kinds.Long (λ b a. Some (long_order a b)) row c.args.locals c.args.used can in
+    let few = int_takes_two kinds.Long kinds.Long (λ b a. Some (long_order a b)) slots c.args.locals c.args.used can in
     omega (arith, few)

@@ -3,7 +3,7 @@ use Rattle.std.specs.Prelude.{slice_set}
 use Rattle.std.specs.Int.{w32}
 use Rattle.std.proofs.lemmas.Int.{to_z-of_z}
 use Rattle.instruction_rows.specs.declared.value.Value.TheVariants as values
-use Rattle.instruction_rows.specs.declared.value.Slot.TheVariants as slots
+use Rattle.instruction_rows.specs.declared.value.Slot.TheVariants.{One}
 use Rattle.frame_instructions.proofs.TopWrites.{top_written}
 use Rattle.stack_maps.specs.declared.types.VType.TheVariants as types
 use Rattle.instruction_rows.specs.Rows.{push}
@@ -11,5 +11,5 @@ use Rattle.frame_instructions.proofs.ints.push_int.Goals as goal
 
 pub returns : goal.returns
 returns c =
-    top_written (push types.Int (values.Int c.args.n)) c.args.row.now c.put_int.new.row c.args.locals c.args.used c.args.used (c.args.locals + c.args.used) (c.args.used + 1) (slots.One (values.Int c.args.n) ∷ [])
-    refl (c.put_int.ensures ∙ ap (λ (n : ℤ). slice_set c.args.row.now (c.args.locals + c.args.used) (slots.One (values.Int n))) (to_z-of_z w32 c.args.n (search rules))) refl (omega arith) (omega arith)
+    top_written (push types.Int (values.Int c.args.n)) c.args.slots.now c.put_int.new.slots c.args.locals c.args.used c.args.used (c.args.locals + c.args.used) (c.args.used + 1) (One (values.Int c.args.n) ∷ [])
+    refl (c.put_int.ensures ∙ ap (λ (n : ℤ). slice_set c.args.slots.now (c.args.locals + c.args.used) (One (values.Int n))) (to_z-of_z w32 c.args.n (search rules))) refl (omega arith) (omega arith)

@@ -9,6 +9,6 @@ overflow_sub-at c = let few = moves_enough (two ∷ one ∷ []) (0 ∷ 1 ∷ 0 �
 pub returns : goal.returns
 returns c =
     let few = moves_enough (two ∷ one ∷ []) (0 ∷ 1 ∷ 0 ∷ []) _ _ _ c.requires.acts in
-    moves_written (two ∷ one ∷ []) (0 ∷ 1 ∷ 0 ∷ []) 3 (c.cell_at-c.result ∷ c.cell_at-b.result ∷ c.cell_at-a.result ∷ []) (c.cell_at-b.result ∷ c.cell_at-a.result ∷ c.cell_at-c.result ∷ c.cell_at-b.result ∷ c.cell_at-a.result ∷ [])
-    c.args.row.now c.put_five.new.row c.args.locals c.args.used (c.args.locals + c.args.used - 3) _ (λ locals stack. refl)
-    (lie_three c.args.row.now (c.args.locals + c.args.used - 3) c.cell_at-c.result c.cell_at-b.result c.cell_at-a.result c.cell_at-c.ensures c.cell_at-b.ensures c.cell_at-a.ensures) (omega (arith, few)) few c.put_five.ensures (omega (arith, few)) (omega (arith, few))
+    moves_written (two ∷ one ∷ []) (0 ∷ 1 ∷ 0 ∷ []) 3 (c.stored_at-c.result ∷ c.stored_at-b.result ∷ c.stored_at-a.result ∷ []) (c.stored_at-b.result ∷ c.stored_at-a.result ∷ c.stored_at-c.result ∷ c.stored_at-b.result ∷ c.stored_at-a.result ∷ [])
+    c.args.slots.now c.put_five.new.slots c.args.locals c.args.used (c.args.locals + c.args.used - 3) _ (λ locals stack. refl)
+    (lie_three c.args.slots.now (c.args.locals + c.args.used - 3) c.stored_at-c.result c.stored_at-b.result c.stored_at-a.result c.stored_at-c.ensures c.stored_at-b.ensures c.stored_at-a.ensures) (omega (arith, few)) few c.put_five.ensures (omega (arith, few)) (omega (arith, few))

@@ -9,42 +9,42 @@ use Rattle.interp_local.proofs.frame_step.execute_at.Goals as goal
 use Rattle.interp_local.proofs.frame_step.execute_at.Goals.{After-at-resolution, After-next_pc-pc}
 
 -- the instruction goes on, from each frame at the index
-goes : (g : given.Over) (c : After-at-resolution g) (here : IsAt c.args.p.now c.args.code.now.instrs.now c.args.frame.now c.args.row.now c.args.used c.args.at)
-    → GoesOn c.args.p.now (frame_of c.args.frame.now here.pc c.args.row.now c.args.used) (record { instr = c.instr_at-instr.result.now; resolution = c.at-resolution.result.now })
+goes : (g : given.Over) (c : After-at-resolution g) (here : IsAt c.args.p.now c.args.code.now.instrs.now c.args.frame.now c.args.slots.now c.args.used c.args.at)
+    → GoesOn c.args.p.now (frame_of c.args.frame.now here.pc c.args.slots.now c.args.used) (record { instr = c.instr_at-instr.result.now; resolution = c.at-resolution.result.now })
 goes g c here =
-    goes_at c.args.p.now c.args.code.now c.args.frame.now c.args.row.now c.args.used c.args.at c.instr_at-instr.result.now c.at-resolution.result.now
+    goes_at c.args.p.now c.args.code.now c.args.frame.now c.args.slots.now c.args.used c.args.at c.instr_at-instr.result.now c.at-resolution.result.now
     c.requires.typed c.requires.code here c.instr_at-instr.ensures c.at-resolution.ensures c.requires.stays
 
-next : (g : given.Over) (c : After-next_pc-pc g) (here : IsAt c.args.p.now c.args.code.now.instrs.now c.args.frame.now c.args.row.now c.args.used c.args.at)
-    → GoesOn c.args.p.now (frame_of c.args.frame.now here.pc c.args.row.now c.args.used) (record { instr = c.instr_at-instr.result.now; resolution = c.at-resolution.result.now })
-    → Next c.args.p.now (frame_of c.args.frame.now here.pc c.args.row.now c.args.used) (frame_of c.args.frame.now c.next_pc-pc.result c.execute-left.new.row c.execute-left.result.used)
+next : (g : given.Over) (c : After-next_pc-pc g) (here : IsAt c.args.p.now c.args.code.now.instrs.now c.args.frame.now c.args.slots.now c.args.used c.args.at)
+    → GoesOn c.args.p.now (frame_of c.args.frame.now here.pc c.args.slots.now c.args.used) (record { instr = c.instr_at-instr.result.now; resolution = c.at-resolution.result.now })
+    → Next c.args.p.now (frame_of c.args.frame.now here.pc c.args.slots.now c.args.used) (frame_of c.args.frame.now c.next_pc-pc.result c.execute-left.new.slots c.execute-left.result.used)
 next g c here on =
-    next_frame c.args.p.now (frame_of c.args.frame.now here.pc c.args.row.now c.args.used) (record { instr = c.instr_at-instr.result.now; resolution = c.at-resolution.result.now })
+    next_frame c.args.p.now (frame_of c.args.frame.now here.pc c.args.slots.now c.args.used) (record { instr = c.instr_at-instr.result.now; resolution = c.at-resolution.result.now })
     on _ c.next_pc-pc.result c.execute-left.ensures c.next_pc-pc.ensures
 
 pub instr_at-instr-requires : goal.instr_at-instr-requires
-instr_at-instr-requires g c = inside_at c.args.p.now c.args.code.now c.args.frame.now c.args.row.now c.args.used c.args.at c.requires.code c.requires.at
+instr_at-instr-requires g c = inside_at c.args.p.now c.args.code.now c.args.frame.now c.args.slots.now c.args.used c.args.at c.requires.code c.requires.at
 
 pub execute-left-requires : goal.execute-left-requires
 execute-left-requires g c =
     let f = c.args.frame.now in
-    let row = c.args.row.now in
+    let slots = c.args.slots.now in
     let i : Instruction = record { instr = c.instr_at-instr.result.now; resolution = c.at-resolution.result.now } in
     record {
-      fits = omega (arith, used_at c.args.p.now c.args.code.now.instrs.now f row c.args.used c.args.at c.requires.typed c.requires.at);
-      made = fits_at c.args.p.now f c.requires.at.pc row c.args.used i (goes g (goal.at.execute-left-requires g c).After-at-resolution c.requires.at) c.requires.fits;
+      fits = omega (arith, used_at c.args.p.now c.args.code.now.instrs.now f slots c.args.used c.args.at c.requires.typed c.requires.at);
+      made = fits_at c.args.p.now f c.requires.at.pc slots c.args.used i (goes g (goal.at.execute-left-requires g c).After-at-resolution c.requires.at) c.requires.fits;
     }
 
 pub next_pc-pc-requires : goal.next_pc-pc-requires
 next_pc-pc-requires g c =
     let i : Instruction = record { instr = c.instr_at-instr.result.now; resolution = c.at-resolution.result.now } in
     let on = goes g (goal.at.next_pc-pc-requires g c).After-at-resolution c.requires.at in
-    record { pc = on.pc; is = leads c.args.p.now (frame_of c.args.frame.now c.requires.at.pc c.args.row.now c.args.used) i on _ c.execute-left.ensures }
+    record { pc = on.pc; is = leads c.args.p.now (frame_of c.args.frame.now c.requires.at.pc c.args.slots.now c.args.used) i on _ c.execute-left.ensures }
 
 pub place-requires : goal.place-requires
 place-requires g c = record {
   places = c.requires.code.places;
-  there = has_place c.args.p.now (frame_of c.args.frame.now c.next_pc-pc.result c.execute-left.new.row c.execute-left.result.used) c.args.code.now c.requires.code
+  there = has_place c.args.p.now (frame_of c.args.frame.now c.next_pc-pc.result c.execute-left.new.slots c.execute-left.result.used) c.args.code.now c.requires.code
       (next g (goal.at.place-requires g c).After-next_pc-pc c.requires.at (goes g (goal.at.place-requires g c).After-at-resolution c.requires.at)).stands;
 }
 
@@ -53,5 +53,5 @@ returns g c = λ here.
     let after = next g (goal.at.returns g c).After-next_pc-pc here (goes g (goal.at.returns g c).After-at-resolution here) in
     record {
       to = record { pc = c.next_pc-pc.result; first = c.place.ensures; stands = after.stands };
-      ran = one_ran c.args.p.now (frame_of c.args.frame.now here.pc c.args.row.now c.args.used) _ after;
+      ran = one_ran c.args.p.now (frame_of c.args.frame.now here.pc c.args.slots.now c.args.used) _ after;
     }

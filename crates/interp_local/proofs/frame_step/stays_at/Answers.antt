@@ -8,20 +8,20 @@ use Rattle.interp_local.proofs.LoopLaws.{inside_at, fetched_at, used_at, stays_t
 use Rattle.interp_local.proofs.frame_step.stays_at.Goals as goal
 
 pub instr_at-instr-requires : goal.instr_at-instr-requires
-instr_at-instr-requires g c = inside_at c.args.p.now c.args.code.now c.args.frame.now c.args.row.now c.args.used c.args.at c.requires.code c.requires.at
+instr_at-instr-requires g c = inside_at c.args.p.now c.args.code.now c.args.frame.now c.args.slots.now c.args.used c.args.at c.requires.code c.requires.at
 
 pub does_stay-requires : goal.does_stay-requires
 does_stay-requires g c =
     let w = c.args.p.now in
     let code = c.args.code.now in
     let f = c.args.frame.now in
-    let row = c.args.row.now in
+    let slots = c.args.slots.now in
     let here = c.requires.at in
     let i : Instruction = record { instr = c.instr_at-instr.result.now; resolution = resolution_at (meanings code.resolutions) c.args.at } in
-    let e = fetched_at w code f row c.args.used c.args.at i.instr i.resolution c.requires.code here c.instr_at-instr.ensures refl in
+    let e = fetched_at w code f slots c.args.used c.args.at i.instr i.resolution c.requires.code here c.instr_at-instr.ensures refl in
     record {
-      fits = omega (arith, used_at w code.instrs.now f row c.args.used c.args.at c.requires.typed here);
-      operands = operands_there w f.method f.room here.pc row f.locals c.args.used i c.requires.typed here.stands e;
+      fits = omega (arith, used_at w code.instrs.now f slots c.args.used c.args.at c.requires.typed here);
+      operands = operands_there w f.method f.room here.pc slots f.locals c.args.used i c.requires.typed here.stands e;
     }
 
 pub returns : goal.returns
@@ -29,5 +29,5 @@ returns g c = λ here.
     let w = c.args.p.now in
     let code = c.args.code.now in
     let i : Instruction = record { instr = c.instr_at-instr.result.now; resolution = resolution_at (meanings code.resolutions) c.args.at } in
-    let e = fetched_at w code c.args.frame.now c.args.row.now c.args.used c.args.at i.instr i.resolution c.requires.code here c.instr_at-instr.ensures refl in
-    stays_there w (frame_of c.args.frame.now here.pc c.args.row.now c.args.used) i e ∙ sym c.does_stay.ensures
+    let e = fetched_at w code c.args.frame.now c.args.slots.now c.args.used c.args.at i.instr i.resolution c.requires.code here c.instr_at-instr.ensures refl in
+    stays_there w (frame_of c.args.frame.now here.pc c.args.slots.now c.args.used) i e ∙ sym c.does_stay.ensures

@@ -7,17 +7,17 @@ use Rattle.interp_local.proofs.Divisors.{long_few, zero_long, long_quotient_some
 use Rattle.interp_local.proofs.staying.has_long_divisor.Goals as goal
 
 pub overflow_sub-locals : goal.overflow_sub-locals
-overflow_sub-locals c = let few = long_few c.args.row.now c.args.locals c.args.used c.requires.operands in omega (arith, few)
+overflow_sub-locals c = let few = long_few c.args.slots.now c.args.locals c.args.used c.requires.operands in omega (arith, few)
 
 pub long_at-divisor-requires : goal.long_at-divisor-requires
-long_at-divisor-requires c = let few = long_few c.args.row.now c.args.locals c.args.used c.requires.operands in omega (arith, few)
+long_at-divisor-requires c = let few = long_few c.args.slots.now c.args.locals c.args.used c.requires.operands in omega (arith, few)
 
 pub returns : goal.returns
 returns c =
-    let row = c.args.row.now in
-    let few = long_few row c.args.locals c.args.used c.requires.operands in
+    let slots = c.args.slots.now in
+    let few = long_few slots c.args.locals c.args.used c.requires.operands in
     let at = c.args.locals + c.args.used - 2 in
-    let read = reads_long row at c.long_at-divisor.result (to_z-of_z w64 c.long_at-divisor.result (search rules)) c.long_at-divisor.ensures in
+    let read = reads_long slots at c.long_at-divisor.result (to_z-of_z w64 c.long_at-divisor.result (search rules)) c.long_at-divisor.ensures in
     let x = to_z w64 (of_z w64 c.long_at-divisor.result) in
     c.is_some.ensures ∙ ap (λ (o : Option ℤ). is_some o) c.l_binary.ensures ∙ long_quotient_some x
-    ∙ ap (λ (b : Bool). not b) (sym (zero_long row c.args.locals c.args.used at x c.requires.operands read (omega (arith, few)) (omega (arith, few))))
+    ∙ ap (λ (b : Bool). not b) (sym (zero_long slots c.args.locals c.args.used at x c.requires.operands read (omega (arith, few)) (omega (arith, few))))

@@ -8,7 +8,7 @@ use Rattle.frames.proofs.stack.Stack.base.Goals as goal
 pub returns-clause-value : goal.returns-clause-value
 returns-clause-value c =
     let s = c.self.inside in
-    base_is (saved_of s) s.cells.len s.cells.items s.top c.self.invariant.placed ∙ ap (λ (v : Frames). size_of (drop 1 v.frames)) c.self.view_is
+    base_is (saved_of s) s.slots.len s.slots.items s.top c.self.invariant.placed ∙ ap (λ (v : Frames). size_of (drop 1 v.frames)) c.self.view_is
 
 pub returns-clause-room : goal.returns-clause-room
 returns-clause-room c =

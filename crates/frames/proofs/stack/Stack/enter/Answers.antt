@@ -27,14 +27,14 @@ invariant_of-self c =
     let caller = caller_of (s.top.used - c.args.args) s.top in
     let callee = callee_of c.end-base.result c.args.method c.args.locals c.args.operands in
     let under : reverse c.push_reserved.new.self.items ≡ caller ∷ saved_of s = reverse_push s.saved.items c.push_reserved.new.self.items caller c.push_reserved.ensures.items in
-    let P : List Record → Type 0 = λ qs. ArePlaced c.unset.new.cells.len callee qs in
+    let P : List Record → Type 0 = λ qs. ArePlaced c.unset.new.slots.len callee qs in
     let same = c.unset.ensures.len in
     let more = c.push_reserved.ensures.len in
     let b = bounds c.self.inside _ c.self.invariant c.self.view_is in
     record {
       placed = subst P (sym under)
-          (callee_placed (saved_of s) c.unset.new.cells.len c.end-base.result c.args.method c.args.locals c.args.operands (s.top.used - c.args.args) s.top
-          (placed_longer (saved_of s) s.cells.len c.unset.new.cells.len s.top (omega arith) c.self.invariant.placed) (omega arith) c.end-base.ensures (omega arith));
+          (callee_placed (saved_of s) c.unset.new.slots.len c.end-base.result c.args.method c.args.locals c.args.operands (s.top.used - c.args.args) s.top
+          (placed_longer (saved_of s) s.slots.len c.unset.new.slots.len s.top (omega arith) c.self.invariant.placed) (omega arith) c.end-base.ensures (omega arith));
       few = omega arith;
     }
 
@@ -43,15 +43,15 @@ returns c =
     let s = c.self.inside in
     let caller = caller_of (s.top.used - c.args.args) s.top in
     let callee = callee_of c.end-base.result c.args.method c.args.locals c.args.operands in
-    let row = c.unset.new.cells.items in
+    let slots = c.unset.new.slots.items in
     let under : reverse c.push_reserved.new.self.items ≡ caller ∷ saved_of s = reverse_push s.saved.items c.push_reserved.new.self.items caller c.push_reserved.ensures.items in
     let more = c.push_reserved.ensures.len in
     let capacity = c.push_reserved.ensures.capacity in
     let b = bounds c.self.inside _ c.self.invariant c.self.view_is in
     kept_is
-    (ap (frames_of row callee) under
-    ∙ callee_frames (saved_of s) s.cells.len c.end-base.result c.args.method c.args.locals c.args.operands c.args.args (s.top.used - c.args.args) s.cells.items row s.top
+    (ap (frames_of slots callee) under
+    ∙ callee_frames (saved_of s) s.slots.len c.end-base.result c.args.method c.args.locals c.args.operands c.args.args (s.top.used - c.args.args) s.slots.items slots s.top
     c.self.invariant.placed (omega arith) c.end-base.ensures c.requires.taken c.unset.ensures.kept c.unset.ensures.unset)
-    (callee_spare c.end-base.result c.args.locals c.args.args (s.top.used - c.args.args) s.cells.items row s.top (omega arith) c.end-base.ensures c.requires.taken c.unset.ensures.behind)
+    (callee_spare c.end-base.result c.args.locals c.args.args (s.top.used - c.args.args) s.slots.items slots s.top (omega arith) c.end-base.ensures c.requires.taken c.unset.ensures.behind)
     (omega arith)
     ∙ ap (called c.args.method c.args.locals c.args.operands c.args.args) c.self.view_is

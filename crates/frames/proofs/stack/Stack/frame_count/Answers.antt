@@ -8,5 +8,5 @@ use Rattle.frames.proofs.stack.Stack.frame_count.Goals as goal
 pub returns-clause-count : goal.returns-clause-count
 returns-clause-count c =
     let s = c.self.inside in
-    c.len.ensures ∙ s.saved.ok.0 ∙ sym (length-reverse s.saved.items) ∙ sym (length-frames_of (saved_of s) s.cells.items s.top)
+    c.len.ensures ∙ s.saved.ok.0 ∙ sym (length-reverse s.saved.items) ∙ sym (length-frames_of (saved_of s) s.slots.items s.top)
     ∙ ap (λ (v : Frames). length v.frames) c.self.view_is

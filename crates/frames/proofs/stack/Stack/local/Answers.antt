@@ -13,8 +13,8 @@ overflow_add-self-inside c =
     let b = bounds c.self.inside _ c.self.invariant c.self.view_is in
     omega arith
 
-pub index-cell-requires : goal.index-cell-requires
-index-cell-requires c =
+pub index-slot-requires : goal.index-slot-requires
+index-slot-requires c =
     let b = bounds c.self.inside _ c.self.invariant c.self.view_is in
     omega arith
 
@@ -23,5 +23,5 @@ returns c =
     let s = c.self.inside in
     let b = bounds c.self.inside _ c.self.invariant c.self.view_is in
     ap (λ (v : Frames). slice_get (top_locals v.frames) c.args.i) (sym c.self.view_is)
-    ∙ get_local (saved_of s) s.cells.len s.cells.items s.top c.args.i c.self.invariant.placed (omega arith)
-    ∙ ap Some (sym (c.slot.ensures ∙ get_or_read s.cells.items (s.top.base + c.args.i) c.index-cell.result.now (omega arith) c.index-cell.ensures Second))
+    ∙ get_local (saved_of s) s.slots.len s.slots.items s.top c.args.i c.self.invariant.placed (omega arith)
+    ∙ ap Some (sym (c.slot.ensures ∙ get_or_read s.slots.items (s.top.base + c.args.i) c.index-slot.result.now (omega arith) c.index-slot.ensures Second))

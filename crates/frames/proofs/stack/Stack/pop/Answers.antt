@@ -18,8 +18,8 @@ overflow_sub-end c =
     let b = bounds c.self.inside _ c.self.invariant c.self.view_is in
     omega arith
 
-pub index-cell-requires : goal.index-cell-requires
-index-cell-requires c =
+pub index-slot-requires : goal.index-slot-requires
+index-slot-requires c =
     let b = bounds c.self.inside _ c.self.invariant c.self.view_is in
     omega arith
 
@@ -32,21 +32,21 @@ pub invariant_of-self : goal.invariant_of-self
 invariant_of-self c =
     let s = c.self.inside in
     let b = bounds c.self.inside _ c.self.invariant c.self.view_is in
-    record { placed = placed_at (saved_of s) s.cells.len s.top.pc (s.top.used - 1) s.top (omega arith) c.self.invariant.placed; few = c.self.invariant.few }
+    record { placed = placed_at (saved_of s) s.slots.len s.top.pc (s.top.used - 1) s.top (omega arith) c.self.invariant.placed; few = c.self.invariant.few }
 
 pub returns-clause-value : goal.returns-clause-value
 returns-clause-value c =
     let s = c.self.inside in
     let b = bounds c.self.inside _ c.self.invariant c.self.view_is in
     ap (λ (v : Frames). slice_get (top_stack v.frames) 0) (sym c.self.view_is)
-    ∙ get_operand (saved_of s) s.cells.len s.cells.items s.top 0 (c.end.result - 1) c.self.invariant.placed (omega arith) (omega arith)
-    ∙ ap Some (sym (c.slot.ensures ∙ get_or_read s.cells.items (c.end.result - 1) c.index-cell.result.now (omega arith) c.index-cell.ensures Second))
+    ∙ get_operand (saved_of s) s.slots.len s.slots.items s.top 0 (c.end.result - 1) c.self.invariant.placed (omega arith) (omega arith)
+    ∙ ap Some (sym (c.slot.ensures ∙ get_or_read s.slots.items (c.end.result - 1) c.index-slot.result.now (omega arith) c.index-slot.ensures Second))
 
 pub returns-clause-popped : goal.returns-clause-popped
 returns-clause-popped c =
     let s = c.self.inside in
     let b = bounds c.self.inside _ c.self.invariant c.self.view_is in
-    kept_is (operands_dropped (saved_of s) s.cells.len (s.top.used - 1) 1 s.cells.items s.top c.self.invariant.placed (omega arith))
-    (spare_dropped (saved_of s) s.cells.len (s.top.used - 1) 1 s.cells.items s.top c.self.invariant.placed (omega arith) (omega arith)
-    ∙ ap (λ xs. xs ++ drop (end_of s.top) s.cells.items) (reverse_one (top_stack (frames_of s.cells.items s.top (saved_of s))))) refl
+    kept_is (operands_dropped (saved_of s) s.slots.len (s.top.used - 1) 1 s.slots.items s.top c.self.invariant.placed (omega arith))
+    (spare_dropped (saved_of s) s.slots.len (s.top.used - 1) 1 s.slots.items s.top c.self.invariant.placed (omega arith) (omega arith)
+    ∙ ap (λ xs. xs ++ drop (end_of s.top) s.slots.items) (reverse_one (top_stack (frames_of s.slots.items s.top (saved_of s))))) refl
     ∙ ap popped c.self.view_is

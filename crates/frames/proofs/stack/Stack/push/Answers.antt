@@ -24,12 +24,12 @@ pub invariant_of-self : goal.invariant_of-self
 invariant_of-self c =
     let s = c.self.inside in
     let b = bounds c.self.inside _ c.self.invariant c.self.view_is in
-    record { placed = placed_at (saved_of s) s.cells.len s.top.pc (s.top.used + 1) s.top (omega arith) c.self.invariant.placed; few = c.self.invariant.few }
+    record { placed = placed_at (saved_of s) s.slots.len s.top.pc (s.top.used + 1) s.top (omega arith) c.self.invariant.placed; few = c.self.invariant.few }
 
 pub returns : goal.returns
 returns c =
     let s = c.self.inside in
     let b = bounds c.self.inside _ c.self.invariant c.self.view_is in
-    kept_is (operand_pushed (saved_of s) s.cells.len (s.top.used + 1) c.end-end.result s.cells.items s.top c.args.slot c.of.result c.self.invariant.placed c.end-end.ensures c.of.ensures (omega arith) refl)
-    (spare_pushed s.top s.cells.items (s.top.used + 1) c.end-end.result c.of.result c.end-end.ensures refl) refl
+    kept_is (operand_pushed (saved_of s) s.slots.len (s.top.used + 1) c.end-end.result s.slots.items s.top c.args.slot c.of.result c.self.invariant.placed c.end-end.ensures c.of.ensures (omega arith) refl)
+    (spare_pushed s.top s.slots.items (s.top.used + 1) c.end-end.result c.of.result c.end-end.ensures refl) refl
     ∙ ap (pushed c.args.slot) c.self.view_is

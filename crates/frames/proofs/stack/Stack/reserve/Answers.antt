@@ -11,13 +11,13 @@ end-requires c =
     let b = bounds c.self.inside _ c.self.invariant c.self.view_is in
     omega arith
 
-pub overflow_add-slots : goal.overflow_add-slots
-overflow_add-slots c =
+pub overflow_add-wanted : goal.overflow_add-wanted
+overflow_add-wanted c =
     let b = bounds c.self.inside _ c.self.invariant c.self.view_is in
     omega arith
 
-pub overflow_add-slots-2 : goal.overflow_add-slots-2
-overflow_add-slots-2 c =
+pub overflow_add-wanted-2 : goal.overflow_add-wanted-2
+overflow_add-wanted-2 c =
     let b = bounds c.self.inside _ c.self.invariant c.self.view_is in
     omega arith
 
@@ -29,17 +29,17 @@ returns-in_err-lengthen-clause-enough c = λ room.
 pub invariant_of-self-2 : goal.invariant_of-self-2
 invariant_of-self-2 c =
     let s = c.self.inside in
-    let P : List Record → Type 0 = λ items. ArePlaced c.lengthen.new.cells.len s.top (reverse items) in
+    let P : List Record → Type 0 = λ items. ArePlaced c.lengthen.new.slots.len s.top (reverse items) in
     record {
-      placed = subst P (sym c.reserve.ensures.items) (placed_longer (saved_of s) s.cells.len c.lengthen.new.cells.len s.top c.in_ok-lengthen.ensures.longer c.self.invariant.placed);
+      placed = subst P (sym c.reserve.ensures.items) (placed_longer (saved_of s) s.slots.len c.lengthen.new.slots.len s.top c.in_ok-lengthen.ensures.longer c.self.invariant.placed);
       few = let few = c.self.invariant.few in let same = c.reserve.ensures.len in omega arith;
     }
 
 pub returns-clause-frames : goal.returns-clause-frames
 returns-clause-frames c =
     let s = c.self.inside in
-    let row = c.lengthen.new.cells.items in
+    let slots = c.lengthen.new.slots.items in
     let b = bounds c.self.inside _ c.self.invariant c.self.view_is in
-    ap (λ items. frames_of row s.top (reverse items)) c.reserve.ensures.items
-    ∙ frames_agree (saved_of s) s.cells.len s.cells.len s.cells.items row s.top c.self.invariant.placed b.end (record { same = λ i low high. c.in_ok-lengthen.ensures.kept i high })
+    ap (λ items. frames_of slots s.top (reverse items)) c.reserve.ensures.items
+    ∙ frames_agree (saved_of s) s.slots.len s.slots.len s.slots.items slots s.top c.self.invariant.placed b.end (record { same = λ i low high. c.in_ok-lengthen.ensures.kept i high })
     ∙ ap (λ (v : Frames). v.frames) c.self.view_is

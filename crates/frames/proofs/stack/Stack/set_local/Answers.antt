@@ -19,6 +19,6 @@ pub returns : goal.returns
 returns c =
     let s = c.self.inside in
     let b = bounds c.self.inside _ c.self.invariant c.self.view_is in
-    kept_is (local_set (saved_of s) s.cells.len s.cells.items s.top c.args.i c.args.slot c.of.result c.self.invariant.placed c.of.ensures (omega arith) (omega arith))
-    (spare_set s.top s.cells.items c.args.i c.of.result (omega arith)) refl
+    kept_is (local_set (saved_of s) s.slots.len s.slots.items s.top c.args.i c.args.slot c.of.result c.self.invariant.placed c.of.ensures (omega arith) (omega arith))
+    (spare_set s.top s.slots.items c.args.i c.of.result (omega arith)) refl
     ∙ ap (λ (v : Frames). with_frames (with_local c.args.i c.args.slot v.frames) v) c.self.view_is

@@ -8,10 +8,10 @@ pub invariant_of-self : goal.invariant_of-self
 invariant_of-self c =
     let s = c.self.inside in
     let placed = c.self.invariant.placed in
-    record { placed = placed_at (saved_of s) s.cells.len c.args.pc s.top.used s.top (within (saved_of s) s.cells.len s.top placed).held placed; few = c.self.invariant.few }
+    record { placed = placed_at (saved_of s) s.slots.len c.args.pc s.top.used s.top (within (saved_of s) s.slots.len s.top placed).held placed; few = c.self.invariant.few }
 
 pub returns : goal.returns
 returns c =
     let s = c.self.inside in
-    kept_is (frames_pc (saved_of s) c.args.pc s.cells.items s.top) refl refl
+    kept_is (frames_pc (saved_of s) c.args.pc s.slots.items s.top) refl refl
     ∙ ap (λ (v : Frames). with_frames (at_pc c.args.pc v.frames) v) c.self.view_is

@@ -8,12 +8,12 @@ use Rattle.frames.proofs.stack.Stack.top.Goals as goal
 pub returns-clause-method : goal.returns-clause-method
 returns-clause-method c =
     let s = c.self.inside in
-    method_is (saved_of s) s.cells.items s.top (rw (← c.self.view_is) at c.requires) ∙ ap (λ (v : Frames). top_method v.frames) c.self.view_is
+    method_is (saved_of s) s.slots.items s.top (rw (← c.self.view_is) at c.requires) ∙ ap (λ (v : Frames). top_method v.frames) c.self.view_is
 
 pub returns-clause-pc : goal.returns-clause-pc
 returns-clause-pc c =
     let s = c.self.inside in
-    pc_is (saved_of s) s.cells.items s.top (rw (← c.self.view_is) at c.requires) ∙ ap (λ (v : Frames). top_pc v.frames) c.self.view_is
+    pc_is (saved_of s) s.slots.items s.top (rw (← c.self.view_is) at c.requires) ∙ ap (λ (v : Frames). top_pc v.frames) c.self.view_is
 
 pub returns-clause-locals : goal.returns-clause-locals
 returns-clause-locals c = sym (bounds c.self.inside _ c.self.invariant c.self.view_is).locals

@@ -1,8 +1,8 @@
 use Rattle.std.proofs.Common.{refl, sym, ◌∙◌, arith}
 use Rattle.frames.specs.Layout.{saved_of}
-use Rattle.frames.proofs.StackLaws.{row_is}
+use Rattle.frames.proofs.StackLaws.{slots_are}
 use Rattle.frames.proofs.SeenLaws.{bounds, lent}
-use Rattle.frames.proofs.stack.Stack.cells.Goals as goal
+use Rattle.frames.proofs.stack.Stack.slots.Goals as goal
 
 pub returns : goal.returns
 returns c =
@@ -12,6 +12,6 @@ returns c =
       (refl, λ w. lent s w c.self.invariant),
       record {
         writes_back = tt;
-        value = c.as_mut_slice.ensures.value ∙ sym (row_is (saved_of s) s.cells.len s.cells.items s.top c.self.invariant.placed (omega arith));
+        value = c.as_mut_slice.ensures.value ∙ sym (slots_are (saved_of s) s.slots.len s.slots.items s.top c.self.invariant.placed (omega arith));
       },
     )

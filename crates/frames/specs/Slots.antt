@@ -1,4 +1,4 @@
--- Slots that lie one after the other in a row.
+-- Slots that lie one after the other in a list.
 use Rattle.std.specs.Prelude.{ℕ, zero, suc, ◌+◌, List, [], ◌∷◌}
 use Rattle.std.specs.Prelude.{slice_index_or}
 use Rattle.instruction_rows.specs.declared.value.Slot.{Slot}
@@ -6,14 +6,14 @@ use Rattle.instruction_rows.specs.declared.value.Slot.TheVariants.{Second}
 
 -- the slot at an index
 abbrev pub slot_at : List Slot → ℕ → Slot
-slot_at row i = slice_index_or row i Second
+slot_at slots i = slice_index_or slots i Second
 
--- so many slots from an index on
+-- a number of slots from an index on
 abbrev pub ascending : List Slot → ℕ → ℕ → List Slot
-ascending row from zero = []
-ascending row from (suc n) = slot_at row from ∷ ascending row (suc from) n
+ascending slots from zero = []
+ascending slots from (suc n) = slot_at slots from ∷ ascending slots (suc from) n
 
--- so many slots from an index on, the last first
+-- the same, the last one first
 abbrev pub descending : List Slot → ℕ → ℕ → List Slot
-descending row from zero = []
-descending row from (suc n) = slot_at row (from + n) ∷ descending row from n
+descending slots from zero = []
+descending slots from (suc n) = slot_at slots (from + n) ∷ descending slots from n
