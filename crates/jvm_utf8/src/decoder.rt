@@ -1,3 +1,5 @@
+//! From modified UTF-8 to the units of a text (JVMS 4.4.7).
+
 ghost use Rattle.std.specs.Prelude.{◌≡◌, ◌<◌, ◌^◌, ◌+◌, ◌++◌, List, ℕ, length, IfOk, OnOk, Ok, Err, IsTrue, true};
 ghost use Rattle.std.specs.Int.{is_in_range};
 ghost use Rattle.std.specs.List.{list_all};

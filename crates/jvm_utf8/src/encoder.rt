@@ -1,3 +1,5 @@
+//! From the units of a text to modified UTF-8 (JVMS 4.4.7).
+
 ghost use Rattle.std.specs.Prelude.{◌≡◌, ◌++◌, IfOk, OnOk};
 ghost use Rattle.std.specs.Io.{StartsWith};
 ghost use Rattle.jvm_utf8.specs.Text.{unit as unit_bytes, text};
@@ -36,16 +38,15 @@ fn put_unit(bytes: &mut Vec<u8>, unit: u16) -> Result<(), AllocError>
     ensures part { StartsWith (bytes.old.items ++ unit_bytes unit) bytes.new.items }
 {
     match unit {
-        0x01..=0x7f => bytes.push(unit as u8)?,
-        0 | 0x80..=0x7ff => {
-            bytes.push(0xc0 + (unit / 64) as u8)?;
-            bytes.push(0x80 + (unit % 64) as u8)?;
-        }
-        _ => {
-            bytes.push(0xe0 + (unit / 4096) as u8)?;
-            bytes.push(0x80 + (unit / 64 % 64) as u8)?;
-            bytes.push(0x80 + (unit % 64) as u8)?;
-        }
+        0x01..=0x7f => bytes.extend_from_slice(&[unit as u8]),
+        0 | 0x80..=0x7ff => bytes.extend_from_slice(&[
+            0xc0 + (unit / 64) as u8,
+            0x80 + (unit % 64) as u8,
+        ]),
+        _ => bytes.extend_from_slice(&[
+            0xe0 + (unit / 4096) as u8,
+            0x80 + (unit / 64 % 64) as u8,
+            0x80 + (unit % 64) as u8,
+        ]),
     }
-    Ok(())
 }

@@ -1,3 +1,5 @@
+//! Why bytes are not decoded.
+
 ghost use Rattle.std.specs.Prelude.{◌≡◌};
 ghost use Rattle.jvm_utf8.specs.declared.error.Utf8Error.TheVariants as errors;
 
