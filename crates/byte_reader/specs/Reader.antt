@@ -22,7 +22,7 @@ abbrev pub ◌>>=◌ : {W A B : Type 0} → Result A (Fault W) → (A → Result
 abbrev pub fault_at : {W : Type 0} → List ℕ → W → Fault W
 fault_at bytes why = record { left = length bytes; why = why }
 
--- the offset of a fault in an input of so many bytes
+-- the offset of a fault in an input of this size
 abbrev pub offset_of : {W : Type 0} → ℕ → Fault W → ℕ
 offset_of size fault = size - fault.left
 

@@ -1,3 +1,5 @@
+//! Why reading stops, and where.
+
 ghost use Rattle.std.specs.Prelude.{◌≡◌, ◌<◌, ◌^◌, length};
 ghost use Rattle.byte_reader.specs.Reader.{fault_at, offset_of};
 ghost use Rattle.byte_reader.specs.declared.fault.Stop.TheVariants as stops;

@@ -241,7 +241,7 @@ items f = pool_items f ++ (class_items f ++ member_items f)
 
 -- ---- the first fault
 
--- how many of the bytes left are left after the items, or the first fault
+-- how many bytes are left after the items, of those before them, or the first fault
 abbrev pub left_after : ℕ → List Item → Result ℕ (Fault ClassWhy)
 left_after left [] = Ok left
 left_after left (i ∷ is) = elim i.fault [ None ↦ left_after (left - i.size) is | Some why ↦ Err (record { left = left; why = why }) ]

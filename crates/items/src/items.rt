@@ -1,3 +1,5 @@
+//! A vector, for contracts the list of its items.
+
 ghost use Rattle.std.specs.Prelude.{◌≡◌, ◌↔◌, List, [], ◌∷◌, ◌++◌, length, IsTrue, OnOk, OnErr};
 
 use std::alloc::{AllocError, Global};

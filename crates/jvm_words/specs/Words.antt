@@ -1,5 +1,5 @@
--- The arithmetic of int and long (JVMS 2.11.3, 6.5) on the mathematical integers. `int_wrap w z` is what an int (w32) or a
--- long (w64) keeps of the integer z: its low bits, read with their sign.
+-- The arithmetic of int and long (JVMS 2.11.3, 6.5) on the mathematical integers. `int_wrap w z` is the integer z
+-- wrapped to an int (w32) or a long (w64): its low bits, read with their sign.
 use Rattle.std.specs.Prelude.{ℕ, ◌/◌, ◌^◌, Bool, Option, Some, None, ℤ, pos, negsuc, ◌+ℤ◌, ◌-ℤ◌, ◌*ℤ◌, unsigned_abs, int_lt, int_div, int_rem, ◌==◌, if◌then◌else◌}
 use Rattle.std.specs.Int.{w8, w16, w32, w64, cast_unsigned, cast_signed, int_wrap, int_rem_euclid, int_shr, int_bit_and, int_bit_or, int_bit_xor}
 use Rattle.jvm_words.specs.declared.operation.IntOp.{IntOp}
@@ -54,7 +54,7 @@ long_shift_result shifts.Ushr a count = cast_signed w64 (cast_unsigned w64 a / 2
 abbrev pub long_order : ℤ → ℤ → ℤ
 long_order a b = if int_lt a b then negsuc 0 else if int_lt b a then pos 1 else pos 0
 
--- what a variable of the type keeps of an int (JVMS 2.11.1; i2b, i2c, i2s, putfield, bastore, castore, sastore, ireturn)
+-- an int narrowed to the type (JVMS 2.11.1; i2b, i2c, i2s, putfield, bastore, castore, sastore, ireturn)
 abbrev pub narrow_result : Narrow → ℤ → ℤ
 narrow_result narrows.Bool a = pos (low_bits 1 a)
 narrow_result narrows.Byte a = int_wrap w8 a

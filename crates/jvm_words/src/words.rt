@@ -1,3 +1,5 @@
+//! Arithmetic on ints and longs (JVMS 6.5).
+
 ghost use Rattle.std.specs.Prelude.{◌≡◌};
 ghost use Rattle.jvm_words.specs.Words.{int_result, long_result, long_shift_result, long_order, narrow_result};
 
@@ -92,8 +94,8 @@ pub fn l_compare(a: i64, b: i64) -> i32
     }
 }
 
-/// What a field, an array element or a result of the type keeps of an int (JVMS 2.11.1, 6.5: i2b, i2c, i2s, putfield,
-/// bastore, castore, sastore, ireturn).
+/// An int narrowed to the type, as a field, an array element or a result of that type holds it (JVMS 2.11.1, 6.5: i2b, i2c,
+/// i2s, putfield, bastore, castore, sastore, ireturn).
 pub fn narrow(to: Narrow, a: i32) -> i32
     ensures { result ≡ narrow_result to a }
 {

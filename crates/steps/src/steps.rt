@@ -1,3 +1,5 @@
+//! The count of steps.
+
 ghost use Rattle.std.specs.Prelude.{◌≡◌, ℕ, ◌+◌, ◌<◌};
 
 use std::marker::Model;
@@ -33,7 +35,7 @@ impl<L: Ledger> Steps<L> {
         Steps { book, share }
     }
 
-    /// Takes so many steps. This does nothing at run time.
+    /// Counts `count` steps. It does nothing at run time.
     pub fn spend(&mut self, count: usize)
         ensures { self.new ≡ self.old + count }
     {
