@@ -1,3 +1,5 @@
+//! A slice of a vector that has several owners.
+
 ghost use Rattle.std.specs.Prelude.{◌≡◌, ◌↔◌, ◌≤◌, ◌+◌, List, [], length, take, drop, IfOk, IsTrue};
 
 use std::alloc::{AllocError, Global};
@@ -41,7 +43,7 @@ impl<T> SharedSlice<T> {
         })
     }
 
-    // The slice of so many items from an index on. Where a number takes more than 32 bits there is no memory for it.
+    // The slice of `len` items from `start` on. A number of more than 32 bits counts as want of memory.
     pub(crate) fn within(whole: &Arc<Vec<T>>, start: usize, len: usize) -> Result<Self, AllocError>
         requires { start + len ≤ length whole.now.value.items }
         ensures { IfOk result (λ slice. slice ≡ take len (drop start whole.now.value.items)) }

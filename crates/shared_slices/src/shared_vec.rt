@@ -1,3 +1,5 @@
+//! A vector that can have several owners.
+
 ghost use Rattle.std.specs.Prelude.{◌≡◌, List, take, drop, IfOk};
 
 use crate::SharedSlice;
@@ -6,7 +8,7 @@ use std::marker::Model;
 use std::sync::Arc;
 
 /// A vector that shared slices are cut from. Contracts see the list of its items.
-#[derive(Debug, Drop)]
+#[derive(Drop)]
 pub struct SharedVec<T> {
     items: Arc<Vec<T>>,
 }
@@ -36,7 +38,7 @@ impl<T> SharedVec<T> {
         self.items.as_slice()
     }
 
-    /// The slice of so many items from an index on, or of as many as there are. No item is copied.
+    /// The slice of `len` items from `start` on, or of those that there are. Copies no item.
     pub fn slice(&self, start: usize, len: usize) -> Result<SharedSlice<T>, AllocError>
         ensures { IfOk result (λ slice. slice ≡ take len (drop start self.now)) }
     {
