@@ -1,7 +1,7 @@
 //! What each unit of a descriptor does (JVMS 4.3), and the first that is not allowed: for the
 //! tests and for the readers.
 
-ghost use Rattle.std.specs.Prelude.{◌≡◌, ◌≤◌, ◌+◌, ◌-◌, length, drop, IfSome};
+ghost use Rattle.std.specs.Prelude.{◌≡◌, ◌≤◌, ◌+◌, length, drop, IfSome};
 ghost use Rattle.descriptors.specs.Descriptors as chars;
 ghost use Rattle.descriptors.specs.declared.fronts.Front.TheVariants as fronts;
 ghost use Rattle.descriptors.specs.States as spec;

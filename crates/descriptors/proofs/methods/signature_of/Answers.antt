@@ -1,4 +1,4 @@
-use Rattle.std.proofs.Common.{◌-◌, length, drop, length-drop, subst, sym, ◌∙◌, arith}
+use Rattle.std.proofs.Common.{◌-◌, length, drop, length-drop, subst, sym, arith}
 use Rattle.std.proofs.lemmas.List.{take_all}
 use Rattle.descriptors.specs.Refusal.{IsResultText}
 use Rattle.descriptors.proofs.ArgsLaws.{next_kind, result_left, read_more}
