@@ -9,7 +9,7 @@ use Rattle.class_model.specs.declared.member.Member.{Member}
 use Rattle.class_model.specs.declared.class_file.ClassFile.{ClassFile}
 use Rattle.link_rules.specs.Members.{Key, index_of}
 use Rattle.link_resolution.specs.KeyTexts.{IndexesAll}
-use Rattle.link_resolution.specs.MemberTables.{Index, Tells, AllTell, IsTold}
+use Rattle.link_resolution.specs.MemberTables.{Index, IndexesMany, AllIndexed, Finds}
 
 get_front : {X : Type 0} (xs : List X) (y : X) (c : ℕ) → c < length xs → slice_get (xs ++ y ∷ []) c ≡ slice_get xs c
 get_front xs y c h =
@@ -26,7 +26,7 @@ some_is x y e = cc
 
 -- one class more
 pub push_tells : (members : ClassFile → List Member) (files : List ClassFile) (old new : List (Option Index)) (i : ℕ) (f : ClassFile) (o : Option Index)
-    → i < length files → f ≡ get_or files i f → length old ≡ i → new ≡ old ++ o ∷ [] → Tells f.pool (members f) o → AllTell members files old → AllTell members files new
+    → i < length files → f ≡ get_or files i f → length old ≡ i → new ≡ old ++ o ∷ [] → IndexesMany f.pool (members f) o → AllIndexed members files old → AllIndexed members files new
 push_tells members files old new i f o h e l n tells all c g m there here =
     let here' : slice_get (old ++ o ∷ []) c ≡ Some (Some m) = ap (λ xs. slice_get xs c) (sym n) ∙ here in
     ⊎_elim
@@ -44,6 +44,6 @@ push_tells members files old new i f o h e l n tells all c g m there here =
 
 -- what an index tells is the index of the first member of the key
 pub told_is : (members : ClassFile → List Member) (files : List ClassFile) (indexes : List (Option Index)) (c : ℕ) (f : ClassFile) (key : Key) (o : Option ℕ)
-    → AllTell members files indexes → slice_get files c ≡ Some f → IsTold indexes c key o → o ≡ index_of f.pool key (members f)
+    → AllIndexed members files indexes → slice_get files c ≡ Some f → Finds indexes c key o → o ≡ index_of f.pool key (members f)
 told_is members files indexes c f key o all there told =
     told.1.1 ∙ all c f told.0 there told.1.0 key

@@ -57,13 +57,13 @@ adds_known t name x known text =
 -- ---- where another text has its hash
 
 pub other_is_free : (t : TextNumbers) (name : List ℕ) → number_at t name ≡ None → is_some (at_text t.others name) ≡ false
-other_is_free t name e = ap is_some (none_back (found t.kept.items name (get nat_cmp t.first (hash_of name))) (at_text t.others name) e)
+other_is_free t name e = ap is_some (none_back (found t.texts.items name (get nat_cmp t.first (hash_of name))) (at_text t.others name) e)
 
-pub adds_other : (t u : TextNumbers) (name : List ℕ) (x : ℕ) → u.kept.items ≡ t.kept.items → u.first ≡ t.first → Adds t.others name x u.others → AddsText t name x u
+pub adds_other : (t u : TextNumbers) (name : List ℕ) (x : ℕ) → u.texts.items ≡ t.texts.items → u.first ≡ t.first → Adds t.others name x u.others → AddsText t name x u
 adds_other t u name x k f adds text =
     (λ i. option_or (found (k i) text (get nat_cmp (f i) (hash_of text))) (at_text u.others text))
-    ∙ ap (option_or (found t.kept.items text (get nat_cmp t.first (hash_of text)))) (adds text)
-    ∙ or_or (found t.kept.items text (get nat_cmp t.first (hash_of text))) (at_text t.others text) (cond (same_text name text) (Some x) None)
+    ∙ ap (option_or (found t.texts.items text (get nat_cmp t.first (hash_of text)))) (adds text)
+    ∙ or_or (found t.texts.items text (get nat_cmp t.first (hash_of text))) (at_text t.others text) (cond (same_text name text) (Some x) None)
 
 -- ---- where no text has its hash
 
@@ -78,32 +78,32 @@ get_last xs y =
     slice_get-get_or (xs ++ y ∷ []) (length xs) y wide ∙ ap Some (get_or-append_seam xs y [] y)
 
 -- another text is found at no new place
-kept_at : (kept : List Numbered) (e : Numbered) (text : List ℕ) (n : ℕ) → same_text e.text text ≡ false
-    → found (kept ++ e ∷ []) text (Some n) ≡ found kept text (Some n)
-kept_at kept e text n other =
+front_at : (texts : List Numbered) (e : Numbered) (text : List ℕ) (n : ℕ) → same_text e.text text ≡ false
+    → found (texts ++ e ∷ []) text (Some n) ≡ found texts text (Some n)
+front_at texts e text n other =
     ⊎_elim
-    (λ (lt : n < length kept). ap (option_and_then (number_if text)) (get_front kept e n lt))
-    (λ (ge : length kept ≤ n).
+    (λ (lt : n < length texts). ap (option_and_then (number_if text)) (get_front texts e n lt))
+    (λ (ge : length texts ≤ n).
     ⊎_elim
-    (λ (at : n ≡ length kept).
-    ap (λ k. option_and_then (number_if text) (slice_get (kept ++ e ∷ []) k)) at
-    ∙ ap (option_and_then (number_if text)) (get_last kept e)
+    (λ (at : n ≡ length texts).
+    ap (λ k. option_and_then (number_if text) (slice_get (texts ++ e ∷ []) k)) at
+    ∙ ap (option_and_then (number_if text)) (get_last texts e)
     ∙ ap (λ b. cond b (Some e.number) None) other
-    ∙ ap (option_and_then (number_if text)) (sym (slice_get_past kept n ge)))
-    (λ (ne : n ≢ length kept).
-    let past : length (kept ++ e ∷ []) ≤ n = simp length-append (omega arith) in
-    ap (option_and_then (number_if text)) (slice_get_past (kept ++ e ∷ []) n past ∙ sym (slice_get_past kept n ge)))
-    (cases_eq n (length kept)))
-    (cases_lt n (length kept))
+    ∙ ap (option_and_then (number_if text)) (sym (slice_get_past texts n ge)))
+    (λ (ne : n ≢ length texts).
+    let past : length (texts ++ e ∷ []) ≤ n = simp length-append (omega arith) in
+    ap (option_and_then (number_if text)) (slice_get_past (texts ++ e ∷ []) n past ∙ sym (slice_get_past texts n ge)))
+    (cases_eq n (length texts)))
+    (cases_lt n (length texts))
 
-kept_still : (kept : List Numbered) (e : Numbered) (text : List ℕ) (place : Option ℕ) → same_text e.text text ≡ false
-    → found (kept ++ e ∷ []) text place ≡ found kept text place
-kept_still kept e text None other = refl
-kept_still kept e text (Some n) other = kept_at kept e text n other
+front_still : (texts : List Numbered) (e : Numbered) (text : List ℕ) (place : Option ℕ) → same_text e.text text ≡ false
+    → found (texts ++ e ∷ []) text place ≡ found texts text place
+front_still texts e text None other = refl
+front_still texts e text (Some n) other = front_at texts e text n other
 
--- more is kept, but nothing has its place
+-- more is texts, but nothing has its place
 pub alike : (t u : TextNumbers) (e : Numbered) (name : List ℕ) (hash : ℕ) → hash ≡ hash_of name → e.text ≡ name → get nat_cmp t.first hash ≡ None
-    → u.kept.items ≡ t.kept.items ++ e ∷ [] → u.first.entries ≡ t.first.entries → u.others ≡ t.others → IsAlike t u
+    → u.texts.items ≡ t.texts.items ++ e ∷ [] → u.first.entries ≡ t.first.entries → u.others ≡ t.others → IsAlike t u
 alike t u e name hash h is free k f o text =
     let key : hash ≡ hash_of e.text = h ∙ ap hash_of (sym is) in
     let got : get nat_cmp u.first (hash_of text) ≡ get nat_cmp t.first (hash_of text) = ap (lookup (is_at (nat_cmp (hash_of text)))) f in
@@ -112,42 +112,42 @@ alike t u e name hash h is free k f o text =
     (⊎_elim
     (λ (y : same_text e.text text ≡ true).
     let none : get nat_cmp t.first (hash_of text) ≡ None = ap (get nat_cmp t.first) (sym (key ∙ ap hash_of (same_is e.text text y))) ∙ free in
-    ap (found (t.kept.items ++ e ∷ []) text) none ∙ sym (ap (found t.kept.items text) none))
-    (λ (n : same_text e.text text ≡ false). kept_still t.kept.items e text (get nat_cmp t.first (hash_of text)) n)
+    ap (found (t.texts.items ++ e ∷ []) text) none ∙ sym (ap (found t.texts.items text) none))
+    (λ (n : same_text e.text text ≡ false). front_still t.texts.items e text (get nat_cmp t.first (hash_of text)) n)
     (cases_Bool (same_text e.text text)))
 
 pub on_err : {T E : Type 0} (r : Result T E) (P : Type 0) → P → OnErr r P
 on_err (Ok x) P p = tt
 on_err (Err e) P p = p
 
-here_place : (kept : List Numbered) (e : Numbered) → found (kept ++ e ∷ []) e.text (Some (length kept)) ≡ Some e.number
-here_place kept e =
-    ap (option_and_then (number_if e.text)) (get_last kept e)
+here_place : (texts : List Numbered) (e : Numbered) → found (texts ++ e ∷ []) e.text (Some (length texts)) ≡ Some e.number
+here_place texts e =
+    ap (option_and_then (number_if e.text)) (get_last texts e)
     ∙ ap (λ b. cond b (Some e.number) None) ((bytes_decides e.text e.text).1 refl)
 
 pub adds_first : (t u : TextNumbers) (e : Numbered) → get nat_cmp t.first (hash_of e.text) ≡ None → number_at t e.text ≡ None
-    → u.kept.items ≡ t.kept.items ++ e ∷ [] → Updates nat_cmp t.first u.first (hash_of e.text) (Some (length t.kept.items)) → u.others ≡ t.others → AddsText t e.text e.number u
+    → u.texts.items ≡ t.texts.items ++ e ∷ [] → Updates nat_cmp t.first u.first (hash_of e.text) (Some (length t.texts.items)) → u.others ≡ t.others → AddsText t e.text e.number u
 adds_first t u e free none k up o text =
     let key = hash_of e.text in
-    let got : get nat_cmp u.first (hash_of text) ≡ cond (is_eq (nat_cmp key (hash_of text))) (Some (length t.kept.items)) (get nat_cmp t.first (hash_of text)) = up.0 (hash_of text) in
+    let got : get nat_cmp u.first (hash_of text) ≡ cond (is_eq (nat_cmp key (hash_of text))) (Some (length t.texts.items)) (get nat_cmp t.first (hash_of text)) = up.0 (hash_of text) in
     (λ i. option_or (found (k i) text (got i)) (at_text (o i) text))
     ∙ ⊎_elim
     (λ (y : same_text e.text text ≡ true).
     let is : e.text ≡ text = same_is e.text text y in
-    subst (λ (s : List ℕ). option_or (found (t.kept.items ++ e ∷ []) s (cond (is_eq (nat_cmp key (hash_of s))) (Some (length t.kept.items)) (get nat_cmp t.first (hash_of s)))) (at_text t.others s)
+    subst (λ (s : List ℕ). option_or (found (t.texts.items ++ e ∷ []) s (cond (is_eq (nat_cmp key (hash_of s))) (Some (length t.texts.items)) (get nat_cmp t.first (hash_of s)))) (at_text t.others s)
     ≡ option_or (number_at t s) (cond (same_text e.text s) (Some e.number) None)) is itself)
     (λ (n : same_text e.text text ≡ false).
     ap (λ r. option_or r (at_text t.others text))
     (⊎_elim
     (λ (h : is_eq (nat_cmp key (hash_of text)) ≡ true).
     let old : get nat_cmp t.first (hash_of text) ≡ None = ap (get nat_cmp t.first) (sym (hash_is key (hash_of text) h)) ∙ free in
-    ap (λ b. found (t.kept.items ++ e ∷ []) text (cond b (Some (length t.kept.items)) (get nat_cmp t.first (hash_of text)))) h
-    ∙ kept_still t.kept.items e text (Some (length t.kept.items)) n
-    ∙ ap (option_and_then (number_if text)) (slice_get_past t.kept.items (length t.kept.items) (omega arith))
-    ∙ sym (ap (found t.kept.items text) old))
+    ap (λ b. found (t.texts.items ++ e ∷ []) text (cond b (Some (length t.texts.items)) (get nat_cmp t.first (hash_of text)))) h
+    ∙ front_still t.texts.items e text (Some (length t.texts.items)) n
+    ∙ ap (option_and_then (number_if text)) (slice_get_past t.texts.items (length t.texts.items) (omega arith))
+    ∙ sym (ap (found t.texts.items text) old))
     (λ (h : is_eq (nat_cmp key (hash_of text)) ≡ false).
-    ap (λ b. found (t.kept.items ++ e ∷ []) text (cond b (Some (length t.kept.items)) (get nat_cmp t.first (hash_of text)))) h
-    ∙ kept_still t.kept.items e text (get nat_cmp t.first (hash_of text)) n)
+    ap (λ b. found (t.texts.items ++ e ∷ []) text (cond b (Some (length t.texts.items)) (get nat_cmp t.first (hash_of text)))) h
+    ∙ front_still t.texts.items e text (get nat_cmp t.first (hash_of text)) n)
     (cases_Bool (is_eq (nat_cmp key (hash_of text)))))
     ∙ or_none (number_at t text) ∙ ap (λ b. option_or (number_at t text) (cond b (Some e.number) None)) (sym n))
     (cases_Bool (same_text e.text text))
@@ -155,19 +155,19 @@ adds_first t u e free none k up o text =
     hash_is : (a b : ℕ) → is_eq (nat_cmp a b) ≡ true → a ≡ b
     hash_is a b h = grind (arith, unsigned_ties)
 
-    itself : option_or (found (t.kept.items ++ e ∷ []) e.text (cond (is_eq (nat_cmp (hash_of e.text) (hash_of e.text))) (Some (length t.kept.items)) (get nat_cmp t.first (hash_of e.text)))) (at_text t.others e.text)
+    itself : option_or (found (t.texts.items ++ e ∷ []) e.text (cond (is_eq (nat_cmp (hash_of e.text) (hash_of e.text))) (Some (length t.texts.items)) (get nat_cmp t.first (hash_of e.text)))) (at_text t.others e.text)
         ≡ option_or (number_at t e.text) (cond (same_text e.text e.text) (Some e.number) None)
     itself =
         let tie : is_eq (nat_cmp (hash_of e.text) (hash_of e.text)) ≡ true = sym (unsigned_ties (hash_of e.text) (hash_of e.text)) ∙ grind arith in
-        ap (λ b. option_or (found (t.kept.items ++ e ∷ []) e.text (cond b (Some (length t.kept.items)) (get nat_cmp t.first (hash_of e.text)))) (at_text t.others e.text)) tie
-        ∙ ap (λ r. option_or r (at_text t.others e.text)) (here_place t.kept.items e)
+        ap (λ b. option_or (found (t.texts.items ++ e ∷ []) e.text (cond b (Some (length t.texts.items)) (get nat_cmp t.first (hash_of e.text)))) (at_text t.others e.text)) tie
+        ∙ ap (λ r. option_or r (at_text t.others e.text)) (here_place t.texts.items e)
         ∙ sym (ap (λ r. option_or r (cond (same_text e.text e.text) (Some e.number) None)) none ∙ ap (λ b. cond b (Some e.number) None) ((bytes_decides e.text e.text).1 refl))
 
-pub adds_kept : (t u : TextNumbers) (e : Numbered) (name : List ℕ) (hash place : ℕ) → hash ≡ hash_of name → e.text ≡ name → get nat_cmp t.first hash ≡ None → number_at t name ≡ None
-    → u.kept.items ≡ t.kept.items ++ e ∷ [] → Updates nat_cmp t.first u.first hash (Some place) → place ≡ length t.kept.items → u.others ≡ t.others → AddsText t name e.number u
-adds_kept t u e name hash place h is free none k up at o =
+pub adds_numbered : (t u : TextNumbers) (e : Numbered) (name : List ℕ) (hash place : ℕ) → hash ≡ hash_of name → e.text ≡ name → get nat_cmp t.first hash ≡ None → number_at t name ≡ None
+    → u.texts.items ≡ t.texts.items ++ e ∷ [] → Updates nat_cmp t.first u.first hash (Some place) → place ≡ length t.texts.items → u.others ≡ t.others → AddsText t name e.number u
+adds_numbered t u e name hash place h is free none k up at o =
     let key : hash ≡ hash_of e.text = h ∙ ap hash_of (sym is) in
     let all : AddsText t e.text e.number u =
     adds_first t u e (ap (get nat_cmp t.first) (sym key) ∙ free) (ap (number_at t) is ∙ none) k
-    (subst (λ (n : ℕ). Updates nat_cmp t.first u.first n (Some (length t.kept.items))) key (subst (λ (n : ℕ). Updates nat_cmp t.first u.first hash (Some n)) at up)) o in
+    (subst (λ (n : ℕ). Updates nat_cmp t.first u.first n (Some (length t.texts.items))) key (subst (λ (n : ℕ). Updates nat_cmp t.first u.first hash (Some n)) at up)) o in
     subst (λ (s : List ℕ). AddsText t s e.number u) is all

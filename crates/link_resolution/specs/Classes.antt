@@ -1,4 +1,4 @@
--- What is kept of the classes of a program.
+-- The invariant of the classes of a program.
 use Rattle.std.specs.Prelude.{◌<◌, ◌^◌, length}
 use Rattle.link_rules.specs.Program.{Program}
 use Rattle.link_resolution.specs.declared.classes.Classes.TheInside.{Inside}

@@ -13,16 +13,16 @@ use Rattle.link_resolution.specs.KeyTexts.{IndexesAll, key_text}
 abbrev pub Index : Type 0
 Index = BTreeMap (Vec ℕ) ℕ
 
--- where there is an index, it tells of each key the first of these members that has it
-abbrev pub Tells : List Const → List Member → Option Index → Type 0
-Tells pool members o = (m : Index) → o ≡ Some m → IndexesAll pool members m
+-- where there is an index, it has for each key the first of these members with that key
+abbrev pub IndexesMany : List Const → List Member → Option Index → Type 0
+IndexesMany pool members o = (m : Index) → o ≡ Some m → IndexesAll pool members m
 
--- each index tells of these members of its class
-abbrev pub AllTell : (ClassFile → List Member) → List ClassFile → List (Option Index) → Type 0
-AllTell members files indexes =
+-- each index is one of these members of its class
+abbrev pub AllIndexed : (ClassFile → List Member) → List ClassFile → List (Option Index) → Type 0
+AllIndexed members files indexes =
     (c : ℕ) (f : ClassFile) (m : Index) → slice_get files c ≡ Some f → slice_get indexes c ≡ Some (Some m)
     → IndexesAll f.pool (members f) m
 
--- the index of a class, where there is one, tells this of a key
-abbrev pub IsTold : List (Option Index) → ℕ → Key → Option ℕ → Type 0
-IsTold indexes c key o = (m : Index) × ((slice_get indexes c ≡ Some (Some m)) × (o ≡ at_text m (key_text key)))
+-- a class has an index, which has this for a key
+abbrev pub Finds : List (Option Index) → ℕ → Key → Option ℕ → Type 0
+Finds indexes c key o = (m : Index) × ((slice_get indexes c ≡ Some (Some m)) × (o ≡ at_text m (key_text key)))

@@ -1,4 +1,4 @@
--- What is kept of a set of classes.
+-- The invariant of a set of classes.
 use Rattle.std.specs.Prelude.{◌≡◌, ℕ, false, List, get_or}
 use Rattle.link_rules.specs.Hierarchy.{is_among}
 use Rattle.link_resolution.specs.declared.class_set.ClassSet.TheInside.{Inside}

@@ -28,13 +28,13 @@ hash_of text = hash_from 0 text
 abbrev pub number_if : List ℕ → Numbered → Option ℕ
 number_if text n = if same_text n.text text then Some n.number else None
 
--- the number of the text that is kept at a place, if there is one, and it is this text
+-- the number of the text that is texts at a place, if there is one, and it is this text
 abbrev pub found : List Numbered → List ℕ → Option ℕ → Option ℕ
-found kept text place = option_and_then (number_if text) (option_and_then (slice_get kept) place)
+found texts text place = option_and_then (number_if text) (option_and_then (slice_get texts) place)
 
 -- the number of a text
 abbrev pub number_at : TextNumbers → List ℕ → Option ℕ
-number_at t text = option_or (found t.kept.items text (get nat_cmp t.first (hash_of text))) (at_text t.others text)
+number_at t text = option_or (found t.texts.items text (get nat_cmp t.first (hash_of text))) (at_text t.others text)
 
 -- the new table has this number at the text, unless the old one had some
 abbrev pub AddsText : TextNumbers → List ℕ → ℕ → TextNumbers → Type 0

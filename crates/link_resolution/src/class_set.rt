@@ -28,7 +28,7 @@ impl Model for ClassSet {
 
 // Adds flags that aren't set, up to that of a class.
 fn reach(flags: &mut Vec<bool>, class: u32) -> Result<(), NoMemory>
-    ensures room { OnOk result (class < vec_len flags.new) }
+    ensures long_enough { OnOk result (class < vec_len flags.new) }
     ensures same { (c : ℕ) → get_or flags.new.items c false ≡ get_or flags.old.items c false }
 {
     if flags.len() <= class as usize {

@@ -35,7 +35,7 @@ const OBJECT_CLASS: [u16; 16] = [
     b't' as u16,
 ];
 
-/// The classes of a program in their order, the built-in ones first. A class is told by its index.
+/// The classes of a program in their order, the built-in ones first. A class is known by its index.
 #[derive(Drop)]
 pub struct Classes {
     files: Vec<ClassFile>,
@@ -190,7 +190,7 @@ impl Classes {
         self.built_in <= class
     }
 
-    /// Whether a class is a built-in one that serves the other built-in classes alone (own).
+    /// Whether a class is internal: a built-in one that isn't public, which only the other built-in classes may name.
     pub fn is_internal(&self, class: u32) -> bool
         ensures { result ≡ spec.is_internal self.now class }
     {

@@ -99,7 +99,7 @@ pub fn is_known(classes: &Classes, name: &[u16]) -> bool
     }
 }
 
-/// Whether a name is that of an internal class, or of an array of them (own).
+/// Whether a name is that of an internal class, or of an array of them.
 pub fn names_internal(classes: &Classes, name: &[u16]) -> bool
     ensures { result ≡ spec.names_internal classes.now name.now }
 {

@@ -4,13 +4,13 @@ ghost use Rattle.std.specs.Prelude.{◌≡◌, ◌+◌, ◌++◌, [], ◌∷◌,
 ghost use Rattle.link_rules.specs.Hierarchy as spec;
 ghost use Rattle.link_rules.specs.Members as members;
 ghost use Rattle.link_resolution.specs.Keys.{key_of};
-ghost use Rattle.link_resolution.specs.MemberTables.{AllTell};
+ghost use Rattle.link_resolution.specs.MemberTables.{AllIndexed};
 ghost use Rattle.link_resolution.specs.Tables as tables;
 ghost use Rattle.link_resolution.specs.Tables.{above, row_at, tabulate};
 
 use crate::class_set::ClassSet;
 use crate::classes::Classes;
-use crate::member_index::{MemberIndex, index_of_many, told_by};
+use crate::member_index::{MemberIndex, find_in, index_of_many};
 use crate::members::{MemberKey, index_of};
 use class_grammar::class_name_at;
 use class_model::ClassFile;
@@ -172,7 +172,7 @@ fn parent_at(parents: &[Option<u32>], c: u32) -> Option<u32>
     }
 }
 
-// A class and so many of its superclasses.
+// A class and its superclasses, at most `most` classes.
 fn climb(
     alloc: Global,
     parents: &[Option<u32>],
@@ -256,7 +256,7 @@ fn all_superclasses(
 }
 
 fn field_indexes(alloc: Global, files: &[ClassFile]) -> Result<Vec<Option<MemberIndex>>, NoMemory>
-    ensures { IfOk result (λ v. AllTell (λ f. f.fields) files.now v.items) }
+    ensures { IfOk result (λ v. AllIndexed (λ f. f.fields) files.now v.items) }
 {
     let mut indexes = Vec::new(alloc);
     for file in files {
@@ -266,7 +266,7 @@ fn field_indexes(alloc: Global, files: &[ClassFile]) -> Result<Vec<Option<Member
 }
 
 fn method_indexes(alloc: Global, files: &[ClassFile]) -> Result<Vec<Option<MemberIndex>>, NoMemory>
-    ensures { IfOk result (λ v. AllTell (λ f. f.methods) files.now v.items) }
+    ensures { IfOk result (λ v. AllIndexed (λ f. f.methods) files.now v.items) }
 {
     let mut indexes = Vec::new(alloc);
     for file in files {
@@ -329,7 +329,7 @@ impl Hierarchy {
         requires { slice_get self.now.classes class ≡ Some file.now }
         ensures { result ≡ members.index_of file.now.pool (key_of key.entry) file.now.fields }
     {
-        match told_by(self.alloc, &self.fields, class, key) {
+        match find_in(self.alloc, &self.fields, class, key) {
             Some(found) => found,
             None => index_of(&file.pool, key, &file.fields),
         }
@@ -340,7 +340,7 @@ impl Hierarchy {
         requires { slice_get self.now.classes class ≡ Some file.now }
         ensures { result ≡ members.index_of file.now.pool (key_of key.entry) file.now.methods }
     {
-        match told_by(self.alloc, &self.methods, class, key) {
+        match find_in(self.alloc, &self.methods, class, key) {
             Some(found) => found,
             None => index_of(&file.pool, key, &file.methods),
         }

@@ -2,7 +2,7 @@
 
 ghost use Rattle.std.specs.Prelude.{◌≡◌, ◌<◌, ◌^◌, length, IfOk, IfSome, OnOk};
 ghost use Rattle.link_resolution.specs.Names.{Adds, at_text};
-ghost use Rattle.link_resolution.specs.MemberTables.{IsTold, Tells};
+ghost use Rattle.link_resolution.specs.MemberTables.{Finds, IndexesMany};
 ghost use Rattle.link_resolution.specs.Keys.{key_of};
 ghost use Rattle.link_resolution.specs.KeyTexts as texts;
 ghost use Rattle.link_resolution.specs.KeyTexts.{AddsMember, IndexesAll};
@@ -97,7 +97,7 @@ pub fn index_of_many(
     pool: &[Const],
     members: &[Member],
 ) -> Result<Option<MemberIndex>, NoMemory>
-    ensures { IfOk result (λ o. Tells pool.now members.now o) }
+    ensures { IfOk result (λ o. IndexesMany pool.now members.now o) }
 {
     if members.len() <= FEW {
         return Ok(None);
@@ -108,7 +108,7 @@ pub fn index_of_many(
     Ok(Some(by_key(alloc, pool, members)?))
 }
 
-// What an index tells of a key.
+// Looks a key up in an index.
 fn find(alloc: Global, index: &MemberIndex, key: MemberKey) -> Result<Option<usize>, NoMemory>
     ensures { IfOk result (λ o. o ≡ at_text index.now (texts.key_text (key_of key.entry))) }
 {
@@ -119,23 +119,23 @@ fn find(alloc: Global, index: &MemberIndex, key: MemberKey) -> Result<Option<usi
     }
 }
 
-/// What the index of a class in a table tells of a key. `None`: the class has none, or memory ran out.
-pub fn told_by(
+/// Looks a key up in the index of a class. `None`: the class has no index, or memory ran out.
+pub fn find_in(
     alloc: Global,
     indexes: &[Option<MemberIndex>],
     class: u32,
     key: MemberKey,
 ) -> Option<Option<usize>>
-    ensures { IfSome result (λ o. IsTold indexes.now class (key_of key.entry) o) }
+    ensures { IfSome result (λ o. Finds indexes.now class (key_of key.entry) o) }
 {
     match indexes.get(class as usize) {
-        Some(Some(index)) => found(alloc, index, key),
+        Some(Some(index)) => find_or_none(alloc, index, key),
         _ => None,
     }
 }
 
-// The same of one index.
-fn found(alloc: Global, index: &MemberIndex, key: MemberKey) -> Option<Option<usize>>
+// Looks a key up in an index. `None`: memory ran out.
+fn find_or_none(alloc: Global, index: &MemberIndex, key: MemberKey) -> Option<Option<usize>>
     ensures { IfSome result (λ o. o ≡ at_text index.now (texts.key_text (key_of key.entry))) }
 {
     match find(alloc, index, key) {

@@ -15,7 +15,7 @@ use class_model::{
 use link_rules::MemberPlace;
 
 /// The name and the descriptor of a field or a method.
-#[derive(Clone, Copy, Debug)]
+#[derive(Clone, Copy)]
 pub struct MemberKey<'a> {
     pub name: &'a [u16],
     pub descriptor: &'a [u16],

@@ -23,7 +23,7 @@ pub struct Numbered {
 #[derive(Drop)]
 pub struct TextNumbers {
     /// The texts that came first with their hashes.
-    pub kept: Vec<Numbered>,
+    pub texts: Vec<Numbered>,
     /// Their places by their hashes.
     pub first: BTreeMap<u64, u32>,
     /// The other texts.
@@ -86,10 +86,10 @@ fn number_if(numbered: &Numbered, text: &[u16]) -> Option<u32>
 }
 
 // The place of the next text.
-fn next_place(kept: &[Numbered]) -> Result<u32, NoMemory>
-    ensures { IfOk result (λ n. n ≡ length kept.now) }
+fn next_place(texts: &[Numbered]) -> Result<u32, NoMemory>
+    ensures { IfOk result (λ n. n ≡ length texts.now) }
 {
-    let place = u32::try_from(kept.len()).map_err(|_| NoMemory)?;
+    let place = u32::try_from(texts.len()).map_err(|_| NoMemory)?;
     Ok(place)
 }
 
@@ -99,7 +99,7 @@ impl TextNumbers {
         ensures { (text : List ℕ) → number_at result text ≡ None }
     {
         TextNumbers {
-            kept: Vec::new(alloc),
+            texts: Vec::new(alloc),
             first: BTreeMap::new(alloc),
             others: BTreeMap::new(alloc),
         }
@@ -107,11 +107,11 @@ impl TextNumbers {
 
     // The number of a text that came first with this hash.
     fn first_number(&self, hash: u64, text: &[u16]) -> Option<u32>
-        ensures { result ≡ spec.found self.now.kept.items text.now
+        ensures { result ≡ spec.found self.now.texts.items text.now
             (get nat_cmp self.now.first hash) }
     {
         let place = self.first.get(&hash)?;
-        number_if(self.kept.get(*place as usize)?, text)
+        number_if(self.texts.get(*place as usize)?, text)
     }
 
     // The number of a text that has this hash.
@@ -146,9 +146,9 @@ impl TextNumbers {
         ensures ok { OnOk result (AddsText self.old text.now number self.new) }
         ensures err { OnErr result (IsAlike self.old self.new) }
     {
-        let place = next_place(&self.kept)?;
+        let place = next_place(&self.texts)?;
         let text = Items::from(Vec::from_slice(alloc, text)?);
-        self.kept.push(Numbered { text, number })?;
+        self.texts.push(Numbered { text, number })?;
         self.first.insert(hash, place)?;
         Ok(())
     }

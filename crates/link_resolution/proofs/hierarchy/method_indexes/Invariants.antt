@@ -1,6 +1,6 @@
 use Rattle.std.proofs.Common.{◌≡◌, vec_len}
-use Rattle.link_resolution.specs.MemberTables.{AllTell}
+use Rattle.link_resolution.specs.MemberTables.{AllIndexed}
 use Rattle.link_resolution.proofs.hierarchy.method_indexes.Given as goal
 
 abbrev pub invariant-loop-file : goal.invariant-loop-file
-invariant-loop-file l = AllTell (λ f. f.methods) l.files l.indexes.items × (vec_len l.indexes ≡ l.file-index)
+invariant-loop-file l = AllIndexed (λ f. f.methods) l.files l.indexes.items × (vec_len l.indexes ≡ l.file-index)
