@@ -58,6 +58,8 @@ const REFUSED: [(LinkWhy, &[&'static str]); 10] = [
             "33 A [LA;",
             "33 A java/lang/Object implements B|33 B java/lang/Object",
             "33 A java/lang/Object implements [LI;|1537 I java/lang/Object",
+            "33 A [LA;|33 [LA; A",
+            "1537 I java/lang/Object implements [LI;|1537 [LI; java/lang/Object implements I",
             "1537 I java/lang/Object field 1 x I",
             "1057 A java/lang/Object method 1032 f ()V",
             "33 A java/lang/Object field 8 x I method 9 f ()V getfield Fieldref A x I end",

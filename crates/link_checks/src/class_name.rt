@@ -36,7 +36,7 @@ pub fn is_known(world: &Hierarchy, named: ClassName) -> bool
     }
 }
 
-/// Whether it is an internal class, or an array of them (own).
+/// Whether it is an internal class, or an array of them.
 pub fn names_internal(world: &Hierarchy, named: ClassName) -> bool
     requires { Means world.now named }
     ensures { result ≡ constants.names_internal world.now named.entry.name.now }

@@ -39,14 +39,21 @@ fn is_first_named(world: &Hierarchy, class: u32, name: &[u16]) -> bool
     }
 }
 
-// Whether the class of a name is this one or below it.
-fn leads_back(world: &Hierarchy, class: u32, name: &[u16]) -> bool
-    ensures { result ≡ spec.leads_back world.now class name.now }
+// Whether the class of a name is this one or has it above it.
+fn names_below(world: &Hierarchy, class: u32, name: &[u16]) -> bool
+    ensures { result ≡ spec.names_below world.now class name.now }
 {
     match world.classes().class_named(name) {
         Some(above) => world.is_below(above, class),
         None => false,
     }
+}
+
+// The same of a name that isn't that of an array class: such a class is above no other.
+fn leads_back(world: &Hierarchy, class: u32, name: &[u16]) -> bool
+    ensures { result ≡ spec.leads_back world.now class name.now }
+{
+    !is_array_name(name) && names_below(world, class, name)
 }
 
 fn names_interface(world: &Hierarchy, name: &[u16]) -> bool
@@ -76,7 +83,7 @@ fn names_final(world: &Hierarchy, name: &[u16]) -> bool
     }
 }
 
-// Whether a class may not name this one, which serves the built-in classes alone (own).
+// Whether a class may not use a name: it is that of an internal class, and the class comes from a file.
 fn is_internal_to(world: &Hierarchy, class: u32, name: &[u16]) -> bool
     ensures { result ≡ spec.is_internal_to world.now class name.now }
 {

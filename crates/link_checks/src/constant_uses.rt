@@ -18,7 +18,7 @@ pub enum Use {
     Class(Purpose),
 }
 
-/// A table of so many constants, of which nothing is known.
+/// A table for a pool of this size, in which nothing is known.
 pub fn no_uses(alloc: Global, constants: usize) -> Result<Vec<Option<Use>>, NoMemory>
     ensures { IfOk result (λ fine. fine.items ≡ replicate constants None) }
 {

@@ -30,7 +30,7 @@ pub struct Namer<'a> {
     pub pool: &'a [Const],
 }
 
-// Whether a class may not name another, or a member that is `reserved` (own).
+// Whether a class of a file may not use what it names: the class is internal, or the member is `reserved`.
 fn is_reserved(world: &Hierarchy, class: u32, named: ClassName, reserved: bool) -> bool
     requires { Means world.now named }
     ensures { result ≡ spec.is_reserved world.now class named.entry.name.now reserved }

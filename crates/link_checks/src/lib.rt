@@ -1,4 +1,4 @@
-//! What is wrong with a program first (JVMS 5.3, 5.4): the rules of `linkage`, tried in their order.
+//! What is wrong with a program first (JVMS 5.3, 5.4): the rules of `link_rules`, tried in their order.
 #![tactic(auto)]
 
 mod class_name;

@@ -1,6 +1,6 @@
 -- What may be wrong with a program (JVMS 5.3, 5.4), as one list in order: class by class its name, its superclass, its
 -- superinterfaces, its fields, its methods, and then method by method the instructions by rising pc and the rows of the exception
--- table. At one place the rules are in the order of LinkWhy. (the order: own)
+-- table. At one place the rules are in the order of LinkWhy.
 use Rattle.std.specs.Prelude.{◌≡◌, ℕ, zero, suc, ◌+◌, ◌-◌, Bool, true, false, not, List, [], ◌∷◌, ◌++◌, Option, Some, None, Ok, Err, length, drop, map, ◌==◌, ◌&&◌, ◌||◌, if◌then◌else◌}
 use Rattle.std.specs.Option.{option_map, option_map_or}
 use Rattle.std.specs.List.{flat_map, list_any, enumerate_from}
@@ -42,8 +42,12 @@ name_faults p c f =
     ∷ []
 
 -- whether the class of this name is c or has c above it
+abbrev pub names_below : Program → ℕ → List ℕ → Bool
+names_below p c name = option_map_or (λ d. is_below p d c) (class_named p name) false
+
+-- the same of a name that isn't that of an array class, which may be neither a superclass nor a superinterface
 abbrev pub leads_back : Program → ℕ → List ℕ → Bool
-leads_back p c name = option_map_or (λ d. is_below p d c) (class_named p name) false
+leads_back p c name = not (is_array_name name) && names_below p c name
 
 abbrev pub names_interface : Program → List ℕ → Bool
 names_interface p name = option_map_or (is_interface p) (class_named p name) false
@@ -54,7 +58,7 @@ names_class p name = option_map_or (λ d. not (is_interface p d)) (class_named p
 abbrev pub names_final : Program → List ℕ → Bool
 names_final p name = option_map_or (is_final p) (class_named p name) false
 
--- whether a class of a file names one that serves the built-in classes alone (own)
+-- whether a class of a file names an internal one
 abbrev pub is_internal_to : Program → ℕ → List ℕ → Bool
 is_internal_to p c name = is_from_file p c && names_internal p name
 
@@ -134,14 +138,14 @@ pub record Decoded : Type 0 where
   pub instrs : List Instr
   pub is_bad : Bool
 
--- the instruction that was read at pc, where so many bytes were left
+-- the instruction that was read at pc, where this many bytes were left
 abbrev pub read_at : ℕ → ℕ → Op × List ℕ → Instr
 read_at pc left x = record { pc = pc; next = pc + (left - length x.1); op = x.0 }
 
 abbrev pub with_first : Instr → Decoded → Decoded
 with_first i d = record { instrs = i ∷ d.instrs; is_bad = d.is_bad }
 
--- Reading goes on from pc, where these bytes are left, for so many instructions at most. Each takes a byte at least.
+-- Reading goes on from pc, where these bytes are left, for at most n instructions. Each takes at least a byte.
 abbrev pub decoded_from : ℕ → ℕ → List ℕ → Decoded
 decoded_from zero pc bytes = record { instrs = []; is_bad = false }
 decoded_from (suc n) pc [] = record { instrs = []; is_bad = false }

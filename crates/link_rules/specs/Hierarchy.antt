@@ -35,7 +35,7 @@ interfaces_of p c = class_at (interfaces_in p) [] p c
 abbrev pub directs : Program → ℕ → List ℕ
 directs p c = interfaces_of p c ++ option_to_list (parent_of p c)
 
--- how many direct superclasses and superinterfaces the first so many classes have
+-- how many direct superclasses and superinterfaces the first n classes have
 abbrev pub edges : Program → ℕ → ℕ
 edges p zero = 0
 edges p (suc n) = edges p n + length (directs p n)
@@ -59,7 +59,7 @@ supers p c = class_at (λ f. visit (directs p) (edges p (length p.classes) + 1) 
 abbrev pub is_below : Program → ℕ → ℕ → Bool
 is_below p a b = is_among (supers p a) b
 
--- the class and so many of its superclasses, from the class up
+-- the class and its superclasses from the class up, at most n classes
 abbrev pub climb : (ℕ → Option ℕ) → ℕ → ℕ → List ℕ
 climb parent zero c = []
 climb parent (suc n) c = c ∷ option_map_or (climb parent n) (parent c) []

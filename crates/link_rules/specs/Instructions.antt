@@ -24,7 +24,7 @@ use Rattle.link_rules.specs.Constants.{is_known, names_internal, home_of, is_flo
 abbrev pub Faults : Type 0
 Faults = List (Option LinkWhy)
 
--- ---- what a class of a file may not name (own)
+-- ---- what a class of a file may not name
 
 -- an internal class, or a private member of a built-in class
 abbrev pub is_reserved : Program → ℕ → List ℕ → Bool → Bool

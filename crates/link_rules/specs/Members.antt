@@ -71,7 +71,7 @@ has_field test p at = option_map_or test (field_in p at) false
 abbrev pub has_method : (Member → Bool) → Program → MemberPlace → Bool
 has_method test p at = option_map_or test (method_in p at) false
 
--- ---- numbers: members are numbered in the order of the classes, and in a class in the order of its file (own)
+-- ---- numbers: members are numbered in the order of the classes, and in a class in the order of its file
 
 abbrev pub fields_before : List ClassFile → ℕ → ℕ
 fields_before classes c = sum_by (λ f. length f.fields) (take c classes)

@@ -1,4 +1,4 @@
--- A program: its classes in order, the built-in ones first. A class is told by its index in this list. (own)
+-- A program: its classes in order, the built-in ones first. A class is known by its index in this list.
 use Rattle.std.specs.Prelude.{ℕ, Bool, false, not, List, [], ◌++◌, length, Option, codes, unwrap_or, slice_get, position, bit_and, nat_lt, nat_le, ◌==◌, ◌&&◌}
 use Rattle.std.specs.Option.{option_map_or}
 use Rattle.class_model.specs.declared.access_flags.TheConstants.{ACC_FINAL, ACC_INTERFACE, ACC_ABSTRACT, ACC_PUBLIC}
@@ -56,6 +56,6 @@ is_final p c = class_at (λ f. has_flag ACC_FINAL f.flags) false p c
 abbrev pub is_from_file : Program → ℕ → Bool
 is_from_file p c = nat_le p.built_in c
 
--- A built-in class that isn't public serves the other built-in classes alone: no class of a file may name it. (own)
+-- A built-in class that isn't public serves the other built-in classes alone: no class of a file may name it.
 abbrev pub is_internal : Program → ℕ → Bool
 is_internal p c = nat_lt c p.built_in && class_at (λ f. not (has_flag ACC_PUBLIC f.flags)) false p c

@@ -1,4 +1,4 @@
-/// A member of a class of the program, by its index among the fields of the class, or among its methods (own).
+/// A field or a method of the program, by its class and its index among the fields or the methods of the class.
 #[derive(Clone, Copy, Debug, PartialEq, Eq)]
 pub struct MemberPlace {
     pub class: u32,

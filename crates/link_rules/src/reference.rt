@@ -20,6 +20,6 @@ pub enum Purpose {
     Instance,
     /// For the elements of an array: anewarray.
     Element,
-    /// For an array with lengths in so many dimensions: multianewarray.
+    /// For an array of which this many dimensions get a length: multianewarray.
     Array(u8),
 }

@@ -1,6 +1,8 @@
+//! Why a program does not link.
+
 use thiserror::Error;
 
-/// Why a program does not link (JVMS 5.3, 5.4; own where a line says so). Of several reasons at one place of a class the first in
+/// Why a program does not link (JVMS 5.3, 5.4). Of several reasons at one place of a class the first in
 /// this order is named.
 #[derive(Clone, Copy, Debug, PartialEq, Eq, Error)]
 pub enum LinkWhy {
@@ -20,7 +22,7 @@ pub enum LinkWhy {
     /// The superclass is final, or a method overrides a final one (JVMS 4.10, 5.3.5).
     #[error("a final class or method")]
     FinalParent,
-    /// A method of a file is native (own).
+    /// A method of a file is native.
     #[error("a native method")]
     Native,
     /// The code is no list of instructions, or an instruction names a constant of the wrong kind (JVMS 4.9.1).
@@ -32,7 +34,7 @@ pub enum LinkWhy {
     /// A method isn't found (JVMS 5.4.3.3, 5.4.3.4).
     #[error("a method is missing")]
     MissingMethod,
-    /// What this machine leaves out (own).
+    /// What this machine leaves out.
     #[error("unsupported")]
     Unsupported,
 }
