@@ -1,4 +1,4 @@
--- What is kept of a linked world.
+-- The invariant of a linked world.
 use Rattle.std.specs.Prelude.{◌≡◌}
 use Rattle.link_rules.specs.Program.{Program}
 use Rattle.link_rules.specs.Faults.{Links}

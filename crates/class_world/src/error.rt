@@ -1,3 +1,5 @@
+//! Why classes were not linked.
+
 ghost use Rattle.std.specs.Prelude.{◌≡◌};
 
 use items::{Items, NoMemory};

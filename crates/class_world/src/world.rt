@@ -1,3 +1,5 @@
+//! Links a program, and answers what is asked of a linked one.
+
 ghost use Rattle.std.specs.Prelude.{◌≡◌, ◌++◌, ℕ, List, Some, IfOk, OnOk, drop, slice_get, vec_len};
 ghost use Rattle.std.specs.Option.{option_copied};
 ghost use Rattle.items.specs.Memory.{OkUnless};
@@ -47,7 +49,7 @@ impl Model for World {
 }
 
 /// Links the built-in classes and those of the files. Where they don't link, the error names the first class with a fault and its
-/// first fault (JVMS 5.3, 5.4; the order: own).
+/// first fault (JVMS 5.3, 5.4).
 pub fn link(
     alloc: Global,
     built_in: Vec<ClassFile>,

@@ -22,7 +22,7 @@ is_field_of class x = declares class x.1
 abbrev pub own_fields : World → ℕ → List ℕ
 own_fields w class = map (λ x. x.0) (filter (is_field_of class) (enumerate_from 0 w.fields))
 
--- the fields of an object of the class, those of the superclass first (own order)
+-- the fields of an object of the class, those of the superclass first
 abbrev pub instance_fields : World → ℕ → List ℕ
 instance_fields w class = flat_map (own_fields w) (reverse (superclasses w.program class))
 

@@ -1,4 +1,4 @@
--- The fields and methods by number (JVMS 4.5, 4.6): in the order of the classes, and in a class in that of its file. (own)
+-- The fields and methods by number (JVMS 4.5, 4.6): in the order of the classes, and in a class in that of its file.
 use Rattle.std.specs.Prelude.{ℕ, List, Option, map}
 use Rattle.std.specs.List.{flat_map, enumerate_from}
 use Rattle.class_model.specs.declared.constant.Const.{Const}

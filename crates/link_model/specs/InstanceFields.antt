@@ -1,5 +1,5 @@
 -- The fields of the objects of each class, by their numbers: those of the superclasses first, and those of one class in the order of
--- its file (JVMS 2.7; the order: own).
+-- its file (JVMS 2.7).
 use Rattle.std.specs.Prelude.{ℕ, ◌+◌, List, [], Option, Some, None, reverse, filter_map, if◌then◌else◌}
 use Rattle.std.specs.List.{flat_map, enumerate_from}
 use Rattle.class_model.specs.declared.member.Member.{Member}

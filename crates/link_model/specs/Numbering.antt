@@ -1,4 +1,4 @@
--- The numbers of classes and array types (own). A class of the program has the number of its place there. After these come the other
+-- The numbers of classes and array types. A class of the program has the number of its place there. After these come the other
 -- names of classes that a pool or a descriptor has, in the order in which they are met. After these come the array types: those that a
 -- pool or a descriptor has, those that newarray and anewarray make, and the types of their elements. They are grouped by the type of
 -- their last elements, and in a group those of fewer dimensions come first.
@@ -145,7 +145,7 @@ abbrev pub with_element : Numbering → ElementType → Numbering
 with_element n (elements.Class name) = with_class n name
 with_element n element = n
 
--- where an array of such elements has so many dimensions
+-- with an array of these elements and dimensions
 abbrev pub deeper : Numbering → ElementType → ℕ → Numbering
 deeper n element dimensions =
     let index = element_index n.names element in
@@ -161,7 +161,7 @@ first_numbers p = record { names = map own_name p.classes; depths = replicate (8
 abbrev pub numbering_of : Program → Numbering
 numbering_of p = fold with_kind (first_numbers p) (kinds_of p)
 
--- the array types of so many dimensions at most
+-- the array types of at most n dimensions
 abbrev pub arrays_of_base : Base → ℕ → List ArrayType
 arrays_of_base base zero = []
 arrays_of_base base (suc n) = arrays_of_base base n ++ record { dimensions = suc n; base = base } ∷ []

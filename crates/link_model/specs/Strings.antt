@@ -1,5 +1,5 @@
 -- The numbers of the Strings that constants are (JVMS 5.1, 5.4.3.1). The heap begins with objects of the machine's own, the names of
--- main and of the states of a thread among them; after these come the String constants by class and index, each text once. (own)
+-- main and of the states of a thread among them; after these come the String constants by class and index, each text once.
 use Rattle.std.specs.Prelude.{ℕ, ◌+◌, List, [], ◌∷◌, Option, codes}
 use Rattle.std.specs.Option.{option_map, option_to_list}
 use Rattle.std.specs.List.{flat_map, fold}

@@ -1,6 +1,6 @@
 -- A linked world: the classes of a program, and tables by number. Classes have the numbers of their places in the program; after
 -- them come the other names of classes that a pool or a descriptor has, and after these the array types. Fields and methods are
--- numbered in the order of the classes, and in a class in the order of its file. (own)
+-- numbered in the order of the classes, and in a class in the order of its file.
 use Rattle.std.specs.Prelude.{ℕ, ◌-◌, List, [], ◌∷◌, Option, Some, None, length, position, slice_get, nat_lt, nat_le, ◌==◌, if◌then◌else◌}
 use Rattle.std.specs.Option.{option_and_then, option_map, option_map_or}
 use Rattle.stack_maps.specs.declared.types.Base.{Base}
@@ -65,7 +65,7 @@ base_of w (u ∷ us) =
     else if u == 90 then Some bases.Bool  -- Z
     else option_map bases.Class (name_number w (name_in (u ∷ us)))
 
--- the array of so many dimensions of these elements, which has 255 dimensions at most (JVMS 4.4.1)
+-- the array of these dimensions and elements, which has at most 255 dimensions (JVMS 4.4.1)
 abbrev pub array_of : ℕ → Base → Option VType
 array_of dimensions base = if nat_le dimensions 255 then Some (Named dimensions base) else None
 

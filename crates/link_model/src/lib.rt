@@ -1,5 +1,5 @@
-//! The linked world as plain values: the classes of a program with their numbers, and what the names in their code mean (JVMS 5.4;
-//! the numbers: own). `specs/` says which world a program has.
+//! The linked world as plain values: the classes of a program with their numbers, and what the names in their code mean (JVMS 5.4).
+//! `specs/` says which world a program has.
 #![tactic(auto)]
 
 mod lookups;

@@ -1,3 +1,5 @@
+//! What typing asks of a linked world.
+
 ghost use Rattle.std.specs.Prelude.{◌≡◌, [], IfSome, codes, get_or, length, slice_get};
 ghost use Rattle.std.specs.Option.{option_copied};
 ghost use Rattle.class_grammar.specs.Names.{object_class};

@@ -1,4 +1,4 @@
--- What is kept of the numbers of fields and methods.
+-- The invariant of the numbers of fields and methods.
 use Rattle.std.specs.Prelude.{◌≡◌, length}
 use Rattle.link_rules.specs.Program.{Program}
 use Rattle.link_rules.specs.Members.{fields_before, methods_before}

@@ -1,4 +1,4 @@
--- What is kept of numbered texts.
+-- The invariant of numbered texts.
 use Rattle.std.specs.Prelude.{◌≡◌, ℕ, ◌<◌, ◌^◌, List, length}
 use Rattle.link_resolution.specs.TextNumbers.{number_at}
 use Rattle.link_model.specs.Numbering.{number_of}

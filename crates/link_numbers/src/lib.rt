@@ -1,5 +1,5 @@
-//! The numbers of a program's names, array types, fields and methods, its Strings, and its code by number (JVMS 4.3, 4.5 to 4.7; the
-//! numbers: own). They are those of `link_model`'s definitions.
+//! The numbers of a program's names, array types, fields and methods, its Strings, and its code by number (JVMS 4.3, 4.5 to 4.7), as
+//! `link_model` defines them.
 #![tactic(auto)]
 
 mod array_numbers;

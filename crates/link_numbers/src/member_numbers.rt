@@ -1,4 +1,4 @@
-//! The numbers of fields and methods (own).
+//! The numbers of fields and methods.
 
 ghost use Rattle.std.specs.Prelude.{◌≡◌, ◌+◌, Some, length, slice_get, IfOk};
 ghost use Rattle.link_rules.specs.Members as spec;
@@ -31,7 +31,7 @@ impl Model for MemberNumbers {
     ghost invariant = { IsCounted };
 }
 
-// The number after so many more members. Numbers from 2^32 on count as memory run out.
+// Adds a count of members to a number. Numbers from 2^32 on count as memory run out.
 fn behind(number: u32, count: usize) -> Result<u32, NoMemory>
     ensures { IfOk result (λ n. n ≡ number + count) }
 {

@@ -1,4 +1,4 @@
-//! The numbers of classes and array types (own): the classes of the program by their places, then the other classes that its files name,
+//! The numbers of classes and array types: the classes of the program by their places, then the other classes that its files name,
 //! then the array types.
 
 ghost use Rattle.std.specs.Prelude.{◌≡◌, ◌+◌, ◌<◌, ◌^◌, length, map, replicate, OnOk, IfOk};
@@ -103,7 +103,7 @@ impl Numbering {
         }
     }
 
-    // There is an array of such elements with so many dimensions.
+    // Notes an array with these last elements and dimensions.
     fn deepen(&mut self, element: &ElementType, dimensions: u8)
         ensures { self.new ≡ spec.deeper self.old element.now dimensions }
     {
