@@ -15,7 +15,7 @@ use Rattle.ref_model.specs.Run.{Outcome, outcome_after, after_steps, replay, fir
 use Rattle.ref_model.specs.Setting.{Setting}
 use Rattle.ref_model.specs.State.{State}
 use Rattle.ref_model.specs.Step.{step, enabled, thread_step}
-use Rattle.machine.specs.Runs.{IsMainEntry, IsMainStep, IsTold, IsComplete}
+use Rattle.machine.specs.Runs.{IsMainEntry, IsMainStep, IsEndingOf, IsComplete}
 
 same_state : (a b : State) → ◌≡◌ {A = Option State} (Some a) (Some b) → a ≡ b
 same_state a b e = cc
@@ -142,7 +142,7 @@ alone_steps p r (suc n) q opens e =
 
 -- neither count is greater
 same_count : (p : Setting) (r q s : State) (e : Ending) (told : Ending) (k m n entries : ℕ) → steps p k r 0 ≡ Some q → ending q ≡ Some e → steps p m r 0 ≡ Some s
-    → k ≤ n → entries ≤ m → 3 * n + 3 ≤ p.limits.events → (o : Option Ending) → ending s ≡ o → IsTold p entries o told → (k < m → ⊥) → (m < k → ⊥) × (k < m → ⊥)
+    → k ≤ n → entries ≤ m → 3 * n + 3 ≤ p.limits.events → (o : Option Ending) → ending s ≡ o → IsEndingOf p entries o told → (k < m → ⊥) → (m < k → ⊥) × (k < m → ⊥)
 same_count p r q s e told k m n entries first over all few some room (Some f) ends tells less =
     ((λ more. not_past p r s q f m k all ends first more), less)
 same_count p r q s e told k m n entries first over all few some room None ends tells less =
@@ -156,7 +156,7 @@ counts_equal (suc k) (suc m) a b = ap suc (counts_equal k m (λ h. a (omega arit
 
 -- A history of the main thread's entries that has ended, or has no room for more, has ended where the main thread alone does.
 pub complete : (p : Setting) (h : List Entry) (last : State) (told : Ending) → AllByRecursion IsMainEntry h → run p h ≡ Some last
-    → IsTold p (length h) (ending last) told → IsComplete p last
+    → IsEndingOf p (length h) (ending last) told → IsComplete p last
 complete p h last told all so tells = λ n q e lone over room.
     let opened = some_is (opening p) (λ s. replay p h (first_outcome s) >>= λ o. Some o.state) last so in
     let r = opened.0 in

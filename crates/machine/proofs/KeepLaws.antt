@@ -27,7 +27,7 @@ use Rattle.machine.specs.declared.parts.Parts.{Parts}
 use Rattle.machine.specs.Ready.{IsReady}
 use Rattle.machine.specs.Returning.{ThrowingSteps}
 use Rattle.machine.specs.States.{main_thread, state_of, IsStep, IsRunStep}
-use Rattle.machine.specs.Steps.{Advances, IsKept}
+use Rattle.machine.specs.Steps.{Advances, IsTypedStep}
 use Rattle.machine.specs.LocalRuns.{IsLocalRun, IsLongRun}
 use Rattle.machine.proofs.LocalLaws.{ends_may, most_may, run_grouped}
 use Rattle.machine.proofs.StaticLaws.{names_static}
@@ -50,7 +50,7 @@ abbrev any_setting : World → Setting
 any_setting w = record { world = w; main = 0; limits = record { heap_cells = 0; threads = 0; events = 0 } }
 
 -- a step whose constant names what linking gives
-kept : (w : World) (r q : State) → IsReady w → IsTypedState w r → IsStepResolution w r 0 → ((p : Setting) → p.world ≡ w → step p r 0 None ≡ Some q) → IsKept w r q
+kept : (w : World) (r q : State) → IsReady w → IsTypedState w r → IsStepResolution w r 0 → ((p : Setting) → p.world ≡ w → step p r 0 None ≡ Some q) → IsTypedStep w r q
 kept w r q ready typed names goes = record { step = goes; typed = step_keeps (any_setting w) r q 0 ready.linked typed names (goes (any_setting w) refl) }
 
 inside : {A : Type 0} (a b : A) → ◌≡◌ {A = Option A} (Some a) (Some b) → a ≡ b
@@ -70,19 +70,19 @@ run_goes w a b frames after running goes made = λ p same.
     (subst (λ (v : World). IsRunStep v (state_of a frames) frames (state_of b after)) (sym same) made)
 
 pub run_kept : (w : World) (a b : Parts) (f : Frame) (below after : List Frame) (i : Instruction) → IsReady w → IsTypedState w (state_of a (f ∷ below)) → a.status ≡ Live Run → ending (state_of a (f ∷ below)) ≡ None
-    → fetched w f ≡ Some i → IsRunStep w (state_of a (f ∷ below)) (f ∷ below) (state_of b after) → IsKept w (state_of a (f ∷ below)) (state_of b after)
+    → fetched w f ≡ Some i → IsRunStep w (state_of a (f ∷ below)) (f ∷ below) (state_of b after) → IsTypedStep w (state_of a (f ∷ below)) (state_of b after)
 run_kept w a b f below after i ready typed running goes at made =
     kept w (state_of a (f ∷ below)) (state_of b after) ready typed (run_names w a f below ready running) (run_goes w a b (f ∷ below) after running goes made)
 
 -- of whatever frames, by the instruction that is fetched
 pub frames_kept : (w : World) (a b : Parts) (frames after : List Frame) (i : Instruction) → 0 < length frames → IsReady w → IsTypedState w (state_of a frames) → a.status ≡ Live Run → ending (state_of a frames) ≡ None
-    → instruction_at w (top_method frames) (top_pc frames) ≡ Some i → Steps w i a frames b after → IsKept w (state_of a frames) (state_of b after)
+    → instruction_at w (top_method frames) (top_pc frames) ≡ Some i → Steps w i a frames b after → IsTypedStep w (state_of a frames) (state_of b after)
 frames_kept w a b [] after i some ready typed running goes at steps = absurd (omega arith)
 frames_kept w a b (f ∷ below) after i some ready typed running goes at steps = run_kept w a b f below after i ready typed running goes at (steps f below refl at)
 
 -- a local instruction
 pub local_kept : (w : World) (a : Parts) (frames after : List Frame) → IsTypedState w (state_of a frames) → a.status ≡ Live Run → ending (state_of a frames) ≡ None → row w frames ≡ Some after → Typed w after
-    → IsKept w (state_of a frames) (state_of a after)
+    → IsTypedStep w (state_of a frames) (state_of a after)
 local_kept w a frames after typed running goes made fits =
     record { step = run_goes w a a frames after running goes (ap (row_or_event w (state_of a frames) 0 frames) made); typed = main_keeps w a frames after typed fits }
 
@@ -95,7 +95,7 @@ throw_names w a o frames throws = record { top = λ g others e. absurd (none (sy
     none e = cc
 
 pub throw_kept : (w : World) (a b : Parts) (o : ℕ) (frames after : List Frame) → IsReady w → IsTypedState w (state_of a frames) → a.status ≡ Live (Throwing o) → ending (state_of a frames) ≡ None
-    → ThrowingSteps w o a frames b after → IsKept w (state_of a frames) (state_of b after)
+    → ThrowingSteps w o a frames b after → IsTypedStep w (state_of a frames) (state_of b after)
 throw_kept w a b o frames after ready typed throws goes made =
     kept w (state_of a frames) (state_of b after) ready typed (throw_names w a o frames throws) (λ p same.
     throwing_is_step p (state_of a frames) (state_of b after) 0 o (main_thread a.status frames) refl throws goes
@@ -103,7 +103,7 @@ throw_kept w a b o frames after ready typed throws goes made =
 
 -- ---- entries
 
-pub run_advances : (w : World) (a b : Parts) (n : ℕ) (frames mid after : List Frame) → a.status ≡ Live Run → IsLocalRun w n frames mid → IsKept w (state_of a mid) (state_of b after) → Advances w n (state_of a frames) (state_of b after)
+pub run_advances : (w : World) (a b : Parts) (n : ℕ) (frames mid after : List Frame) → a.status ≡ Live Run → IsLocalRun w n frames mid → IsTypedStep w (state_of a mid) (state_of b after) → Advances w n (state_of a frames) (state_of b after)
 run_advances w a b n frames mid after running run step = record {
   frames = mid;
   ahead = record { thread = main_thread a.status frames; at = refl; running = λ some. running; ahead = run.rows };
@@ -111,7 +111,7 @@ run_advances w a b n frames mid after running run step = record {
   kept = step;
 }
 
-pub throw_advances : (w : World) (a b : Parts) (o : ℕ) (frames after : List Frame) → a.status ≡ Live (Throwing o) → IsKept w (state_of a frames) (state_of b after) → Advances w 0 (state_of a frames) (state_of b after)
+pub throw_advances : (w : World) (a b : Parts) (o : ℕ) (frames after : List Frame) → a.status ≡ Live (Throwing o) → IsTypedStep w (state_of a frames) (state_of b after) → Advances w 0 (state_of a frames) (state_of b after)
 throw_advances w a b o frames after throws step = record {
   frames = frames;
   ahead = record { thread = main_thread a.status frames; at = refl; running = λ some. absurd (omega arith); ahead = refl };

@@ -24,10 +24,10 @@ use Rattle.startup.specs.Openings as openings
 use Rattle.frame_soundness.specs.TypedStates.{IsTypedState}
 use Rattle.invocation.specs.InvocationCache.{AreSelected, Kept}
 use Rattle.machine.specs.declared.parts.Parts.{Parts}
-use Rattle.machine.specs.Insides.{AreParts, IsKept}
+use Rattle.machine.specs.Insides.{AreParts, IsConsistent}
 use Rattle.machine.specs.Machines.{HasGrown, IsLegal, Known, ending_within, errors, output, run_ending, state_after}
 use Rattle.machine.specs.Ready.{IsReady}
-use Rattle.machine.specs.Runs.{IsMainEntry, IsRun, IsTold, main_entry}
+use Rattle.machine.specs.Runs.{IsMainEntry, IsRun, IsEndingOf, main_entry}
 use Rattle.machine.specs.States.{state_of}
 use Rattle.machine.specs.Steps.{Advances, IsMade}
 use Rattle.machine.proofs.RunLaws.{run_step}
@@ -63,14 +63,14 @@ own_parts a frames = record {
   exited = refl;
 }
 
-pub here : (p : Setting) (a : Parts) (frames : List Frame) (s : Kept) (h : List Entry) (u : Bool) → (x : IsKept p a frames s h u) → u ≡ false → state_of a frames ≡ x.legal.state
+pub here : (p : Setting) (a : Parts) (frames : List Frame) (s : Kept) (h : List Entry) (u : Bool) → (x : IsConsistent p a frames s h u) → u ≡ false → state_of a frames ≡ x.legal.state
 here p a frames s h u x works = is_state a frames x.legal.state (x.parts works)
 
 -- ---- the machine begins, makes an entry, or gives up
 
 pub begins : (p : Setting) (a : Parts) (frames : List Frame) (s : Kept) (h : List Entry) → IsReady p.world → opening p ≡ Some (state_of a frames) → IsTypedState p.world (state_of a frames) → AreSelected p.world s → h ≡ []
-    → IsKept p a frames s h false
-begins p a frames s h ready opens typed selected empty = subst (λ (es : List Entry). IsKept p a frames s es false) (sym empty) (record {
+    → IsConsistent p a frames s h false
+begins p a frames s h ready opens typed selected empty = subst (λ (es : List Entry). IsConsistent p a frames s es false) (sym empty) (record {
   ready = ready;
   legal = record {
     state = state_of a frames;
@@ -98,10 +98,10 @@ more_legal p h n r q x same goes one =
           (ap (λ (es : List Entry). are_grouped_from p es (first_outcome s)) (sym (java_same h x.entries)) ∙ x.grouped s opens) one.grouped;
     }
 
-pub kept_more : (p : Setting) (a b : Parts) (frames after : List Frame) (s t : Kept) (h g : List Entry) (u : Bool) → IsKept p a frames s h u → u ≡ false → ending (state_of a frames) ≡ None
-    → IsMade p.world (state_of a frames) h g (state_of b after) → AreSelected p.world t → IsKept p b after t g false
+pub kept_more : (p : Setting) (a b : Parts) (frames after : List Frame) (s t : Kept) (h g : List Entry) (u : Bool) → IsConsistent p a frames s h u → u ≡ false → ending (state_of a frames) ≡ None
+    → IsMade p.world (state_of a frames) h g (state_of b after) → AreSelected p.world t → IsConsistent p b after t g false
 unfolding more_legal
-kept_more p a b frames after s t h g u x works goes made selected = subst (λ (es : List Entry). IsKept p b after t es false) (sym made.entries) (record {
+kept_more p a b frames after s t h g u x works goes made selected = subst (λ (es : List Entry). IsConsistent p b after t es false) (sym made.entries) (record {
   ready = x.ready;
   legal = more_legal p h made.local (state_of a frames) (state_of b after) x.legal (here p a frames s h u x works) goes made.advances;
   typed = made.advances.kept.typed;
@@ -109,8 +109,8 @@ kept_more p a b frames after s t h g u x works goes made selected = subst (λ (e
   selected = selected;
 })
 
-pub gave_up : (p : Setting) (a b : Parts) (frames after : List Frame) (s t : Kept) (h g : List Entry) (u : Bool) → IsKept p a frames s h u → g ≡ h → AreSelected p.world t → IsKept p b after t g true
-gave_up p a b frames after s t h g u x same selected = subst (λ (es : List Entry). IsKept p b after t es true) (sym same) (record {
+pub gave_up : (p : Setting) (a b : Parts) (frames after : List Frame) (s t : Kept) (h g : List Entry) (u : Bool) → IsConsistent p a frames s h u → g ≡ h → AreSelected p.world t → IsConsistent p b after t g true
+gave_up p a b frames after s t h g u x same selected = subst (λ (es : List Entry). IsConsistent p b after t es true) (sym same) (record {
   ready = x.ready;
   legal = x.legal;
   typed = x.typed;
@@ -119,14 +119,14 @@ gave_up p a b frames after s t h g u x same selected = subst (λ (es : List Entr
 })
 
 -- after an entry that was made or given up
-pub kept_after : {E : Type 0} (p : Setting) (a b : Parts) (frames after : List Frame) (s t : Kept) (h g : List Entry) (u v : Bool) (made : Result (Unit {0}) E) → IsKept p a frames s h u → u ≡ false → ending (state_of a frames) ≡ None
-    → OnOk made (IsMade p.world (state_of a frames) h g (state_of b after)) → OnErr made (g ≡ h) → AreSelected p.world t → v ≡ is_err made → IsKept p b after t g v
+pub kept_after : {E : Type 0} (p : Setting) (a b : Parts) (frames after : List Frame) (s t : Kept) (h g : List Entry) (u v : Bool) (made : Result (Unit {0}) E) → IsConsistent p a frames s h u → u ≡ false → ending (state_of a frames) ≡ None
+    → OnOk made (IsMade p.world (state_of a frames) h g (state_of b after)) → OnErr made (g ≡ h) → AreSelected p.world t → v ≡ is_err made → IsConsistent p b after t g v
 kept_after p a b frames after s t h g u v (Ok x) kept works goes is same selected failed =
-    subst (λ (c : Bool). IsKept p b after t g c) (sym failed) (kept_more p a b frames after s t h g u kept works goes is selected)
+    subst (λ (c : Bool). IsConsistent p b after t g c) (sym failed) (kept_more p a b frames after s t h g u kept works goes is selected)
 kept_after p a b frames after s t h g u v (Err e) kept works goes is same selected failed =
-    subst (λ (c : Bool). IsKept p b after t g c) (sym failed) (gave_up p a b frames after s t h g u kept same selected)
+    subst (λ (c : Bool). IsConsistent p b after t g c) (sym failed) (gave_up p a b frames after s t h g u kept same selected)
 
-pub grown_after : {E : Type 0} (m : Known) (p : Setting) (a b : Parts) (frames after : List Frame) (s t : Kept) (h g : List Entry) (u v : Bool) (made : Result (Unit {0}) E) (j k : ℕ) → IsKept p a frames s h u → u ≡ false → ending (state_of a frames) ≡ None
+pub grown_after : {E : Type 0} (m : Known) (p : Setting) (a b : Parts) (frames after : List Frame) (s t : Kept) (h g : List Entry) (u v : Bool) (made : Result (Unit {0}) E) (j k : ℕ) → IsConsistent p a frames s h u → u ≡ false → ending (state_of a frames) ≡ None
     → OnOk made (IsMade p.world (state_of a frames) h g (state_of b after)) → AreSelected p.world t → v ≡ is_err made → p ≡ m.setting → h ≡ m.history → j ≡ m.spare → j ≤ k + 1
     → OnOk made (HasGrown m (record { setting = p; history = g; spare = k; given_up = v }))
 grown_after m p a b frames after s t h g u v (Ok x) j k kept works goes is selected failed setting history spare left = record {
@@ -141,20 +141,20 @@ grown_after m p a b frames after s t h g u v (Err e) j k kept works goes is sele
 
 -- ---- what the history gives
 
-pub after_is : (p : Setting) (a : Parts) (frames : List Frame) (s : Kept) (h : List Entry) (u : Bool) → IsKept p a frames s h u → u ≡ false → run p (java h) ≡ Some (state_of a frames)
+pub after_is : (p : Setting) (a : Parts) (frames : List Frame) (s : Kept) (h : List Entry) (u : Bool) → IsConsistent p a frames s h u → u ≡ false → run p (java h) ≡ Some (state_of a frames)
 after_is p a frames s h u x works = x.legal.runs ∙ ap (λ (q : State). Some q) (sym (here p a frames s h u x works))
 
-pub ending_is : (p : Setting) (a : Parts) (frames : List Frame) (s : Kept) (h : List Entry) (u : Bool) (n : ℕ) → IsKept p a frames s h u → u ≡ false
+pub ending_is : (p : Setting) (a : Parts) (frames : List Frame) (s : Kept) (h : List Entry) (u : Bool) (n : ℕ) → IsConsistent p a frames s h u → u ≡ false
     → ending_within p.limits (length h) (ending (state_of a frames)) ≡ run_ending (record { setting = p; history = h; spare = n; given_up = u })
 ending_is p a frames s h u n x works =
     sym (bind_is (run p (java h)) (λ q. ending_within p.limits (length h) (ending q)) (state_of a frames) (ending_within p.limits (length h) (ending (state_of a frames)))
     (after_is p a frames s h u x works) refl)
 
-pub output_is : (p : Setting) (a : Parts) (frames : List Frame) (s : Kept) (h : List Entry) (u : Bool) (n : ℕ) → IsKept p a frames s h u → u ≡ false
+pub output_is : (p : Setting) (a : Parts) (frames : List Frame) (s : Kept) (h : List Entry) (u : Bool) (n : ℕ) → IsConsistent p a frames s h u → u ≡ false
     → a.natives.out.items ≡ output (record { setting = p; history = h; spare = n; given_up = u })
 output_is p a frames s h u n x works = sym (ap (λ o. option_map_or (λ (q : State). q.out) o []) (after_is p a frames s h u x works))
 
-pub errors_is : (p : Setting) (a : Parts) (frames : List Frame) (s : Kept) (h : List Entry) (u : Bool) (n : ℕ) → IsKept p a frames s h u → u ≡ false
+pub errors_is : (p : Setting) (a : Parts) (frames : List Frame) (s : Kept) (h : List Entry) (u : Bool) (n : ℕ) → IsConsistent p a frames s h u → u ≡ false
     → a.natives.err.items ≡ errors (record { setting = p; history = h; spare = n; given_up = u })
 errors_is p a frames s h u n x works = sym (ap (λ o. option_map_or (λ (q : State). q.err) o []) (after_is p a frames s h u x works))
 
@@ -164,7 +164,7 @@ none_within : (limits : Limits) (n : ℕ) (o : Option Ending) → ending_within 
 none_within limits n None none = refl
 none_within limits n (Some e) none = absurd cc
 
-pub goes_on : (p : Setting) (a : Parts) (frames : List Frame) (s : Kept) (h : List Entry) (u : Bool) (n : ℕ) → IsKept p a frames s h u → u ≡ false
+pub goes_on : (p : Setting) (a : Parts) (frames : List Frame) (s : Kept) (h : List Entry) (u : Bool) (n : ℕ) → IsConsistent p a frames s h u → u ≡ false
     → run_ending (record { setting = p; history = h; spare = n; given_up = u }) ≡ None → ending (state_of a frames) ≡ None
 goes_on p a frames s h u n x works none =
     none_within p.limits (length h) (ending (state_of a frames)) (ending_is p a frames s h u n x works ∙ none)
@@ -197,11 +197,11 @@ nearer m n x none grown =
     let events : n.setting.limits.events ≡ m.setting.limits.events = ap (λ (p : Setting). p.limits.events) grown.setting in
     omega arith
 
-told_is : (p : Setting) (n : ℕ) (o : Option Ending) (told : Ending) → ending_within p.limits n o ≡ Some told → IsTold p n o told
+told_is : (p : Setting) (n : ℕ) (o : Option Ending) (told : Ending) → ending_within p.limits n o ≡ Some told → IsEndingOf p n o told
 told_is p n (Some e) told is = let same : told ≡ e = cc in same
 told_is p n None told is = by (nat_lt p.limits.events (n + 3)) refl is
   where
-    by : (b : Bool) → nat_lt p.limits.events (n + 3) ≡ b → (if b then Some (Limit Events p.limits.events) else None) ≡ Some told → IsTold p n None told
+    by : (b : Bool) → nat_lt p.limits.events (n + 3) ≡ b → (if b then Some (Limit Events p.limits.events) else None) ≡ Some told → IsEndingOf p n None told
     by true less is = let same : told ≡ Limit Events p.limits.events = cc in (same, ltb-true p.limits.events (n + 3) less)
     by false less is = absurd cc
 
@@ -210,14 +210,14 @@ setting_is p w main limits a b c =
     ap (λ (v : World). openings.setting v main limits) (sym a) ∙ ap (λ (n : ℕ). openings.setting p.world n limits) (sym b) ∙ ap (λ (l : Limits). openings.setting p.world p.main l) (sym c)
 
 -- what it leaves where it has ended
-pub is_run : (p : Setting) (a : Parts) (frames : List Frame) (s : Kept) (h : List Entry) (u : Bool) (n : ℕ) (told : Ending) → IsKept p a frames s h u → u ≡ false
+pub is_run : (p : Setting) (a : Parts) (frames : List Frame) (s : Kept) (h : List Entry) (u : Bool) (n : ℕ) (told : Ending) → IsConsistent p a frames s h u → u ≡ false
     → run_ending (record { setting = p; history = h; spare = n; given_up = u }) ≡ Some told → IsRun p h a.natives.out.items a.natives.err.items told
 is_run p a frames s h u n told x works ended =
     let q = x.legal.state in
     let runs : run p h ≡ Some q = ap (run p) (sym (java_same h x.legal.entries)) ∙ x.legal.runs in
     let within : ending_within p.limits (length h) (ending q) ≡ Some told =
     ap (λ (r : State). ending_within p.limits (length h) (ending r)) (sym (here p a frames s h u x works)) ∙ ending_is p a frames s h u n x works ∙ ended in
-    let is : IsTold p (length h) (ending q) told = told_is p (length h) (ending q) told within in
+    let is : IsEndingOf p (length h) (ending q) told = told_is p (length h) (ending q) told within in
     record {
       state = q;
       runs = x.legal.runs;

@@ -26,7 +26,7 @@ pub record AreParts (a : Parts) (frames : List Frame) (q : State) : Type 0 where
   pub exited : a.natives.exited ≡ q.exited
 
 -- The history is one of the reference machine, and the parts and frames are those of the state that it gives, unless the machine gave up.
-pub record IsKept (p : Setting) (a : Parts) (frames : List Frame) (cache : Kept) (history : List Entry) (given_up : Bool) : Type 0 where
+pub record IsConsistent (p : Setting) (a : Parts) (frames : List Frame) (cache : Kept) (history : List Entry) (given_up : Bool) : Type 0 where
   pub ready : IsReady p.world
   pub legal : IsLegal p history
   pub typed : IsTypedState p.world legal.state
@@ -47,4 +47,4 @@ known a = record {
 }
 
 abbrev pub IsSound : Inside → Type 0
-IsSound a = IsKept (setting_in a) a.parts a.mounted.stack.frames a.cache a.history.items a.given_up
+IsSound a = IsConsistent (setting_in a) a.parts a.mounted.stack.frames a.cache a.history.items a.given_up

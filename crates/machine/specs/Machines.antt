@@ -1,5 +1,5 @@
 -- A machine as callers see it, and what its history gives.
-use Rattle.std.specs.Prelude.{◌≡◌, ◌+◌, ◌≤◌, ℕ, Bool, false, List, [], ◌∷◌, ◌++◌, Option, Some, None, length, nat_lt, if◌then◌else◌}
+use Rattle.std.specs.Prelude.{◌≡◌, ◌+◌, ◌-◌, ◌≤◌, ℕ, Bool, false, List, [], ◌∷◌, ◌++◌, Option, Some, None, length, nat_lt, if◌then◌else◌}
 use Rattle.std.specs.List.{AllByRecursion}
 use Rattle.std.specs.Option.{option_map_or}
 use Rattle.items.specs.Options.{◌>>=◌}
@@ -42,6 +42,10 @@ ending_within limits entries None =
 
 abbrev pub run_ending : Known → Option Ending
 run_ending m = state_after m >>= λ q. ending_within m.setting.limits (length m.history) (ending q)
+
+-- the number of entries that the limit of events still allows
+abbrev pub entries_to_limit : Known → ℕ
+entries_to_limit m = m.setting.limits.events - length m.history
 
 -- what the program wrote to its two streams
 abbrev pub output : Known → List ℕ

@@ -34,9 +34,9 @@ abbrev pub entries_left : ℕ
 entries_left = 3
 
 -- The run ended as the program did; or the program hasn't ended, and fewer entries than one more step needs were left.
-abbrev pub IsTold : Setting → ℕ → Option Ending → Ending → Type 0
-IsTold p entries (Some e) told = told ≡ e
-IsTold p entries None told = (told ≡ Limit Events p.limits.events) × (p.limits.events < entries + entries_left)
+abbrev pub IsEndingOf : Setting → ℕ → Option Ending → Ending → Type 0
+IsEndingOf p entries (Some e) told = told ≡ e
+IsEndingOf p entries None told = (told ≡ Limit Events p.limits.events) × (p.limits.events < entries + entries_left)
 
 -- In each entry of the history all steps but the last are local instructions; the last is none, or it is an invokestatic, or the step after
 -- 10,000 local instructions.
@@ -53,7 +53,7 @@ IsComplete p last = (n : ℕ) (q : State) (e : Ending) → alone p n ≡ Some q 
 pub record IsRun (p : Setting) (history : List Entry) (out err : List ℕ) (told : Ending) : Type 0 where
   pub state : State
   pub runs : run p (java history) ≡ Some state
-  pub ended : IsTold p (length history) (ending state) told
+  pub ended : IsEndingOf p (length history) (ending state) told
   pub prints : state.out ≡ out
   pub tells : state.err ≡ err
   pub entries : AllByRecursion IsMainEntry history

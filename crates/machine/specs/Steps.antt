@@ -21,7 +21,7 @@ pub record IsAhead (w : World) (r : State) (t n : ℕ) (frames : List Frame) : T
   pub ahead : rows w n thread.frames ≡ Some frames
 
 -- a step
-pub record IsKept (w : World) (r q : State) : Type 0 where
+pub record IsTypedStep (w : World) (r q : State) : Type 0 where
   pub step : IsStep w r q
   pub typed : IsTypedState w q
 
@@ -30,7 +30,7 @@ pub record Advances (w : World) (n : ℕ) (r q : State) : Type 0 where
   pub frames : List Frame
   pub ahead : IsAhead w r 0 n frames
   pub grouped : is_grouped w r 0 (suc n) ≡ true
-  pub kept : IsKept w (with_frames r 0 frames) q
+  pub kept : IsTypedStep w (with_frames r 0 frames) q
 
 -- an entry was appended to the history, which led from one state to the other
 pub record IsMade (w : World) (r : State) (old new : List Entry) (q : State) : Type 0 where

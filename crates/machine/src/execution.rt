@@ -2,7 +2,7 @@ use history::Entry;
 use ref_model::Ending;
 
 /// What a run leaves: the one history that it kept, what the program wrote to its two streams, and how the run ended.
-#[derive(Debug, Drop)]
+#[derive(Drop)]
 pub struct Execution {
     pub history: Vec<Entry>,
     pub out: Vec<u8>,

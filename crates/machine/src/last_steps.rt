@@ -14,7 +14,7 @@ ghost use Rattle.interp_local.specs.Fetched.{IsTopAt};
 ghost use Rattle.machine.specs.Operands.{FindsNatives};
 ghost use Rattle.machine.specs.Ready.{IsReady};
 ghost use Rattle.machine.specs.States.{state_of};
-ghost use Rattle.machine.specs.Steps.{IsKept};
+ghost use Rattle.machine.specs.Steps.{IsTypedStep};
 
 use crate::calls::invocation_step;
 use crate::events::event_step;
@@ -84,7 +84,7 @@ pub(crate) fn fetched_step(
     requires going { ending (state_of parts.old mounted.old.stack.frames) ≡ None }
     requires next { IsTopAt program.now mounted.old.stack.frames fetched }
     requires selected { AreSelected program.now cache.old }
-    ensures kept { OnOk result (IsKept program.now (state_of parts.old mounted.old.stack.frames)
+    ensures kept { OnOk result (IsTypedStep program.now (state_of parts.old mounted.old.stack.frames)
         (state_of parts.new mounted.new.stack.frames)) }
     ensures cache { AreSelected program.now cache.new }
 {
@@ -111,7 +111,7 @@ pub(crate) fn unwinding_step(
     requires typed { IsTypedState program.now (state_of parts.old mounted.old.stack.frames) }
     requires throws { parts.old.status ≡ Live (Throwing o) }
     requires going { ending (state_of parts.old mounted.old.stack.frames) ≡ None }
-    ensures { OnOk result (IsKept program.now (state_of parts.old mounted.old.stack.frames)
+    ensures { OnOk result (IsTypedStep program.now (state_of parts.old mounted.old.stack.frames)
         (state_of parts.new mounted.new.stack.frames)) }
 {
     if mounted.depth() == 0 {

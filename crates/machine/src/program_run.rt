@@ -1,9 +1,9 @@
 //! Runs a program to its end.
 
-ghost use Rattle.std.specs.Prelude.{◌≡◌, Some, false, IfOk};
+ghost use Rattle.std.specs.Prelude.{◌≡◌, ◌<◌, Some, false, IfNone, IfOk, IfSome, OnOk};
 ghost use Rattle.ref_model.specs.Setting.{Setting};
 ghost use Rattle.step_soundness.specs.OpeningLaws.{IsMain};
-ghost use Rattle.machine.specs.Machines.{run_ending};
+ghost use Rattle.machine.specs.Machines.{entries_to_limit, run_ending};
 ghost use Rattle.machine.specs.Runs.{IsRun};
 
 use crate::execution::Execution;
@@ -16,6 +16,29 @@ use runtime_program::ReadyProgram;
 use std::alloc::Global;
 use verify_code::Checked;
 
+// Makes the next entry, unless the run has ended; returns how it has.
+#[inline(always)]
+fn make_next<G: Gate>(
+    alloc: Global,
+    machine: &mut Machine<'_>,
+    gate: &G,
+) -> Result<Option<Ending>, NoMemory>
+    requires { machine.old.given_up ≡ false }
+    ensures works { OnOk result (machine.new.given_up ≡ false) }
+    ensures setting { OnOk result (machine.new.setting ≡ machine.old.setting) }
+    ensures ended { IfOk result (λ found.
+        IfSome found (λ ending. run_ending machine.new ≡ Some ending)) }
+    ensures nearer { IfOk result (λ found. IfNone found
+        (entries_to_limit machine.new < entries_to_limit machine.old)) }
+{
+    if let Some(ending) = machine.ending() {
+        return Ok(Some(ending));
+    }
+    machine.is_legal();
+    machine.advance(alloc, gate)?;
+    Ok(None)
+}
+
 // Makes entries until the run has ended.
 fn run_on<G: Gate>(alloc: Global, machine: &mut Machine<'_>, gate: &G) -> Result<Ending, NoMemory>
     requires { machine.old.given_up ≡ false }
@@ -24,11 +47,9 @@ fn run_on<G: Gate>(alloc: Global, machine: &mut Machine<'_>, gate: &G) -> Result
     ensures setting { IfOk result (λ ending. machine.new.setting ≡ machine.old.setting) }
 {
     loop {
-        if let Some(ending) = machine.ending() {
+        if let Some(ending) = make_next(alloc, machine, gate)? {
             return Ok(ending);
         }
-        machine.is_legal();
-        machine.advance(alloc, gate)?;
     }
 }
 

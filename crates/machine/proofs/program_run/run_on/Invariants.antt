@@ -1,4 +1,5 @@
-use Rattle.std.proofs.Common.{◌≡◌, ◌-◌, false, length}
+use Rattle.std.proofs.Common.{◌≡◌, false}
+use Rattle.machine.specs.Machines.{entries_to_limit}
 use Rattle.machine.proofs.program_run.run_on.Given as goal
 
 abbrev pub invariant-loop-ending : goal.invariant-loop-ending
@@ -8,4 +9,4 @@ invariant-loop-ending g l = record {
 }
 
 abbrev pub decreases-loop-ending : goal.decreases-loop-ending
-decreases-loop-ending g l = l.machine.setting.limits.events - length l.machine.history
+decreases-loop-ending g l = entries_to_limit l.machine
