@@ -52,7 +52,7 @@ own_ending r e is = by_exit r.exited is
     by_exit (Some status) is = same (endings.Exited status) e tt is
 
 -- the answer tells the ending
-ending_told : (p : Setting) (entries : ℕ) (told : Ending) (o : Option Ending) → ((e : Ending) → o ≡ Some e → IsOwnEnding e) → machine_runs.IsTold p entries o told → IsRunAnswer p entries o (ending_answer told)
+ending_told : (p : Setting) (entries : ℕ) (told : Ending) (o : Option Ending) → ((e : Ending) → o ≡ Some e → IsOwnEnding e) → machine_runs.IsEndingOf p entries o told → IsRunAnswer p entries o (ending_answer told)
 ending_told p entries told None own is = subst (λ (e : Ending). IsRunAnswer p entries None (ending_answer e)) (sym is.0) (refl, refl, is.1)
 ending_told p entries told (Some e) own is = subst (λ (x : Ending). IsRunAnswer p entries (Some e) (ending_answer x)) (sym is) (by e (own e refl))
   where
