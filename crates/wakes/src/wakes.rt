@@ -1,3 +1,5 @@
+//! The permits and the interrupt status of threads, and the calls that change them.
+
 ghost use Rattle.std.specs.Prelude.{◌≡◌, ◌<◌, [], ◌∷◌, ◌++◌, length, false, true, Some, slice_get, slice_set, IfOk, OnOk, OnErr};
 
 use items::NoMemory;
@@ -5,7 +7,7 @@ use std::alloc::Global;
 use std::marker::Model;
 
 /// The permit and the interrupt status of each thread, by the thread's number. A new thread has neither.
-#[derive(Debug, Drop)]
+#[derive(Drop)]
 pub struct Wakes {
     permits: Vec<bool>,
     interrupts: Vec<bool>,
