@@ -1,3 +1,5 @@
+//! A wheel of sleepers, and the calls that change it.
+
 ghost use Rattle.std.specs.Prelude.{◌≡◌, ◌↔◌, ◌<◌, ◌≤◌, ◌+◌, ℕ, [], None, Some, IsSome, IsNone, IfSome, IfOk, OnOk, OnErr};
 ghost use Rattle.sleep_wheel.specs.Sleepers.{sleeper_at, unless_due, sleepers_of, Changes, IsEarliest, IsDueList};
 
@@ -11,7 +13,7 @@ use std::collections::BinaryHeap;
 use std::marker::Model;
 
 /// The threads that sleep until a deadline, each under a key.
-#[derive(Debug, Drop)]
+#[derive(Drop)]
 pub struct Wheel {
     alloc: Global,
     sleepers: Slab<Sleeper>,
