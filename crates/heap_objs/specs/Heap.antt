@@ -1,4 +1,4 @@
--- The heap: its objects by number, and the cells that they use of those that there are (own).
+-- The heap: its objects by number, and how many of its cells they use.
 use Rattle.std.specs.Prelude.{ℕ, zero, suc, ◌+◌, ◌/◌, List, [], ◌∷◌, ◌++◌, length, Option, Some, None, slice_get, slice_set}
 use Rattle.instruction_rows.specs.declared.value.Value.{Value}
 use Rattle.state_model.specs.Objects.{Object, instance, text}

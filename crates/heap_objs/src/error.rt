@@ -1,3 +1,5 @@
+//! Why an object is not made.
+
 ghost use Rattle.std.specs.Prelude.{◌≡◌};
 ghost use Rattle.heap_objs.specs.declared.error.HeapError.TheVariants as errors;
 

@@ -1,3 +1,5 @@
+//! A heap of objects, and the calls that change it (JVMS 2.5.3).
+
 ghost use Rattle.std.specs.Prelude.{◌≡◌, ◌↔◌, ◌+◌, ◌-◌, ◌/◌, ◌^◌, ◌<◌, ◌≤◌, [], length, replicate, is_some, slice_get, Some, Err, IfOk, IsSome, OnErr, OnOk};
 ghost use Rattle.state_model.specs.Objects.{instance, text};
 ghost use Rattle.heap_objs.specs.Heap.{cells_of, class_at, made, units_at, values_at, with_cells, with_object, with_value};
@@ -33,7 +35,7 @@ impl Model for Heap {
 }
 
 impl Heap {
-    /// No object, and so many cells. This takes no memory.
+    /// Makes a heap with this many cells and no object. This takes no memory.
     pub fn new(alloc: Global, cells: u32) -> Self
         ensures { result ≡ record { objects = []; cells = cells; used = 0 } }
     {

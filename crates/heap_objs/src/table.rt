@@ -1,3 +1,5 @@
+//! The table of the objects of a heap: where each lies, and the number of the next.
+
 ghost use Rattle.std.specs.Prelude.{◌≡◌, ◌<◌, vec_len, IfOk, OnOk};
 ghost use Rattle.std.specs.Vec.{vec_capacity};
 
