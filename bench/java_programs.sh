@@ -56,7 +56,9 @@ without_traces() {
 own_rules() {
     mkdir "$data/own"
     python3 "$top/bench/own/classes.py" "$top/crates/jvt/data/A.class" "$data/own"
-    javac --release 8 -Xlint:-options -g -d "$data/own" "$top/bench/own/Limits.java"
+    javac --release 8 -Xlint:-options -g -d "$data/own" "$top/bench/own/"*.java
+    # No method in Java may be called `<clinit>`.
+    sed -i 's/\$clinit\$/<clinit>/' "$data/own/OtherInitializers.class" "$data/own/SynchronizedInitializer.class"
     sed -n -e '/^== status /d' -e 's/^== //p' "$top/bench/own/stdout" >>"$data/programs.txt"
     cat "$top/bench/own/stdout" >>"$work/stdout"
 }

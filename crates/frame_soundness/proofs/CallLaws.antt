@@ -27,6 +27,7 @@ use Rattle.link_model.specs.declared.members.MethodInfo.{MethodInfo}
 use Rattle.link_model.specs.declared.members.MethodCode.{MethodCode}
 use Rattle.link_model.specs.declared.sites.Site.{Site}
 use Rattle.link_model.specs.declared.sites.Site.TheVariants as sites
+use Rattle.link_model.specs.Initializers.{is_of_initializer}
 use Rattle.link_model.specs.World.{World}
 use Rattle.link_model.specs.Decoded.{code_at}
 use Rattle.verify_types.specs.ClassTypes.{type_of_kind}
@@ -125,11 +126,23 @@ both_false true b e = absurd cc
 both_false false true e = absurd cc
 both_false false false e = refl
 
+neither_both : (a b c : Bool) → b ≡ false → (a && b && c) ≡ false
+neither_both true b c e = ap (λ x. x && c) e
+neither_both false b c e = refl
+
 no_initializer : (w : World) (m : Named) → slice_get w.methods m.number ≡ Some m.method
     → not (has_initializer_name m.method.name) ≡ true → initializes w m.number ≡ false
 no_initializer w m at ordinary =
     ap (λ o. option_map_or is_initializer o false) at
-    ∙ both_false (same_text m.method.name (codes "<init>")) (same_text m.method.name (codes "<clinit>")) ordinary
+    ∙ neither_both (has_flag ACC_STATIC m.method.flags) (same_text m.method.name (codes "<clinit>")) (is_of_initializer m.method.signature)
+    (both_false (same_text m.method.name (codes "<init>")) (same_text m.method.name (codes "<clinit>")) ordinary)
+
+-- a class initializer is static
+pub object_is_no_initializer : (w : World) (m : Named) → slice_get w.methods m.number ≡ Some m.method
+    → has_flag ACC_STATIC m.method.flags ≡ false → initializes w m.number ≡ false
+object_is_no_initializer w m at flag =
+    ap (λ o. option_map_or is_initializer o false) at
+    ∙ ap (λ b. b && same_text m.method.name (codes "<clinit>") && is_of_initializer m.method.signature) flag
 
 -- a static method has no receiver
 pub static_locals : (w : World) (info : MethodInfo) → has_flag ACC_STATIC info.flags ≡ true

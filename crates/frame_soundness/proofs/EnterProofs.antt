@@ -39,7 +39,7 @@ use Rattle.frame_soundness.specs.CallLaws.{CallerWaits, takes_receiver}
 use Rattle.frame_soundness.specs.NativeKinds.{FitsNative}
 use Rattle.frame_soundness.specs.EnterLaws.{IsOfClass, IsChosen, IsCallResult}
 use Rattle.frame_soundness.proofs.FetchLaws.{parts, fine}
-use Rattle.frame_soundness.proofs.CallLaws.{Called, called_types, static_begins}
+use Rattle.frame_soundness.proofs.CallLaws.{Called, called_types, object_is_no_initializer, static_begins}
 use Rattle.frame_soundness.proofs.CallerLaws.{Took, invocation_took, callers_wait}
 use Rattle.frame_soundness.proofs.InstanceCalls.{begins}
 use Rattle.frame_soundness.proofs.NativeEnters.{result_of, IsTaken, taken_by, native_goes}
@@ -66,7 +66,7 @@ code_begins w f below next m chosen code effect typed t h c there code_is e =
     let waits : Waits w (back_of w chosen.number) (caller f n) =
     h.waits chosen there (ap (λ (s : Signature). s.result) c.signature) left in
     let under : IsUnder w chosen.number (caller f n) (initializes w chosen.number) =
-    subst (IsUnder w chosen.number (caller f n)) (sym c.method.ordinary) waits in
+    subst (IsUnder w chosen.number (caller f n)) (sym (object_is_no_initializer w chosen there c.method.flag)) waits in
     result_of w f below next (invokes g.0 (drop n f.stack)) effect g.2
     (b.stands, subst (λ (k : ℕ). AreUnder w k (caller f n ∷ below)) (sym b.method) (under, t.1))
 

@@ -15,7 +15,7 @@ use Rattle.ref_model.specs.State.{State}
 use Rattle.ref_model.specs.Fetch.{Named, named_method}
 use Rattle.ref_model.specs.Effects.{Effect, done, invokes, throws, throws_object}
 use Rattle.ref_model.specs.Calls.{entered}
-use Rattle.frame_soundness.specs.Typed.{Typed, initializes}
+use Rattle.frame_soundness.specs.Typed.{Typed}
 use Rattle.frame_soundness.specs.TypedStates.{IsTypedState}
 use Rattle.frame_soundness.specs.CallLaws.{takes_receiver}
 use Rattle.frame_soundness.specs.NativeKinds.{FitsNative}
@@ -23,10 +23,9 @@ use Rattle.frame_soundness.specs.StepKinds.{GoesOnBehind}
 
 -- ---- what linking gives of a method (JVMS 4.6, 6.5)
 
--- a method of objects, that is no class initializer; a native one fits its descriptor
+-- a method of objects; a native one fits its descriptor
 pub record IsOfObjects (w : World) (m : Named) : Type 0 where
   pub flag : has_flag ACC_STATIC m.method.flags ≡ false
-  pub ordinary : initializes w m.number ≡ false
   pub natives : (n : Native) → native_at w m.number ≡ Some n → FitsNative m.method.signature (kinds.Reference ∷ []) n
 
 -- a method of a class

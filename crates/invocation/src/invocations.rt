@@ -6,7 +6,6 @@ ghost use Rattle.opcodes.specs.declared.op.ValueKind.TheVariants as kinds;
 ghost use Rattle.instruction_rows.specs.Table.{row};
 ghost use Rattle.link_model.specs.Decoded.{code_at};
 ghost use Rattle.ref_model.specs.Fetch as fetch;
-ghost use Rattle.ref_model.specs.Members as members;
 ghost use Rattle.ref_model.specs.Members.{native_at};
 ghost use Rattle.ref_model.specs.Operands.{FindsOperands, HasOperand};
 ghost use Rattle.invocation.specs.Natives.{IfNative, IsNative, IsNativeInvoked, IsSpecialNative, IsVirtualNative, ReceivesNative, SelectsNative};
@@ -19,12 +18,11 @@ use crate::invocation_cache::{InvocationCache, NamedMethod, Selection};
 use crate::receivers::{Receiver, receiver_of};
 use crate::target::{Callee, Target};
 use crate::world::CallWorld;
-use class_model::ACC_SYNCHRONIZED;
 use continuation::Mounted;
 use heap_instructions::late_failure;
 use heap_objs::Heap;
 use items::NoMemory;
-use link_model::{MethodCode, MethodInfo, Resolution, Site};
+use link_model::{MethodCode, MethodInfo, Resolution, Site, is_synchronized};
 use link_rules::Choice;
 use opcodes::Op;
 use ref_model::Exception;
@@ -39,13 +37,6 @@ fn method_of(resolution: &Resolution) -> Option<u32>
         Site::Method(n) => Some(n),
         _ => None,
     }
-}
-
-// A method that holds a monitor while it runs (JVMS 4.6).
-fn is_synchronized(method: &MethodInfo) -> bool
-    ensures { result ≡ members.is_synchronized method.now }
-{
-    method.flags & ACC_SYNCHRONIZED == ACC_SYNCHRONIZED
 }
 
 // The method with a number begins, and takes so many slots.

@@ -7,9 +7,8 @@ ghost use Rattle.std.specs.List.{list_any};
 ghost use Rattle.java_cli.specs.Supported as spec;
 
 use class_grammar::is_same;
-use class_model::ACC_SYNCHRONIZED;
-use link_model::{MethodInfo, Resolution, Resolutions, Site};
-use link_resolution::{has_flag, own_name};
+use link_model::{MethodInfo, Resolution, Resolutions, Site, is_synchronized};
+use link_resolution::own_name;
 use link_tables::Tables;
 use opcodes::{Instr, Op, Simple};
 
@@ -124,7 +123,7 @@ fn is_unsupported(world: &Tables, n: u32, method: &MethodInfo) -> bool
     ensures { result ≡ spec.is_unsupported world.now n method.now }
 {
     is_from_file(world, method)
-        && (has_flag(method.flags, ACC_SYNCHRONIZED)
+        && (is_synchronized(method)
             || code_has_monitor(world, n)
             || name_late(world, &world.resolutions(n)))
 }

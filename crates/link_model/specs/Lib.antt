@@ -14,3 +14,4 @@ pub mod InstanceFields
 pub mod Fields
 pub mod Subtypes
 pub mod Methods
+pub mod Initializers

@@ -2,11 +2,13 @@
 //! `specs/` says which world a program has.
 #![tactic(auto)]
 
+mod initializers;
 mod lookups;
 mod members;
 mod resolutions;
 mod sites;
 
+pub use initializers::{is_initializer, is_synchronized};
 pub use lookups::Lookups;
 pub use members::{FieldInfo, MethodCode, MethodInfo};
 pub use resolutions::Resolutions;

@@ -51,6 +51,7 @@ use Rattle.verify_types.proofs.ListLaws.{and_true, each_found, not_true}
 use Rattle.state_model.specs.Frames.{Frame}
 use Rattle.ref_model.specs.Fetch.{Named, class_of, fetched, field_of, instruction_in, method_of, named_method}
 use Rattle.frame_soundness.specs.EventLaws.{IsInstanceResolution, IsObjectResolution, IsStaticResolution}
+use Rattle.step_soundness.specs.MethodKinds.{IsKindOf}
 use Rattle.step_soundness.proofs.Selections.{position_found}
 use Rattle.link_soundness.specs.Settled.{IsSettled}
 use Rattle.link_soundness.proofs.Instances.{instance_named}
@@ -61,12 +62,6 @@ use Rattle.link_soundness.proofs.Places.{HasField, HasMethod, IsOfInstances, fie
 
 -- ---- what an instruction names, whatever the state is
 
--- an invokestatic names a static method, and the others one of objects (JVMS 6.5)
-abbrev pub IsCallOf : Invocation → MethodInfo → Type 0
-IsCallOf static m = has_flag ACC_STATIC m.flags ≡ true
-IsCallOf dynamic m = Unit {0}
-IsCallOf invocation m = has_flag ACC_STATIC m.flags ≡ false
-
 -- getstatic and putstatic name a static field, getfield and putfield one of the objects that are instances of its class, new no array class,
 -- and an invocation a method of its kind (JVMS 6.5)
 abbrev pub IsNamed : World → Resolution → Row → Type 0
@@ -75,7 +70,7 @@ IsNamed w resolution (event (put_static index)) = IsStaticResolution w resolutio
 IsNamed w resolution (event (get_field index)) = (class : ℕ) → IsInstanceResolution w resolution class
 IsNamed w resolution (event (put_field index)) = (class : ℕ) → IsInstanceResolution w resolution class
 IsNamed w resolution (event (new index)) = IsObjectResolution w resolution
-IsNamed w resolution (invoke invocation index) = (m : Named) → named_method w resolution ≡ Some m → IsCallOf invocation m.method
+IsNamed w resolution (invoke invocation index) = (m : Named) → named_method w resolution ≡ Some m → IsKindOf invocation m.method
 IsNamed w resolution row = Unit {0}
 
 -- ---- fields

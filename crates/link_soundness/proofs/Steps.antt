@@ -1,14 +1,9 @@
 -- What an instruction names is what a step asks for.
-use Rattle.std.proofs.Common.{◌≡◌, ℕ, true, false, List, Option, Some, None, refl, ap, sym, subst, ◌∙◌}
-use Rattle.std.specs.Prelude.{slice_get, not, ◌&&◌}
-use Rattle.items.specs.Options.{◌>>=◌}
-use Rattle.items.proofs.Binds.{some_is}
-use Rattle.class_model.specs.declared.access_flags.TheConstants.{ACC_STATIC}
-use Rattle.link_rules.specs.Program.{Program, has_flag}
+use Rattle.std.proofs.Common.{◌≡◌, List, refl}
+use Rattle.link_rules.specs.Program.{Program}
 use Rattle.link_rules.specs.Faults.{Links}
 use Rattle.instruction_rows.specs.declared.value.Slot.{Slot}
 use Rattle.instruction_rows.specs.Rows.{Event, Invocation, Row, local, constant, wide_constant, returns, invoke, event, refused, virtual, special, static, interface, dynamic, get_static, put_static, get_field, put_field, new, new_array, new_array_of, new_arrays, array_length, array_load, array_store, check_cast, instance_of, throw, monitor_enter, monitor_exit}
-use Rattle.link_model.specs.declared.members.MethodInfo.{MethodInfo}
 use Rattle.link_model.specs.declared.sites.Resolution.{Resolution}
 use Rattle.link_model.specs.Infos.{methods_of}
 use Rattle.link_model.specs.World.{World}
@@ -16,39 +11,15 @@ use Rattle.link_model.specs.Worlds.{world_of}
 use Rattle.verify_types.specs.Environment.{Instruction}
 use Rattle.verify_types.specs.Effects.{row_of}
 use Rattle.state_model.specs.Frames.{Frame}
-use Rattle.ref_model.specs.Fetch.{Named, fetched, method_of, named_method}
-use Rattle.ref_model.specs.Members.{is_initializer}
+use Rattle.ref_model.specs.Fetch.{fetched}
 use Rattle.ref_model.specs.State.{State}
 use Rattle.frame_soundness.specs.StepKinds.{IsEventResolution}
-use Rattle.step_soundness.specs.MethodKinds.{HasFitNatives, IsKindOf}
+use Rattle.step_soundness.specs.MethodKinds.{HasFitNatives}
 use Rattle.step_soundness.specs.Resolutions.{IsFrameResolution, IsRowResolution}
 use Rattle.step_soundness.proofs.Signatures.{invocations_fit}
-use Rattle.link_soundness.specs.Settled.{IsSettled, is_misnamed}
+use Rattle.link_soundness.specs.Settled.{IsSettled}
 use Rattle.link_soundness.specs.Names.{AreNamed}
-use Rattle.link_soundness.proofs.Named.{IsCallOf, IsNamed, instruction_named}
-
--- ---- invocations
-
-same_named : (a b : Named) → ◌≡◌ {A = Option Named} (Some a) (Some b) → a ≡ b
-same_named a b e = cc
-
-named_at : (w : World) (resolution : Resolution) (m : Named) → named_method w resolution ≡ Some m → slice_get w.methods m.number ≡ Some m.method
-named_at w resolution m e =
-    let n = some_is (method_of resolution.site) (λ n. slice_get w.methods n >>= λ x. Some (let it : Named = record { number = n; method = x } in it)) m e in
-    let x = some_is (slice_get w.methods n.0) (λ x. Some (let it : Named = record { number = n.0; method = x } in it)) m n.2 in
-    let At : Named → Type 0 = λ y. slice_get w.methods y.number ≡ Some y.method in
-    subst At (same_named (record { number = n.0; method = x.0 }) m x.2) x.1
-
-ordinary : (m : MethodInfo) → is_misnamed m ≡ false → has_flag ACC_STATIC m.flags ≡ false → is_initializer m ≡ false
-ordinary m e flag = sym (ap (λ b. not b && is_initializer m) flag) ∙ e
-
-kind_of_call : (w : World) (invocation : Invocation) (m : Named) → IsSettled w → slice_get w.methods m.number ≡ Some m.method → IsCallOf invocation m.method
-    → IsKindOf invocation m.method
-kind_of_call w static m settled at call = call
-kind_of_call w dynamic m settled at call = tt
-kind_of_call w virtual m settled at call = (call, ordinary m.method (settled.ordinary m.number m.method at) call)
-kind_of_call w special m settled at call = (call, ordinary m.method (settled.ordinary m.number m.method at) call)
-kind_of_call w (interface count) m settled at call = (call, ordinary m.method (settled.ordinary m.number m.method at) call)
+use Rattle.link_soundness.proofs.Named.{IsNamed, instruction_named}
 
 -- ---- events
 
@@ -72,18 +43,17 @@ event_named w resolution monitor_exit r stack named = tt
 
 -- ---- all
 
-row_named : (w : World) (resolution : Resolution) (row : Row) (r : State) (stack : List Slot) → w.methods ≡ methods_of w.program → HasFitNatives w → IsSettled w
+row_named : (w : World) (resolution : Resolution) (row : Row) (r : State) (stack : List Slot) → w.methods ≡ methods_of w.program → HasFitNatives w
     → IsNamed w resolution row → IsRowResolution w resolution row r stack
-row_named w resolution (local l) r stack methods natives settled named = tt
-row_named w resolution (constant index) r stack methods natives settled named = tt
-row_named w resolution (wide_constant index) r stack methods natives settled named = tt
-row_named w resolution (returns kind) r stack methods natives settled named = tt
-row_named w resolution (invoke invocation index) r stack methods natives settled named =
-    invocations_fit w resolution invocation index r stack methods natives
-    (λ m e. kind_of_call w invocation m settled (named_at w resolution m e) (named m e))
-row_named w resolution (event e) r stack methods natives settled named = event_named w resolution e r stack named
-row_named w resolution refused r stack methods natives settled named = tt
+row_named w resolution (local l) r stack methods natives named = tt
+row_named w resolution (constant index) r stack methods natives named = tt
+row_named w resolution (wide_constant index) r stack methods natives named = tt
+row_named w resolution (returns kind) r stack methods natives named = tt
+row_named w resolution (invoke invocation index) r stack methods natives named =
+    invocations_fit w resolution invocation index r stack methods natives named
+row_named w resolution (event e) r stack methods natives named = event_named w resolution e r stack named
+row_named w resolution refused r stack methods natives named = tt
 
 pub linked_code_is_named : (p : Program) → Links p → IsSettled (world_of p) → HasFitNatives (world_of p) → AreNamed (world_of p)
 linked_code_is_named p links settled natives = λ r f i e.
-    row_named (world_of p) i.resolution (row_of i) r f.stack refl natives settled (instruction_named p f i links settled e)
+    row_named (world_of p) i.resolution (row_of i) r f.stack refl natives (instruction_named p f i links settled e)

@@ -3,17 +3,12 @@ use Rattle.std.proofs.Common.{◌≡◌, ℕ, zero, suc, ◌-◌, ◌<◌, false
 use Rattle.std.specs.Prelude.{slice_get}
 use Rattle.std.specs.Option.{option_map_or}
 use Rattle.link_model.specs.declared.members.FieldInfo.{FieldInfo}
-use Rattle.link_model.specs.declared.members.MethodInfo.{MethodInfo}
 use Rattle.link_model.specs.World.{World}
-use Rattle.link_soundness.specs.Settled.{ends, is_instance_field_of, is_misnamed}
+use Rattle.link_soundness.specs.Settled.{ends, is_instance_field_of}
 
 -- of the fields before a number
 abbrev pub BareBefore : World → ℕ → ℕ → Type 0
 BareBefore w class n = (k : ℕ) (f : FieldInfo) → k < n → slice_get w.fields k ≡ Some f → is_instance_field_of class f ≡ false
-
--- of the methods before a number
-abbrev pub OrdinaryBefore : World → ℕ → Type 0
-OrdinaryBefore w n = (k : ℕ) (m : MethodInfo) → k < n → slice_get w.methods k ≡ Some m → is_misnamed m ≡ false
 
 -- one step up
 pub ends_step : (parent : ℕ → Option ℕ) (n c : ℕ) → 0 < n → ends parent n c ≡ option_map_or (ends parent (n - 1)) (parent c) true

@@ -1,15 +1,12 @@
 -- What is asked of a linked world once, when its program begins (own): no law says yet that linking gives it.
 use Rattle.std.specs.Prelude.{◌≡◌, ℕ, zero, suc, ◌<◌, Bool, true, false, not, Option, Some, None, codes, length, slice_get, ◌==◌, ◌&&◌}
 use Rattle.std.specs.Option.{option_map_or}
-use Rattle.class_model.specs.declared.access_flags.TheConstants.{ACC_STATIC}
 use Rattle.class_grammar.specs.Names.{object_class}
-use Rattle.link_rules.specs.Program.{has_flag, is_interface}
+use Rattle.link_rules.specs.Program.{is_interface}
 use Rattle.link_rules.specs.Hierarchy.{parent_of}
 use Rattle.link_model.specs.declared.members.FieldInfo.{FieldInfo}
-use Rattle.link_model.specs.declared.members.MethodInfo.{MethodInfo}
 use Rattle.link_model.specs.Fields.{is_static_field}
 use Rattle.link_model.specs.World.{World, class_count, name_number}
-use Rattle.ref_model.specs.Members.{is_initializer}
 
 -- whether going up from a class a class without a superclass is met, among so many
 abbrev pub ends : (ℕ → Option ℕ) → ℕ → ℕ → Bool
@@ -34,17 +31,9 @@ IsTop w = (c : ℕ) → name_number w object_class ≡ Some c → (parent_of w.p
 abbrev pub IsInterface : World → Option ℕ → Type 0
 IsInterface w class = (c : ℕ) → class ≡ Some c → is_interface w.program c ≡ true
 
-abbrev pub is_misnamed : MethodInfo → Bool
-is_misnamed m = not (has_flag ACC_STATIC m.flags) && is_initializer m
-
--- no method of objects has the name of class initializers
-abbrev pub AreOrdinary : World → Type 0
-AreOrdinary w = (n : ℕ) (m : MethodInfo) → slice_get w.methods n ≡ Some m → is_misnamed m ≡ false
-
 pub record IsSettled (w : World) : Type 0 where
   pub ends : HaveEnds w
   pub top : IsTop w
   -- what else is above arrays are interfaces (JLS 10.8)
   pub cloneable : IsInterface w (name_number w (codes "java/lang/Cloneable"))
   pub serializable : IsInterface w (name_number w (codes "java/io/Serializable"))
-  pub ordinary : AreOrdinary w

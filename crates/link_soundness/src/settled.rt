@@ -1,15 +1,14 @@
 //! What is asked of a linked world once, when its program begins (own).
 
-ghost use Rattle.std.specs.Prelude.{◌≡◌, ℕ, ◌<◌, true, codes};
+ghost use Rattle.std.specs.Prelude.{◌≡◌, ℕ, ◌<◌, true};
 ghost use Rattle.link_rules.specs.Hierarchy.{parent_of};
 ghost use Rattle.link_rules.specs.Program.{is_interface};
 ghost use Rattle.link_model.specs.World.{class_count};
 ghost use Rattle.link_soundness.specs.Settled as spec;
-ghost use Rattle.link_soundness.specs.Settled.{AreBare, AreOrdinary, HaveEnds, IsInterface, IsSettled, IsTop};
+ghost use Rattle.link_soundness.specs.Settled.{AreBare, HaveEnds, IsInterface, IsSettled, IsTop};
 
-use class_grammar::is_same;
 use class_model::ACC_STATIC;
-use link_model::{FieldInfo, Lookups, MethodInfo};
+use link_model::{FieldInfo, Lookups};
 
 // Whether going up from a class a class without a superclass is met, among so many.
 fn ends<L: Lookups>(world: &L, class: u32, most: usize) -> bool
@@ -87,32 +86,8 @@ fn is_interface_at<L: Lookups>(world: &L, class: Option<u32>) -> bool
     }
 }
 
-// Whether it is a method of objects with the name of class initializers.
-fn is_misnamed(method: &MethodInfo) -> bool
-    ensures { result ≡ spec.is_misnamed method.now }
-{
-    method.flags & ACC_STATIC != ACC_STATIC && is_same(&method.name, b"<clinit>")
-}
-
-// Whether no method of objects has the name of class initializers.
-fn are_ordinary<L: Lookups>(world: &L) -> bool
-    ensures { result ≡ true → AreOrdinary (L.world world.now) }
-{
-    for n in 0..u32::MAX {
-        match world.method(n) {
-            None => return true,
-            Some(method) => {
-                if is_misnamed(method) {
-                    return false;
-                }
-            }
-        }
-    }
-    false
-}
-
-/// Whether a linked world is as the law on its instructions asks. It takes time in proportion to its fields, its methods, and the superclasses of
-/// all classes.
+/// Whether a linked world is as the law on its instructions asks. It takes time in proportion to its fields and the superclasses of all
+/// classes.
 pub fn is_settled<L: Lookups>(world: &L) -> bool
     ensures { result ≡ true → IsSettled (L.world world.now) }
 {
@@ -122,8 +97,5 @@ pub fn is_settled<L: Lookups>(world: &L) -> bool
     if !is_interface_at(world, world.cloneable()) {
         return false;
     }
-    if !is_interface_at(world, world.serializable()) {
-        return false;
-    }
-    are_ordinary(world)
+    is_interface_at(world, world.serializable())
 }

@@ -7,7 +7,7 @@ use Rattle.class_grammar.specs.Text.{same_text}
 use Rattle.items.specs.Options.{◌>>=◌}
 use Rattle.lib_table.specs.declared.native.Native.{Native}
 use Rattle.lib_table.specs.Natives.{native_of}
-use Rattle.link_rules.specs.Program.{has_flag, own_name, class_at}
+use Rattle.link_rules.specs.Program.{own_name, class_at}
 use Rattle.link_rules.specs.Selection.{key_in}
 use Rattle.instruction_rows.specs.declared.value.Value.{Value}
 use Rattle.instruction_rows.specs.declared.value.Value.TheVariants as values
@@ -15,6 +15,7 @@ use Rattle.link_model.specs.declared.members.FieldInfo.{FieldInfo}
 use Rattle.link_model.specs.declared.members.MethodInfo.{MethodInfo}
 use Rattle.link_model.specs.World.{World}
 pub use Rattle.link_model.specs.Fields.{is_static_field, own_fields, instance_fields, field_place, static_place}
+pub use Rattle.link_model.specs.Initializers.{is_initializer, is_synchronized}
 pub use Rattle.link_model.specs.Methods.{method_place}
 use Rattle.ref_model.specs.Kinds.{zero_of}
 
@@ -39,17 +40,6 @@ native_in index f = slice_get f.methods index >>= native_of_member f
 -- what the machine does in place of the method's code, where the method is native
 abbrev pub native_at : World → ℕ → Option Native
 native_at w n = method_place w n >>= λ at. class_at (native_in at.index) None w.program at.class
-
--- ACC_SYNCHRONIZED (JVMS 4.6)
-abbrev pub synchronized_flag : ℕ
-synchronized_flag = 0x0020
-
-abbrev pub is_synchronized : MethodInfo → Bool
-is_synchronized m = has_flag synchronized_flag m.flags
-
--- The class initializer of a class. Its frames are made by the machine alone (JVMS 2.9.2).
-abbrev pub is_initializer : MethodInfo → Bool
-is_initializer m = same_text m.name (codes "<clinit>")
 
 -- jvt.Native.hold, whose frame pins its thread (own)
 abbrev pub is_hold : World → MethodInfo → Bool

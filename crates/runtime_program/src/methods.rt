@@ -8,11 +8,11 @@ ghost use Rattle.ref_model.specs.Members as spec;
 ghost use Rattle.runtime_program.specs.Places.{initializer_of, native_of_place};
 
 use class_grammar::is_same;
-use class_model::{ACC_SYNCHRONIZED, ClassFile, Member};
+use class_model::{ClassFile, Member};
 use items::NoMemory;
 use lib_table::{Native, native_of};
-use link_model::MethodInfo;
-use link_resolution::{has_flag, key_in, own_name};
+use link_model::{MethodInfo, is_initializer};
+use link_resolution::{key_in, own_name};
 use link_rules::MemberPlace;
 use link_tables::Tables;
 use std::alloc::Global;
@@ -88,20 +88,6 @@ pub(crate) fn all_natives(alloc: Global, tables: &Tables) -> Result<Vec<Option<N
         natives.push(native_at(tables, n)?)?;
     }
     Ok(natives)
-}
-
-/// Whether a method is synchronized (JVMS 4.6).
-pub(crate) fn is_synchronized(method: &MethodInfo) -> bool
-    ensures { result ≡ spec.is_synchronized method.now }
-{
-    has_flag(method.flags, ACC_SYNCHRONIZED)
-}
-
-// Whether a method is a class initializer (JVMS 2.9.2).
-fn is_initializer(method: &MethodInfo) -> bool
-    ensures { result ≡ spec.is_initializer method.now }
-{
-    is_same(&method.name, b"<clinit>")
 }
 
 // Whether the method of a number is a class initializer. `false`: also where there is none.

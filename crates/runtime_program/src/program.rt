@@ -24,7 +24,7 @@ use crate::exception_classes::exception_in;
 use crate::field_values::values_at;
 use crate::handlers::handler_in;
 use crate::instructions::instruction;
-use crate::methods::{is_hold, is_synchronized};
+use crate::methods::is_hold;
 use crate::static_places::static_place_in;
 use crate::subtypes::is_sub;
 use crate::tables::{ReadyTables, flag_entry, native_entry, number_entry, place_entry, tables_of};
@@ -159,14 +159,6 @@ impl ReadyProgram {
         ensures { result ≡ members.native_at self.now n }
     {
         native_entry(&self.extra.natives, n)
-    }
-
-    /// Whether a method is synchronized (JVMS 4.6).
-    #[inline(always)]
-    pub fn is_synchronized(&self, method: &MethodInfo) -> bool
-        ensures { result ≡ members.is_synchronized method.now }
-    {
-        is_synchronized(method)
     }
 
     /// Whether a method is jvt.Native.hold, whose frame pins its thread. This compares the names of a class and of the method.

@@ -2,11 +2,9 @@
 
 ghost use Rattle.std.specs.Prelude.{◌≡◌, Bool, true, false, not, IfOk};
 ghost use Rattle.link_rules.specs.Program.{has_flag};
-ghost use Rattle.ref_model.specs.Members as members;
 ghost use Rattle.startup_checks.specs.Methods.{NativeFits, IsFit};
 
 use crate::natives::fits_native;
-use class_grammar::is_same;
 use class_model::ACC_STATIC;
 use items::NoMemory;
 use lib_table::Native;
@@ -27,13 +25,6 @@ pub fn is_static(method: &MethodInfo) -> bool
     has_static_flag(method.flags)
 }
 
-/// Whether it is a class initializer (JVMS 2.9.2).
-pub fn is_class_initializer(method: &MethodInfo) -> bool
-    ensures { result ≡ members.is_initializer method.now }
-{
-    is_same(&method.name, b"<clinit>")
-}
-
 /// Whether what the machine does in a method's place fits its descriptor.
 pub(crate) fn native_fits(
     alloc: Global,
@@ -49,8 +40,8 @@ pub(crate) fn native_fits(
     }
 }
 
-/// Whether a method fits what its callers know of it: a native one takes and gives back what its descriptor says, and one of objects is no
-/// class initializer. `native` is what the machine does in its place.
+/// Whether a method fits what its callers know of it: a native one takes and gives back what its descriptor says. `native` is what the
+/// machine does in its place.
 pub fn fits_method(
     alloc: Global,
     method: &MethodInfo,
@@ -62,6 +53,6 @@ pub fn fits_method(
     if is_static(method) {
         native_fits(alloc, method, false, native)
     } else {
-        Ok(native_fits(alloc, method, true, native)? && !is_class_initializer(method))
+        native_fits(alloc, method, true, native)
     }
 }

@@ -17,6 +17,7 @@ use Rattle.stack_maps.specs.declared.types.Base.{Base}
 use Rattle.link_model.specs.declared.members.MethodInfo.{MethodInfo}
 use Rattle.link_model.specs.declared.sites.ArrayType.{ArrayType}
 use Rattle.link_model.specs.Infos.{method_info, methods_of}
+use Rattle.link_model.specs.Initializers.{is_initializer, is_of_initializer}
 use Rattle.link_model.specs.MainMethod.{takes_strings, is_of_main, is_main, main_of}
 use Rattle.link_model.specs.Numbering.{base_at, arrays_of_base, numbering_of}
 use Rattle.link_model.specs.World.{World}
@@ -85,19 +86,26 @@ static_is p at f m file member e =
     sym (ap (λ o. option_map_or is_static (option_map_or (λ (g : ClassFile). slice_get g.methods at.index) o None) false) file
     ∙ ap (λ o. option_map_or is_static o false) member) ∙ e
 
+is_such : (m : MethodInfo) → has_flag ACC_STATIC m.flags ≡ true → same_text m.name (codes "<clinit>") ≡ true → is_of_initializer m.signature ≡ true
+    → is_initializer m ≡ true
+is_such m flag name takes =
+    ap (λ b. b && same_text m.name (codes "<clinit>") && is_of_initializer m.signature) flag ∙ ap (λ b. b && is_of_initializer m.signature) name ∙ takes
+
 initializer_is : (w : World) (class n : ℕ) → w.methods ≡ methods_of w.program → initializer_of w.program class ≡ Some n → IsClassInitializer w n
 initializer_is w class n methods e =
     let p = w.program in
     let at = some_is (declared_method p initializer_key class) (static_at p) n e in
     let key = declared_has p initializer_key class at.0 at.1 in
     let test = if_some (has_method is_static p at.0) (method_number p at.0) n at.2 in
+    let flag : is_static key.member ≡ true = static_is p at.0 key.file key.member key.file_is key.member_is test.0 in
     record {
       method = method_info (0 + at.0.class) key.file.pool key.member;
       at = ap (λ (ms : List MethodInfo). slice_get ms n) methods
           ∙ ap (slice_get (methods_of p)) (sym test.1)
           ∙ number_at 0 p.classes at.0.class at.0.index key.file key.member key.file_is key.member_is;
-      name = ap (λ s. same_text s (codes "<clinit>")) key.name;
-      flag = static_is p at.0 key.file key.member key.file_is key.member_is test.0;
+      is = is_such (method_info (0 + at.0.class) key.file.pool key.member) flag (ap (λ s. same_text s (codes "<clinit>")) key.name)
+          (ap (λ s. is_of_initializer (signature_of s)) key.descriptor);
+      flag = flag;
       takes = ap (λ s. (signature_of s).args) key.descriptor ∙ nothing_taken;
     }
 

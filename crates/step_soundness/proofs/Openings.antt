@@ -216,7 +216,7 @@ initializers_stand w (n ∷ ns) below frames typed each good e =
     subst (λ (args : List FieldType). AreOf (slot_types (map (type_of_kind w) args)) []) (sym m.takes) tt in
     let b = frame_begins w n m.method [] f.0 typed m.at m.flag of f.1 in
     let is : initializes w f.0.method ≡ true =
-    ap (initializes w) b.method ∙ ap (λ o. option_map_or is_initializer o false) m.at ∙ m.name in
+    ap (initializes w) b.method ∙ ap (λ o. option_map_or is_initializer o false) m.at ∙ m.is in
     subst (Typed w) (same_frames (f.0 ∷ more.0) frames more.2)
     (by f.0 b.stands is more.0 (initializers_stand w ns below more.0 typed each.1 good more.1))
   where

@@ -26,7 +26,7 @@ use Rattle.link_model.specs.Infos.{method_info, methods_of}
 use Rattle.link_model.specs.World.{World}
 use Rattle.link_model.specs.Methods.{selecting_class, method_place, choice_of}
 use Rattle.verify_types.proofs.ListLaws.{and_true}
-use Rattle.ref_model.specs.Members.{is_initializer, native_at}
+use Rattle.ref_model.specs.Members.{native_at}
 use Rattle.ref_model.specs.State.{State}
 use Rattle.ref_model.specs.Fetch.{Named, method_of, named_method}
 use Rattle.ref_model.specs.Calls.{method_numbered}
@@ -67,10 +67,9 @@ numbered_is w n info chosen at e =
     same_info (slice_get w.methods n) info x.0 at x.1
     ∙ ap (λ (y : Named). y.method) (same_named (record { number = n; method = x.0 }) chosen x.2)
 
--- the method that runs has the signature and the name of the one that is named, and is one of objects as that is
+-- the method that runs has the signature of the one that is named, and is one of objects as that is
 pub record Runs (m chosen : Named) : Type 0 where
   pub signature : chosen.method.signature ≡ m.method.signature
-  pub name : chosen.method.name ≡ m.method.name
   pub of_objects : has_flag ACC_STATIC m.method.flags ≡ false → has_flag ACC_STATIC chosen.method.flags ≡ false
 
 -- a member that isn't static
@@ -142,7 +141,6 @@ chosen_runs w class n m chosen (Method found_at) methods at found is numbered =
     record {
       signature = ap (λ (i : MethodInfo). i.signature) (sym other) ∙ ap signature_of key.descriptor
           ∙ ap (λ (i : MethodInfo). i.signature) info.is;
-      name = ap (λ (i : MethodInfo). i.name) (sym other) ∙ key.name ∙ ap (λ (i : MethodInfo). i.name) info.is;
       of_objects = λ flag. ap (λ (i : MethodInfo). has_flag ACC_STATIC i.flags) (sym other)
           ∙ flag_of p (place info.class info.index) found_at info.file info.member key.file key.member info.file_is info.member_is
           key.file_is key.member_is (ap (λ (i : MethodInfo). has_flag ACC_STATIC i.flags) info.is ∙ flag) open_or_same;
@@ -162,7 +160,6 @@ run_is w special m chosen class n methods at runs numbered =
     let same = sym (numbered_is w n m.method chosen (ap (slice_get w.methods) (sym number) ∙ at) numbered) in
     record {
       signature = ap (λ (i : MethodInfo). i.signature) same;
-      name = ap (λ (i : MethodInfo). i.name) same;
       of_objects = λ flag. ap (λ (i : MethodInfo). has_flag ACC_STATIC i.flags) same ∙ flag;
     }
 run_is w static m chosen class n methods at runs numbered = absurd cc
@@ -195,12 +192,11 @@ by_flag w m receiver b fit at flag is n native =
     (ap (λ (c : Bool). if c then [] else kinds.Reference ∷ []) flag ∙ sym is) (fit m.number m.method n at native)
 
 object_fits : (w : World) (m chosen : Named) → HasFitNatives w → slice_get w.methods chosen.number ≡ Some chosen.method → Runs m chosen
-    → has_flag ACC_STATIC m.method.flags ≡ false → is_initializer m.method ≡ false → IsOfObjects w chosen
-object_fits w m chosen fit at runs flag ordinary =
+    → has_flag ACC_STATIC m.method.flags ≡ false → IsOfObjects w chosen
+object_fits w m chosen fit at runs flag =
     let here = runs.of_objects flag in
     record {
       flag = here;
-      ordinary = ap (λ o. option_map_or is_initializer o false) at ∙ ap (λ s. same_text s (codes "<clinit>")) runs.name ∙ ordinary;
       natives = by_flag w chosen (kinds.Reference ∷ []) false fit at here refl;
     }
 
@@ -212,11 +208,11 @@ numbered_at w n m e =
 
 selected_fits : (w : World) (resolution : Resolution) (invocation : Invocation) (m : Named) (r : State) (stack : List Slot)
     → w.methods ≡ methods_of w.program → HasFitNatives w → named_method w resolution ≡ Some m → has_flag ACC_STATIC m.method.flags ≡ false
-    → is_initializer m.method ≡ false → OfReceiver w r (receiver m.method.signature stack) (IsSelected w resolution invocation m)
-selected_fits w resolution invocation m r stack methods fit named flag ordinary = λ o class at_hand of_class.
+    → OfReceiver w r (receiver m.method.signature stack) (IsSelected w resolution invocation m)
+selected_fits w resolution invocation m r stack methods fit named flag = λ o class at_hand of_class.
     selection_fits w resolution invocation m class methods named (λ n chosen runs numbered.
     object_fits w m chosen fit (numbered_at w n chosen numbered)
-    (run_is w invocation m chosen class n methods (named_at w resolution m named) runs numbered) flag ordinary)
+    (run_is w invocation m chosen class n methods (named_at w resolution m named) runs numbered) flag)
 
 invocation_fits : (w : World) (resolution : Resolution) (invocation : Invocation) (m : Named) (r : State) (stack : List Slot)
     → w.methods ≡ methods_of w.program → HasFitNatives w → named_method w resolution ≡ Some m → IsKindOf invocation m.method
@@ -225,11 +221,11 @@ invocation_fits w resolution static m r stack methods fit named is =
     record { flag = is; natives = by_flag w m [] true fit (named_at w resolution m named) is refl }
 invocation_fits w resolution dynamic m r stack methods fit named is = tt
 invocation_fits w resolution virtual m r stack methods fit named is =
-    selected_fits w resolution virtual m r stack methods fit named is.0 is.1
+    selected_fits w resolution virtual m r stack methods fit named is
 invocation_fits w resolution special m r stack methods fit named is =
-    selected_fits w resolution special m r stack methods fit named is.0 is.1
+    selected_fits w resolution special m r stack methods fit named is
 invocation_fits w resolution (interface count) m r stack methods fit named is =
-    selected_fits w resolution (interface count) m r stack methods fit named is.0 is.1
+    selected_fits w resolution (interface count) m r stack methods fit named is
 
 pub invocations_fit : (w : World) (resolution : Resolution) (invocation : Invocation) (index : ℕ) (r : State) (stack : List Slot)
     → w.methods ≡ methods_of w.program → HasFitNatives w

@@ -11,7 +11,7 @@ use Rattle.link_model.specs.declared.members.MethodInfo.{MethodInfo}
 use Rattle.link_model.specs.declared.sites.Resolution.{Resolution}
 use Rattle.link_model.specs.Infos.{methods_of}
 use Rattle.link_model.specs.World.{World}
-use Rattle.ref_model.specs.Members.{is_initializer, native_at}
+use Rattle.ref_model.specs.Members.{native_at}
 use Rattle.ref_model.specs.State.{State}
 use Rattle.ref_model.specs.Fetch.{Named, named_method}
 use Rattle.frame_soundness.specs.NativeKinds.{FitsNative}
@@ -22,11 +22,11 @@ abbrev pub HasFitNatives : World → Type 0
 HasFitNatives w = (n : ℕ) (m : MethodInfo) (native : Native) → slice_get w.methods n ≡ Some m → native_at w n ≡ Some native →
     FitsNative m.signature (if has_flag ACC_STATIC m.flags then [] else kinds.Reference ∷ []) native
 
--- an invokestatic names a static method, and the others one of objects that is no class initializer (JVMS 6.5)
+-- an invokestatic names a static method, and the others one of objects (JVMS 6.5)
 abbrev pub IsKindOf : Invocation → MethodInfo → Type 0
 IsKindOf static m = has_flag ACC_STATIC m.flags ≡ true
 IsKindOf dynamic m = Unit {0}
-IsKindOf invocation m = (has_flag ACC_STATIC m.flags ≡ false) × (is_initializer m ≡ false)
+IsKindOf invocation m = has_flag ACC_STATIC m.flags ≡ false
 
 -- An invocation of a linked world names what a step asks for, whatever the receiver is (JVMS 5.4.5, 5.4.6).
 abbrev pub InvocationsFit : Type 0

@@ -30,7 +30,7 @@ pub record IsMain (w : World) (n : ℕ) : Type 0 where
 pub record IsClassInitializer (w : World) (n : ℕ) : Type 0 where
   pub method : MethodInfo
   pub at : slice_get w.methods n ≡ Some method
-  pub name : is_initializer method ≡ true
+  pub is : is_initializer method ≡ true
   pub flag : has_flag ACC_STATIC method.flags ≡ true
   pub takes : method.signature.args ≡ []
 

@@ -9,6 +9,5 @@ returns g c = λ passed.
       ends = c.have_ends.ensures c.if-not-have_ends.false;
       top = c.is_top.ensures c.if-not-is_top.false;
       cloneable = subst (IsInterface w) c.cloneable.ensures (c.is_interface_at.ensures c.if-not-is_interface_at.false);
-      serializable = subst (IsInterface w) c.serializable.ensures (c.is_interface_at-2.ensures c.if-not-is_interface_at-2.false);
-      ordinary = c.are_ordinary.ensures passed;
+      serializable = subst (IsInterface w) c.serializable.ensures (c.is_interface_at-2.ensures passed);
     }
