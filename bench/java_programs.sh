@@ -4,7 +4,8 @@
 # Runs each with the java of this machine, and writes what that printed to crates/java_programs/stdout; jvt takes no part in it. Of an
 # exception that nothing catches only the class is kept, since jvt prints no message and no trace. Main's file comes first, since class
 # initializers run in the order of the files. After these come the calls whose outcome is a matter of jvt's own rules: usage, refusals and
-# limits. What they have to print is bench/own/stdout, which is written by hand. usage: bench/java_programs.sh
+# limits. What they have to print is bench/own/stdout, which is written by hand, and for the classes of bench/own/sketches.txt what stands
+# there. usage: bench/java_programs.sh
 set -eu
 export LC_ALL=C
 # What has no step yet: threads, monitors, the clock.
@@ -59,8 +60,11 @@ own_rules() {
     javac --release 8 -Xlint:-options -g -d "$data/own" "$top/bench/own/"*.java
     # No method in Java may be called `<clinit>`.
     sed -i 's/\$clinit\$/<clinit>/' "$data/own/OtherInitializers.class" "$data/own/SynchronizedInitializer.class"
-    sed -n -e '/^== status /d' -e 's/^== //p' "$top/bench/own/stdout" >>"$data/programs.txt"
-    cat "$top/bench/own/stdout" >>"$work/stdout"
+    mkdir "$data/sketches"
+    cp "$top/bench/own/stdout" "$work/own"
+    python3 "$top/bench/own/sketches.py" "$top/bench/own/sketches.txt" "$data/sketches" "$work/own"
+    sed -n -e '/^== status /d' -e 's/^== //p' "$work/own" >>"$data/programs.txt"
+    cat "$work/own" >>"$work/stdout"
 }
 
 programs >"$work/programs"
