@@ -12,7 +12,7 @@ use Rattle.monitors.specs.declared.records.Owner.{Owner}
 use Rattle.monitors.specs.declared.records.Record.{Record}
 use Rattle.monitors.specs.declared.monitors.Monitors.TheInside.{Inside}
 use Rattle.monitors.specs.Monitors.{Becomes, InNoList, Monitor, free, is_free, count_in, monitor_of}
-use Rattle.monitors.specs.Records.{Fits, IsKept, count_of, entry_of, known, seen, thread_of, waits_of}
+use Rattle.monitors.specs.Records.{Fits, IsConsistent, count_of, entry_list_of, known, seen, thread_of, wait_list_of}
 use Rattle.monitors.proofs.ListLaws.{Paired}
 use Rattle.monitors.proofs.RecordLaws.{Changes, Closes, Fits-changes, Fits-closes, Fits-opens, KeepsRecords, Opens, read, read-changed, read-closed, read-opened, read-unchanged, read-unclosed, read-unopened}
 
@@ -27,7 +27,7 @@ pub unused_is : (a : Inside) (o : ℕ) → get nat_eq a.records o ≡ None → m
 unused_is a o e = monitor_is a o ∙ ap (λ x. unwrap_or (option_map (known a.lists.lists) x) free) e
 
 -- a thread that is in no list of a monitor is in no list
-pub free_thread : (a : Inside) → IsKept a → (t : ℕ) → InNoList (seen a) t → total (count t) a.lists.lists ≡ 0
+pub free_thread : (a : Inside) → IsConsistent a → (t : ℕ) → InNoList (seen a) t → total (count t) a.lists.lists ≡ 0
 free_thread a kept t none =
     elim (cases_lt 0 (total (count t) a.lists.lists)) [
       | inl some ↦
@@ -43,15 +43,15 @@ free_thread a kept t none =
 
 -- what a call leaves: what the struct keeps, and the monitor that changed
 pub record After (a : Inside) (o : ℕ) (m : Monitor) (b : Inside) : Type 0 where
-  pub kept : IsKept b
+  pub kept : IsConsistent b
   pub becomes : Becomes (seen a) (seen b) o m
 
 pub After-is : (a : Inside) (o : ℕ) (m n : Monitor) (b : Inside) → m ≡ n → After a o m b → After a o n b
 After-is a o m n b e after = subst (λ x. After a o x b) e after
 
 -- a monitor in use, of which the owner and the two lists change
-module _ (a b : Inside) (kept : IsKept a) (o : ℕ) (r : Record) (was : get nat_eq a.records o ≡ Some r) (entry waits : List ℕ) (paired : Paired a.lists.lists b.lists.lists r.pair entry waits) where
-  pub After-change : (owner : Option Owner) → get nat_eq b.records o ≡ Some (record r { owner = owner }) → KeepsRecords (get nat_eq a.records) (get nat_eq b.records) o → hash_map_len b.records ≡ hash_map_len a.records → spare a.records ≤ spare b.records + 1 → b.vacant ≡ a.vacant → b.pairs ≡ a.pairs → b.lists.threads ≡ a.lists.threads → is_free (record { owner = thread_of owner; count = count_of owner; entry = entry; waits = waits }) ≡ false → After a o (record { owner = thread_of owner; count = count_of owner; entry = entry; waits = waits }) b
+module _ (a b : Inside) (kept : IsConsistent a) (o : ℕ) (r : Record) (was : get nat_eq a.records o ≡ Some r) (entry_list wait_list : List ℕ) (paired : Paired a.lists.lists b.lists.lists r.pair entry_list wait_list) where
+  pub After-change : (owner : Option Owner) → get nat_eq b.records o ≡ Some (record r { owner = owner }) → KeepsRecords (get nat_eq a.records) (get nat_eq b.records) o → hash_map_len b.records ≡ hash_map_len a.records → spare a.records ≤ spare b.records + 1 → b.vacant ≡ a.vacant → b.pairs ≡ a.pairs → b.lists.threads ≡ a.lists.threads → is_free (record { owner = thread_of owner; count = count_of owner; entry_list = entry_list; wait_list = wait_list }) ≡ false → After a o (record { owner = thread_of owner; count = count_of owner; entry_list = entry_list; wait_list = wait_list }) b
   After-change owner now others size more vacant pairs threads used =
       record {
         kept = record {
@@ -68,16 +68,16 @@ module _ (a b : Inside) (kept : IsKept a) (o : ℕ) (r : Record) (was : get nat_
         };
       }
     where
-      reads : known b.lists.lists (record r { owner = owner }) ≡ record { owner = thread_of owner; count = count_of owner; entry = entry; waits = waits }
-      reads = ap (λ xs. record { owner = thread_of owner; count = count_of owner; entry = xs; waits = list_at b.lists.lists (waits_of r.pair) }) paired.entry_is
-          ∙ ap (λ xs. record { owner = thread_of owner; count = count_of owner; entry = entry; waits = xs }) paired.waits_is
+      reads : known b.lists.lists (record r { owner = owner }) ≡ record { owner = thread_of owner; count = count_of owner; entry_list = entry_list; wait_list = wait_list }
+      reads = ap (λ xs. record { owner = thread_of owner; count = count_of owner; entry_list = xs; wait_list = list_at b.lists.lists (wait_list_of r.pair) }) paired.entry_list_is
+          ∙ ap (λ xs. record { owner = thread_of owner; count = count_of owner; entry_list = entry_list; wait_list = xs }) paired.wait_list_is
 
       change : Changes (get nat_eq a.records) (get nat_eq b.records) a.lists.lists b.lists.lists o r (record r { owner = owner })
       change = record { was = was; pair = refl; now = now; others = others; size = paired.size; keeps = paired.keeps; in_use = ap is_free reads ∙ used }
 
 -- a monitor comes into use
-module _ (a b : Inside) (kept : IsKept a) (o pair : ℕ) (was : get nat_eq a.records o ≡ None) (taken : a.vacant.items ≡ b.vacant.items ++ pair ∷ []) (entry waits : List ℕ) (paired : Paired a.lists.lists b.lists.lists pair entry waits) where
-  pub After-open : (owner : Option Owner) → get nat_eq b.records o ≡ Some (record { owner = owner; pair = pair }) → KeepsRecords (get nat_eq a.records) (get nat_eq b.records) o → hash_map_len b.records ≡ hash_map_len a.records + 1 → spare a.records ≤ spare b.records + 1 → vec_len a.vacant ≡ vec_len b.vacant + 1 → vec_capacity b.vacant ≡ vec_capacity a.vacant → b.pairs ≡ a.pairs → b.lists.threads ≡ a.lists.threads → is_free (record { owner = thread_of owner; count = count_of owner; entry = entry; waits = waits }) ≡ false → After a o (record { owner = thread_of owner; count = count_of owner; entry = entry; waits = waits }) b
+module _ (a b : Inside) (kept : IsConsistent a) (o pair : ℕ) (was : get nat_eq a.records o ≡ None) (taken : a.vacant.items ≡ b.vacant.items ++ pair ∷ []) (entry_list wait_list : List ℕ) (paired : Paired a.lists.lists b.lists.lists pair entry_list wait_list) where
+  pub After-open : (owner : Option Owner) → get nat_eq b.records o ≡ Some (record { owner = owner; pair = pair }) → KeepsRecords (get nat_eq a.records) (get nat_eq b.records) o → hash_map_len b.records ≡ hash_map_len a.records + 1 → spare a.records ≤ spare b.records + 1 → vec_len a.vacant ≡ vec_len b.vacant + 1 → vec_capacity b.vacant ≡ vec_capacity a.vacant → b.pairs ≡ a.pairs → b.lists.threads ≡ a.lists.threads → is_free (record { owner = thread_of owner; count = count_of owner; entry_list = entry_list; wait_list = wait_list }) ≡ false → After a o (record { owner = thread_of owner; count = count_of owner; entry_list = entry_list; wait_list = wait_list }) b
   After-open owner now others size more len capacity pairs threads used =
       record {
         kept = record {
@@ -94,17 +94,17 @@ module _ (a b : Inside) (kept : IsKept a) (o pair : ℕ) (was : get nat_eq a.rec
         };
       }
     where
-      reads : known b.lists.lists (record { owner = owner; pair = pair }) ≡ record { owner = thread_of owner; count = count_of owner; entry = entry; waits = waits }
-      reads = ap (λ xs. record { owner = thread_of owner; count = count_of owner; entry = xs; waits = list_at b.lists.lists (waits_of pair) }) paired.entry_is
-          ∙ ap (λ xs. record { owner = thread_of owner; count = count_of owner; entry = entry; waits = xs }) paired.waits_is
+      reads : known b.lists.lists (record { owner = owner; pair = pair }) ≡ record { owner = thread_of owner; count = count_of owner; entry_list = entry_list; wait_list = wait_list }
+      reads = ap (λ xs. record { owner = thread_of owner; count = count_of owner; entry_list = xs; wait_list = list_at b.lists.lists (wait_list_of pair) }) paired.entry_list_is
+          ∙ ap (λ xs. record { owner = thread_of owner; count = count_of owner; entry_list = entry_list; wait_list = xs }) paired.wait_list_is
 
       opens : Opens (get nat_eq a.records) (get nat_eq b.records) a.vacant.items b.vacant.items a.lists.lists b.lists.lists o (record { owner = owner; pair = pair })
       opens = record { was = was; taken = taken; now = now; others = others; size = paired.size; keeps = paired.keeps; in_use = ap is_free reads ∙ used }
 
 -- a monitor falls free
-module _ (a b : Inside) (kept : IsKept a) (o : ℕ) (r : Record) (was : get nat_eq a.records o ≡ Some r) where
-  pub After-close : get nat_eq b.records o ≡ None → KeepsRecords (get nat_eq a.records) (get nat_eq b.records) o → hash_map_len b.records + 1 ≡ hash_map_len a.records → spare a.records ≤ spare b.records → b.vacant.items ≡ a.vacant.items ++ r.pair ∷ [] → vec_len b.vacant ≡ vec_len a.vacant + 1 → vec_capacity b.vacant ≡ vec_capacity a.vacant → b.pairs ≡ a.pairs → b.lists ≡ a.lists → list_at a.lists.lists (entry_of r.pair) ≡ [] → list_at a.lists.lists (waits_of r.pair) ≡ [] → After a o free b
-  After-close now others size more vacant len capacity pairs lists entry waits =
+module _ (a b : Inside) (kept : IsConsistent a) (o : ℕ) (r : Record) (was : get nat_eq a.records o ≡ Some r) where
+  pub After-close : get nat_eq b.records o ≡ None → KeepsRecords (get nat_eq a.records) (get nat_eq b.records) o → hash_map_len b.records + 1 ≡ hash_map_len a.records → spare a.records ≤ spare b.records → b.vacant.items ≡ a.vacant.items ++ r.pair ∷ [] → vec_len b.vacant ≡ vec_len a.vacant + 1 → vec_capacity b.vacant ≡ vec_capacity a.vacant → b.pairs ≡ a.pairs → b.lists ≡ a.lists → list_at a.lists.lists (entry_list_of r.pair) ≡ [] → list_at a.lists.lists (wait_list_of r.pair) ≡ [] → After a o free b
+  After-close now others size more vacant len capacity pairs lists entry_list wait_list =
       record {
         kept = record {
           fits = subst (λ (ls : Lists). Fits (get nat_eq b.records) b.vacant.items ls.lists) (sym lists)
@@ -122,4 +122,4 @@ module _ (a b : Inside) (kept : IsKept a) (o : ℕ) (r : Record) (was : get nat_
       }
     where
       closes : Closes (get nat_eq a.records) (get nat_eq b.records) a.lists.lists o r
-      closes = record { was = was; now = now; others = others; entry = entry; waits = waits }
+      closes = record { was = was; now = now; others = others; entry_list = entry_list; wait_list = wait_list }

@@ -14,12 +14,12 @@ use Rattle.monitors.specs.declared.records.Owner.{Owner}
 use Rattle.monitors.specs.declared.records.Record.{Record}
 use Rattle.monitors.specs.declared.monitors.Monitors.TheInside.{Inside}
 use Rattle.monitors.specs.Monitors.{Monitor, is_free, count_in, monitor_of}
-use Rattle.monitors.specs.Records.{IsKept, entry_of, known, seen, waits_of, count_of, thread_of}
+use Rattle.monitors.specs.Records.{IsConsistent, entry_list_of, known, seen, wait_list_of, count_of, thread_of}
 use Rattle.monitors.proofs.MonitorLaws.{in_use_is, unused_is}
 
-module _ (a : Inside) (kept : IsKept a) (once : (t : ℕ) → total (count t) a.lists.lists ≤ 1) where
-  entry : ℕ → Record → ℕ
-  entry t r = count t (list_at a.lists.lists (entry_of r.pair))
+module _ (a : Inside) (kept : IsConsistent a) (once : (t : ℕ) → total (count t) a.lists.lists ≤ 1) where
+  entry_list : ℕ → Record → ℕ
+  entry_list t r = count t (list_at a.lists.lists (entry_list_of r.pair))
 
   of_two : (t i j : ℕ) → i < length a.lists.lists → j < length a.lists.lists → (i ≡ j → ⊥) → count t (list_at a.lists.lists i) + count t (list_at a.lists.lists j) ≤ 1
   of_two t i j hi hj ne = omega (arith, once t, total-two t a.lists.lists i j hi hj ne)
@@ -28,7 +28,7 @@ module _ (a : Inside) (kept : IsKept a) (once : (t : ℕ) → total (count t) a.
   one t o None e = subst (λ m. count_in t m ≤ 1) (sym (unused_is a o e)) (omega arith)
   one t o (Some r) e =
       let inside = kept.fits.inside o r e in
-      subst (λ m. count_in t m ≤ 1) (sym (in_use_is a o r e)) (of_two t (entry_of r.pair) (waits_of r.pair) (omega arith) inside (λ i. omega arith))
+      subst (λ m. count_in t m ≤ 1) (sym (in_use_is a o r e)) (of_two t (entry_list_of r.pair) (wait_list_of r.pair) (omega arith) inside (λ i. omega arith))
 
   pub once_in : (t o : ℕ) → count_in t (monitor_of (seen a) o) ≤ 1
   once_in t o = one t o (get nat_eq a.records o) refl
@@ -42,10 +42,10 @@ module _ (a : Inside) (kept : IsKept a) (once : (t : ℕ) → total (count t) a.
       let iq = kept.fits.inside p q f in
       let mine = ap (count_in t) (in_use_is a o r e) in
       let other = ap (count_in t) (in_use_is a p q f) in
-      let a1 = of_two t (entry_of r.pair) (entry_of q.pair) (omega arith) (omega arith) (λ i. differ (omega arith)) in
-      let a2 = of_two t (entry_of r.pair) (waits_of q.pair) (omega arith) iq (λ i. omega arith) in
-      let a3 = of_two t (waits_of r.pair) (entry_of q.pair) ir (omega arith) (λ i. omega arith) in
-      let a4 = of_two t (waits_of r.pair) (waits_of q.pair) ir iq (λ i. differ (omega arith)) in
+      let a1 = of_two t (entry_list_of r.pair) (entry_list_of q.pair) (omega arith) (omega arith) (λ i. differ (omega arith)) in
+      let a2 = of_two t (entry_list_of r.pair) (wait_list_of q.pair) (omega arith) iq (λ i. omega arith) in
+      let a3 = of_two t (wait_list_of r.pair) (entry_list_of q.pair) ir (omega arith) (λ i. omega arith) in
+      let a4 = of_two t (wait_list_of r.pair) (wait_list_of q.pair) ir iq (λ i. differ (omega arith)) in
       omega (arith, mine, other, a1, a2, a3, a4, once_in t o, once_in t p)
 
   pub apart_in : (t o p : ℕ) → (o ≡ p → ⊥) → count_in t (monitor_of (seen a) o) + count_in t (monitor_of (seen a) p) ≤ 1

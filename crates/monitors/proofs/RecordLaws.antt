@@ -7,7 +7,7 @@ use Rattle.monitors.specs.declared.records.Record.{Record}
 use Rattle.thread_lists.specs.Lists.{count, list_at}
 use Rattle.thread_lists.proofs.CountLaws.{count-append, count-other, count-same}
 use Rattle.monitors.specs.Monitors.{Monitor, free, is_free}
-use Rattle.monitors.specs.Records.{Fits, IsUsed, count_of, entry_of, known, thread_of, waits_of}
+use Rattle.monitors.specs.Records.{Fits, IsUsed, count_of, entry_list_of, known, thread_of, wait_list_of}
 
 -- the monitor of an object
 abbrev pub read : (ℕ → Option Record) → List (List ℕ) → ℕ → Monitor
@@ -15,26 +15,26 @@ read records lists o = unwrap_or (option_map (known lists) (records o)) free
 
 -- the lists of all pairs but one stay
 abbrev pub KeepsLists : List (List ℕ) → List (List ℕ) → ℕ → Type 0
-KeepsLists lists lists' pair = (k : ℕ) → (k ≡ entry_of pair → ⊥) → (k ≡ waits_of pair → ⊥) → list_at lists' k ≡ list_at lists k
+KeepsLists lists lists' pair = (k : ℕ) → (k ≡ entry_list_of pair → ⊥) → (k ≡ wait_list_of pair → ⊥) → list_at lists' k ≡ list_at lists k
 
 -- the records of all objects but one stay
 abbrev pub KeepsRecords : (ℕ → Option Record) → (ℕ → Option Record) → ℕ → Type 0
 KeepsRecords records records' o = (p : ℕ) → (p ≡ o → ⊥) → records' p ≡ records p
 
 monitor_with : Option Owner → List ℕ → List ℕ → Monitor
-monitor_with owner entry waits =
+monitor_with owner entry_list wait_list =
     record {
       owner = thread_of owner;
       count = count_of owner;
-      entry = entry;
-      waits = waits;
+      entry_list = entry_list;
+      wait_list = wait_list;
     }
 
 known-same : (lists lists' : List (List ℕ)) (pair : ℕ) (r : Record) → KeepsLists lists lists' pair → (r.pair ≡ pair → ⊥) → known lists' r ≡ known lists r
 unfolding monitor_with
 known-same lists lists' pair r keeps ne =
-    ap (λ entry. monitor_with r.owner entry (list_at lists' (waits_of r.pair))) (keeps (entry_of r.pair) (λ e. ne (omega arith)) (λ e. absurd (omega arith)))
-    ∙ ap (monitor_with r.owner (list_at lists (entry_of r.pair))) (keeps (waits_of r.pair) (λ e. absurd (omega arith)) (λ e. ne (omega arith)))
+    ap (λ entry_list. monitor_with r.owner entry_list (list_at lists' (wait_list_of r.pair))) (keeps (entry_list_of r.pair) (λ e. ne (omega arith)) (λ e. absurd (omega arith)))
+    ∙ ap (monitor_with r.owner (list_at lists (entry_list_of r.pair))) (keeps (wait_list_of r.pair) (λ e. absurd (omega arith)) (λ e. ne (omega arith)))
 
 same_record : (records : ℕ → Option Record) (o p : ℕ) (r q : Record) → p ≡ o → records o ≡ Some r → records p ≡ Some q → q ≡ r
 same_record records o p r q e here there = let i : Some q ≡ Some r = sym there ∙ ap records e ∙ here in cc
@@ -75,8 +75,8 @@ module _ (records records' : ℕ → Option Record) (vacant : List ℕ) (lists l
         vacant_inside = λ pair h. omega (arith, fits.vacant_inside pair h, c.size);
         vacant_once = fits.vacant_once;
         vacant_apart = λ p q e. let w = old_pair p q e in ap (λ pair. count pair vacant) w.2 ∙ fits.vacant_apart p w.0 w.1;
-        vacant_entry = λ pair h. c.keeps (entry_of pair) (λ e. other pair h (omega arith)) (λ e. absurd (omega arith)) ∙ fits.vacant_entry pair h;
-        vacant_waits = λ pair h. c.keeps (waits_of pair) (λ e. absurd (omega arith)) (λ e. other pair h (omega arith)) ∙ fits.vacant_waits pair h;
+        vacant_entry_list = λ pair h. c.keeps (entry_list_of pair) (λ e. other pair h (omega arith)) (λ e. absurd (omega arith)) ∙ fits.vacant_entry_list pair h;
+        vacant_wait_list = λ pair h. c.keeps (wait_list_of pair) (λ e. absurd (omega arith)) (λ e. other pair h (omega arith)) ∙ fits.vacant_wait_list pair h;
         used = used_still;
         in_use = λ p q e.
             elim (cases_eq p o) [
@@ -92,17 +92,17 @@ module _ (records records' : ℕ → Option Record) (vacant : List ℕ) (lists l
 
       used_still : (k t : ℕ) → k < length lists' → 0 < count t (list_at lists' k) → IsUsed records' k
       used_still k t h n =
-          elim (cases_eq k (entry_of r.pair)) [
+          elim (cases_eq k (entry_list_of r.pair)) [
             | inl e ↦ record { object = o; found = r'; here = c.now; list = inl (omega (arith, e, c.pair)) }
             | inr ne ↦
-                elim (cases_eq k (waits_of r.pair)) [
+                elim (cases_eq k (wait_list_of r.pair)) [
                   | inl e ↦ record { object = o; found = r'; here = c.now; list = inr (omega (arith, e, c.pair)) }
                   | inr nw ↦
                       let u = fits.used k t (omega (arith, c.size)) (subst (λ xs. 0 < count t xs) (c.keeps k ne nw) n) in
                       elim (cases_eq u.object o) [
                         | inl e ↦
                             let same = same_record records o u.object r u.found e c.was u.here in
-                            record { object = o; found = r'; here = c.now; list = subst (λ pair. (k ≡ entry_of pair) ⊎ (k ≡ waits_of pair)) (ap (λ (x : Record). x.pair) same ∙ sym c.pair) u.list }
+                            record { object = o; found = r'; here = c.now; list = subst (λ pair. (k ≡ entry_list_of pair) ⊎ (k ≡ wait_list_of pair)) (ap (λ (x : Record). x.pair) same ∙ sym c.pair) u.list }
                         | inr nu ↦ record { object = u.object; found = u.found; here = c.others u.object nu ∙ u.here; list = u.list }
                       ]
                 ]
@@ -144,7 +144,7 @@ module _ (records records' : ℕ → Option Record) (vacant vacant' : List ℕ) 
   Fits-opens =
       record {
         inside = λ p q e. elim (cases_eq p o) [
-          | inl i ↦ subst (λ (x : Record). waits_of x.pair < length lists') (sym (same_record records' o p r q i c.now e)) (omega (arith, fits.vacant_inside r.pair was_vacant, c.size))
+          | inl i ↦ subst (λ (x : Record). wait_list_of x.pair < length lists') (sym (same_record records' o p r q i c.now e)) (omega (arith, fits.vacant_inside r.pair was_vacant, c.size))
           | inr ne ↦ omega (arith, fits.inside p q (old_record p q ne e), c.size)
         ];
         apart = λ p q s t e f i. elim (cases_eq p o) [
@@ -163,8 +163,8 @@ module _ (records records' : ℕ → Option Record) (vacant vacant' : List ℕ) 
           | inl i ↦ ap (λ (x : Record). count x.pair vacant') (same_record records' o p r q i c.now e) ∙ gone
           | inr ne ↦ omega (arith, fits.vacant_apart p q (old_record p q ne e), count_before q.pair)
         ];
-        vacant_entry = λ pair h. c.keeps (entry_of pair) (λ e. still pair h (omega arith)) (λ e. absurd (omega arith)) ∙ fits.vacant_entry pair (omega (arith, count_before pair, h));
-        vacant_waits = λ pair h. c.keeps (waits_of pair) (λ e. absurd (omega arith)) (λ e. still pair h (omega arith)) ∙ fits.vacant_waits pair (omega (arith, count_before pair, h));
+        vacant_entry_list = λ pair h. c.keeps (entry_list_of pair) (λ e. still pair h (omega arith)) (λ e. absurd (omega arith)) ∙ fits.vacant_entry_list pair (omega (arith, count_before pair, h));
+        vacant_wait_list = λ pair h. c.keeps (wait_list_of pair) (λ e. absurd (omega arith)) (λ e. still pair h (omega arith)) ∙ fits.vacant_wait_list pair (omega (arith, count_before pair, h));
         used = used_still;
         in_use = λ p q e. elim (cases_eq p o) [
           | inl i ↦ subst (λ x. is_free (known lists' x) ≡ false) (sym (same_record records' o p r q i c.now e)) c.in_use
@@ -178,10 +178,10 @@ module _ (records records' : ℕ → Option Record) (vacant vacant' : List ℕ) 
 
       used_still : (k t : ℕ) → k < length lists' → 0 < count t (list_at lists' k) → IsUsed records' k
       used_still k t h n =
-          elim (cases_eq k (entry_of r.pair)) [
+          elim (cases_eq k (entry_list_of r.pair)) [
             | inl e ↦ record { object = o; found = r; here = c.now; list = inl e }
             | inr ne ↦
-                elim (cases_eq k (waits_of r.pair)) [
+                elim (cases_eq k (wait_list_of r.pair)) [
                   | inl e ↦ record { object = o; found = r; here = c.now; list = inr e }
                   | inr nw ↦
                       let u = fits.used k t (omega (arith, c.size)) (subst (λ xs. 0 < count t xs) (c.keeps k ne nw) n) in
@@ -205,8 +205,8 @@ pub record Closes (records records' : ℕ → Option Record) (lists : List (List
   pub was : records o ≡ Some r
   pub now : records' o ≡ None
   pub others : KeepsRecords records records' o
-  pub entry : list_at lists (entry_of r.pair) ≡ []
-  pub waits : list_at lists (waits_of r.pair) ≡ []
+  pub entry_list : list_at lists (entry_list_of r.pair) ≡ []
+  pub wait_list : list_at lists (wait_list_of r.pair) ≡ []
 
 module _ (records records' : ℕ → Option Record) (vacant : List ℕ) (lists : List (List ℕ)) (o : ℕ) (r : Record) (fits : Fits records vacant lists) (c : Closes records records' lists o r) where
   count_after : (pair : ℕ) → count pair (vacant ++ r.pair ∷ []) ≡ count pair vacant + count pair (r.pair ∷ [])
@@ -230,15 +230,15 @@ module _ (records records' : ℕ → Option Record) (vacant : List ℕ) (lists :
       record {
         inside = λ p q e. fits.inside p q (old_one p q e);
         apart = λ p q s t e f i. fits.apart p q s t (old_one p s e) (old_one q t f) i;
-        vacant_inside = λ pair h. elim (vacant_or_new pair h) [ inl e ↦ subst (λ s. waits_of s < length lists) (sym e) (fits.inside o r c.was) | inr v ↦ fits.vacant_inside pair v ];
+        vacant_inside = λ pair h. elim (vacant_or_new pair h) [ inl e ↦ subst (λ s. wait_list_of s < length lists) (sym e) (fits.inside o r c.was) | inr v ↦ fits.vacant_inside pair v ];
         vacant_once = λ pair. elim (cases_eq pair r.pair) [
           | inl e ↦ subst (λ s. count s (vacant ++ r.pair ∷ []) ≤ 1) (sym e) (omega (arith, count_after r.pair, count-same r.pair [], fits.vacant_apart o r c.was))
           | inr ne ↦ omega (arith, count_after pair, count-other pair r.pair [] (λ e. ne (sym e)), fits.vacant_once pair)
         ];
         vacant_apart = λ p q e.
             omega (arith, count_after q.pair, fits.vacant_apart p q (old_one p q e), count-other q.pair r.pair [] (λ i. elsewhere p q e (fits.apart p o q r (old_one p q e) c.was (sym i))));
-        vacant_entry = λ pair h. elim (vacant_or_new pair h) [ inl e ↦ ap (λ s. list_at lists (entry_of s)) e ∙ c.entry | inr v ↦ fits.vacant_entry pair v ];
-        vacant_waits = λ pair h. elim (vacant_or_new pair h) [ inl e ↦ ap (λ s. list_at lists (waits_of s)) e ∙ c.waits | inr v ↦ fits.vacant_waits pair v ];
+        vacant_entry_list = λ pair h. elim (vacant_or_new pair h) [ inl e ↦ ap (λ s. list_at lists (entry_list_of s)) e ∙ c.entry_list | inr v ↦ fits.vacant_entry_list pair v ];
+        vacant_wait_list = λ pair h. elim (vacant_or_new pair h) [ inl e ↦ ap (λ s. list_at lists (wait_list_of s)) e ∙ c.wait_list | inr v ↦ fits.vacant_wait_list pair v ];
         used = λ k t h n.
             let u = fits.used k t h n in
             record {
@@ -253,9 +253,9 @@ module _ (records records' : ℕ → Option Record) (vacant : List ℕ) (lists :
       empty : (k t : ℕ) → 0 < count t (list_at lists k) → (u : IsUsed records k) → u.object ≡ o → ⊥
       empty k t n u e =
           let same = same_record records o u.object r u.found e c.was u.here in
-          elim (subst (λ (x : Record). (k ≡ entry_of x.pair) ⊎ (k ≡ waits_of x.pair)) same u.list) [
-            | inl i ↦ let none : list_at lists k ≡ [] = ap (list_at lists) i ∙ c.entry in omega (arith, subst (λ xs. 0 < count t xs) none n)
-            | inr i ↦ let none : list_at lists k ≡ [] = ap (list_at lists) i ∙ c.waits in omega (arith, subst (λ xs. 0 < count t xs) none n)
+          elim (subst (λ (x : Record). (k ≡ entry_list_of x.pair) ⊎ (k ≡ wait_list_of x.pair)) same u.list) [
+            | inl i ↦ let none : list_at lists k ≡ [] = ap (list_at lists) i ∙ c.entry_list in omega (arith, subst (λ xs. 0 < count t xs) none n)
+            | inr i ↦ let none : list_at lists k ≡ [] = ap (list_at lists) i ∙ c.wait_list in omega (arith, subst (λ xs. 0 < count t xs) none n)
           ]
 
   pub read-closed : read records' lists o ≡ free

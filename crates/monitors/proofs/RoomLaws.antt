@@ -11,14 +11,14 @@ use Rattle.thread_lists.proofs.CountLaws.{count-append, count-other, count-same}
 use Rattle.monitors.specs.declared.records.Record.{Record}
 use Rattle.monitors.specs.declared.monitors.Monitors.TheInside.{Inside}
 use Rattle.monitors.specs.Monitors.{free, is_free, monitor_of}
-use Rattle.monitors.specs.Records.{Fits, Grows, IsKept, count_of, entry_of, known, seen, thread_of, waits_of}
+use Rattle.monitors.specs.Records.{Fits, Grows, IsConsistent, count_of, entry_list_of, known, seen, thread_of, wait_list_of}
 use Rattle.monitors.proofs.MonitorLaws.{monitor_is}
 
 -- the lists of a pair that there was
-pub known-kept : (lists lists' : List (List ℕ)) (r : Record) → ((k : ℕ) → k < length lists → list_at lists' k ≡ list_at lists k) → waits_of r.pair < length lists → known lists' r ≡ known lists r
+pub known-kept : (lists lists' : List (List ℕ)) (r : Record) → ((k : ℕ) → k < length lists → list_at lists' k ≡ list_at lists k) → wait_list_of r.pair < length lists → known lists' r ≡ known lists r
 known-kept lists lists' r keeps inside =
-    ap (λ xs. record { owner = thread_of r.owner; count = count_of r.owner; entry = xs; waits = list_at lists' (waits_of r.pair) }) (keeps (entry_of r.pair) (omega arith))
-    ∙ ap (λ xs. record { owner = thread_of r.owner; count = count_of r.owner; entry = list_at lists (entry_of r.pair); waits = xs }) (keeps (waits_of r.pair) inside)
+    ap (λ xs. record { owner = thread_of r.owner; count = count_of r.owner; entry_list = xs; wait_list = list_at lists' (wait_list_of r.pair) }) (keeps (entry_list_of r.pair) (omega arith))
+    ∙ ap (λ xs. record { owner = thread_of r.owner; count = count_of r.owner; entry_list = list_at lists (entry_list_of r.pair); wait_list = xs }) (keeps (wait_list_of r.pair) inside)
 
 empty_two : (i : ℕ) → get_or {A = List ℕ} ([] ∷ [] ∷ []) i [] ≡ []
 empty_two zero = refl
@@ -63,8 +63,8 @@ module _ (records : ℕ → Option Record) (vacant : List ℕ) (lists : List (Li
           | inr ne ↦ omega (arith, after pair, count-other pair n [] (λ e. ne (sym e)), fits.vacant_once pair)
         ];
         vacant_apart = λ o r e. omega (arith, after r.pair, fits.vacant_apart o r e, count-other r.pair n [] (λ i. omega (arith, fits.inside o r e, size)));
-        vacant_entry = λ pair h. elim (new_or_old pair h) [ inl e ↦ beyond (entry_of pair) (omega (arith, size, e)) | inr v ↦ keeps (entry_of pair) (omega (arith, fits.vacant_inside pair v)) ∙ fits.vacant_entry pair v ];
-        vacant_waits = λ pair h. elim (new_or_old pair h) [ inl e ↦ beyond (waits_of pair) (omega (arith, size, e)) | inr v ↦ keeps (waits_of pair) (fits.vacant_inside pair v) ∙ fits.vacant_waits pair v ];
+        vacant_entry_list = λ pair h. elim (new_or_old pair h) [ inl e ↦ beyond (entry_list_of pair) (omega (arith, size, e)) | inr v ↦ keeps (entry_list_of pair) (omega (arith, fits.vacant_inside pair v)) ∙ fits.vacant_entry_list pair v ];
+        vacant_wait_list = λ pair h. elim (new_or_old pair h) [ inl e ↦ beyond (wait_list_of pair) (omega (arith, size, e)) | inr v ↦ keeps (wait_list_of pair) (fits.vacant_inside pair v) ∙ fits.vacant_wait_list pair v ];
         used = λ k t h held. elim (cases_lt k (length lists)) [
           | inl l ↦ fits.used k t l (subst (λ xs. 0 < count t xs) (keeps k l) held)
           | inr g ↦ let none : 0 < count t [] = subst (λ xs. 0 < count t xs) (beyond k g) held in absurd (omega (arith, none))
@@ -112,8 +112,8 @@ Grows-trans u v w i j k a b c g h =
     }
 
 -- monitors stay when there are more pairs
-module _ (a b : Inside) (kept : IsKept a) (same : (o : ℕ) → get nat_eq b.records o ≡ get nat_eq a.records o) (size : hash_map_len b.records ≡ hash_map_len a.records) (grows : Grows a.vacant a.pairs a.lists b.vacant b.pairs b.lists) where
-  pub room-kept : IsKept b
+module _ (a b : Inside) (kept : IsConsistent a) (same : (o : ℕ) → get nat_eq b.records o ≡ get nat_eq a.records o) (size : hash_map_len b.records ≡ hash_map_len a.records) (grows : Grows a.vacant a.pairs a.lists b.vacant b.pairs b.lists) where
+  pub room-kept : IsConsistent b
   room-kept =
       record {
         fits = grows.fits (get nat_eq b.records) (subst (λ (records : ℕ → Option Record). Fits records a.vacant.items a.lists.lists) (λ i o. sym (same o) i) kept.fits);

@@ -8,8 +8,8 @@ use Rattle.monitors.specs.declared.records.NotOwner.{NotOwner}
 pub record Monitor : Type 0 where
   pub owner : Option ℕ
   pub count : ℕ
-  pub entry : List ℕ
-  pub waits : List ℕ
+  pub entry_list : List ℕ
+  pub wait_list : List ℕ
 
 -- the monitors in use, by object; how many threads may use monitors; how many calls surely need no memory
 pub record Monitors : Type 0 where
@@ -19,7 +19,7 @@ pub record Monitors : Type 0 where
 
 -- a monitor that nobody owns, enters or waits for
 abbrev pub free : Monitor
-free = record { owner = None; count = 0; entry = []; waits = [] }
+free = record { owner = None; count = 0; entry_list = []; wait_list = [] }
 
 abbrev pub is_empty : List ℕ → Bool
 is_empty [] = true
@@ -27,7 +27,7 @@ is_empty (t ∷ ts) = false
 
 -- nobody owns, enters or waits for it
 abbrev pub is_free : Monitor → Bool
-is_free m = is_none m.owner && (is_empty m.entry && is_empty m.waits)
+is_free m = is_none m.owner && (is_empty m.entry_list && is_empty m.wait_list)
 
 abbrev pub IsInUse : Monitor → Type 0
 IsInUse m = is_free m ≡ false
@@ -38,14 +38,14 @@ monitor_of all o = unwrap_or (lookup (λ p. o == p) all.used) free
 
 -- how often a thread is in the two lists of a monitor
 abbrev pub count_in : ℕ → Monitor → ℕ
-count_in t m = count t m.entry + count t m.waits
+count_in t m = count t m.entry_list + count t m.wait_list
 
 -- a thread waits to take the monitor; it waits to be notified
 abbrev pub IsInLine : ℕ → Monitor → Type 0
-IsInLine t m = 0 < count t m.entry
+IsInLine t m = 0 < count t m.entry_list
 
 abbrev pub IsWaiting : ℕ → Monitor → Type 0
-IsWaiting t m = 0 < count t m.waits
+IsWaiting t m = 0 < count t m.wait_list
 
 -- the thread is in no list of any monitor
 abbrev pub InNoList : Monitors → ℕ → Type 0
@@ -70,7 +70,7 @@ IsByOwner result owner t = MatchResult result (λ _. owner ≡ Some t) (λ refus
 -- a monitor that t takes or enters once more, or else waits to take
 abbrev pub after_enter : ℕ → Monitor → Monitor
 after_enter t m =
-    if is_taken m.owner t then record m { entry = m.entry ++ t ∷ [] } else record m { owner = Some t; count = m.count + 1 }
+    if is_taken m.owner t then record m { entry_list = m.entry_list ++ t ∷ [] } else record m { owner = Some t; count = m.count + 1 }
 
 -- a monitor that its owner leaves once
 abbrev pub after_exit : Monitor → Monitor
@@ -78,28 +78,28 @@ after_exit m = if nat_lt 1 m.count then record m { count = m.count - 1 } else re
 
 -- which thread is to be woken then
 abbrev pub woken_by_exit : Monitor → Option ℕ
-woken_by_exit m = if nat_lt 1 m.count then None else slice_get m.entry 0
+woken_by_exit m = if nat_lt 1 m.count then None else slice_get m.entry_list 0
 
 -- a monitor that t, which was in line for it, takes again
 abbrev pub after_retake : ℕ → ℕ → Monitor → Monitor
-after_retake t count m = record m { owner = Some t; count = count; entry = without t m.entry }
+after_retake t count m = record m { owner = Some t; count = count; entry_list = without t m.entry_list }
 
 -- a monitor that its owner t leaves wholly, to wait for a notification
 abbrev pub after_wait : ℕ → Monitor → Monitor
-after_wait t m = record m { owner = None; count = 0; waits = m.waits ++ t ∷ [] }
+after_wait t m = record m { owner = None; count = 0; wait_list = m.wait_list ++ t ∷ [] }
 
 -- the first that waits comes last in line
 abbrev pub after_notify : Monitor → Monitor
-after_notify m = record m { entry = m.entry ++ take 1 m.waits; waits = drop 1 m.waits }
+after_notify m = record m { entry_list = m.entry_list ++ take 1 m.wait_list; wait_list = drop 1 m.wait_list }
 
 -- all that wait come last in line, in their order
 abbrev pub after_notify_all : Monitor → Monitor
-after_notify_all m = record m { entry = m.entry ++ m.waits; waits = [] }
+after_notify_all m = record m { entry_list = m.entry_list ++ m.wait_list; wait_list = [] }
 
 -- a thread that waits comes last in line
 abbrev pub after_leave_wait : ℕ → Monitor → Monitor
-after_leave_wait t m = record m { entry = m.entry ++ t ∷ []; waits = without t m.waits }
+after_leave_wait t m = record m { entry_list = m.entry_list ++ t ∷ []; wait_list = without t m.wait_list }
 
 -- a thread comes last in line
 abbrev pub after_line_up : ℕ → Monitor → Monitor
-after_line_up t m = record m { entry = m.entry ++ t ∷ [] }
+after_line_up t m = record m { entry_list = m.entry_list ++ t ∷ [] }

@@ -11,11 +11,11 @@ use Rattle.thread_lists.specs.Lists.{Lists, count, list_at}
 use Rattle.monitors.specs.Monitors.{Monitor, Monitors, is_free, is_taken}
 
 -- the entry list and the wait list of a pair
-abbrev pub entry_of : ℕ → ℕ
-entry_of pair = 2 * pair
+abbrev pub entry_list_of : ℕ → ℕ
+entry_list_of pair = 2 * pair
 
-abbrev pub waits_of : ℕ → ℕ
-waits_of pair = 2 * pair + 1
+abbrev pub wait_list_of : ℕ → ℕ
+wait_list_of pair = 2 * pair + 1
 
 -- the owning thread, and how often that entered the monitor
 abbrev pub thread_of : Option Owner → Option ℕ
@@ -46,8 +46,8 @@ known lists r =
     record {
       owner = thread_of r.owner;
       count = count_of r.owner;
-      entry = list_at lists (entry_of r.pair);
-      waits = list_at lists (waits_of r.pair);
+      entry_list = list_at lists (entry_list_of r.pair);
+      wait_list = list_at lists (wait_list_of r.pair);
     }
 
 -- what contracts see
@@ -64,22 +64,22 @@ pub record IsUsed (records : ℕ → Option Record) (k : ℕ) : Type 0 where
   pub object : ℕ
   pub found : Record
   pub here : records object ≡ Some found
-  pub list : (k ≡ entry_of found.pair) ⊎ (k ≡ waits_of found.pair)
+  pub list : (k ≡ entry_list_of found.pair) ⊎ (k ≡ wait_list_of found.pair)
 
 -- no pair is two records', or one's and vacant; the lists of a vacant pair are empty; no record is of a monitor that is free
 pub record Fits (records : ℕ → Option Record) (vacant : List ℕ) (lists : List (List ℕ)) : Type 0 where
-  pub inside : (o : ℕ) (r : Record) → records o ≡ Some r → waits_of r.pair < length lists
+  pub inside : (o : ℕ) (r : Record) → records o ≡ Some r → wait_list_of r.pair < length lists
   pub apart : (o p : ℕ) (r q : Record) → records o ≡ Some r → records p ≡ Some q → r.pair ≡ q.pair → o ≡ p
-  pub vacant_inside : (pair : ℕ) → 0 < count pair vacant → waits_of pair < length lists
+  pub vacant_inside : (pair : ℕ) → 0 < count pair vacant → wait_list_of pair < length lists
   pub vacant_once : (pair : ℕ) → count pair vacant ≤ 1
   pub vacant_apart : (o : ℕ) (r : Record) → records o ≡ Some r → count r.pair vacant ≡ 0
-  pub vacant_entry : (pair : ℕ) → 0 < count pair vacant → list_at lists (entry_of pair) ≡ []
-  pub vacant_waits : (pair : ℕ) → 0 < count pair vacant → list_at lists (waits_of pair) ≡ []
+  pub vacant_entry_list : (pair : ℕ) → 0 < count pair vacant → list_at lists (entry_list_of pair) ≡ []
+  pub vacant_wait_list : (pair : ℕ) → 0 < count pair vacant → list_at lists (wait_list_of pair) ≡ []
   pub used : (k t : ℕ) → k < length lists → 0 < count t (list_at lists k) → IsUsed records k
   pub in_use : (o : ℕ) (r : Record) → records o ≡ Some r → is_free (known lists r) ≡ false
 
 -- no pair is lost: each is one record's or vacant
-pub record IsKept (a : Inside) : Type 0 where
+pub record IsConsistent (a : Inside) : Type 0 where
   pub fits : Fits (get nat_eq a.records) a.vacant.items a.lists.lists
   pub pairs : 2 * a.pairs ≡ length a.lists.lists
   pub capacity : a.pairs ≤ vec_capacity a.vacant

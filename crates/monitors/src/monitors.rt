@@ -1,3 +1,5 @@
+//! The monitors of objects and the calls that change one (JLS 17.1, 17.2).
+
 ghost use Rattle.std.specs.Prelude.{◌≡◌, ◌≢◌, ◌↔◌, ◌<◌, ◌≤◌, ◌+◌, ◌^◌, ℕ, [], All, if◌then◌else◌, is_none, length, slice_get, IsFalse, IfOk, OnErr, OnOk};
 ghost use Rattle.std.specs.Bool.{OnFalse, OnTrue};
 ghost use Rattle.monitors.specs.Monitors.{Becomes, InNoList, IsByOwner, IsInLine, IsInUse, IsWaiting, after_enter, after_exit, after_leave_wait, after_line_up, after_notify, after_notify_all, after_retake, after_wait, is_taken, count_in, monitor_of, woken_by_exit};
@@ -35,11 +37,11 @@ impl Model for Monitors {
 
     ghost Value = { Monitors };
 
-    ghost use Rattle.monitors.specs.Records.{IsKept, seen};
+    ghost use Rattle.monitors.specs.Records.{IsConsistent, seen};
 
     ghost view = { seen };
 
-    ghost invariant = { IsKept };
+    ghost invariant = { IsConsistent };
 }
 
 impl Monitors {
@@ -55,7 +57,7 @@ impl Monitors {
         }
     }
 
-    /// Room for so many calls, which then need no memory. After an error there may be room for more than before.
+    /// Makes room for this many calls, which then need no memory. After an error there may be room for more than before.
     pub fn room(&mut self, calls: u32) -> Result<(), NoMemory>
         ensures ok { OnOk result (calls ≤ self.new.spare) }
         ensures monitors { (o : ℕ) → monitor_of self.new o ≡ monitor_of self.old o }
@@ -108,11 +110,11 @@ impl Monitors {
 
     /// The thread with this index in the wait list of a monitor. This goes past the threads before it.
     pub fn waiter(&self, o: u32, i: u32) -> Option<u32>
-        ensures { result ≡ slice_get (monitor_of self.now o).waits i }
+        ensures { result ≡ slice_get (monitor_of self.now o).wait_list i }
     {
         self.lists.once();
         match find(&self.records, o) {
-            Some(kept) => self.lists.get(kept.waits(), i),
+            Some(kept) => self.lists.get(kept.wait_list(), i),
             None => None,
         }
     }
@@ -132,7 +134,7 @@ impl Monitors {
             return Enter::Got;
         };
         if kept.is_taken(t) {
-            self.lists.push(kept.entry(), t);
+            self.lists.push(kept.entry_list(), t);
             return Enter::Blocked;
         }
         Enter::Got
@@ -149,11 +151,11 @@ impl Monitors {
         let Some(kept) = find(&self.records, o) else {
             let pair = take_pair(&mut self.vacant);
             let new = Record { owner: None, pair };
-            self.lists.push(new.entry(), t);
+            self.lists.push(new.entry_list(), t);
             put(&mut self.records, o, new);
             return;
         };
-        self.lists.push(kept.entry(), t);
+        self.lists.push(kept.entry_list(), t);
     }
 
     /// A thread that is in line takes the monitor, which it had entered so often, where that has no owner. Else this answers
@@ -173,7 +175,7 @@ impl Monitors {
         if taken {
             return false;
         }
-        self.lists.remove(kept.entry(), t);
+        self.lists.remove(kept.entry_list(), t);
         put(&mut self.records, o, kept.owned_by(t, count));
         true
     }
@@ -207,7 +209,7 @@ impl Monitors {
         requires free { InNoList self.old t }
         ensures owner { IsByOwner result (monitor_of self.old o).owner t }
         ensures count { IfOk result (λ left. left.0 ≡ (monitor_of self.old o).count) }
-        ensures woken { IfOk result (λ left. left.1 ≡ slice_get (monitor_of self.old o).entry 0) }
+        ensures woken { IfOk result (λ left. left.1 ≡ slice_get (monitor_of self.old o).entry_list 0) }
         ensures ok { OnOk result
             (Becomes self.old self.new o (after_wait t (monitor_of self.old o))) }
         ensures err { OnErr result (self.new ≡ self.old) }
@@ -215,7 +217,7 @@ impl Monitors {
         self.lists.once();
         let kept = find_owned(&self.records, o, t)?;
         let next = first_in_line(&self.lists, kept);
-        self.lists.push(kept.waits(), t);
+        self.lists.push(kept.wait_list(), t);
         put(&mut self.records, o, kept.without_owner());
         Ok((kept.count(), next))
     }
@@ -223,7 +225,7 @@ impl Monitors {
     /// The owner lets the first thread that waits to be notified line up for the monitor (JLS 17.2.2): that thread.
     pub fn notify(&mut self, o: u32, t: u32) -> Result<Option<u32>, NotOwner>
         ensures owner { IsByOwner result (monitor_of self.old o).owner t }
-        ensures moved { IfOk result (λ thread. thread ≡ slice_get (monitor_of self.old o).waits 0) }
+        ensures moved { IfOk result (λ thread. thread ≡ slice_get (monitor_of self.old o).wait_list 0) }
         ensures ok { OnOk result
             (Becomes self.old self.new o (after_notify (monitor_of self.old o))) }
         ensures err { OnErr result (self.new ≡ self.old) }
@@ -233,22 +235,23 @@ impl Monitors {
         let Some(waiter) = first_waiter(&self.lists, kept) else {
             return Ok(None);
         };
-        self.lists.move_last(kept.waits(), kept.entry(), waiter);
+        self.lists
+            .move_last(kept.wait_list(), kept.entry_list(), waiter);
         Ok(Some(waiter))
     }
 
     /// The owner lets all threads that wait to be notified line up for the monitor, in their order (JLS 17.2.2): how many.
     pub fn notify_all(&mut self, o: u32, t: u32) -> Result<u32, NotOwner>
         ensures owner { IsByOwner result (monitor_of self.old o).owner t }
-        ensures moved { IfOk result (λ count. count ≡ length (monitor_of self.old o).waits) }
+        ensures moved { IfOk result (λ count. count ≡ length (monitor_of self.old o).wait_list) }
         ensures ok { OnOk result
             (Becomes self.old self.new o (after_notify_all (monitor_of self.old o))) }
         ensures err { OnErr result (self.new ≡ self.old) }
     {
         self.lists.once();
         let kept = find_owned(&self.records, o, t)?;
-        let count = self.lists.len(kept.waits());
-        self.lists.append(kept.waits(), kept.entry());
+        let count = self.lists.len(kept.wait_list());
+        self.lists.append(kept.wait_list(), kept.entry_list());
         Ok(count)
     }
 
@@ -261,6 +264,6 @@ impl Monitors {
         let Some(kept) = find(&self.records, o) else {
             unreachable!()
         };
-        self.lists.move_last(kept.waits(), kept.entry(), t);
+        self.lists.move_last(kept.wait_list(), kept.entry_list(), t);
     }
 }

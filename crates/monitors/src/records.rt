@@ -1,10 +1,12 @@
+//! The records of the monitors in use, and the pairs of lists of threads that they have.
+
 ghost use Rattle.std.specs.Prelude.{◌≡◌, ◌≢◌, ◌+◌, ◌*◌, ◌<◌, ◌≤◌, ◌^◌, ◌&&◌, ℕ, None, Some, [], ◌∷◌, ◌++◌, if◌then◌else◌, is_some, length, nat_eq, not, vec_len, IfErr, IfNone, IfOk, IfSome, OnErr, OnOk};
 ghost use Rattle.std.specs.HashMap.{get, hash_map_len, spare};
 ghost use Rattle.std.specs.Option.{option_and_then, option_map_or};
 ghost use Rattle.std.specs.Vec.{vec_capacity};
 ghost use Rattle.thread_lists.specs.Lists.{first, list_at};
 ghost use Rattle.monitors.specs.Monitors.{is_empty, is_taken};
-ghost use Rattle.monitors.specs.Records.{Grows, OpensPair, count_of, entered, entry_of, left, thread_of, waits_of};
+ghost use Rattle.monitors.specs.Records.{Grows, OpensPair, count_of, entered, entry_list_of, left, thread_of, wait_list_of};
 
 use items::NoMemory;
 use std::collections::HashMap;
@@ -20,14 +22,14 @@ pub struct NotOwner {
 }
 
 /// Who owns a monitor, and how often that thread entered it.
-#[derive(Clone, Copy, Debug)]
+#[derive(Clone, Copy)]
 pub struct Owner {
     pub thread: u32,
     pub count: u32,
 }
 
 /// A monitor in use: its owner, and the number of its pair of lists of threads.
-#[derive(Clone, Copy, Debug)]
+#[derive(Clone, Copy)]
 pub struct Record {
     pub owner: Option<Owner>,
     pub pair: u32,
@@ -35,17 +37,17 @@ pub struct Record {
 
 impl Record {
     /// The list of the threads that wait to take the monitor.
-    pub fn entry(self) -> u32
-        requires { waits_of self.pair < 2 ^ 32 }
-        ensures { result ≡ entry_of self.pair }
+    pub fn entry_list(self) -> u32
+        requires { wait_list_of self.pair < 2 ^ 32 }
+        ensures { result ≡ entry_list_of self.pair }
     {
         2 * self.pair
     }
 
     /// The list of the threads that wait to be notified.
-    pub fn waits(self) -> u32
-        requires { waits_of self.pair < 2 ^ 32 }
-        ensures { result ≡ waits_of self.pair }
+    pub fn wait_list(self) -> u32
+        requires { wait_list_of self.pair < 2 ^ 32 }
+        ensures { result ≡ wait_list_of self.pair }
     {
         2 * self.pair + 1
     }
@@ -126,28 +128,28 @@ impl Record {
 
 /// The first thread that waits to take a monitor.
 pub fn first_in_line(lists: &ThreadLists, kept: Record) -> Option<u32>
-    requires inside { waits_of kept.pair < length lists.now.lists }
-    requires fits { waits_of kept.pair < 2 ^ 32 }
-    ensures { result ≡ first lists.now.lists (entry_of kept.pair) }
+    requires inside { wait_list_of kept.pair < length lists.now.lists }
+    requires fits { wait_list_of kept.pair < 2 ^ 32 }
+    ensures { result ≡ first lists.now.lists (entry_list_of kept.pair) }
 {
-    lists.first(kept.entry())
+    lists.first(kept.entry_list())
 }
 
 /// The first thread that waits to be notified.
 pub fn first_waiter(lists: &ThreadLists, kept: Record) -> Option<u32>
-    requires inside { waits_of kept.pair < length lists.now.lists }
-    requires fits { waits_of kept.pair < 2 ^ 32 }
-    ensures { result ≡ first lists.now.lists (waits_of kept.pair) }
+    requires inside { wait_list_of kept.pair < length lists.now.lists }
+    requires fits { wait_list_of kept.pair < 2 ^ 32 }
+    ensures { result ≡ first lists.now.lists (wait_list_of kept.pair) }
 {
-    lists.first(kept.waits())
+    lists.first(kept.wait_list())
 }
 
 /// Whether no thread is in a list of a monitor.
 pub fn is_deserted(lists: &ThreadLists, kept: Record) -> bool
-    requires inside { waits_of kept.pair < length lists.now.lists }
-    requires fits { waits_of kept.pair < 2 ^ 32 }
-    ensures { result ≡ (is_empty (list_at lists.now.lists (entry_of kept.pair))
-        && is_empty (list_at lists.now.lists (waits_of kept.pair))) }
+    requires inside { wait_list_of kept.pair < length lists.now.lists }
+    requires fits { wait_list_of kept.pair < 2 ^ 32 }
+    ensures { result ≡ (is_empty (list_at lists.now.lists (entry_list_of kept.pair))
+        && is_empty (list_at lists.now.lists (wait_list_of kept.pair))) }
 {
     first_in_line(lists, kept).is_none() && first_waiter(lists, kept).is_none()
 }

@@ -31,7 +31,7 @@ push-requires-clause-free c =
 pub invariant_of-self-then-is_taken : goal.invariant_of-self-then-is_taken
 invariant_of-self-then-is_taken c =
     (enter_blocks c.self.inside c.self.invariant c.args.o c.in-Some.kept (sym c.enter_record.ensures.was ∙ c.in-Some.is) c.args.t c.enter_record.new.records c.enter_record.new.vacant c.push.new.self (sym c.is_taken.ensures ∙ c.if-is_taken.true) c.in-Some.ensures.now c.enter_record.ensures.others c.enter_record.ensures.len c.enter_record.ensures.spare c.in-Some.ensures.vacant
-    (c.push.ensures ∙ ap (λ k. record c.self.inside.lists { lists = push c.self.inside.lists.lists k (c.args.t ∷ []) }) c.entry.ensures)).kept
+    (c.push.ensures ∙ ap (λ k. record c.self.inside.lists { lists = push c.self.inside.lists.lists k (c.args.t ∷ []) }) c.entry_list.ensures)).kept
 
 pub returns-then-is_taken-clause-entered : goal.returns-then-is_taken-clause-entered
 returns-then-is_taken-clause-entered c =
@@ -42,7 +42,7 @@ returns-then-is_taken-clause-entered c =
 pub returns-then-is_taken-clause-monitor : goal.returns-then-is_taken-clause-monitor
 returns-then-is_taken-clause-monitor c =
     rw (← c.self.view_is) (enter_blocks c.self.inside c.self.invariant c.args.o c.in-Some.kept (sym c.enter_record.ensures.was ∙ c.in-Some.is) c.args.t c.enter_record.new.records c.enter_record.new.vacant c.push.new.self (sym c.is_taken.ensures ∙ c.if-is_taken.true) c.in-Some.ensures.now c.enter_record.ensures.others c.enter_record.ensures.len c.enter_record.ensures.spare c.in-Some.ensures.vacant
-    (c.push.ensures ∙ ap (λ k. record c.self.inside.lists { lists = push c.self.inside.lists.lists k (c.args.t ∷ []) }) c.entry.ensures)).becomes
+    (c.push.ensures ∙ ap (λ k. record c.self.inside.lists { lists = push c.self.inside.lists.lists k (c.args.t ∷ []) }) c.entry_list.ensures)).becomes
 
 pub invariant_of-self-else-is_taken : goal.invariant_of-self-else-is_taken
 invariant_of-self-else-is_taken c =

@@ -3,7 +3,7 @@ use Rattle.std.proofs.lemmas.Bool.{le-ltb, lt-ltb}
 use Rattle.std.proofs.lemmas.Result.{err_from_is_err_and}
 use Rattle.thread_lists.specs.Lists.{list_at}
 use Rattle.monitors.specs.Monitors.{IsByOwner, Monitor, Monitors, monitor_of, woken_by_exit}
-use Rattle.monitors.specs.Records.{count_of, entry_of, waits_of}
+use Rattle.monitors.specs.Records.{count_of, entry_list_of, wait_list_of}
 use Rattle.monitors.proofs.CallLaws as call
 use Rattle.monitors.proofs.MonitorLaws.{in_use_is}
 use Rattle.monitors.proofs.monitors.Monitors.exit.Goals as goal
@@ -28,7 +28,7 @@ returns-then-count-gt1-clause-owner c =
 
 pub returns-then-count-gt1-clause-woken : goal.returns-then-count-gt1-clause-woken
 returns-then-count-gt1-clause-woken c =
-    rw (← c.self.view_is) (sym (ap woken_by_exit (in_use_is c.self.inside c.args.o c.in_ok-kept.kept c.in_ok-kept.ensures.found) ∙ ap (λ (b : Bool). if b then None else slice_get (list_at c.self.inside.lists.lists (entry_of c.in_ok-kept.kept.pair)) 0) (lt-ltb 1 (count_of c.in_ok-kept.kept.owner) (omega (arith, c.count.ensures, c.if-count-gt1.true)))))
+    rw (← c.self.view_is) (sym (ap woken_by_exit (in_use_is c.self.inside c.args.o c.in_ok-kept.kept c.in_ok-kept.ensures.found) ∙ ap (λ (b : Bool). if b then None else slice_get (list_at c.self.inside.lists.lists (entry_list_of c.in_ok-kept.kept.pair)) 0) (lt-ltb 1 (count_of c.in_ok-kept.kept.owner) (omega (arith, c.count.ensures, c.if-count-gt1.true)))))
 
 pub returns-then-count-gt1-clause-ok : goal.returns-then-count-gt1-clause-ok
 returns-then-count-gt1-clause-ok c =
@@ -48,7 +48,7 @@ returns-then-is_deserted-clause-owner c =
 
 pub returns-then-is_deserted-clause-woken : goal.returns-then-is_deserted-clause-woken
 returns-then-is_deserted-clause-woken c =
-    rw (← c.self.view_is) (sym (ap woken_by_exit (in_use_is c.self.inside c.args.o c.in_ok-kept.kept c.in_ok-kept.ensures.found) ∙ ap (λ (b : Bool). if b then None else slice_get (list_at c.self.inside.lists.lists (entry_of c.in_ok-kept.kept.pair)) 0) (le-ltb 1 (count_of c.in_ok-kept.kept.owner) (omega (arith, c.count.ensures, c.if-count-gt1.false))) ∙ ap (λ xs. slice_get xs 0) (call.empty_first (list_at c.self.inside.lists.lists (entry_of c.in_ok-kept.kept.pair)) (list_at c.self.inside.lists.lists (waits_of c.in_ok-kept.kept.pair)) (sym c.is_deserted.ensures ∙ c.if-is_deserted.true))))
+    rw (← c.self.view_is) (sym (ap woken_by_exit (in_use_is c.self.inside c.args.o c.in_ok-kept.kept c.in_ok-kept.ensures.found) ∙ ap (λ (b : Bool). if b then None else slice_get (list_at c.self.inside.lists.lists (entry_list_of c.in_ok-kept.kept.pair)) 0) (le-ltb 1 (count_of c.in_ok-kept.kept.owner) (omega (arith, c.count.ensures, c.if-count-gt1.false))) ∙ ap (λ xs. slice_get xs 0) (call.empty_first (list_at c.self.inside.lists.lists (entry_list_of c.in_ok-kept.kept.pair)) (list_at c.self.inside.lists.lists (wait_list_of c.in_ok-kept.kept.pair)) (sym c.is_deserted.ensures ∙ c.if-is_deserted.true))))
 
 pub returns-then-is_deserted-clause-ok : goal.returns-then-is_deserted-clause-ok
 returns-then-is_deserted-clause-ok c =
@@ -64,7 +64,7 @@ returns-clause-owner c =
 
 pub returns-clause-woken : goal.returns-clause-woken
 returns-clause-woken c =
-    rw (← c.self.view_is) (c.first_in_line.ensures ∙ sym (ap woken_by_exit (in_use_is c.self.inside c.args.o c.in_ok-kept.kept c.in_ok-kept.ensures.found) ∙ ap (λ (b : Bool). if b then None else slice_get (list_at c.self.inside.lists.lists (entry_of c.in_ok-kept.kept.pair)) 0) (le-ltb 1 (count_of c.in_ok-kept.kept.owner) (omega (arith, c.count.ensures, c.if-count-gt1.false)))))
+    rw (← c.self.view_is) (c.first_in_line.ensures ∙ sym (ap woken_by_exit (in_use_is c.self.inside c.args.o c.in_ok-kept.kept c.in_ok-kept.ensures.found) ∙ ap (λ (b : Bool). if b then None else slice_get (list_at c.self.inside.lists.lists (entry_list_of c.in_ok-kept.kept.pair)) 0) (le-ltb 1 (count_of c.in_ok-kept.kept.owner) (omega (arith, c.count.ensures, c.if-count-gt1.false)))))
 
 pub returns-clause-ok : goal.returns-clause-ok
 returns-clause-ok c =

@@ -3,7 +3,7 @@ use Rattle.std.proofs.lemmas.Result.{err_from_is_err_and}
 use Rattle.thread_lists.specs.Lists.{count, list_at}
 use Rattle.thread_lists.proofs.CountLaws.{first-held, total-le}
 use Rattle.monitors.specs.Monitors.{IsByOwner, Monitor, Monitors, monitor_of}
-use Rattle.monitors.specs.Records.{waits_of}
+use Rattle.monitors.specs.Records.{wait_list_of}
 use Rattle.monitors.proofs.CallLaws as call
 use Rattle.monitors.proofs.MonitorLaws.{in_use_is}
 use Rattle.monitors.proofs.monitors.Monitors.notify.Goals as goal
@@ -20,7 +20,7 @@ returns-in_default-clause-owner c =
 
 pub returns-in_default-clause-moved : goal.returns-in_default-clause-moved
 returns-in_default-clause-moved c =
-    rw (← c.self.view_is) (sym (ap (λ (m : Monitor). slice_get m.waits 0) (in_use_is c.self.inside c.args.o c.in_ok-kept.kept c.in_ok-kept.ensures.found) ∙ (sym c.first_waiter.ensures ∙ c.in_default.is)))
+    rw (← c.self.view_is) (sym (ap (λ (m : Monitor). slice_get m.wait_list 0) (in_use_is c.self.inside c.args.o c.in_ok-kept.kept c.in_ok-kept.ensures.found) ∙ (sym c.first_waiter.ensures ∙ c.in_default.is)))
 
 pub returns-in_default-clause-ok : goal.returns-in_default-clause-ok
 returns-in_default-clause-ok c =
@@ -28,12 +28,12 @@ returns-in_default-clause-ok c =
 
 pub move_last-requires-clause-held : goal.move_last-requires-clause-held
 move_last-requires-clause-held c =
-    subst (λ k. 0 < count c.in-Some.waiter (list_at c.self.inside.lists.lists k)) (sym c.waits.ensures) (first-held (list_at c.self.inside.lists.lists (waits_of c.in_ok-kept.kept.pair)) c.in-Some.waiter (sym c.first_waiter.ensures ∙ c.in-Some.is))
+    subst (λ k. 0 < count c.in-Some.waiter (list_at c.self.inside.lists.lists k)) (sym c.wait_list.ensures) (first-held (list_at c.self.inside.lists.lists (wait_list_of c.in_ok-kept.kept.pair)) c.in-Some.waiter (sym c.first_waiter.ensures ∙ c.in-Some.is))
 
 pub invariant_of-self : goal.invariant_of-self
 invariant_of-self c =
-    (call.notify_moves c.self.inside c.self.invariant c.args.o c.in_ok-kept.kept c.in_ok-kept.ensures.found c.in-Some.waiter c.move_last.new.self (sym c.first_waiter.ensures ∙ c.in-Some.is) (omega (arith, c.once.ensures.once c.in-Some.waiter, total-le c.in-Some.waiter c.self.inside.lists.lists (waits_of c.in_ok-kept.kept.pair) (c.self.invariant.fits.inside c.args.o c.in_ok-kept.kept c.in_ok-kept.ensures.found)))
-    (c.move_last.ensures ∙ call.move_is c.self.inside.lists c.in-Some.waiter _ _ _ _ c.waits.ensures c.entry.ensures)).kept
+    (call.notify_moves c.self.inside c.self.invariant c.args.o c.in_ok-kept.kept c.in_ok-kept.ensures.found c.in-Some.waiter c.move_last.new.self (sym c.first_waiter.ensures ∙ c.in-Some.is) (omega (arith, c.once.ensures.once c.in-Some.waiter, total-le c.in-Some.waiter c.self.inside.lists.lists (wait_list_of c.in_ok-kept.kept.pair) (c.self.invariant.fits.inside c.args.o c.in_ok-kept.kept c.in_ok-kept.ensures.found)))
+    (c.move_last.ensures ∙ call.move_is c.self.inside.lists c.in-Some.waiter _ _ _ _ c.wait_list.ensures c.entry_list.ensures)).kept
 
 pub returns-clause-owner : goal.returns-clause-owner
 returns-clause-owner c =
@@ -41,9 +41,9 @@ returns-clause-owner c =
 
 pub returns-clause-moved : goal.returns-clause-moved
 returns-clause-moved c =
-    rw (← c.self.view_is) (sym (ap (λ (m : Monitor). slice_get m.waits 0) (in_use_is c.self.inside c.args.o c.in_ok-kept.kept c.in_ok-kept.ensures.found) ∙ (sym c.first_waiter.ensures ∙ c.in-Some.is)))
+    rw (← c.self.view_is) (sym (ap (λ (m : Monitor). slice_get m.wait_list 0) (in_use_is c.self.inside c.args.o c.in_ok-kept.kept c.in_ok-kept.ensures.found) ∙ (sym c.first_waiter.ensures ∙ c.in-Some.is)))
 
 pub returns-clause-ok : goal.returns-clause-ok
 returns-clause-ok c =
-    rw (← c.self.view_is) (call.notify_moves c.self.inside c.self.invariant c.args.o c.in_ok-kept.kept c.in_ok-kept.ensures.found c.in-Some.waiter c.move_last.new.self (sym c.first_waiter.ensures ∙ c.in-Some.is) (omega (arith, c.once.ensures.once c.in-Some.waiter, total-le c.in-Some.waiter c.self.inside.lists.lists (waits_of c.in_ok-kept.kept.pair) (c.self.invariant.fits.inside c.args.o c.in_ok-kept.kept c.in_ok-kept.ensures.found)))
-    (c.move_last.ensures ∙ call.move_is c.self.inside.lists c.in-Some.waiter _ _ _ _ c.waits.ensures c.entry.ensures)).becomes
+    rw (← c.self.view_is) (call.notify_moves c.self.inside c.self.invariant c.args.o c.in_ok-kept.kept c.in_ok-kept.ensures.found c.in-Some.waiter c.move_last.new.self (sym c.first_waiter.ensures ∙ c.in-Some.is) (omega (arith, c.once.ensures.once c.in-Some.waiter, total-le c.in-Some.waiter c.self.inside.lists.lists (wait_list_of c.in_ok-kept.kept.pair) (c.self.invariant.fits.inside c.args.o c.in_ok-kept.kept c.in_ok-kept.ensures.found)))
+    (c.move_last.ensures ∙ call.move_is c.self.inside.lists c.in-Some.waiter _ _ _ _ c.wait_list.ensures c.entry_list.ensures)).becomes

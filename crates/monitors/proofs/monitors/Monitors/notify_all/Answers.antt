@@ -14,7 +14,7 @@ returns-in_err-kept-clause-owner c =
 
 pub invariant_of-self : goal.invariant_of-self
 invariant_of-self c =
-    (call.notify_all_moves c.self.inside c.self.invariant c.args.o c.in_ok-kept.kept c.in_ok-kept.ensures.found c.args.t c.append.new.self c.in_ok-kept.ensures.owner (c.append.ensures ∙ call.append_is c.self.inside.lists _ _ _ _ c.waits-2.ensures c.entry.ensures)).kept
+    (call.notify_all_moves c.self.inside c.self.invariant c.args.o c.in_ok-kept.kept c.in_ok-kept.ensures.found c.args.t c.append.new.self c.in_ok-kept.ensures.owner (c.append.ensures ∙ call.append_is c.self.inside.lists _ _ _ _ c.wait_list-2.ensures c.entry_list.ensures)).kept
 
 pub returns-clause-owner : goal.returns-clause-owner
 returns-clause-owner c =
@@ -22,8 +22,8 @@ returns-clause-owner c =
 
 pub returns-clause-moved : goal.returns-clause-moved
 returns-clause-moved c =
-    rw (← c.self.view_is) (c.len-count.ensures ∙ ap (λ k. length (list_at c.self.inside.lists.lists k)) c.waits.ensures ∙ sym (ap (λ (m : Monitor). length m.waits) (in_use_is c.self.inside c.args.o c.in_ok-kept.kept c.in_ok-kept.ensures.found)))
+    rw (← c.self.view_is) (c.len-count.ensures ∙ ap (λ k. length (list_at c.self.inside.lists.lists k)) c.wait_list.ensures ∙ sym (ap (λ (m : Monitor). length m.wait_list) (in_use_is c.self.inside c.args.o c.in_ok-kept.kept c.in_ok-kept.ensures.found)))
 
 pub returns-clause-ok : goal.returns-clause-ok
 returns-clause-ok c =
-    rw (← c.self.view_is) (call.notify_all_moves c.self.inside c.self.invariant c.args.o c.in_ok-kept.kept c.in_ok-kept.ensures.found c.args.t c.append.new.self c.in_ok-kept.ensures.owner (c.append.ensures ∙ call.append_is c.self.inside.lists _ _ _ _ c.waits-2.ensures c.entry.ensures)).becomes
+    rw (← c.self.view_is) (call.notify_all_moves c.self.inside c.self.invariant c.args.o c.in_ok-kept.kept c.in_ok-kept.ensures.found c.args.t c.append.new.self c.in_ok-kept.ensures.owner (c.append.ensures ∙ call.append_is c.self.inside.lists _ _ _ _ c.wait_list-2.ensures c.entry_list.ensures)).becomes

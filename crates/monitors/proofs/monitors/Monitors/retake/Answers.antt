@@ -15,12 +15,12 @@ returns-then-taken-clause-taken c =
 
 pub remove-requires-clause-held : goal.remove-requires-clause-held
 remove-requires-clause-held c =
-    subst (λ k. 0 < count c.args.t (list_at c.self.inside.lists.lists k)) (sym c.entry.ensures) (subst (IsInLine c.args.t) (in_use_is c.self.inside c.args.o c.in-Some.kept (sym c.find.ensures ∙ c.in-Some.is)) (subst (λ (v : Monitors). IsInLine c.args.t (monitor_of v c.args.o)) (sym c.self.view_is) c.requires))
+    subst (λ k. 0 < count c.args.t (list_at c.self.inside.lists.lists k)) (sym c.entry_list.ensures) (subst (IsInLine c.args.t) (in_use_is c.self.inside c.args.o c.in-Some.kept (sym c.find.ensures ∙ c.in-Some.is)) (subst (λ (v : Monitors). IsInLine c.args.t (monitor_of v c.args.o)) (sym c.self.view_is) c.requires))
 
 pub invariant_of-self : goal.invariant_of-self
 invariant_of-self c =
     (call.retake_takes c.self.inside c.self.invariant c.args.o c.in-Some.kept (sym c.find.ensures ∙ c.in-Some.is) c.args.t c.args.count c.put.new.records c.remove.new.self (c.put.ensures.now ∙ ap Some c.owned_by.ensures) c.put.ensures.others c.put.ensures.len c.put.ensures.spare
-    (c.remove.ensures ∙ ap (λ k. record c.self.inside.lists { lists = set c.self.inside.lists.lists k (without c.args.t (list_at c.self.inside.lists.lists k)) }) c.entry.ensures)).kept
+    (c.remove.ensures ∙ ap (λ k. record c.self.inside.lists { lists = set c.self.inside.lists.lists k (without c.args.t (list_at c.self.inside.lists.lists k)) }) c.entry_list.ensures)).kept
 
 pub returns-clause-taken : goal.returns-clause-taken
 returns-clause-taken c =
@@ -29,4 +29,4 @@ returns-clause-taken c =
 pub returns-clause-yes : goal.returns-clause-yes
 returns-clause-yes c =
     rw (← c.self.view_is) (call.retake_takes c.self.inside c.self.invariant c.args.o c.in-Some.kept (sym c.find.ensures ∙ c.in-Some.is) c.args.t c.args.count c.put.new.records c.remove.new.self (c.put.ensures.now ∙ ap Some c.owned_by.ensures) c.put.ensures.others c.put.ensures.len c.put.ensures.spare
-    (c.remove.ensures ∙ ap (λ k. record c.self.inside.lists { lists = set c.self.inside.lists.lists k (without c.args.t (list_at c.self.inside.lists.lists k)) }) c.entry.ensures)).becomes
+    (c.remove.ensures ∙ ap (λ k. record c.self.inside.lists { lists = set c.self.inside.lists.lists k (without c.args.t (list_at c.self.inside.lists.lists k)) }) c.entry_list.ensures)).becomes

@@ -18,7 +18,7 @@ push-requires-clause-free c =
 
 pub invariant_of-self : goal.invariant_of-self
 invariant_of-self c =
-    (call.wait_leaves c.self.inside c.self.invariant c.args.o c.in_ok-kept.kept c.in_ok-kept.ensures.found c.args.t c.put.new.records c.push.new.self (c.put.ensures.now ∙ ap Some c.without_owner.ensures) c.put.ensures.others c.put.ensures.len c.put.ensures.spare (c.push.ensures ∙ ap (λ k. record c.self.inside.lists { lists = push c.self.inside.lists.lists k (c.args.t ∷ []) }) c.waits.ensures)).kept
+    (call.wait_leaves c.self.inside c.self.invariant c.args.o c.in_ok-kept.kept c.in_ok-kept.ensures.found c.args.t c.put.new.records c.push.new.self (c.put.ensures.now ∙ ap Some c.without_owner.ensures) c.put.ensures.others c.put.ensures.len c.put.ensures.spare (c.push.ensures ∙ ap (λ k. record c.self.inside.lists { lists = push c.self.inside.lists.lists k (c.args.t ∷ []) }) c.wait_list.ensures)).kept
 
 pub returns-clause-owner : goal.returns-clause-owner
 returns-clause-owner c =
@@ -30,8 +30,8 @@ returns-clause-count c =
 
 pub returns-clause-woken : goal.returns-clause-woken
 returns-clause-woken c =
-    rw (← c.self.view_is) (c.first_in_line-next.ensures ∙ sym (ap (λ (m : Monitor). slice_get m.entry 0) (in_use_is c.self.inside c.args.o c.in_ok-kept.kept c.in_ok-kept.ensures.found)))
+    rw (← c.self.view_is) (c.first_in_line-next.ensures ∙ sym (ap (λ (m : Monitor). slice_get m.entry_list 0) (in_use_is c.self.inside c.args.o c.in_ok-kept.kept c.in_ok-kept.ensures.found)))
 
 pub returns-clause-ok : goal.returns-clause-ok
 returns-clause-ok c =
-    rw (← c.self.view_is) (call.wait_leaves c.self.inside c.self.invariant c.args.o c.in_ok-kept.kept c.in_ok-kept.ensures.found c.args.t c.put.new.records c.push.new.self (c.put.ensures.now ∙ ap Some c.without_owner.ensures) c.put.ensures.others c.put.ensures.len c.put.ensures.spare (c.push.ensures ∙ ap (λ k. record c.self.inside.lists { lists = push c.self.inside.lists.lists k (c.args.t ∷ []) }) c.waits.ensures)).becomes
+    rw (← c.self.view_is) (call.wait_leaves c.self.inside c.self.invariant c.args.o c.in_ok-kept.kept c.in_ok-kept.ensures.found c.args.t c.put.new.records c.push.new.self (c.put.ensures.now ∙ ap Some c.without_owner.ensures) c.put.ensures.others c.put.ensures.len c.put.ensures.spare (c.push.ensures ∙ ap (λ k. record c.self.inside.lists { lists = push c.self.inside.lists.lists k (c.args.t ∷ []) }) c.wait_list.ensures)).becomes
