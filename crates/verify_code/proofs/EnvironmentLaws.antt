@@ -1,5 +1,5 @@
 -- What is kept beside the tables of a method, from what was read.
-use Rattle.std.proofs.Common.{◌≡◌, ℕ, suc, true, false, List, ◌∷◌, Option, Some, None, Result, Ok, Err, refl, ap, subst, ◌∙◌, arith}
+use Rattle.std.proofs.Common.{◌≡◌, ℕ, suc, true, false, List, ◌∷◌, Option, Some, None, Result, Ok, Err, refl, subst, arith}
 use Rattle.std.specs.Prelude.{is_ok, map}
 use Rattle.std.specs.List.{All}
 use Rattle.std.specs.Option.{option_map}
@@ -28,12 +28,10 @@ is_map : (w : World) (m : MethodInfo) (max : ℕ) (r : Expanded) (frames : List 
 is_map w m max (Ok list) frames e = let same : frames ≡ map (map_frame w m max) list = cc in (refl, same)
 is_map w m max (Err why) frames e = absurd cc
 
-pub has_frames : (w : World) (m : MethodInfo) (code : MethodCode) (ns : List Resolution) (cs : List (Option ℕ)) (first : FrameTypes) (bytes : List ℕ) (frames : List MapFrame)
-    → (guards : List Guard) → first ≡ first_frame w m → bytes ≡ code.map → Some frames ≡ mapped w m code.max_locals first bytes → IsDecoded code → AskAlike (map guard_in guards) (with_catches code.rows cs)
+pub has_frames : (w : World) (m : MethodInfo) (code : MethodCode) (ns : List Resolution) (cs : List (Option ℕ)) (frames : List MapFrame)
+    → (guards : List Guard) → Some frames ≡ mapped w m code.max_locals (first_frame w m) code.map → IsDecoded code → AskAlike (map guard_in guards) (with_catches code.rows cs)
     → HasFrames (environment_of w m code ns cs) frames guards false None
-has_frames w m code ns cs first bytes frames guards begins is e decoded guarded =
-    let at : Some frames ≡ mapped w m code.max_locals (first_frame w m) code.map =
-    e ∙ ap (λ (f : FrameTypes). mapped w m code.max_locals f bytes) begins ∙ ap (λ bs. mapped w m code.max_locals (first_frame w m) bs) is in
+has_frames w m code ns cs frames guards at decoded guarded =
     let found = is_map w m code.max_locals (expansion (first_frame w m) code.map) frames at in
     record { mapped = found.0; are = found.1; in_order = decoded_in_order code ns decoded; guarded = same_asked (environment_of w m code ns cs) (map guard_in guards) (with_catches code.rows cs) guarded; sorted = λ (is : false ≡ true). absurd cc; asked = tt }
 

@@ -29,7 +29,7 @@ use Rattle.verify_frames.specs.declared.known_state.StateAfter.{StateAfter}
 use Rattle.verify_frames.specs.declared.known_state.KnownState.{KnownState}
 use Rattle.verify_frames.specs.KnownStates.{going, type_state}
 use Rattle.verify_frames.proofs.KnownStateLaws.{new_going, none_hold, one_holds}
-use Rattle.verify_code.specs.Walks.{GoesOn, IsKept, IsPassed, arrives, place, goes_to, fault_from}
+use Rattle.verify_code.specs.Walks.{GoesOn, IsTyped, IsPassed, arrives, place, goes_to, fault_from}
 
 -- ---- one instruction
 
@@ -39,8 +39,8 @@ pub gives_broken : {X : Type 0} (result : Result X Stop) (left : TypeState) (wan
 gives_broken result left wanted stop why h is named = subst (λ r. Leaves r left wanted) (is ∙ ap (λ x. Err x) named) h
 
 -- one that names none says what is left
-pub gives_kept : {X : Type 0} (result : Result X Stop) (left : TypeState) (wanted : Result TypeState RowWhy) (x : X) → Leaves result left wanted → result ≡ Ok x → wanted ≡ Ok left
-gives_kept result left wanted x h is = subst (λ r. Leaves r left wanted) is h
+pub gives_state : {X : Type 0} (result : Result X Stop) (left : TypeState) (wanted : Result TypeState RowWhy) (x : X) → Leaves result left wanted → result ≡ Ok x → wanted ≡ Ok left
+gives_state result left wanted x h is = subst (λ r. Leaves r left wanted) is h
 
 -- the first broken rule, where the instruction breaks one of its own
 pub broken : (env : Environment) (i : Instr) (resolution : Resolution) (entry : Option TypeState) (is_last fits : Bool) (s : TypeState) (why : RowWhy) (answer : VerifyWhy)
@@ -54,11 +54,11 @@ broken env i resolution entry is_last fits s why answer after arrived answered =
     ∙ sym answered
 
 -- the first broken rule, where it keeps its own
-pub kept : (env : Environment) (i : Instr) (resolution : Resolution) (entry : Option TypeState) (is_last fits : Bool) (s after : TypeState) (answer : Option VerifyWhy)
+pub typed : (env : Environment) (i : Instr) (resolution : Resolution) (entry : Option TypeState) (is_last fits : Bool) (s after : TypeState) (answer : Option VerifyWhy)
     → state_after env (instruction_of i resolution) s ≡ Ok after → fits ≡ arrives env i.pc entry
     → answer ≡ first_some (findings_whys (findings_at env fits (instruction_of i resolution) is_last s) (λ rule. true) (goes_to env (row i.op) i.next is_last after) (is_shallow env after))
     → first_some (state_whys env (place i resolution (Some s) entry is_last) s) ≡ answer
-kept env i resolution entry is_last fits s after answer is arrived answered =
+typed env i resolution entry is_last fits s after answer is arrived answered =
     let p = place i resolution (Some s) entry is_last in
     ap (λ r. first_some (whys_after env p s r)) is
     ∙ ap (λ b. first_some (findings_whys (findings_at env b (instruction_of i resolution) is_last s) (λ rule. true) (goes_to env (row i.op) i.next is_last after) (is_shallow env after))) (sym arrived)
@@ -86,7 +86,7 @@ pub passed_unknown : (env : Environment) (p : Placed) (b : StateAfter) → b ≡
 passed_unknown env p b e none at = subst (IsPassed env p) (sym e) (record { none = none; is = sym at; holds = none_hold env })
 
 pub passed_on : (env : Environment) (i : Instr) (resolution : Resolution) (entry : Option TypeState) (is_last : Bool) (s : TypeState) (after : KnownState) (on : Bool) (b : StateAfter)
-    → IsKept env (place i resolution (Some s) entry is_last) s after → on ≡ row_goes_on (row i.op) → b ≡ record { known = Some after; goes_on = on } → IsPassed env (place i resolution (Some s) entry is_last) b
+    → IsTyped env (place i resolution (Some s) entry is_last) s after → on ≡ row_goes_on (row i.op) → b ≡ record { known = Some after; goes_on = on } → IsPassed env (place i resolution (Some s) entry is_last) b
 passed_on env i resolution entry is_last s after on b h goes e = subst (IsPassed env (place i resolution (Some s) entry is_last)) (sym e) (record {
   none = h.none;
   is =

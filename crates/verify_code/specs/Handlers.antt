@@ -48,7 +48,7 @@ abbrev pub IsCatcher : Environment → TypeState → Option Caught → Type 0
 IsCatcher env s last = IfSome last (λ (c : Caught). catches_at env s c.handler c.catch ≡ true)
 
 -- a row asks nothing more, and this handler is known to be satisfied
-pub record IsRowKept (env : Environment) (twice : Option JudgedTwice) (pc : ℕ) (s : TypeState) (h : Handler) (last : Option Caught) : Type 0 where
+pub record IsRowJudged (env : Environment) (twice : Option JudgedTwice) (pc : ℕ) (s : TypeState) (h : Handler) (last : Option Caught) : Type 0 where
   pub keeps : keeps_more env twice pc s h ≡ true
   pub caught : IsCatcher env s last
 

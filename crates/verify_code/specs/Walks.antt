@@ -45,18 +45,18 @@ goes_to env r next is_last s = list_all (fits_target env s) (targets_of_row r) &
 
 -- the state after an instruction, or the rule of its own that it breaks
 abbrev pub IsAfter : Environment → Instruction → TypeState → After → Type 0
-IsAfter env i s (afters.Kept after) = (state_after env i s ≡ Ok (type_state after)) × Holds env after
+IsAfter env i s (afters.Typed after) = (state_after env i s ≡ Ok (type_state after)) × Holds env after
 IsAfter env i s (afters.Broken why) = state_after env i s ≡ Err why
 
 -- no rule is broken, and this is the state after the instruction
-pub record IsKept (env : Environment) (p : Placed) (s : TypeState) (after : KnownState) : Type 0 where
+pub record IsTyped (env : Environment) (p : Placed) (s : TypeState) (after : KnownState) : Type 0 where
   pub none : first_some (state_whys env p s) ≡ None
   pub is : state_after env p.instruction s ≡ Ok (type_state after)
   pub holds : Holds env after
 
 abbrev pub IsVerdict : Environment → Placed → TypeState → Verdict → Type 0
 IsVerdict env p s (verdicts.Broken why) = first_some (state_whys env p s) ≡ Some why
-IsVerdict env p s (verdicts.Kept after) = IsKept env p s after
+IsVerdict env p s (verdicts.Typed after) = IsTyped env p s after
 
 -- no rule is broken, and this state goes on
 pub record IsPassed (env : Environment) (p : Placed) (after : StateAfter) : Type 0 where

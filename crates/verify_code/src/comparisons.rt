@@ -16,7 +16,7 @@ use opcodes::{Instr, Op};
 use std::alloc::Global;
 use verify_frames::{Fitted, KnownState, Like, are_assignable};
 
-// With fewer local variables a comparison costs less than what is kept to save it.
+// With fewer local variables, a comparison costs less than it saves to know more of a state.
 const MANY: u16 = 64;
 
 /// The state after an instruction, and whether it fits where it goes.
@@ -135,7 +135,7 @@ impl<'a, L: Lookups> Environment<'a, L> {
         }
     }
 
-    /// The same state, with a frame that its local variables and its flag fit among those that are kept.
+    /// The same state, with the frame at a pc among those that its local variables and its flag are known to fit.
     pub fn with_fitted(&self, alloc: Global, s: KnownState, pc: u32) -> Result<KnownState, NoMemory>
         requires holds { Holds self.now s }
         requires fits { FitsLocals self.now (type_state s) pc }
@@ -197,7 +197,7 @@ impl<'a, L: Lookups> Environment<'a, L> {
         fits_targets && (is_last || self.fits_next(s, i))
     }
 
-    // Compares the state after an instruction, and keeps nothing more of it.
+    // Compares the state after an instruction, and learns nothing more of it.
     #[inline(always)]
     fn compared_alone(&self, s: KnownState, i: &Instr, is_last: bool) -> Compared
         requires { Holds self.now s }

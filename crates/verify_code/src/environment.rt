@@ -3,6 +3,8 @@
 ghost use Rattle.std.specs.Prelude.{◌≡◌, IfOk, MatchOption, false};
 ghost use Rattle.verify_instructions.specs.Views.{environment_in, state_in};
 ghost use Rattle.link_model.specs.Decoded.{IsDecoded};
+ghost use Rattle.verify_types.specs.Environment.{first_frame};
+ghost use Rattle.verify_frames.specs.StackMaps.{mapped};
 
 use crate::guards::{Guard, guards_of};
 use items::NoMemory;
@@ -39,6 +41,28 @@ impl<'a, L: Lookups> Model for Environment<'a, L> {
         a.are_sorted a.wanted };
 }
 
+// The frames of the stack map of a method. `None`: its bytes are no map (JVMS 4.7.4).
+fn frames_in<L: Lookups>(
+    alloc: Global,
+    world: &L,
+    method: &Method<'_>,
+) -> Result<Option<Frames>, NoMemory>
+    ensures { IfOk result (λ frames. frames ≡
+        mapped (L.world world.now) method.now.info.now method.now.code.now.max_locals
+        (first_frame (L.world world.now) method.now.info.now) method.now.code.now.map) }
+{
+    let first = first_frame(alloc, world, method.info)?;
+    let code = method.code;
+    frames_of(
+        alloc,
+        world,
+        method.info,
+        code.max_locals,
+        &first,
+        &code.map,
+    )
+}
+
 impl<'a, L: Lookups> Environment<'a, L> {
     /// The environment of a method. `None`: the bytes of its stack map are no map (JVMS 4.7.4).
     pub fn new(alloc: Global, world: &'a L, method: Method<'a>) -> Result<Option<Self>, NoMemory>
@@ -47,17 +71,8 @@ impl<'a, L: Lookups> Environment<'a, L> {
             ((environment_in (L.world world.now) method.entry).is_mapped ≡ false)
             (λ env. env ≡ environment_in (L.world world.now) method.entry)) }
     {
-        let first = first_frame(alloc, world, method.info)?;
-        let code = method.code;
-        let guards = guards_of(alloc, &code.rows, method.catches)?;
-        match frames_of(
-            alloc,
-            world,
-            method.info,
-            code.max_locals,
-            &first,
-            &code.map,
-        )? {
+        let guards = guards_of(alloc, &method.code.rows, method.catches)?;
+        match frames_in(alloc, world, &method)? {
             Some(frames) => Ok(Some(Environment {
                 world,
                 method,

@@ -9,7 +9,7 @@ use instruction_rows::RowWhy;
 use verify_types::VerifyWhy;
 
 /// What is found before an instruction is typed.
-#[derive(Clone, Copy, Debug, PartialEq, Eq)]
+#[derive(Clone, Copy)]
 pub struct Findings {
     /// Each target is one.
     pub are_targets: bool,

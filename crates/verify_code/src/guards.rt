@@ -10,14 +10,14 @@ use items::NoMemory;
 use std::alloc::{AllocError, Global};
 
 /// A row, or several of them in one, and the number of the class that its handler catches, if it names one.
-#[derive(Clone, Copy, Debug, PartialEq, Eq)]
+#[derive(Clone, Copy)]
 pub struct Guard {
     pub row: Row,
     pub catch: Option<u32>,
 }
 
 /// The pc of an exception handler, and the number of the class that it catches, if it names one.
-#[derive(Clone, Copy, Debug, PartialEq, Eq)]
+#[derive(Clone, Copy, PartialEq, Eq)]
 pub struct Caught {
     pub handler: u16,
     pub catch: Option<u32>,

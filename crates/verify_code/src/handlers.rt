@@ -9,7 +9,7 @@ ghost use Rattle.verify_instructions.specs.Views.{state_in};
 ghost use Rattle.verify_code.specs.Guards.{guard_in};
 ghost use Rattle.verify_code.specs.Satisfied.{AllTaken, AreJudged};
 ghost use Rattle.verify_code.specs.Handlers as parts;
-ghost use Rattle.verify_code.specs.Handlers.{IsCatcher, IsRowKept, handler, caught_fits, keeps_more};
+ghost use Rattle.verify_code.specs.Handlers.{IsCatcher, IsRowJudged, handler, caught_fits, keeps_more};
 ghost use Rattle.verify_frames.specs.KnownStates.{IsJudged, Holds, holds_at, type_state};
 
 use crate::asking::{asking, next_start};
@@ -24,7 +24,7 @@ use verify_frames::{Judged, KnownState, Written, holds_at, types_around};
 use verify_instructions::State;
 use verify_types::{assignable, throwable_type};
 
-// With fewer rows a comparison with all of them costs less than what is kept to save it.
+// With fewer rows, a comparison with all of them costs less than it saves to remember stores.
 const MANY: usize = 16;
 
 // Whether a pc lies in the range of a row.
@@ -105,7 +105,7 @@ impl<'a, L: Lookups> Environment<'a, L> {
         requires here { here.handler ≡ row.now.handler }
         ensures { MatchOption result
             (keeps_more self.now twice pc (type_state s.now) (handler row.now here.catch) ≡ false)
-            (IsRowKept self.now twice pc (type_state s.now) (handler row.now here.catch)) }
+            (IsRowJudged self.now twice pc (type_state s.now) (handler row.now here.catch)) }
     {
         if !is_covered(row, pc) {
             return Some(last);
@@ -138,10 +138,10 @@ impl<'a, L: Lookups> Environment<'a, L> {
         let mut last = None;
         while let Some((guard, behind)) = rest.split_first() {
             let here = guard.caught();
-            let Some(kept) = self.judge_row(twice, pc, s, last, here, &guard.row) else {
+            let Some(caught) = self.judge_row(twice, pc, s, last, here, &guard.row) else {
                 return false;
             };
-            last = kept;
+            last = caught;
             rest = behind;
         }
         true
@@ -195,7 +195,7 @@ impl<'a, L: Lookups> Environment<'a, L> {
         })
     }
 
-    // Keeps a store after which a state satisfies the handlers, if there are many.
+    // Remembers a store after which a state satisfies the handlers, if there are many.
     fn keep_store(
         &self,
         s: &KnownState,

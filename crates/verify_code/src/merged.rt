@@ -1,9 +1,12 @@
-//! Handlers that ask the same of local variables, taken together: many may have frames that share them.
+//! Handlers that ask the same of local variables, taken together: the frames of many handlers may share these.
 
 ghost use Rattle.std.specs.Prelude.{◌≡◌, ◌++◌, ◌∷◌, [], IfOk, IfSome, MatchBool, OnOk, map};
 ghost use Rattle.verify_types.specs.Environment.{Environment as Env};
 ghost use Rattle.verify_code.specs.Accepted.{row_in};
-ghost use Rattle.verify_code.specs.Guards.{AskAlike, guard_in};
+ghost use Rattle.std.specs.List.{All};
+ghost use Rattle.std.specs.List.Sorted.{IsNonDecreasingBy};
+ghost use Rattle.verify_frames.specs.Wanted.{IsAsked};
+ghost use Rattle.verify_code.specs.Guards.{AskAlike, guard_in, start_of};
 ghost use Rattle.verify_code.specs.Merged.{AreAlike, AskSame, AsksLocals, IsNamed};
 
 use crate::environment::Environment;
@@ -12,9 +15,10 @@ use class_model::Row;
 use items::NoMemory;
 use link_model::Lookups;
 use std::alloc::{AllocError, Global};
+use verify_frames::Wanted;
 use verify_types::{assignable, throwable_type};
 
-// With fewer rows, to take them together saves nothing.
+// With fewer rows, it saves nothing to take them together.
 const MANY: usize = 16;
 
 // No guard.
@@ -26,6 +30,13 @@ pub struct Merged {
     pub guards: Vec<Guard>,
     /// For each group of frames the index of the last row to one of them.
     pub last: Vec<u32>,
+}
+
+// Rows in the order of their starts, and what their handlers want of local variables, if that was found.
+#[derive(Drop)]
+struct Together {
+    guards: Vec<Guard>,
+    wanted: Option<Wanted>,
 }
 
 // The row at an index.
@@ -128,8 +139,8 @@ impl Merged {
 }
 
 impl<'a, L: Lookups> Environment<'a, L> {
-    // Whether a handler asks local variables alone: it catches exceptions, and what it catches fits the operand stack of the frame
-    // there.
+    // Whether a handler asks only of local variables: it catches exceptions, and what it catches fits the operand stack of the
+    // frame there.
     fn asks_locals(&self, c: Caught) -> bool
         ensures { MatchBool result (AsksLocals self.now c) (Unit {0}) }
     {
@@ -146,7 +157,7 @@ impl<'a, L: Lookups> Environment<'a, L> {
         frame.fits_stack(self.world, true, &[caught])
     }
 
-    // Whether two handlers are known to ask the same: local variables alone, and those of the same frame.
+    // Whether two handlers are known to ask the same: only of local variables, and of those of the same frame.
     fn are_alike(&self, a: Caught, b: Caught) -> bool
         ensures { MatchBool result (AreAlike self.now a b) (Unit {0}) }
     {
@@ -204,17 +215,29 @@ impl<'a, L: Lookups> Environment<'a, L> {
         Ok(merged)
     }
 
-    /// The same, where rows whose handlers ask the same are taken together if there are many, and what the handlers want is known.
-    pub fn with_merged(self, alloc: Global) -> Result<Self, NoMemory>
-        ensures { IfOk result (λ env. env ≡ self.entry) }
+    // The rows in the order of their starts, those whose handlers ask the same taken together, and what the handlers want.
+    fn together(&self, alloc: Global) -> Result<Together, NoMemory>
+        ensures alike { IfOk result (λ t.
+            AskSame self.now (map guard_in t.guards.items) self.now.handlers) }
+        ensures sorted { IfOk result (λ t. IsNonDecreasingBy start_of t.guards.items) }
+        ensures asked { IfOk result (λ t. IfSome t.wanted (λ wanted.
+            All (IsAsked self.now.map wanted) (map row_in t.guards.items))) }
     {
-        if self.guards.len() < MANY {
-            return Ok(self);
-        }
         let Merged { guards, last: _ } = self.merged(alloc)?;
         let guards = sorted(guards)?;
         let rows = rows_of(alloc, &guards)?;
         let wanted = self.frames.wanted(alloc, &rows)?;
+        Ok(Together { guards, wanted })
+    }
+
+    // The same environment, with these rows.
+    fn with_together(self, together: Together) -> Self
+        requires alike { AskSame self (map guard_in together.guards.items) self.handlers }
+        requires sorted { IsNonDecreasingBy start_of together.guards.items }
+        requires asked { IfSome together.wanted (λ wanted.
+            All (IsAsked self.map wanted) (map row_in together.guards.items)) }
+        ensures { result ≡ self.entry }
+    {
         let Environment {
             world,
             method,
@@ -223,13 +246,26 @@ impl<'a, L: Lookups> Environment<'a, L> {
             are_sorted: _,
             wanted: _,
         } = self;
-        Ok(Environment {
+        let Together { guards, wanted } = together;
+        Environment {
             world,
             method,
             frames,
             guards,
             are_sorted: true,
             wanted,
-        })
+        }
+    }
+
+    /// The same environment. If there are many rows, those whose handlers ask the same are taken together, and what the handlers
+    /// want is known.
+    pub fn with_merged(self, alloc: Global) -> Result<Self, NoMemory>
+        ensures { IfOk result (λ env. env ≡ self.entry) }
+    {
+        if self.guards.len() < MANY {
+            return Ok(self);
+        }
+        let together = self.together(alloc)?;
+        Ok(self.with_together(together))
     }
 }

@@ -13,6 +13,18 @@ use std::alloc::Global;
 use verify_instructions::Method;
 use verify_types::{PcFault, VerifyFault, VerifyWhy};
 
+// The first fault of a method whose stack map is one. `None`: there is none.
+fn environment_fault<L: Lookups>(
+    alloc: Global,
+    environment: Environment<'_, L>,
+) -> Result<Option<PcFault>, NoMemory>
+    ensures { IfOk result (λ fault. fault ≡ spec.method_fault environment.entry) }
+{
+    let environment = environment.with_merged(alloc)?;
+    let first = environment.first_state(alloc)?;
+    environment.first_fault(alloc, first)
+}
+
 /// The first fault of a method with code. `None`: there is none.
 pub fn method_fault<L: Lookups>(
     alloc: Global,
@@ -23,15 +35,13 @@ pub fn method_fault<L: Lookups>(
     ensures { IfOk result (λ fault. fault ≡
         spec.method_fault (environment_in (L.world world.now) method.entry)) }
 {
-    let Some(environment) = Environment::new(alloc, world, method)? else {
-        return Ok(Some(PcFault {
+    match Environment::new(alloc, world, method)? {
+        Some(environment) => environment_fault(alloc, environment),
+        None => Ok(Some(PcFault {
             pc: 0,
             why: VerifyWhy::Map,
-        }));
-    };
-    let environment = environment.with_merged(alloc)?;
-    let first = environment.first_state(alloc)?;
-    environment.first_fault(alloc, first)
+        })),
+    }
 }
 
 // The first fault of the method of a number. `None`: there is none, or no such method with code.

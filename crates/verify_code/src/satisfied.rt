@@ -1,4 +1,4 @@
-//! Stores after which the exception handlers were satisfied, so that the next store of the same types takes constant time (own).
+//! Stores after which the exception handlers were satisfied, so that the next store of the same types takes constant time.
 
 ghost use Rattle.std.specs.Prelude.{IfSome, MatchBool, OnOk};
 ghost use Rattle.std.specs.List.{All};
@@ -10,21 +10,21 @@ use items::NoMemory;
 use std::alloc::Global;
 use verify_frames::{Around, Judged, are_same, holds_at};
 
-// At most so many stores to one local variable are looked at.
+// The most stores to one local variable that are looked at.
 const MOST: usize = 1024;
 
 // No store.
 const NONE: u32 = 0xffff_ffff;
 
 /// Where two states satisfy the exception handlers. A third state satisfies those that both satisfy.
-#[derive(Clone, Copy, Debug, PartialEq, Eq)]
+#[derive(Clone, Copy)]
 pub struct JudgedTwice {
     pub one: Judged,
     pub other: Judged,
 }
 
 /// A store after which a state satisfied the exception handlers.
-#[derive(Clone, Copy, Debug, PartialEq, Eq)]
+#[derive(Clone, Copy)]
 pub struct SatisfiedStore {
     /// The local variable that was stored to.
     pub local: u16,
@@ -124,7 +124,7 @@ impl SatisfiedStores {
         taken_from(&self.stores, last_of(&self.last, local), local, around)
     }
 
-    /// Keeps a store.
+    /// Remembers a store.
     pub fn put(&mut self, local: u16, around: Around, judged: Judged) -> Result<(), NoMemory>
         ensures { OnOk result ((env : Env) → AllTaken env self.old
             → AreTaken env local around judged → AllTaken env self.new) }

@@ -42,7 +42,7 @@ pub struct Arrival {
 /// The state after an instruction, or the rule of its own that it breaks.
 #[derive(Drop)]
 pub enum After {
-    Kept(KnownState),
+    Typed(KnownState),
     Broken(RowWhy),
 }
 
@@ -50,7 +50,7 @@ pub enum After {
 #[derive(Drop)]
 pub enum Verdict {
     Broken(VerifyWhy),
-    Kept(KnownState),
+    Typed(KnownState),
 }
 
 /// The first rule that is broken at an instruction, or else the state that goes on after it.
@@ -102,7 +102,7 @@ impl<'a, L: Lookups> Environment<'a, L> {
         }
     }
 
-    // Where the state of the frame of the map at a pc satisfies the exception handlers, if its local variables are those of this
+    // Where the state of the frame of the map at a pc satisfies the exception handlers, if it shares the local variables of this
     // state.
     fn judged_over(&self, s: &KnownState, pc: u32) -> Option<Judged>
         requires { Holds self.now s.now }
@@ -284,7 +284,7 @@ impl<'a, L: Lookups> Environment<'a, L> {
         let applied = state.apply(self.world, &self.method, i.pc as u16, resolution, &i.op);
         let after = known_after(alloc, state, this_uninit, watch, like, judged, fitted)?;
         match applied {
-            Ok(()) => Ok(After::Kept(after)),
+            Ok(()) => Ok(After::Typed(after)),
             Err(stop) => Ok(After::Broken(broken_rule(stop)?)),
         }
     }
@@ -312,13 +312,13 @@ impl<'a, L: Lookups> Environment<'a, L> {
         let findings = self.findings(&s, fits, i, resolution, is_last);
         match self.after(alloc, s, i, resolution)? {
             After::Broken(why) => Ok(Verdict::Broken(findings.why_broken(why))),
-            After::Kept(after) => {
+            After::Typed(after) => {
                 let compared = self.compared(alloc, after, i, is_last)?;
                 let Compared { known, fits } = compared;
                 let is_shallow = self.is_shallow(&known.state);
                 match findings.why(fits, is_shallow) {
                     Some(why) => Ok(Verdict::Broken(why)),
-                    None => Ok(Verdict::Kept(known)),
+                    None => Ok(Verdict::Typed(known)),
                 }
             }
         }
@@ -362,7 +362,7 @@ impl<'a, L: Lookups> Environment<'a, L> {
         let s = self.judged(i.pc, s, stores)?;
         match self.judge(alloc, s, fits, i, resolution, is_last)? {
             Verdict::Broken(why) => Ok(Passage::Broken(why)),
-            Verdict::Kept(after) => Ok(Passage::On(StateAfter::new(after, goes_on(&i.op)))),
+            Verdict::Typed(after) => Ok(Passage::On(StateAfter::new(after, goes_on(&i.op)))),
         }
     }
 

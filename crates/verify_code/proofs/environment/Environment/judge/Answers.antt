@@ -7,7 +7,7 @@ use Rattle.verify_code.specs.declared.findings.Findings.{Findings}
 use Rattle.verify_code.specs.Findings.{instruction_of, findings_whys}
 use Rattle.verify_frames.specs.KnownStates.{type_state}
 use Rattle.verify_code.specs.Walks.{IsAfter}
-use Rattle.verify_code.proofs.WalkLaws.{broken, kept}
+use Rattle.verify_code.proofs.WalkLaws.{broken, typed}
 use Rattle.verify_code.proofs.environment.Environment.judge.Goals as goal
 
 pub returns-in-Broken : goal.returns-in-Broken
@@ -28,25 +28,25 @@ pub returns-in-Some : goal.returns-in-Some
 returns-in-Some g c = λ entry arrived.
     let env = c.args.self.now in
     let s = type_state c.args.s in
-    let after = subst (IsAfter env (instruction_of c.args.i.now c.args.resolution) s) c.in-Kept.is c.in_ok-why.ensures in
-    kept env c.args.i.now c.args.resolution entry c.args.is_last c.args.fits s (type_state c.in-Kept.after) c.why.result
+    let after = subst (IsAfter env (instruction_of c.args.i.now c.args.resolution) s) c.in-Typed.is c.in_ok-why.ensures in
+    typed env c.args.i.now c.args.resolution entry c.args.is_last c.args.fits s (type_state c.in-Typed.after) c.why.result
     after.0
     arrived
-    (answered c.findings-findings.result _ c.in_ok-compared-in-Kept.compared.fits _ c.is_shallow-is_shallow.result _ c.why.result c.why.ensures c.findings-findings.ensures c.in_ok-compared-in-Kept.ensures.fits
-    (c.is_shallow-is_shallow.ensures ∙ ap (λ t. is_shallow env t) c.in_ok-compared-in-Kept.ensures.same))
+    (answered c.findings-findings.result _ c.in_ok-compared-in-Typed.compared.fits _ c.is_shallow-is_shallow.result _ c.why.result c.why.ensures c.findings-findings.ensures c.in_ok-compared-in-Typed.ensures.fits
+    (c.is_shallow-is_shallow.ensures ∙ ap (λ t. is_shallow env t) c.in_ok-compared-in-Typed.ensures.same))
     ∙ c.in-Some.is
 
 pub returns-in-None : goal.returns-in-None
 returns-in-None g c = λ entry arrived.
     let env = c.args.self.now in
     let s = type_state c.args.s in
-    let after = subst (IsAfter env (instruction_of c.args.i.now c.args.resolution) s) c.in-Kept.is c.in_ok-why.ensures in
+    let after = subst (IsAfter env (instruction_of c.args.i.now c.args.resolution) s) c.in-Typed.is c.in_ok-why.ensures in
     record {
       none =
-          kept env c.args.i.now c.args.resolution entry c.args.is_last c.args.fits s (type_state c.in-Kept.after) c.why.result after.0 arrived
-          (answered c.findings-findings.result _ c.in_ok-compared-in-Kept.compared.fits _ c.is_shallow-is_shallow.result _ c.why.result c.why.ensures c.findings-findings.ensures c.in_ok-compared-in-Kept.ensures.fits
-          (c.is_shallow-is_shallow.ensures ∙ ap (λ t. is_shallow env t) c.in_ok-compared-in-Kept.ensures.same))
+          typed env c.args.i.now c.args.resolution entry c.args.is_last c.args.fits s (type_state c.in-Typed.after) c.why.result after.0 arrived
+          (answered c.findings-findings.result _ c.in_ok-compared-in-Typed.compared.fits _ c.is_shallow-is_shallow.result _ c.why.result c.why.ensures c.findings-findings.ensures c.in_ok-compared-in-Typed.ensures.fits
+          (c.is_shallow-is_shallow.ensures ∙ ap (λ t. is_shallow env t) c.in_ok-compared-in-Typed.ensures.same))
           ∙ c.in-None.is;
-      is = after.0 ∙ ap (λ t. Ok t) (sym c.in_ok-compared-in-Kept.ensures.same);
-      holds = c.in_ok-compared-in-Kept.ensures.holds;
+      is = after.0 ∙ ap (λ t. Ok t) (sym c.in_ok-compared-in-Typed.ensures.same);
+      holds = c.in_ok-compared-in-Typed.ensures.holds;
     }

@@ -11,6 +11,5 @@ pub invariant_of-result : goal.invariant_of-result
 invariant_of-result g c =
     let method = c.args.method in
     has_frames (g.L.Lookups.world c.args.world.now) method.info.now method.code.now (meanings method.resolutions) method.catches.now
-    c.in_ok-first.first c.deref-2.result.now c.in-Some.frames c.in_ok-guards.guards.items
-    c.in_ok-first.ensures c.deref-2.ensures (sym c.in-Some.is ∙ c.in_ok-frames.ensures) c.requires
+    c.in-Some.frames c.in_ok-guards.guards.items (sym c.in-Some.is ∙ c.in_ok-frames.ensures) c.requires
     (subst (λ (rs : List Row). AskAlike (map guard_in c.in_ok-guards.guards.items) (with_catches rs method.catches.now)) c.deref.ensures c.in_ok-guards.ensures)

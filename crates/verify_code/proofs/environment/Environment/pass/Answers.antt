@@ -14,15 +14,15 @@ returns-in_default-clause-passage g c = λ entry arrived.
     subst (λ (o : Option KnownState). IsPassage c.args.self.now (place c.args.i.now c.args.resolution (option_map type_state o) entry c.args.is_last) c.pass_unknown.result)
     (sym c.in_default.is) (c.pass_unknown.ensures c.args.resolution entry c.args.is_last)
 
-pub returns-in-Kept-clause-passage : goal.returns-in-Kept-clause-passage
-returns-in-Kept-clause-passage g c = λ entry arrived.
+pub returns-in-Typed-clause-passage : goal.returns-in-Typed-clause-passage
+returns-in-Typed-clause-passage g c = λ entry arrived.
     let env = c.args.self.now in
     let i = c.args.i.now in
     let s = type_state c.in-Some.s in
     let At : TypeState → Verdict → Type 0 = λ t v. IsVerdict env (place i c.args.resolution (Some t) entry c.args.is_last) t v in
-    let kept = subst (At s) c.in-Kept.is (subst (λ t. At t c.in_ok-why.field-0) c.in_ok-s.ensures.same (c.in_ok-why.ensures entry arrived)) in
+    let on = subst (At s) c.in-Typed.is (subst (λ t. At t c.in_ok-why.field-0) c.in_ok-s.ensures.same (c.in_ok-why.ensures entry arrived)) in
     subst (λ (o : Option KnownState). IsPassed env (place i c.args.resolution (option_map type_state o) entry c.args.is_last) c.new.result) (sym c.in-Some.is)
-    (passed_on env i c.args.resolution entry c.args.is_last s c.in-Kept.after c.goes_on.result c.new.result kept c.goes_on.ensures c.new.ensures)
+    (passed_on env i c.args.resolution entry c.args.is_last s c.in-Typed.after c.goes_on.result c.new.result on c.goes_on.ensures c.new.ensures)
 
 pub returns-in-Broken-clause-passage : goal.returns-in-Broken-clause-passage
 returns-in-Broken-clause-passage g c = λ entry arrived.
