@@ -1,5 +1,5 @@
 -- The kinds of values (JVMS 2.11.1): int, long and reference. boolean, byte, char and short are ints. float and
--- double have no kind, since no instruction makes one (own).
+-- double have no kind, since no instruction makes one.
 use Rattle.std.specs.Prelude.{Bool, true, false, ℕ, ℤ, List, [], ◌∷◌, Option, Some, None}
 use Rattle.opcodes.specs.declared.op.ValueKind.{ValueKind}
 use Rattle.opcodes.specs.declared.op.ValueKind.TheVariants as kinds

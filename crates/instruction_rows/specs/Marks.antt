@@ -1,5 +1,5 @@
--- Which instructions are local: they read and write the frames of their thread alone, and no other thread can tell
--- when they run (own).
+-- Which instructions are local: they read and write only the frames of their thread, and no other thread can tell
+-- when they run.
 use Rattle.std.specs.Prelude.{◌≡◌, Bool, true, false, IsTrue, List, ◌∷◌, None}
 use Rattle.opcodes.specs.declared.op.Op.{Op}
 use Rattle.opcodes.specs.declared.op.Op.TheVariants as ops
@@ -131,12 +131,12 @@ has_zero_divisor (ops.Simple (simples.LongBinary longs.Div)) stack = is_zero_lon
 has_zero_divisor (ops.Simple (simples.LongBinary longs.Rem)) stack = is_zero_long_on stack
 has_zero_divisor op stack = false
 
--- a row of slots alone
+-- a row that reads and writes only slots
 pub record IsLocal (r : Row) : Type 0 where
   pub act : LocalRow
   pub is : r ≡ local act
 
--- a row of slots alone that never divides by 0
+-- a row that reads and writes only slots and never divides by 0
 pub record IsAlwaysLocal (r : Row) : Type 0 where
   pub act : LocalRow
   pub is : r ≡ local act
@@ -175,7 +175,7 @@ HasMark absent r = IsTrue (is_refused r)
 abbrev pub RowsAreMarked : Type 0
 RowsAreMarked = (op : Op) → HasMark (mark op) (row op)
 
--- A row of slots alone divides by 0 exactly where its instruction has a zero divisor, and is undefined there.
+-- A row that reads and writes only slots divides by 0 exactly where its instruction has a zero divisor, and is undefined there.
 abbrev pub RowsDivideByZero : Type 0
 RowsDivideByZero = (op : Op) (r : LocalRow) (c : Contents Slot) → row op ≡ local r
     → (divides_by_zero r c ≡ has_zero_divisor op c.stack) × (divides_by_zero r c ≡ true → acted r c ≡ None)

@@ -3,7 +3,7 @@ ghost use Rattle.instruction_rows.specs.Comparisons.{compares};
 
 use opcodes::Comparison;
 
-/// Whether `a` compares so with `b` (JVMS 6.5: if<cond>, if_icmp<cond>).
+/// Whether `a` stands in this order to `b` (JVMS 6.5: if<cond>, if_icmp<cond>).
 pub fn compares(order: Comparison, a: i32, b: i32) -> bool
     ensures { result ≡ compares order a b }
 {

@@ -11,7 +11,7 @@ pub fn rows_keep_kinds()
     ensures sound { RowsAreSound }
 {}
 
-/// The row of each instruction is one of slots alone exactly where the instruction is marked local (own). Such a row
+/// An instruction is marked local exactly where its row reads and writes only slots. Such a row
 /// divides by 0 exactly where its instruction is idiv, irem, ldiv or lrem and the divisor on the stack is 0; it is
 /// undefined there.
 pub fn rows_are_marked()

@@ -1,3 +1,5 @@
+//! Kinds and widths of verification types (JVMS 2.11.1, 4.10.1.2).
+
 ghost use Rattle.std.specs.Prelude.{◌≡◌};
 ghost use Rattle.instruction_rows.specs.Kinds.{kind_of_type};
 ghost use Rattle.instruction_rows.specs.Contents.{is_wide, is_narrow};

@@ -20,7 +20,7 @@ pub struct Node {
 // With more types on two paths that aren't on both, no common node is looked for.
 const NEAR: u8 = 16;
 
-/// Paths of types, each from a node down to the first, which has none. The nodes have numbers from 0 on (own).
+/// Paths of types, each from a node down to the first, which has none. The nodes have numbers from 0 on.
 #[derive(Drop)]
 pub struct Paths {
     nodes: Vec<Node>,
@@ -38,7 +38,7 @@ impl Model for Paths {
 }
 
 impl Paths {
-    /// The first node alone. This takes no memory.
+    /// Only the first node. This takes no memory.
     pub fn new(alloc: Global) -> Self
         ensures { result ≡ root }
     {
@@ -157,7 +157,7 @@ impl Paths {
         }
     }
 
-    /// The node so many types below one.
+    /// The node that lies this many types below one.
     pub fn chopped(&self, n: usize, dropped: u8) -> usize
         ensures { (p : Types) → IsPath self.now n p → IsPath self.now result (drop dropped p) }
     {

@@ -1,4 +1,4 @@
--- What is kept beside the tables of a method.
+-- What an environment has beside the tables of its method.
 use Rattle.std.specs.Prelude.{◌≡◌, ℕ, ◌<◌, ◌^◌, Bool, true, IfSome, List, Option, [], ◌∷◌, map}
 use Rattle.std.specs.List.{All}
 use Rattle.std.specs.List.Sorted.{IsNonDecreasingBy}

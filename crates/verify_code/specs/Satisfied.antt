@@ -29,7 +29,7 @@ pub record AreTaken (env : Environment) (local : ℕ) (types : Around) (j : Judg
 abbrev pub IsTaken : Environment → SatisfiedStore → Type 0
 IsTaken env s = AreTaken env s.local s.around s.judged
 
--- all that is kept of stores is so
+-- so are all stores that are remembered
 abbrev pub AllTaken : Environment → SatisfiedStores → Type 0
 AllTaken env s = All (IsTaken env) s.stores.items
 

@@ -1,4 +1,4 @@
--- What is kept of frames, by rising pc.
+-- The entries of a stack map, by rising pc.
 use Rattle.std.specs.Prelude.{ℕ, ◌+◌, ◌≤◌, Bool, List, [], ◌∷◌, Option, Some, None, drop, find, nat_le, nat_lt, ◌==◌, ◌&&◌, ◌||◌, if◌then◌else◌}
 use Rattle.std.specs.List.{prefix_len}
 use Rattle.verify_frames.specs.declared.frame_paths.Entry.{Entry}

@@ -27,7 +27,7 @@ onto w class p (t ∷ ts) = onto w class (resolve w class t ∷ p) ts
 abbrev pub path_of : World → ℕ → List VType → Path
 path_of w class ts = onto w class [] ts
 
--- this is kept of the frame at a pc with these types
+-- the entry of the frame at a pc with these types
 pub record IsEntry (w : World) (class : ℕ) (paths : List Path) (e : Entry) (f : ℕ × FrameTypes) : Type 0 where
   pub pc : e.pc ≡ f.0
   pub locals : IsPath paths e.locals (path_of w class f.1.locals)

@@ -1,4 +1,4 @@
--- The frames of a stack map by rising pc, as they are kept.
+-- The frames of a stack map by rising pc, as `Frames` holds them.
 use Rattle.std.specs.Prelude.{ℕ, Bool, List, Option, map, find, nat_lt, ◌==◌, ◌&&◌, ◌||◌}
 use Rattle.verify_types.specs.Environment.{MapFrame}
 use Rattle.verify_frames.specs.Entries as entries
@@ -14,7 +14,7 @@ frame_in f = entry_in f.paths.now f.is_constructor f.max_locals f.entry
 abbrev pub frames_in : Inside → List MapFrame
 frames_in a = map (entry_in a.paths a.is_constructor a.max_locals) a.entries.items
 
--- the frames lie at rising pcs, and the flags and what is further down are those of the paths
+-- the frames lie at rising pcs, and the flags and the skips are those of the paths
 pub record AreKept (a : Inside) : Type 0 where
   pub rising : entries.AreRising a.entries.items
   pub flagged : AreFlagged a.paths a.flags.items

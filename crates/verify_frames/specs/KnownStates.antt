@@ -115,7 +115,7 @@ FitAll env s fitted = IfSome fitted (AllFit env s)
 abbrev pub MayFit : Environment → TypeState → Option ℕ → Type 0
 MayFit env s fitted = IfSome fitted (FitsLocals env s)
 
--- what is kept with the state is true of it
+-- what is known of the state is true
 pub record Holds (env : Environment) (s : KnownState) : Type 0 where
   pub like : MayBeLike env s.like (type_state s)
   pub judged : IfSome s.judged (IsJudged env (type_state s))

@@ -60,27 +60,27 @@ pub record IsNoted (pc : ℕ) (os : List Overwritten) (l : Like) : Type 0 where
   pub at : l.pc ≡ pc
   pub noted : l.overwritten.items ≡ os
 
--- whether an instruction changes the operand stack alone
+-- whether an instruction leaves the local variables as they are
 abbrev pub keeps_locals : Op → Bool
 keeps_locals (ops.Store kind n) = false
 keeps_locals (ops.InvokeSpecial index) = false
 keeps_locals (ops.New index) = false
 keeps_locals op = true
 
--- whether an instruction makes an object, or may finish one
+-- whether an instruction creates an object, or may initialize one
 abbrev pub finishes : Op → Bool
 finishes (ops.InvokeSpecial index) = true
 finishes (ops.New index) = true
 finishes op = false
 
--- what may be overwritten at the slots of unfinished objects is noted
+-- what may be overwritten at the slots of uninitialized objects is noted
 pub record NotedAll (before : Like) (locals : List VType) (l : Like) : Type 0 where
   pub slots : List ℕ
   pub listed : AreListed slots locals
   pub noted : IsNoted before.pc (noting_all locals slots before.overwritten.items) l
 
 -- what was overwritten since the same frame and after an instruction, which changes no local variable, or stores to one, or changes
--- the types of unfinished objects
+-- the types of uninitialized objects
 pub data NotedBehind (op : Op) (locals : List VType) (like : Option Like) (l : Like) : Type 0 where
   leaves : keeps_locals op ≡ true → like ≡ Some l → NotedBehind op locals like l
   stores : (kind : ValueKind) (n : ℕ) (before : Like) → op ≡ ops.Store kind n → like ≡ Some before

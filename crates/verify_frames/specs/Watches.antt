@@ -10,7 +10,7 @@ use Rattle.verify_frames.specs.declared.watch.Watch.TheVariants as watches
 use Rattle.verify_frames.specs.Overwrites.{AllWere, around, finishes, keeps_locals, noting_all}
 use Rattle.verify_frames.specs.declared.overwritten.Overwritten.{Overwritten}
 
--- an instruction changes the operand stack alone, or finishes no object of a local variable
+-- an instruction changes only the operand stack, or initializes no object of a local variable
 pub data Keeps (op : Op) (locals : List VType) : Type 0 where
   stack_alone : keeps_locals op ≡ true → Keeps op locals
   no_object : finishes op ≡ true → AreListed [] locals → Keeps op locals
@@ -20,13 +20,13 @@ pub record Stores (op : Op) (n : ℕ) : Type 0 where
   pub kind : ValueKind
   pub is : op ≡ ops.Store kind n
 
--- these are all local variables of unfinished objects
+-- these are all local variables of uninitialized objects
 pub record AreObjects (locals : List VType) (os : List Overwritten) : Type 0 where
   pub slots : List ℕ
   pub listed : AreListed slots locals
   pub noted : os ≡ noting_all locals slots []
 
--- this is known of an instruction that makes or finishes an object, and of the local variables before it
+-- this is known of an instruction that creates or initializes an object, and of the local variables before it
 abbrev pub WatchesObjects : List VType → Watch → Type 0
 WatchesObjects locals watches.Kept = AreListed [] locals
 WatchesObjects locals (watches.Store n was) = ⊥

@@ -1,4 +1,4 @@
--- What an answer of the verifier says of a definition that may be refused.
+-- What a result of the verifier says of a definition that may refuse.
 use Rattle.std.specs.Prelude.{◌≡◌, Result, Ok, Err}
 use Rattle.instruction_rows.specs.declared.row_why.RowWhy.{RowWhy}
 use Rattle.verify_instructions.specs.declared.stop.Stop.{Stop}

@@ -1,4 +1,4 @@
--- The types of local variables as they are kept.
+-- The types of local variables, as `Locals` holds them.
 use Rattle.std.specs.Prelude.{List}
 use Rattle.stack_maps.specs.declared.types.VType.{VType}
 use Rattle.verify_instructions.specs.declared.locals.Locals.TheInside.{Inside}

@@ -1,4 +1,4 @@
--- The types of an operand stack as they are kept.
+-- The types of an operand stack, as `OperandStack` holds them.
 use Rattle.std.specs.Prelude.{List, reverse}
 use Rattle.stack_maps.specs.declared.types.VType.{VType}
 use Rattle.verify_instructions.specs.Marks.{AreMarkedWhere}

@@ -17,7 +17,7 @@ type_at locals slot = get_or locals slot types.Top
 abbrev pub is_listed : List ℕ → ℕ → Bool
 is_listed slots slot = list_any (λ n. n == slot) slots
 
--- each slot of an unfinished object is among these
+-- each slot of an uninitialized object is among these
 pub record AreListed (slots : List ℕ) (locals : List VType) : Type 0 where
   pub all : (slot : ℕ) → is_unfinished (type_at locals slot) ≡ true → is_listed slots slot ≡ true
 

@@ -1,4 +1,4 @@
--- The types that a frame has as it is verified, and the state that they are part of.
+-- The definitions' view of types, states and methods.
 use Rattle.std.specs.Prelude.{Bool}
 use Rattle.link_model.specs.Resolutions.{meanings}
 use Rattle.stack_maps.specs.declared.types.VType.{VType}

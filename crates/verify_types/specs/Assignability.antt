@@ -11,7 +11,7 @@ use Rattle.link_model.specs.World.{World, class_count}
 pub use Rattle.link_model.specs.Subtypes.{is_number, is_named, is_object, is_above_arrays, is_array_super}
 
 -- A class to itself, to its superclasses, and to every interface. A class that isn't in the program, named by a descriptor or a
--- map alone, counts as one whose only superclass is Object. (own)
+-- map alone, counts as one whose only superclass is Object.
 abbrev pub class_assignable : World → ℕ → ℕ → Bool
 class_assignable w a b =
     a == b || is_interface w.program b || is_below w.program a b || (nat_le (class_count w) a && is_object w b)

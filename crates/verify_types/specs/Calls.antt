@@ -44,7 +44,7 @@ arguments_taken w m stack = all_wanted w (argument_types w m.signature) stack
 abbrev pub result_pushed : World → MethodInfo → List VType → List VType
 result_pushed w m stack = option_map_or (λ kind. type_pushed (type_of_kind w kind) stack) m.signature.result stack
 
--- ---- initialization of an object (JVMS 4.10.1.9: invokespecial; in part own)
+-- ---- initialization of an object (JVMS 4.10.1.9: invokespecial)
 
 -- the pc lies in the range of the row
 abbrev pub covers : ℕ → Handler → Bool
@@ -67,7 +67,7 @@ abbrev pub may_initialize_new : Environment → ℕ → ℕ → Bool
 may_initialize_new env new class = is_new_of env new class
 
 -- The class named is that whose constructor runs, or its superclass. In the range of a row of the exception table this is
--- refused. (own)
+-- refused.
 abbrev pub may_initialize_this : Environment → ℕ → ℕ → Bool
 may_initialize_this env pc class =
     (class == env.method.class || is_number (parent_of env.world.program env.method.class) class) && not (is_covered env pc)

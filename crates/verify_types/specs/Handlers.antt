@@ -26,7 +26,7 @@ fits_frame env s f = option_map_or (fits env.world s) f.state true
 abbrev pub caught_type : World → Option ℕ → VType
 caught_type w catch = option_map_or (class_type w) catch (throwable_type w)
 
--- the state at a handler: the local variables before the instruction that throws, and the exception alone on the stack
+-- the state at a handler: the local variables before the instruction that throws, and only the exception on the stack
 abbrev pub caught : World → Handler → TypeState → TypeState
 caught w h s = with_stack s (caught_type w h.catch ∷ [])
 

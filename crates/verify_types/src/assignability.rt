@@ -1,3 +1,5 @@
+//! Which verification types are assignable to which (JVMS 4.10.1.2).
+
 ghost use Rattle.std.specs.Prelude.{◌≡◌};
 ghost use Rattle.verify_types.specs.Assignability as spec;
 
@@ -75,7 +77,7 @@ fn named_assignable<L: Lookups>(w: &L, m: u8, a: Base, n: u8, b: Base) -> bool
 }
 
 /// Whether a value of type `a` may stand for one of type `b` (JVMS 4.10.1.2). Constants of a pool are resolved first: an
-/// `Object` is assignable to Top alone.
+/// `Object` is assignable only to Top.
 pub fn assignable<L: Lookups>(w: &L, a: VType, b: VType) -> bool
     ensures { result ≡ spec.assignable (L.world w.now) a b }
 {

@@ -1,3 +1,5 @@
+//! The verification types of classes, fields, constants and descriptors (JVMS 4.3.2, 4.10.1.2).
+
 ghost use Rattle.std.specs.Prelude.{◌≡◌};
 ghost use Rattle.verify_types.specs.ClassTypes as spec;
 
