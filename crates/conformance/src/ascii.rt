@@ -16,8 +16,3 @@ pub(crate) fn units_of(alloc: Global, text: &[u8]) -> Result<Vec<u16>, AllocErro
     append(&mut units, text)?;
     Ok(units)
 }
-
-/// Whether the units are those of the text.
-pub(crate) fn is_text(units: &[u16], text: &str) -> bool {
-    units.iter().copied().eq(text.bytes().map(u16::from))
-}

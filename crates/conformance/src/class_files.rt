@@ -58,62 +58,6 @@ fn a_file_that_is_cut_is_short_where_its_last_field_begins(rt: HostRuntime) -> R
     Ok(())
 }
 
-// The class as javac writes it, with the name of its source file.
-fn with_source_file(alloc: Global) -> Result<Vec<u8>, AllocError> {
-    let mut bytes = Vec::from_slice(alloc, &PRINTS_42[..8])?;
-    bytes.extend_from_slice(b"\x00\x16")?;
-    bytes.extend_from_slice(&PRINTS_42[10..192])?;
-    bytes.extend_from_slice(b"\x01\x00\x0aSourceFile")?;
-    bytes.extend_from_slice(b"\x01\x00\x06A.java")?;
-    bytes.extend_from_slice(&PRINTS_42[192..239])?;
-    bytes.extend_from_slice(b"\x00\x01\x00\x14\x00\x00\x00\x02\x00\x15")?;
-    Ok(bytes)
-}
-
-// The file with other bytes at these offsets.
-fn changed(alloc: Global, file: &[u8], changes: &[(usize, u8)]) -> Result<Vec<u8>, AllocError> {
-    let mut bytes = Vec::from_slice(alloc, file)?;
-    for (offset, byte) in changes {
-        if *offset < bytes.len() {
-            bytes[*offset] = *byte;
-        }
-    }
-    Ok(bytes)
-}
-
-#[test]
-fn the_first_failing_check_is_named(rt: HostRuntime) -> Result<(), Fail> {
-    let mut longer = Vec::from_slice(rt.alloc(), &PRINTS_42)?;
-    longer.push(0)?;
-    let variant = with_source_file(rt.alloc())?;
-    let (a, v) = (PRINTS_42.as_slice(), variant.as_slice());
-    let table: [(&[u8], &[(usize, u8)], u32, ClassWhy); 16] = [
-        (longer.as_slice(), &[], 241, ClassWhy::Trailing),
-        (a, &[(0, 0)], 0, ClassWhy::Magic),
-        (a, &[(7, 50)], 4, ClassWhy::Version),
-        (a, &[(7, 70)], 4, ClassWhy::Version),
-        (a, &[(8, 0), (9, 0)], 8, ClassWhy::Count),
-        (a, &[(13, 0)], 13, ClassWhy::Utf8),
-        (a, &[(13, b'.')], 15, ClassWhy::Name),
-        (a, &[(14, 2)], 14, ClassWhy::Tag),
-        (a, &[(15, 0), (16, 0)], 15, ClassWhy::Index),
-        (a, &[(179, b'Q')], 185, ClassWhy::Descriptor),
-        (a, &[(196, 0), (197, 0)], 196, ClassWhy::Index),
-        (a, &[(214, 255)], 214, ClassWhy::Length),
-        (a, &[(217, 0x14)], 214, ClassWhy::Length),
-        (a, &[(225, 0)], 222, ClassWhy::Length),
-        (v, &[(265, 255)], 269, ClassWhy::Short),
-        (v, &[(268, 1)], 270, ClassWhy::Trailing),
-    ];
-    for (file, changes, at, why) in table {
-        let bytes = changed(rt.alloc(), file, changes)?;
-        assert!(rt; bytes.len() < 1000);
-        let refusal = read(rt.alloc(), &bytes).err();
-        assert_eq!(rt; refusal, Some(ReadError::Bad { at, why }));
-    }
-    Ok(())
-}
-
 #[test]
 fn a_file_is_read(rt: HostRuntime) -> Result<(), Fail> {
     let file = read(rt.alloc(), &PRINTS_42)?;

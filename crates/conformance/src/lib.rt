@@ -1,9 +1,7 @@
-//! Tests of the public calls of all libraries, with values from the standard and from other tools. They are in a crate of
-//! their own, since a crate with tests is proved twice.
+//! Tests of those public calls of the libraries that no run of `jvt` shows, with values from the standard and from other tools. They are
+//! in a crate of their own, since a crate with tests is proved twice.
 #![tactic(auto)]
 
-#[cfg(test)]
-mod arithmetic;
 #[cfg(test)]
 mod ascii;
 #[cfg(test)]
@@ -11,31 +9,17 @@ mod built_in_classes;
 #[cfg(test)]
 mod class_files;
 #[cfg(test)]
-mod class_sketch;
-#[cfg(test)]
-mod code_sketch;
-#[cfg(test)]
 mod counted;
 #[cfg(test)]
 mod edges;
 #[cfg(test)]
-mod first_states;
-#[cfg(test)]
 mod instructions;
-#[cfg(test)]
-mod linking;
 #[cfg(test)]
 mod member_types;
 #[cfg(test)]
 mod memory;
 #[cfg(test)]
-mod mnemonics;
-#[cfg(test)]
-mod native_texts;
-#[cfg(test)]
 mod permits;
-#[cfg(test)]
-mod runs;
 #[cfg(test)]
 mod sleepers;
 #[cfg(test)]
@@ -48,7 +32,5 @@ mod texts;
 mod thread_states;
 #[cfg(test)]
 mod traces;
-#[cfg(test)]
-mod typing;
 #[cfg(test)]
 mod waiting_threads;

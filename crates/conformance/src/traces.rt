@@ -64,92 +64,94 @@ fn count_of(alloc: Global, text: &[u8]) -> Result<usize, TraceError> {
     Ok(entries.len())
 }
 
-const fn bad(line: u32) -> Result<usize, TraceError> {
-    Err(TraceError::Bad { line })
-}
-
-// Each text is read as so many entries, or refused so.
-fn expect_counts(rt: &impl Abort, alloc: Global, table: &[(&[u8], Result<usize, TraceError>)]) {
-    for (text, outcome) in table {
-        assert_eq!(rt; count_of(alloc, text), *outcome);
+// So many entries, or the first bad line.
+fn outcome(wanted: Result<usize, u32>) -> Result<usize, TraceError> {
+    match wanted {
+        Ok(count) => Ok(count),
+        Err(line) => Err(TraceError::Bad { line }),
     }
 }
 
-#[test]
-fn first_lines_are_read_or_refused(rt: HostRuntime) {
-    let table: [(&[u8], Result<usize, TraceError>); 14] = [
-        (b"", bad(1)),
-        (b"X\n", bad(1)),
-        (b"\njvt-trace carriers 1\nend 0\n", bad(1)),
-        (b"jvt-trace carriers 1", bad(1)),
-        (b"jvt-trace carriers\nend 0\n", bad(1)),
-        (b"jvt-trace carriers 1 \nend 0\n", bad(1)),
-        (b"jvt-trace carriers 01\nend 0\n", bad(1)),
-        (b"jvt-trace carriers +1\nend 0\n", bad(1)),
-        (b"jvt-trace carriers 1\r\nend 0\r\n", bad(1)),
-        (b"jvt-trace carriers 4294967296\nend 0\n", bad(1)),
-        (b"jvt-trace carriers 99999999999999999999\nend 0\n", bad(1)),
-        (b"jvt-trace carriers 4294967295\nend 0\n", Ok(0)),
-        (b"jvt-trace carriers 0\nend 0\n", Ok(0)),
-        (b"end 0\n", bad(1)),
-    ];
-    expect_counts(&rt, rt.alloc(), &table);
+// Each text is read as so many entries, or its first bad line is named.
+fn expect_counts(rt: &impl Abort, alloc: Global, table: &[(&[u8], Result<usize, u32>)]) {
+    for (text, wanted) in table {
+        assert_eq!(rt; count_of(alloc, text), outcome(*wanted));
+    }
 }
 
-#[test]
-fn lines_of_entries_are_read_or_refused(rt: HostRuntime) {
-    let table: [(&[u8], Result<usize, TraceError>); 20] = [
-        (b"jvt-trace carriers 1\nS 0 0 0 -\nend 1\n", bad(2)),
-        (b"jvt-trace carriers 1\nS 0 0 1\nend 1\n", bad(2)),
-        (b"jvt-trace carriers 1\nS 0 0 1 - \nend 1\n", bad(2)),
-        (b"jvt-trace carriers 1\nS 0 0 1 --\nend 1\n", bad(2)),
-        (b"jvt-trace carriers 1\nS 0 0 1 4294967296\nend 1\n", bad(2)),
-        (b"jvt-trace carriers 1\nS 0 0 1 4294967295\nend 1\n", Ok(1)),
-        (b"jvt-trace carriers 1\nS 0 0 4294967296 -\nend 1\n", bad(2)),
-        (b"jvt-trace carriers 1\nM 0 4294967296\nend 1\n", bad(2)),
-        (b"jvt-trace carriers 1\nM 0\nend 1\n", bad(2)),
-        (b"jvt-trace carriers 1\nM 0 0 0\nend 1\n", bad(2)),
-        (b"jvt-trace carriers 1\nm 0 0\nend 1\n", bad(2)),
-        (b"jvt-trace carriers 1\n M 0 0\nend 1\n", bad(2)),
-        (b"jvt-trace carriers 1\n\xff 0 0\nend 1\n", bad(2)),
-        (b"jvt-trace carriers 1\nM 0 0\r\nend 1\n", bad(2)),
-        (
-            b"jvt-trace carriers 1\nC 0 18446744073709551615\nend 1\n",
-            Ok(1),
-        ),
-        (
-            b"jvt-trace carriers 1\nC 0 18446744073709551616\nend 1\n",
-            bad(2),
-        ),
-        (b"jvt-trace carriers 1\n\nend 0\n", bad(2)),
-        (b"jvt-trace carriers 1\nM 0 0\nM 0  0\nend 2\n", bad(3)),
-        (
-            b"jvt-trace carriers 1\nM 0 0\nU 0 0\nM 00 0\nend 3\n",
-            bad(4),
-        ),
-        (b"jvt-trace carriers 1\nM 0 0\nU 0 0\nC 0 1\nend 3\n", Ok(3)),
-    ];
-    expect_counts(&rt, rt.alloc(), &table);
-}
+// Texts by their first lines.
+const FIRST_LINES: [(&[u8], Result<usize, u32>); 14] = [
+    (b"", Err(1)),
+    (b"X\n", Err(1)),
+    (b"\njvt-trace carriers 1\nend 0\n", Err(1)),
+    (b"jvt-trace carriers 1", Err(1)),
+    (b"jvt-trace carriers\nend 0\n", Err(1)),
+    (b"jvt-trace carriers 1 \nend 0\n", Err(1)),
+    (b"jvt-trace carriers 01\nend 0\n", Err(1)),
+    (b"jvt-trace carriers +1\nend 0\n", Err(1)),
+    (b"jvt-trace carriers 1\r\nend 0\r\n", Err(1)),
+    (b"jvt-trace carriers 4294967296\nend 0\n", Err(1)),
+    (b"jvt-trace carriers 99999999999999999999\nend 0\n", Err(1)),
+    (b"jvt-trace carriers 4294967295\nend 0\n", Ok(0)),
+    (b"jvt-trace carriers 0\nend 0\n", Ok(0)),
+    (b"end 0\n", Err(1)),
+];
+
+// Texts by their lines of entries.
+const ENTRIES: [(&[u8], Result<usize, u32>); 20] = [
+    (b"jvt-trace carriers 1\nS 0 0 0 -\nend 1\n", Err(2)),
+    (b"jvt-trace carriers 1\nS 0 0 1\nend 1\n", Err(2)),
+    (b"jvt-trace carriers 1\nS 0 0 1 - \nend 1\n", Err(2)),
+    (b"jvt-trace carriers 1\nS 0 0 1 --\nend 1\n", Err(2)),
+    (b"jvt-trace carriers 1\nS 0 0 1 4294967296\nend 1\n", Err(2)),
+    (b"jvt-trace carriers 1\nS 0 0 1 4294967295\nend 1\n", Ok(1)),
+    (b"jvt-trace carriers 1\nS 0 0 4294967296 -\nend 1\n", Err(2)),
+    (b"jvt-trace carriers 1\nM 0 4294967296\nend 1\n", Err(2)),
+    (b"jvt-trace carriers 1\nM 0\nend 1\n", Err(2)),
+    (b"jvt-trace carriers 1\nM 0 0 0\nend 1\n", Err(2)),
+    (b"jvt-trace carriers 1\nm 0 0\nend 1\n", Err(2)),
+    (b"jvt-trace carriers 1\n M 0 0\nend 1\n", Err(2)),
+    (b"jvt-trace carriers 1\n\xff 0 0\nend 1\n", Err(2)),
+    (b"jvt-trace carriers 1\nM 0 0\r\nend 1\n", Err(2)),
+    (
+        b"jvt-trace carriers 1\nC 0 18446744073709551615\nend 1\n",
+        Ok(1),
+    ),
+    (
+        b"jvt-trace carriers 1\nC 0 18446744073709551616\nend 1\n",
+        Err(2),
+    ),
+    (b"jvt-trace carriers 1\n\nend 0\n", Err(2)),
+    (b"jvt-trace carriers 1\nM 0 0\nM 0  0\nend 2\n", Err(3)),
+    (
+        b"jvt-trace carriers 1\nM 0 0\nU 0 0\nM 00 0\nend 3\n",
+        Err(4),
+    ),
+    (b"jvt-trace carriers 1\nM 0 0\nU 0 0\nC 0 1\nend 3\n", Ok(3)),
+];
+
+// Texts by their last lines.
+const LAST_LINES: [(&[u8], Result<usize, u32>); 13] = [
+    (b"jvt-trace carriers 1\n", Err(2)),
+    (b"jvt-trace carriers 1\nM 0 0\n", Err(3)),
+    (b"jvt-trace carriers 1\nM 0 0", Err(2)),
+    (b"jvt-trace carriers 1\nend 0", Err(2)),
+    (b"jvt-trace carriers 1\nend 0\r\n", Err(2)),
+    (b"jvt-trace carriers 1\nend 00\n", Err(2)),
+    (b"jvt-trace carriers 1\nend 1\n", Err(2)),
+    (b"jvt-trace carriers 1\nM 0 0\nend 0\n", Err(3)),
+    (b"jvt-trace carriers 1\nM 0 0\nend 2\n", Err(3)),
+    (b"jvt-trace carriers 1\nend 0\n\n", Err(3)),
+    (b"jvt-trace carriers 1\nend 0\nend 0\n", Err(3)),
+    (b"jvt-trace carriers 1\nend 0\nM 0 0\n", Err(3)),
+    (b"jvt-trace carriers 1\nM 0 0\nend 1\nX", Err(4)),
+];
 
 #[test]
-fn last_lines_are_read_or_refused(rt: HostRuntime) {
-    let table: [(&[u8], Result<usize, TraceError>); 13] = [
-        (b"jvt-trace carriers 1\n", bad(2)),
-        (b"jvt-trace carriers 1\nM 0 0\n", bad(3)),
-        (b"jvt-trace carriers 1\nM 0 0", bad(2)),
-        (b"jvt-trace carriers 1\nend 0", bad(2)),
-        (b"jvt-trace carriers 1\nend 0\r\n", bad(2)),
-        (b"jvt-trace carriers 1\nend 00\n", bad(2)),
-        (b"jvt-trace carriers 1\nend 1\n", bad(2)),
-        (b"jvt-trace carriers 1\nM 0 0\nend 0\n", bad(3)),
-        (b"jvt-trace carriers 1\nM 0 0\nend 2\n", bad(3)),
-        (b"jvt-trace carriers 1\nend 0\n\n", bad(3)),
-        (b"jvt-trace carriers 1\nend 0\nend 0\n", bad(3)),
-        (b"jvt-trace carriers 1\nend 0\nM 0 0\n", bad(3)),
-        (b"jvt-trace carriers 1\nM 0 0\nend 1\nX", bad(4)),
-    ];
-    expect_counts(&rt, rt.alloc(), &table);
+fn traces_are_read_or_the_first_bad_line_is_named(rt: HostRuntime) {
+    expect_counts(&rt, rt.alloc(), &FIRST_LINES);
+    expect_counts(&rt, rt.alloc(), &ENTRIES);
+    expect_counts(&rt, rt.alloc(), &LAST_LINES);
 }
 
 /// A history by itself, made with a number.
