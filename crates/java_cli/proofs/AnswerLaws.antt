@@ -1,7 +1,7 @@
 -- From what each part of the call did to what the call answers.
-use Rattle.std.proofs.Common.{◌≡◌, ℕ, suc, ◌+◌, ◌<◌, ◌≤◌, inl, inr, true, false, List, [], ◌∷◌, ◌++◌, map, length, take, Option, Some, None, refl, sym, ap, subst, ◌∙◌, arith, add-zero}
-use Rattle.std.specs.Prelude.{IfSome}
-use Rattle.std.specs.List.{AllZip, AllByRecursion}
+use Rattle.std.proofs.Common.{◌≡◌, ℕ, suc, ◌+◌, ◌<◌, ◌≤◌, inl, inr, true, false, List, [], ◌∷◌, ◌++◌, map, length, take, Option, Some, None, Result, Ok, Err, refl, sym, ap, subst, ◌∙◌, arith, add-zero}
+use Rattle.std.specs.Prelude.{IfErr, IfSome, IsErrAnd, is_some}
+use Rattle.std.specs.List.{AllZip}
 use Rattle.std.proofs.lemmas.Option.{same_Some}
 use Rattle.std.proofs.lemmas.Slice.Zip.{AllZip-long, AllZip-map}
 use Rattle.class_model.specs.declared.class_file.ClassFile.{ClassFile}
@@ -9,50 +9,51 @@ use Rattle.class_grammar.specs.declared.class_why.ClassWhy.{ClassWhy}
 use Rattle.jvm_edges.specs.Files.{file_named}
 use Rattle.jvm_edges.specs.Files as store
 use Rattle.ref_model.specs.Setting.{Setting}
-use Rattle.java_cli.specs.declared.errors.LoadError.{LoadError}
-use Rattle.java_cli.specs.declared.errors.LoadError.TheVariants as load
+use Rattle.program_files.specs.declared.errors.LoadError.{LoadError}
+use Rattle.program_files.specs.declared.errors.LoadError.TheVariants as load
 use Rattle.link_rules.specs.declared.fault.LinkFault as faults
 use Rattle.link_rules.specs.Faults.{Links}
 use Rattle.link_rules.specs.declared.why.LinkWhy.{LinkWhy}
 use Rattle.link_rules.specs.declared.why.LinkWhy.TheVariants.{Unsupported}
 use Rattle.verify_types.specs.declared.why.VerifyWhy.{VerifyWhy}
 use Rattle.verify_types.specs.declared.fault.VerifyFault as typing
-use Rattle.java_cli.specs.declared.errors.AcceptError.{AcceptError}
-use Rattle.java_cli.specs.declared.errors.AcceptError.TheVariants as accept
-use Rattle.java_cli.specs.declared.errors.StartError.{StartError}
-use Rattle.java_cli.specs.declared.errors.StartError.TheVariants as start
-use Rattle.java_cli.specs.declared.report.Which.TheVariants.{Files, FileSize, Events}
-use Rattle.java_cli.specs.declared.report.Why.{Why}
-use Rattle.java_cli.specs.declared.report.Why.TheVariants.{Usage, Limit, Missing, SourceFault, BadClass, NoMain, LinkFault, VerifyFault, SinkFault, NoMemory}
-use Rattle.java_cli.specs.Limits.{most_files}
-use Rattle.java_cli.specs.Errors.{load_answer, accept_answer, start_answer}
-use Rattle.java_cli.specs.Words.{Command}
-use Rattle.java_cli.specs.MainClass.{class_named, has_main}
-use Rattle.java_cli.specs.Linking.{program_of, class_text, method_text, IsLinkFault, IsVerifyFault, AreAccepted}
-use Rattle.java_cli.specs.Programs.{IsSpelled, IsStarted, IsProgram, world_of_files, runnable_main}
-use Rattle.java_cli.specs.Causes.{Contents, HasContents, HaveContents, IsClass, AreClasses, IsBad, IsWrong, FirstWrong, IsFirstName, CannotRun, Due, answered, runs, IsProgramRefusal, IsProgramDue, IsDue, too_many, wrong, by_linking, HasCause, HasRun, IsReached, IsOfRun, IsDueOrFault, contents_of, IsExact, IsRefusal, StoreFaults}
-use Rattle.java_cli.specs.LoadCauses.{IsRead, IsWrongFile, NotRead, IsStopped}
-use Rattle.java_cli.specs.LinkCauses.{NotAccepted, NotStarted, first_name}
-use Rattle.java_cli.proofs.NameLaws.{first_is}
+use Rattle.program_files.specs.declared.errors.AcceptError.{AcceptError}
+use Rattle.program_files.specs.declared.errors.AcceptError.TheVariants as accept
+use Rattle.program_files.specs.declared.errors.StartError.{StartError}
+use Rattle.program_files.specs.declared.errors.StartError.TheVariants as start
+use Rattle.command_line.specs.declared.answer.Which.TheVariants.{Files, FileSize, Events}
+use Rattle.command_line.specs.declared.answer.Why.{Why}
+use Rattle.command_line.specs.declared.answer.Why.TheVariants.{Usage, Limit, Missing, SourceFault, BadClass, NoMain, LinkFault, VerifyFault, SinkFault, NoMemory}
+use Rattle.program_files.specs.Limits.{most_files}
+use Rattle.program_files.specs.Programs.{has_main, IsStarted, IsProgram}
+use Rattle.program_files.specs.Errors.{load_answer, accept_answer, start_answer}
+use Rattle.command_line.specs.Commands.{Command}
+use Rattle.program_files.specs.MainClass.{class_named}
+use Rattle.program_files.specs.Linking.{program_of, class_text, method_text, IsLinkFault, IsVerifyFault, AreAccepted}
+use Rattle.program_files.specs.Contents.{Contents, HasContents, HaveContents, IsClass, AreClasses, IsBad, IsWrong, FirstWrong}
+use Rattle.program_files.specs.LinkCauses.{CannotRun, NotAccepted, NotStarted}
+use Rattle.java_cli.specs.Causes.{Due, answered, runs, IsProgramRefusal, IsProgramDue, IsDue, too_many, wrong, by_linking, HasCause, HasRun, IsReached, IsOfRun, IsDueOrFault, contents_of, IsExact, IsRefusal}
+use Rattle.program_files.specs.LoadCauses.{IsRead, IsWrongFile, NotRead, IsStopped}
+use Rattle.program_files.specs.StoreFaults.{StoreFaults}
 use Rattle.machine.specs.declared.execution.Execution.{Execution}
 use Rattle.machine.specs.Runs.{IsRun}
 use Rattle.java_cli.specs.Runs.{IsRunDue, RanCommand}
-use Rattle.java_cli.specs.Headline.{OnRun, OutFaults, IsKept}
+use Rattle.java_cli.specs.Headline.{OnRun, OutFaults, IsSameOrNoMemory}
 
 -- ---- the contents of files
 
--- what it tells of a name
+-- what the store knows of a file
 abbrev known_file : Option store.Files → List ℕ → Contents
 known_file None name = None
 known_file (Some files) name = file_named name files
 
-told_holds : (known : Option store.Files) (name : List ℕ) → HasContents known name (known_file known name)
-told_holds None name = tt
-told_holds (Some files) name = refl
+known_holds : (known : Option store.Files) (name : List ℕ) → HasContents known name (known_file known name)
+known_holds None name = tt
+known_holds (Some files) name = refl
 
 all_held : (known : Option store.Files) (names : List (List ℕ)) → HaveContents known names (map (known_file known) names)
 all_held known [] = tt
-all_held known (name ∷ names) = (told_holds known name, all_held known names)
+all_held known (name ∷ names) = (known_holds known name, all_held known names)
 
 held_is : (files : store.Files) (names : List (List ℕ)) (contents : List Contents) → HaveContents (Some files) names contents → contents ≡ contents_of files names
 held_is files names contents holds = AllZip-map (λ (name : List ℕ). file_named name files) names contents holds
@@ -95,10 +96,6 @@ wrong_or_classes n (h ∷ contents) a (f ∷ classes) (inr x) are = wrong_or_cla
 
 -- ---- classes have one answer
 
-one_first : (classes : List ClassFile) (a b : List ℕ) → IsFirstName classes a → IsFirstName classes b → a ≡ b
-one_first [] a b x y = absurd x
-one_first (f ∷ classes) a b x y = same_Some a b (sym x ∙ y)
-
 -- classes that link have no fault
 linked_or_fault : (classes : List ClassFile) (class : List ℕ) (reason : LinkWhy) → Links (program_of classes) → IsLinkFault classes class reason → ⊥
 linked_or_fault classes class reason links fault =
@@ -135,7 +132,7 @@ main_or_none name classes x y = let no : false ≡ true = sym x ∙ y in absurd 
 
 -- the machine can run the classes, or it can't
 started_or_not : (name : List ℕ) (classes : List ClassFile) (class : List ℕ) (main : ℕ) → IsStarted name classes main → CannotRun name classes class → ⊥
-started_or_not name classes class main x y = let none : Option ℕ = None in let no : Some main ≡ none = sym x.number ∙ y.cannot in absurd cc
+started_or_not name classes class main x y = let no : true ≡ false = sym x.supported ∙ y.cannot in absurd cc
 
 one_refusal : (name : List ℕ) (classes : List ClassFile) (a b : Why) → IsProgramRefusal name classes a → IsProgramRefusal name classes b → a ≡ b
 one_refusal name classes NoMain NoMain x y = refl
@@ -149,7 +146,7 @@ one_refusal name classes (LinkFault class reason) (LinkFault other again) (inl x
 one_refusal name classes (LinkFault class reason) (LinkFault other again) (inl x) (inr y) = absurd (linked_or_fault classes class reason y.1.links x)
 one_refusal name classes (LinkFault class reason) (LinkFault other again) (inr x) (inl y) = absurd (linked_or_fault classes other again x.1.links y)
 one_refusal name classes (LinkFault class reason) (LinkFault other again) (inr x) (inr y) =
-    let names : class ≡ other = one_first classes class other x.2.first y.2.first in
+    let names : class ≡ other = x.2.first ∙ sym y.2.first in
     let reasons : reason ≡ again = x.0 ∙ sym y.0 in
     cc
 one_refusal name classes (LinkFault class reason) (VerifyFault other method pc why) (inl x) y = absurd (linked_or_fault classes class reason y.0 x)
@@ -164,7 +161,7 @@ one_refusal name classes a b x y = absurd x
 
 -- a program that runs isn't refused
 run_or_refusal : (name : List ℕ) (classes : List ClassFile) (p : Setting) (a : Why) → IsProgram name classes p → IsProgramRefusal name classes a → ⊥
-run_or_refusal name classes p NoMain x y = main_or_none name classes y.1 x.main.declared
+run_or_refusal name classes p NoMain x y = main_or_none name classes y.1 (ap is_some x.main.number)
 run_or_refusal name classes p (LinkFault class reason) x (inl y) = linked_or_fault classes class reason x.accepted.links y
 run_or_refusal name classes p (LinkFault class reason) x (inr y) = started_or_not name classes class p.main x.main y.2
 run_or_refusal name classes p (VerifyFault class method pc reason) x y = typed_or_fault classes class method pc reason x.accepted y
@@ -405,23 +402,6 @@ start_faults start.NoMain before now kept = kept
 start_faults (start.Unsupported class) before now kept = kept
 start_faults start.NoMemory before now kept = tt
 
--- classes with a main that the machine can't run
-pub unstarted_is : (name : List ℕ) (classes : List ClassFile) (error : StartError) → has_main name classes ≡ true → runnable_main (world_of_files classes) name ≡ None → AllByRecursion IsSpelled classes
-    → error ≡ start.Unsupported (first_name classes) → NotStarted name classes error
-unstarted_is name classes error main cannot spelled is =
-    subst (λ (e : StartError). NotStarted name classes e) (sym is) (record { main = main; cannot = cannot; first = first_is name classes main spelled })
-
--- files that were read are spelled
-pub all_spelled : (known : Option store.Files) (names : List (List ℕ)) (classes : List ClassFile) → AllZip (IsRead known) names classes → AllByRecursion IsSpelled classes
-all_spelled known [] [] read = tt
-all_spelled known [] (f ∷ classes) read = absurd read
-all_spelled known (name ∷ names) [] read = absurd read
-all_spelled known (name ∷ names) (f ∷ classes) read = (by read.0.contents read.0.class, all_spelled known names classes read.1)
-  where
-    by : (contents : Contents) → IsClass contents f → IsSpelled f
-    by None is = absurd is
-    by (Some bytes) is = (bytes, is.1)
-
 -- a run is due to classes that are accepted, and of which main is started
 pub run_due : (known : Option store.Files) (c : Command) (classes : List ClassFile) (p : Setting) → length c.files ≤ most_files → AllZip (IsRead known) c.files classes → IsProgram (class_named c.main) classes p
     → IsRunDue known c
@@ -439,8 +419,16 @@ has_run known c x ran =
 
 -- ---- the answer of the call
 
+-- what a `?` answers
+pub answer_is : {A : Type 0} (r : Result A Why) (why : Why) (P : Why → Type 0) → IsErrAnd r (λ e. e ≡ why) → P why → IfErr r P
+answer_is (Ok x) why P is p = absurd is
+answer_is (Err e) why P is p = subst P (sym is) p
+
+pub refusal_is : {A : Type 0} (r : Result A Why) (why : Why) → IsErrAnd r (λ e. e ≡ why) → IsRefusal why → IfErr r IsRefusal
+refusal_is r why is p = answer_is r why IsRefusal is p
+
 -- an answer that stays, or that found no memory for its line
-pub kept_exact : (known : Option store.Files) (faulty : Type 0) (c : Command) (before after : Why) → IsKept before after → IsExact known faulty c before → IsExact known faulty c after
+pub kept_exact : (known : Option store.Files) (faulty : Type 0) (c : Command) (before after : Why) → IsSameOrNoMemory before after → IsExact known faulty c before → IsExact known faulty c after
 kept_exact known faulty c before after (inl e) exact = subst (λ (w : Why). IsExact known faulty c w) (sym e) exact
 kept_exact known faulty c before after (inr e) exact = subst (λ (w : Why). IsExact known faulty c w) (sym e.1) (memory_exact known faulty c)
 
@@ -448,7 +436,7 @@ no_out_fault : (why : Why) (n : ℕ) → IsRefusal why → OutFaults why n n
 no_out_fault (SinkFault which written) n is = absurd is
 no_out_fault why n is = refl
 
-pub kept_refusal : (before after : Why) → IsKept before after → IsRefusal before → IsRefusal after
+pub kept_refusal : (before after : Why) → IsSameOrNoMemory before after → IsRefusal before → IsRefusal after
 kept_refusal before after (inl e) is = subst IsRefusal (sym e) is
 kept_refusal before after (inr e) is = subst IsRefusal (sym e.1) tt
 
@@ -467,18 +455,18 @@ refusal_or_run NoMemory is run = run
 refusal_or_run why is run = is
 
 -- a refusal runs nothing, and leaves the out sink
-pub refused_headline : (X : Type 0) (before after : Why) → IsKept before after → IsRefusal before → OnRun after X
+pub refused_headline : (X : Type 0) (before after : Why) → IsSameOrNoMemory before after → IsRefusal before → OnRun after X
 refused_headline X before after kept is run = absurd (refusal_or_run after (kept_refusal before after kept is) run)
 
-pub refused_out : (before after : Why) (n : ℕ) → IsKept before after → IsRefusal before → OutFaults after n n
+pub refused_out : (before after : Why) (n : ℕ) → IsSameOrNoMemory before after → IsRefusal before → OutFaults after n n
 refused_out before after n kept is = no_out_fault after n (kept_refusal before after kept is)
 
-pub refused_store : (before after : Why) (m n : ℕ) → IsKept before after → StoreFaults before m n → StoreFaults after m n
+pub refused_store : (before after : Why) (m n : ℕ) → IsSameOrNoMemory before after → StoreFaults before m n → StoreFaults after m n
 refused_store before after m n (inl e) faults = subst (λ (w : Why). StoreFaults w m n) (sym e) faults
 refused_store before after m n (inr e) faults = subst (λ (w : Why). StoreFaults w m n) (sym e.1) tt
 
 -- a refusal is no Usage
-pub not_usage : (before after : Why) → IsKept before after → IsRefusal before → after ≡ Usage → ⊥
+pub not_usage : (before after : Why) → IsSameOrNoMemory before after → IsRefusal before → after ≡ Usage → ⊥
 not_usage before after kept is e = subst IsRefusal e (kept_refusal before after kept is)
 
 -- what holds of the command that the words spell

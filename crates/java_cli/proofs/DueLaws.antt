@@ -1,6 +1,7 @@
 -- Exactly one answer is due.
 use Rattle.std.proofs.Common.{◌≡◌, ℕ, ◌+◌, ◌<◌, ◌≤◌, ◌⊎◌, inl, inr, Bool, true, false, List, [], ◌∷◌, length, Option, Some, None, refl, sym, ap, subst, ◌∙◌, arith}
 use Rattle.std.specs.List.{AllByRecursion}
+use Rattle.std.specs.Prelude.{is_some}
 use Rattle.std.proofs.lemmas.Bool.{cases_lt}
 use Rattle.class_model.specs.declared.class_file.ClassFile.{ClassFile}
 use Rattle.class_grammar.specs.declared.class_why.ClassWhy.{ClassWhy}
@@ -9,23 +10,24 @@ use Rattle.class_file.proofs.OutcomeLaws.{one_value, none_bad, some_spelled}
 use Rattle.link_rules.specs.declared.fault.LinkFault as faults
 use Rattle.link_rules.specs.declared.why.LinkWhy.TheVariants.{Unsupported}
 use Rattle.link_rules.specs.Faults.{Links, link_fault}
+use Rattle.link_model.specs.MainMethod.{main_of}
 use Rattle.link_model.specs.Worlds.{world_of}
 use Rattle.verify_types.specs.declared.fault.VerifyFault as typing
 use Rattle.verify_types.specs.Faults.{first_fault}
-use Rattle.java_cli.specs.Limits.{run_limits}
-use Rattle.java_cli.specs.Programs.{IsSpelled, world_of_files, runnable_main}
-use Rattle.java_cli.specs.declared.errors.LoadError.{LoadError}
-use Rattle.java_cli.specs.declared.errors.LoadError.TheVariants as load
-use Rattle.java_cli.specs.declared.report.Which.TheVariants.{Files}
-use Rattle.java_cli.specs.declared.report.Why.TheVariants.{Limit, NoMain, LinkFault, VerifyFault}
-use Rattle.java_cli.specs.Limits.{most_files, most_bytes}
-use Rattle.java_cli.specs.Errors.{load_answer}
-use Rattle.java_cli.specs.Words.{Command}
-use Rattle.java_cli.specs.MainClass.{class_named, has_main}
-use Rattle.java_cli.specs.Linking.{program_of, class_text, method_text, IsTypingFault, AreAccepted}
-use Rattle.java_cli.specs.Causes.{Contents, IsClass, AreClasses, IsWrong, FirstWrong, Due, answered, runs, IsProgramDue, IsDue, too_many, wrong, by_linking, AreBytes, OneIsDue}
-use Rattle.java_cli.specs.LinkCauses.{first_name}
-use Rattle.java_cli.proofs.NameLaws.{first_is}
+use Rattle.program_files.specs.Limits.{run_limits, most_files, most_bytes}
+use Rattle.program_files.specs.Programs.{world_of_files}
+use Rattle.program_files.specs.Supported.{is_supported}
+use Rattle.program_files.specs.declared.errors.LoadError.{LoadError}
+use Rattle.program_files.specs.declared.errors.LoadError.TheVariants as load
+use Rattle.command_line.specs.declared.answer.Which.TheVariants.{Files}
+use Rattle.command_line.specs.declared.answer.Why.TheVariants.{Limit, NoMain, LinkFault, VerifyFault}
+use Rattle.program_files.specs.Errors.{load_answer}
+use Rattle.command_line.specs.Commands.{Command}
+use Rattle.program_files.specs.MainClass.{class_named}
+use Rattle.program_files.specs.Linking.{program_of, class_text, method_text, IsTypingFault, AreAccepted}
+use Rattle.program_files.specs.Contents.{Contents, IsClass, AreClasses, IsWrong, FirstWrong}
+use Rattle.java_cli.specs.Causes.{Due, answered, runs, IsProgramDue, IsDue, too_many, wrong, by_linking, AreBytes, OneIsDue}
+use Rattle.program_files.specs.LinkCauses.{first_name}
 use Rattle.java_cli.proofs.AnswerLaws.{one_wrong, wrong_or_classes, one_program_due}
 
 -- ---- at most one
@@ -88,43 +90,33 @@ first_wrong_or_read : (n : ℕ) (contents : List Contents) → AllByRecursion Ar
 first_wrong_or_read n [] fits = inr ([], tt)
 first_wrong_or_read n (h ∷ contents) fits = joined n h contents (wrong_or_read n h fits.0) (first_wrong_or_read (n + 1) contents fits.1)
 
-one_spelled : (contents : Contents) (f : ClassFile) → IsClass contents f → IsSpelled f
-one_spelled None f is = absurd is
-one_spelled (Some bytes) f is = (bytes, is.1)
-
-all_spelled : (contents : List Contents) (classes : List ClassFile) → AreClasses contents classes → AllByRecursion IsSpelled classes
-all_spelled [] [] are = tt
-all_spelled [] (f ∷ classes) are = absurd are
-all_spelled (h ∷ contents) [] are = absurd are
-all_spelled (h ∷ contents) (f ∷ classes) are = (one_spelled h f are.0, all_spelled contents classes are.1)
-
-by_number : (name : List ℕ) (classes : List ClassFile) → AllByRecursion IsSpelled classes → AreAccepted classes → has_main name classes ≡ true → (n : Option ℕ) → runnable_main (world_of_files classes) name ≡ n
+by_support : (name : List ℕ) (classes : List ClassFile) → AreAccepted classes → (n : ℕ) → main_of (world_of_files classes) name ≡ Some n → (b : Bool) → is_supported (world_of_files classes) ≡ b
     → (a : Due) × IsProgramDue name classes a
-by_number name classes spelled accepted main (Some n) e =
-    (runs (record { world = world_of_files classes; main = n; limits = run_limits }), record { accepted = accepted; main = record { declared = main; number = e }; world = refl; limits = refl })
-by_number name classes spelled accepted main None e =
-    (answered (LinkFault (first_name classes) Unsupported), inr (refl, accepted, record { main = main; cannot = e; first = first_is name classes main spelled }))
+by_support name classes accepted n main true e =
+    (runs (record { world = world_of_files classes; main = n; limits = run_limits }), record { accepted = accepted; main = record { number = main; supported = e }; world = refl; limits = refl })
+by_support name classes accepted n main false e =
+    (answered (LinkFault (first_name classes) Unsupported), inr (refl, accepted, record { main = ap is_some main; cannot = e; first = refl }))
 
-by_main : (name : List ℕ) (classes : List ClassFile) → AllByRecursion IsSpelled classes → AreAccepted classes → (b : Bool) → has_main name classes ≡ b → (a : Due) × IsProgramDue name classes a
-by_main name classes spelled accepted false e = (answered NoMain, (accepted, e))
-by_main name classes spelled accepted true e = by_number name classes spelled accepted e (runnable_main (world_of_files classes) name) refl
+by_main : (name : List ℕ) (classes : List ClassFile) → AreAccepted classes → (n : Option ℕ) → main_of (world_of_files classes) name ≡ n → (a : Due) × IsProgramDue name classes a
+by_main name classes accepted None e = (answered NoMain, (accepted, ap is_some e))
+by_main name classes accepted (Some n) e = by_support name classes accepted n e (is_supported (world_of_files classes)) refl
 
-by_typing : (name : List ℕ) (classes : List ClassFile) → AllByRecursion IsSpelled classes → Links (program_of classes) → (o : Option typing.VerifyFault) → first_fault (world_of (program_of classes)) ≡ o
+by_typing : (name : List ℕ) (classes : List ClassFile) → Links (program_of classes) → (o : Option typing.VerifyFault) → first_fault (world_of (program_of classes)) ≡ o
     → (a : Due) × IsProgramDue name classes a
-by_typing name classes spelled links None e = by_main name classes spelled (record { links = links; typed = e }) (has_main name classes) refl
-by_typing name classes spelled links (Some f) e =
+by_typing name classes links None e = by_main name classes (record { links = links; typed = e }) (main_of (world_of_files classes) name) refl
+by_typing name classes links (Some f) e =
     let p = program_of classes in
     let named : IsTypingFault p (class_text p f.class) (method_text p.classes f.method) f.pc f.why = record { fault = f; first = e; class_is = refl; method_is = refl; pc_is = refl; reason_is = refl } in
     (answered (VerifyFault (class_text p f.class) (method_text p.classes f.method) f.pc f.why), (links, named))
 
-by_fault : (name : List ℕ) (classes : List ClassFile) → AllByRecursion IsSpelled classes → (o : Option faults.LinkFault) → link_fault (program_of classes) ≡ o → (a : Due) × IsProgramDue name classes a
-by_fault name classes spelled None e = by_typing name classes spelled e (first_fault (world_of (program_of classes))) refl
-by_fault name classes spelled (Some f) e = (answered (LinkFault f.class f.why), inl e)
+by_fault : (name : List ℕ) (classes : List ClassFile) → (o : Option faults.LinkFault) → link_fault (program_of classes) ≡ o → (a : Due) × IsProgramDue name classes a
+by_fault name classes None e = by_typing name classes e (first_fault (world_of (program_of classes))) refl
+by_fault name classes (Some f) e = (answered (LinkFault f.class f.why), inl e)
 
 by_files : (c : Command) (contents : List Contents) → length c.files ≤ most_files → ((error : LoadError) × FirstWrong 0 contents error) ⊎ ((classes : List ClassFile) × AreClasses contents classes) → (a : Due) × IsDue c contents a
 by_files c contents few (inl x) = (answered (load_answer x.0), wrong few x.0 x.1 refl)
 by_files c contents few (inr x) =
-    let a = by_fault (class_named c.main) x.0 (all_spelled contents x.0 x.1) (link_fault (program_of x.0)) refl in
+    let a = by_fault (class_named c.main) x.0 (link_fault (program_of x.0)) refl in
     (a.0, by_linking few x.0 x.1 a.1)
 
 some_due : (c : Command) (contents : List Contents) → AllByRecursion AreBytes contents → (a : Due) × IsDue c contents a

@@ -1,9 +1,4 @@
-pub mod LoadLaws
-pub mod NameLaws
-pub mod LinkLaws
 pub mod AnswerLaws
 pub mod DueLaws
 pub mod LineLaws
 pub mod RunLaws
-pub mod SupportLaws
-pub mod StartLaws

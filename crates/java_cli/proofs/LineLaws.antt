@@ -6,11 +6,11 @@ use Rattle.std.proofs.lemmas.List.{append-nil, append_assoc, take_all}
 use Rattle.jvm_edges.specs.Bytes.{Appends}
 use Rattle.jvm_edges.specs.Causes.{Rose}
 use Rattle.jvm_edges.specs.declared.output.PartWritten.{PartWritten}
-use Rattle.java_cli.specs.declared.report.SinkName.TheVariants.{Err as ErrSink}
-use Rattle.java_cli.specs.declared.report.Why.{Why}
-use Rattle.java_cli.specs.declared.report.Why.TheVariants.{SinkFault}
-use Rattle.java_cli.specs.Words.{Command}
-use Rattle.java_cli.specs.Answers.{line_of, line_for, usage_line}
+use Rattle.command_line.specs.declared.answer.SinkName.TheVariants.{Err as ErrSink}
+use Rattle.command_line.specs.declared.answer.Why.{Why}
+use Rattle.command_line.specs.declared.answer.Why.TheVariants.{SinkFault}
+use Rattle.command_line.specs.Commands.{Command}
+use Rattle.command_line.specs.Answers.{line_of, line_for, usage_line}
 use Rattle.java_cli.specs.Headline.{Takes, TakesLine, answer_with, line_after, taken_of}
 
 -- a line that was put, or its front, where there is no fault output

@@ -16,14 +16,15 @@ use Rattle.machine.specs.declared.execution.Execution.{Execution}
 use Rattle.machine.specs.Runs.{IsRun, entries_left}
 use Rattle.machine.specs.Runs as machine_runs
 use Rattle.java_cli.specs.declared.report.Report.{Report}
-use Rattle.java_cli.specs.declared.report.Which.TheVariants.{Events}
-use Rattle.java_cli.specs.declared.report.Why.{Why}
-use Rattle.java_cli.specs.declared.report.Why.TheVariants.{Ended, MainThrew, Exited, Usage, Limit, SinkFault, NoMemory}
-use Rattle.java_cli.specs.Words.{Command}
-use Rattle.java_cli.specs.Answers.{line_of, line_for}
-use Rattle.java_cli.specs.Causes.{HasRun, IsOfRun, Due, runs, IsDueOrFault, IsCaused, IsExact, StoreFaults}
+use Rattle.command_line.specs.declared.answer.Which.TheVariants.{Events}
+use Rattle.command_line.specs.declared.answer.Why.{Why}
+use Rattle.command_line.specs.declared.answer.Why.TheVariants.{Ended, MainThrew, Exited, Usage, Limit, SinkFault, NoMemory}
+use Rattle.command_line.specs.Commands.{Command}
+use Rattle.command_line.specs.Answers.{line_of, line_for}
+use Rattle.java_cli.specs.Causes.{HasRun, IsOfRun, Due, runs, IsDueOrFault, IsCaused, IsExact}
+use Rattle.program_files.specs.StoreFaults.{StoreFaults}
 use Rattle.java_cli.specs.Runs.{IsRunDue, RanCommand}
-use Rattle.java_cli.specs.Headline.{IsRunAnswer, IsTaken, IsTold, TakesLine, Ran, IsIdle, OnRun, OnNoRun, OutFaults, Takes, answer_with, line_after, taken_of, ending_answer, Wrote, Unwritten}
+use Rattle.java_cli.specs.Headline.{IsEndingAnswer, IsRunAnswer, IsOutTaken, IsErrTaken, TakesLine, Ran, IsIdle, OnRun, OnNoRun, OutFaults, Takes, answer_with, line_after, taken_of, ending_answer, Wrote, Unwritten}
 use Rattle.java_cli.proofs.AnswerLaws.{has_run, memory_exact}
 use Rattle.java_cli.proofs.LineLaws.{answer_told}
 
@@ -51,21 +52,26 @@ own_ending r e is = by_exit r.exited is
     by_exit None is = by_threads (list_any keeps_going r.threads) r.main_threw is
     by_exit (Some status) is = same (endings.Exited status) e tt is
 
--- the answer tells the ending
-ending_told : (p : Setting) (entries : ℕ) (told : Ending) (o : Option Ending) → ((e : Ending) → o ≡ Some e → IsOwnEnding e) → machine_runs.IsEndingOf p entries o told → IsRunAnswer p entries o (ending_answer told)
-ending_told p entries told None own is = subst (λ (e : Ending). IsRunAnswer p entries None (ending_answer e)) (sym is.0) (refl, refl, is.1)
-ending_told p entries told (Some e) own is = subst (λ (x : Ending). IsRunAnswer p entries (Some e) (ending_answer x)) (sym is) (by e (own e refl))
+-- the answer is that of the ending
+ending_told : (p : Setting) (entries : ℕ) (told : Ending) (o : Option Ending) → ((e : Ending) → o ≡ Some e → IsOwnEnding e) → machine_runs.IsEndingOf p entries o told → IsEndingAnswer p entries o (ending_answer told)
+ending_told p entries told None own is = subst (λ (e : Ending). IsEndingAnswer p entries None (ending_answer e)) (sym is.0) (refl, refl, is.1)
+ending_told p entries told (Some e) own is = subst (λ (x : Ending). IsEndingAnswer p entries (Some e) (ending_answer x)) (sym is) (by e (own e refl))
   where
-    by : (e : Ending) → IsOwnEnding e → IsRunAnswer p entries (Some e) (ending_answer e)
+    by : (e : Ending) → IsOwnEnding e → IsEndingAnswer p entries (Some e) (ending_answer e)
     by endings.Ended own = refl
     by endings.MainThrew own = refl
     by (endings.Exited status) own = refl
     by e own = absurd own
 
-fault_or_ending : (p : Setting) (entries : ℕ) (o : Option Ending) (why : Why) (out_fault err_fault : Option ℕ) → IsRunAnswer p entries o why → IsRunAnswer p entries o (answer_with why out_fault err_fault)
-fault_or_ending p entries o why (Some n) err_fault is = tt
-fault_or_ending p entries o why None (Some n) is = tt
-fault_or_ending p entries o why None None is = is
+-- it is an answer to the run
+ending_or_fault : (p : Setting) (entries : ℕ) (o : Option Ending) (why : Why) → IsEndingAnswer p entries o why → IsRunAnswer p entries o why
+ending_or_fault p entries o (SinkFault which written) is = absurd is
+ending_or_fault p entries o why is = is
+
+fault_or_ending : (p : Setting) (entries : ℕ) (o : Option Ending) (why : Why) (out_fault err_fault : Option ℕ) → IsEndingAnswer p entries o why → IsRunAnswer p entries o (answer_with why out_fault err_fault)
+fault_or_ending p entries o why (Some n) err_fault is = (why, is)
+fault_or_ending p entries o why None (Some n) is = (why, is)
+fault_or_ending p entries o why None None is = ending_or_fault p entries o why is
 
 -- it is the answer to a run, and no other
 answer_of_run : (p : Setting) (entries : ℕ) (o : Option Ending) (why : Why) → IsRunAnswer p entries o why → IsOfRun why
@@ -90,17 +96,18 @@ names_no_sink (endings.Exited status) = tt
 names_no_sink (endings.Limit machine.Events number) = tt
 names_no_sink told = tt
 
-taken_is : (why : Why) (out_fault err_fault : Option ℕ) (size : ℕ) → NamesNoSink why → ((n : ℕ) → out_fault ≡ Some n → n < size) → IsTaken (answer_with why out_fault err_fault) (taken_of out_fault size) size
+taken_is : (why : Why) (out_fault err_fault : Option ℕ) (size : ℕ) → NamesNoSink why → ((n : ℕ) → out_fault ≡ Some n → n < size) → IsOutTaken (answer_with why out_fault err_fault) (taken_of out_fault size) size
 taken_is why (Some n) err_fault size none short = (refl, short n refl)
 taken_is why None (Some n) size none short = refl
 taken_is (SinkFault which written) None None size none short = absurd none
 taken_is why None None size none short = refl
 
-told_is : (why : Why) (out_fault err_fault : Option ℕ) (size : ℕ) → NamesNoSink why → ((n : ℕ) → err_fault ≡ Some n → n < size) → IsTold (answer_with why out_fault err_fault) (taken_of err_fault size) size
-told_is why (Some n) err_fault size none short = tt
-told_is why None (Some n) size none short = (refl, short n refl)
-told_is (SinkFault which written) None None size none short = absurd none
-told_is why None None size none short = refl
+err_taken_is : (why : Why) (out_fault err_fault : Option ℕ) (size : ℕ) → NamesNoSink why → ((n : ℕ) → err_fault ≡ Some n → n < size) → IsErrTaken (answer_with why out_fault err_fault) (taken_of err_fault size) size
+err_taken_is why (Some n) None size none short = omega arith
+err_taken_is why (Some n) (Some m) size none short = let lt = short m refl in omega (arith, lt)
+err_taken_is why None (Some n) size none short = (refl, short n refl)
+err_taken_is (SinkFault which written) None None size none short = absurd none
+err_taken_is why None None size none short = refl
 
 -- how many bytes were taken, where the sink failed
 fault_short : {S : Type 0} (contents : S → Option (List ℕ)) (faults : S → ℕ) (old new : S) (bytes : List ℕ) (r : Option ℕ) → Takes contents faults old new bytes r → (n : ℕ) → r ≡ Some n → n < length bytes
@@ -149,7 +156,7 @@ wrote_is bytes counts old_out new_out contents faults old new c x why line last 
       out_written = out_written ∙ unwrapped out_fault out_size ∙ ap (taken_of out_fault) outs;
       err_written = written;
       err_size = subst (λ (t : List ℕ). (n : ℕ) → err_fault ≡ Some n → n < length t) err_is short;
-      tells = subst (λ (n : ℕ). TakesLine contents faults old new (line_of c r.why) x.err.items n) (sym written) texts;
+      err = subst (λ (n : ℕ). TakesLine contents faults old new (line_of c r.why) x.err.items n) (sym written) texts;
     }
 
 -- the report of a run that was written
@@ -171,10 +178,10 @@ ran_is bytes counts old_out new_out contents faults old new c known x r ran wrot
       entries = rw wrote.history run_is.entries;
       grouped = rw wrote.history run_is.grouped;
       complete = run_is.complete;
-      written = rw (run_is.prints, wrote.out_written) (takes_front bytes counts old_out new_out x.out.items wrote.out_fault wrote.out);
-      taken = rw (wrote.why_is, run_is.prints, wrote.out_written) (taken_is (ending_answer x.ending) wrote.out_fault wrote.err_fault (length x.out.items) none short);
-      told = rw (wrote.why_is, run_is.tells, wrote.err_written) (told_is (ending_answer x.ending) wrote.out_fault wrote.err_fault (length x.err.items) none wrote.err_size);
-      tells = subst (λ (text : List ℕ). TakesLine contents faults old new (line_of c r.why) text r.err_written) (sym run_is.tells) wrote.tells;
+      out = rw (run_is.prints, wrote.out_written) (takes_front bytes counts old_out new_out x.out.items wrote.out_fault wrote.out);
+      out_taken = rw (wrote.why_is, run_is.prints, wrote.out_written) (taken_is (ending_answer x.ending) wrote.out_fault wrote.err_fault (length x.out.items) none short);
+      err_taken = rw (wrote.why_is, run_is.tells, wrote.err_written) (err_taken_is (ending_answer x.ending) wrote.out_fault wrote.err_fault (length x.err.items) none wrote.err_size);
+      err = subst (λ (text : List ℕ). TakesLine contents faults old new (line_of c r.why) text r.err_written) (sym run_is.tells) wrote.err;
     }
 
 -- its answer is that of a run
@@ -200,7 +207,7 @@ headline_is bytes counts old_out new_out contents faults old new command c known
 
 pub idle_is : {O E : Type 0} (bytes : O → Option (List ℕ)) (counts : O → ℕ) (old_out new_out : O) (contents : E → Option (List ℕ)) (faults : E → ℕ) (old new : E) (c : Command) (known : Option store.Files) (x : Execution) (r : Report)
     → RanCommand known c x → Delivered bytes counts old_out new_out contents faults old new c x r → OnNoRun r.why (IsIdle (bytes old_out) (bytes new_out) r)
-idle_is bytes counts old_out new_out contents faults old new c known x r ran (inl none) idle = record { history = none.history; out_written = none.out_written; same = ap bytes none.same }
+idle_is bytes counts old_out new_out contents faults old new c known x r ran (inl none) idle = record { history = none.history; out_written = none.out_written; err_written = none.err_written; same = ap bytes none.same }
 idle_is bytes counts old_out new_out contents faults old new c known x r ran (inr wrote) idle = absurd (idle (run_answered bytes counts old_out new_out contents faults old new c known x r ran wrote))
 
 pub line_is : {O E : Type 0} (bytes : O → Option (List ℕ)) (counts : O → ℕ) (old_out new_out : O) (contents : E → Option (List ℕ)) (faults : E → ℕ) (old new : E) (command : Option Command) (c : Command) (known : Option store.Files) (x : Execution) (r : Report)

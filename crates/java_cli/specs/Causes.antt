@@ -1,83 +1,25 @@
--- The answer that a command asks for, by the files of the store that its words name: the first cause in the order of
+-- The answer that a command asks for, by the files of the store that its arguments name: the first cause in the order of
 -- this file.
-use Rattle.std.specs.Prelude.{◌≡◌, ◌⊎◌, ℕ, ◌+◌, ◌<◌, ◌≤◌, false, true, List, [], ◌∷◌, length, take, map, Option, Some, None, IfSome, slice_index}
-use Rattle.std.specs.List.{AllZip}
-use Rattle.jvm_edges.specs.Causes.{Rose}
+use Rattle.std.specs.Prelude.{◌≡◌, ◌⊎◌, ℕ, ◌<◌, ◌≤◌, false, List, length, take, map, Option, Some, None, slice_index}
 use Rattle.jvm_edges.specs.Files.{file_named}
 use Rattle.jvm_edges.specs.Files as store
 use Rattle.class_model.specs.declared.class_file.ClassFile.{ClassFile}
-use Rattle.class_grammar.specs.declared.class_why.ClassWhy.{ClassWhy}
-use Rattle.class_grammar.specs.Pool.{class_name_at}
-use Rattle.class_grammar.specs.Grammar.{Spells}
-use Rattle.class_file.specs.File.{first_bad}
 use Rattle.link_rules.specs.declared.why.LinkWhy.TheVariants.{Unsupported}
 use Rattle.ref_model.specs.Setting.{Setting}
-use Rattle.java_cli.specs.declared.errors.LoadError.{LoadError}
-use Rattle.java_cli.specs.declared.errors.LoadError.TheVariants as load
-use Rattle.java_cli.specs.declared.report.Which.TheVariants.{Files, FileSize, Events}
-use Rattle.java_cli.specs.declared.report.Why.{Why}
-use Rattle.java_cli.specs.declared.report.Why.TheVariants.{Ended, MainThrew, Exited, Usage, Limit, Missing, SourceFault, BadClass, NoMain, LinkFault, VerifyFault, SinkFault, NoMemory}
-use Rattle.java_cli.specs.Limits.{most_files, most_bytes}
-use Rattle.java_cli.specs.Errors.{load_answer}
-use Rattle.java_cli.specs.Words.{Command}
-use Rattle.java_cli.specs.MainClass.{class_named, has_main}
-use Rattle.java_cli.specs.Linking.{IsLinkFault, IsVerifyFault, AreAccepted}
-use Rattle.java_cli.specs.Programs.{world_of_files, runnable_main, IsProgram}
-
--- ---- the contents of a file: `None` where there is no such file
-
-abbrev pub Contents : Type 0
-Contents = Option (List ℕ)
-
--- the file of this name has these contents, where the store's files are known
-abbrev pub HasContents : Option store.Files → List ℕ → Contents → Type 0
-HasContents known name contents = IfSome known (λ files. contents ≡ file_named name files)
-
-abbrev pub HaveContents : Option store.Files → List (List ℕ) → List Contents → Type 0
-HaveContents known names contents = AllZip (HasContents known) names contents
-
--- ---- the files, one after the other
-
--- a file that is read, and spells this class file
-abbrev pub IsClass : Contents → ClassFile → Type 0
-IsClass None f = ⊥
-IsClass (Some bytes) f = (length bytes ≤ most_bytes) × Spells bytes f
-
-abbrev pub AreClasses : List Contents → List ClassFile → Type 0
-AreClasses contents classes = AllZip IsClass contents classes
-
--- The file of index n is small enough, but its bytes spell no class file, and the error names the first check that
--- fails.
-pub record IsBad (n : ℕ) (bytes : List ℕ) (error : LoadError) : Type 0 where
-  pub at : ℕ
-  pub reason : ClassWhy
-  pub small : length bytes ≤ most_bytes
-  pub none : (f : ClassFile) → Spells bytes f → ⊥
-  pub first : first_bad bytes ≡ Some (at, reason)
-  pub is_error : error ≡ load.BadClass n at reason
-
--- there is no file of index n, it is too large or it is no class file, with this error
-abbrev pub IsWrong : ℕ → Contents → LoadError → Type 0
-IsWrong n None error = error ≡ load.Missing n
-IsWrong n (Some bytes) error = ((most_bytes < length bytes) × (error ≡ load.TooLarge)) ⊎ IsBad n bytes error
-
--- The first file that is wrong has this error, where the first of these files has index n.
-abbrev pub FirstWrong : ℕ → List Contents → LoadError → Type 0
-FirstWrong n [] error = ⊥
-FirstWrong n (x ∷ xs) error = IsWrong n x error ⊎ ((f : ClassFile) × IsClass x f × FirstWrong (n + 1) xs error)
+use Rattle.command_line.specs.Commands.{Command}
+use Rattle.command_line.specs.declared.answer.Which.TheVariants.{Files, FileSize, Events}
+use Rattle.command_line.specs.declared.answer.Why.{Why}
+use Rattle.command_line.specs.declared.answer.Why.TheVariants.{Ended, MainThrew, Exited, Usage, Limit, Missing, SourceFault, BadClass, NoMain, LinkFault, VerifyFault, SinkFault, NoMemory}
+use Rattle.program_files.specs.declared.errors.LoadError.{LoadError}
+use Rattle.program_files.specs.Contents.{Contents, HaveContents, AreClasses, FirstWrong}
+use Rattle.program_files.specs.Errors.{load_answer}
+use Rattle.program_files.specs.Limits.{most_files}
+use Rattle.program_files.specs.LinkCauses.{CannotRun}
+use Rattle.program_files.specs.Linking.{IsLinkFault, IsVerifyFault, AreAccepted}
+use Rattle.program_files.specs.MainClass.{class_named}
+use Rattle.program_files.specs.Programs.{has_main, IsProgram}
 
 -- ---- the classes
-
--- the first class has this name
-abbrev pub IsFirstName : List ClassFile → List ℕ → Type 0
-IsFirstName [] name = ⊥
-IsFirstName (f ∷ classes) name = class_name_at f.pool f.own ≡ Some name
-
--- There is a main, but the machine can't run the classes yet. The first of them has this name. (own)
-pub record CannotRun (name : List ℕ) (classes : List ClassFile) (class : List ℕ) : Type 0 where
-  pub main : has_main name classes ≡ true
-  pub cannot : runnable_main (world_of_files classes) name ≡ None
-  pub first : IsFirstName classes class
 
 -- What is due to a command: an answer without a run, or the run of a program.
 pub data Due : Type 0 where
@@ -85,7 +27,7 @@ pub data Due : Type 0 where
   runs : Setting → Due
 
 -- The answer to classes that aren't run, where main is to be in the one of this name: the first fault of linking; then the first fault of
--- typing; then, of classes that are accepted, no main; then what can't run yet. No other answer is one.
+-- typing; then, of classes that are accepted, no main; then what the machine has no step for. No other answer is one.
 abbrev pub IsProgramRefusal : List ℕ → List ClassFile → Why → Type 0
 IsProgramRefusal name classes NoMain = AreAccepted classes × (has_main name classes ≡ false)
 IsProgramRefusal name classes (LinkFault class reason) =
@@ -192,12 +134,3 @@ pub record OneIsDue (c : Command) (contents : List Contents) : Type 0 where
   pub what : Due
   pub due : IsDue c contents what
   pub only : (other : Due) → IsDue c contents other → other ≡ what
-
--- ---- faults of the store
-
--- The store's count of faults rose where the answer names a fault of the store. NoMemory may come after such a fault,
--- where no memory was left for its line. No other answer does, so the count is as it was.
-abbrev pub StoreFaults : Why → ℕ → ℕ → Type 0
-StoreFaults (SourceFault file) before now = Rose before now
-StoreFaults NoMemory before now = Unit {0}
-StoreFaults why before now = now ≡ before

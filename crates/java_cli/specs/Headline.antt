@@ -14,43 +14,46 @@ use Rattle.ref_model.specs.Run.{run}
 use Rattle.machine.specs.Runs.{AreGrouped, IsComplete, IsMainEntry, entries_left}
 use Rattle.ref_model.specs.declared.ending.Which.TheVariants as machine
 use Rattle.java_cli.specs.declared.report.Report.{Report}
-use Rattle.java_cli.specs.declared.report.SinkName.TheVariants.{Out, Err}
-use Rattle.java_cli.specs.declared.report.Which.TheVariants.{Events}
-use Rattle.java_cli.specs.declared.report.Why.{Why}
-use Rattle.java_cli.specs.declared.report.Why.TheVariants.{Ended, MainThrew, Exited, Limit, SinkFault, NoMemory}
-use Rattle.java_cli.specs.Words.{Command}
+use Rattle.command_line.specs.declared.answer.SinkName.TheVariants.{Out, Err}
+use Rattle.command_line.specs.declared.answer.Which.TheVariants.{Events}
+use Rattle.command_line.specs.declared.answer.Why.{Why}
+use Rattle.command_line.specs.declared.answer.Why.TheVariants.{Ended, MainThrew, Exited, Limit, SinkFault, NoMemory}
+use Rattle.command_line.specs.Commands.{Command}
 use Rattle.java_cli.specs.Runs.{IsGiven}
 use Rattle.machine.specs.declared.execution.Execution.{Execution}
-use Rattle.java_cli.specs.Answers.{NamesSomething, line_of, fault_line, memory_line}
+use Rattle.command_line.specs.Answers.{NamesSomething, line_of, fault_line, memory_line}
 use Rattle.java_cli.specs.Causes.{IsOfRun}
 
 -- ---- the answer to a run
 
--- The answer says how the program has ended; or, that it hasn't, and the history had room for fewer entries than one more step needs. A
--- sink that failed is named in place of either.
+-- The answer says how the program has ended; or, that it hasn't, and the history had room for fewer entries than one more step needs.
+abbrev pub IsEndingAnswer : Setting → ℕ → Option Ending → Why → Type 0
+IsEndingAnswer p entries ended Ended = ended ≡ Some endings.Ended
+IsEndingAnswer p entries ended MainThrew = ended ≡ Some endings.MainThrew
+IsEndingAnswer p entries ended (Exited status) = ended ≡ Some (endings.Exited status)
+IsEndingAnswer p entries ended (Limit Events number) =
+    (ended ≡ None) × (number ≡ p.limits.events) × (p.limits.events < entries + entries_left)
+IsEndingAnswer p entries ended why = ⊥
+
+-- It is such an answer; or it names a sink that failed in place of one, which the run had all the same.
 abbrev pub IsRunAnswer : Setting → ℕ → Option Ending → Why → Type 0
-IsRunAnswer p entries told Ended = told ≡ Some endings.Ended
-IsRunAnswer p entries told MainThrew = told ≡ Some endings.MainThrew
-IsRunAnswer p entries told (Exited status) = told ≡ Some (endings.Exited status)
-IsRunAnswer p entries told (Limit Events number) =
-    (told ≡ None) × (number ≡ p.limits.events) × (p.limits.events < entries + entries_left)
-IsRunAnswer p entries told (SinkFault which written) = Unit {0}
-IsRunAnswer p entries told why = ⊥
+IsRunAnswer p entries ended (SinkFault which written) = (why : Why) × IsEndingAnswer p entries ended why
+IsRunAnswer p entries ended why = IsEndingAnswer p entries ended why
 
 -- ---- what the sinks took
 
 -- how much the out sink took of so many bytes: all, unless its fault is the answer
-abbrev pub IsTaken : Why → ℕ → ℕ → Type 0
-IsTaken (SinkFault Out written) taken size = (written ≡ taken) × (taken < size)
-IsTaken why taken size = taken ≡ size
+abbrev pub IsOutTaken : Why → ℕ → ℕ → Type 0
+IsOutTaken (SinkFault Out written) taken size = (written ≡ taken) × (taken < size)
+IsOutTaken why taken size = taken ≡ size
 
 -- how much the err sink took of so many bytes: all, unless a sink's fault is the answer
-abbrev pub IsTold : Why → ℕ → ℕ → Type 0
-IsTold (SinkFault Out written) taken size = Unit {0}
-IsTold (SinkFault Err written) taken size = (written ≡ taken) × (taken < size)
-IsTold why taken size = taken ≡ size
+abbrev pub IsErrTaken : Why → ℕ → ℕ → Type 0
+IsErrTaken (SinkFault Out written) taken size = taken ≤ size
+IsErrTaken (SinkFault Err written) taken size = (written ≡ taken) × (taken < size)
+IsErrTaken why taken size = taken ≡ size
 
--- The err sink took the front of the program's fault output, and after all of it the answer's line, or its front. Where it didn't take
+-- The err sink took the front of the program's error output, and after all of it the answer's line, or its front. Where it didn't take
 -- all, its count of faults rose; otherwise that is as before.
 pub record TakesLine {E : Type 0} (contents : E → Option (List ℕ)) (faults : E → ℕ) (old new : E) (line text : List ℕ) (written : ℕ)
     : Type 0 where
@@ -61,10 +64,10 @@ pub record TakesLine {E : Type 0} (contents : E → Option (List ℕ)) (faults :
   pub kept : length text ≤ written → length line ≤ taken → faults new ≡ faults old
 
 -- The history of the report, without its mount and unmount entries, is a history of the reference machine for the program that the
--- command's files are; the answer says how that history ends; and what the sinks took is that history's output and fault output, or
--- their fronts after a fault of the sink. Of the err sink, `Tells` says what it took where the fault output is this. In each entry all steps
+-- command's files are; the answer says how that history ends; and what the sinks took is that history's output and error output, or
+-- their fronts after a fault of the sink. Of the err sink, `Errs` says what it took where the error output is this. In each entry all steps
 -- but the last are local instructions; and a program whose main thread alone ends in time has ended.
-pub record Ran (c : Command) (known : Option Files) (before after : Option (List ℕ)) (Tells : List ℕ → Type 0) (r : Report) : Type 0 where
+pub record Ran (c : Command) (known : Option Files) (before after : Option (List ℕ)) (Errs : List ℕ → Type 0) (r : Report) : Type 0 where
   pub program : Setting
   pub state : State
   pub given : IsGiven known c program
@@ -73,15 +76,16 @@ pub record Ran (c : Command) (known : Option Files) (before after : Option (List
   pub entries : AllByRecursion IsMainEntry r.history.items
   pub grouped : AreGrouped program (java r.history.items)
   pub complete : IsComplete program state
-  pub written : Appends before (take r.out_written state.out) after
-  pub taken : IsTaken r.why r.out_written (length state.out)
-  pub told : IsTold r.why r.err_written (length state.err)
-  pub tells : Tells state.err
+  pub out : Appends before (take r.out_written state.out) after
+  pub out_taken : IsOutTaken r.why r.out_written (length state.out)
+  pub err : Errs state.err
+  pub err_taken : IsErrTaken r.why r.err_written (length state.err)
 
--- nothing was run, and nothing was written to the out sink
+-- Nothing was run: the history is empty, and neither sink took any output of a program.
 pub record IsIdle (before after : Option (List ℕ)) (r : Report) : Type 0 where
   pub history : r.history.items ≡ []
   pub out_written : r.out_written ≡ 0
+  pub err_written : r.err_written ≡ 0
   pub same : after ≡ before
 
 -- the fact holds where the answer is that of a run
@@ -127,7 +131,7 @@ ending_answer endings.Ended = Ended
 ending_answer endings.MainThrew = MainThrew
 ending_answer (endings.Exited status) = Exited status
 ending_answer (endings.Limit machine.Events number) = Limit Events number
-ending_answer told = NoMemory
+ending_answer other = NoMemory
 
 -- A run was written: its answer, and what the sinks took.
 pub record Wrote {O E : Type 0} (bytes : O → Option (List ℕ)) (counts : O → ℕ) (old_out new_out : O) (contents : E → Option (List ℕ))
@@ -140,7 +144,7 @@ pub record Wrote {O E : Type 0} (bytes : O → Option (List ℕ)) (counts : O �
   pub out_written : r.out_written ≡ taken_of out_fault (length x.out.items)
   pub err_written : r.err_written ≡ taken_of err_fault (length x.err.items)
   pub err_size : (n : ℕ) → err_fault ≡ Some n → n < length x.err.items
-  pub tells : TakesLine contents faults old new (line_of c r.why) x.err.items r.err_written
+  pub err : TakesLine contents faults old new (line_of c r.why) x.err.items r.err_written
 
 -- Memory ran out for the line before anything was written.
 pub record Unwritten {O E : Type 0} (old_out new_out : O) (contents : E → Option (List ℕ)) (faults : E → ℕ) (old new : E) (r : Report)
@@ -153,5 +157,5 @@ pub record Unwritten {O E : Type 0} (old_out new_out : O) (contents : E → Opti
   pub line : TakesLine contents faults old new memory_line [] 0
 
 -- an answer is as before, or its line names something and there was no memory for it
-abbrev pub IsKept : Why → Why → Type 0
-IsKept before after = (after ≡ before) ⊎ (NamesSomething before × (after ≡ NoMemory))
+abbrev pub IsSameOrNoMemory : Why → Why → Type 0
+IsSameOrNoMemory before after = (after ≡ before) ⊎ (NamesSomething before × (after ≡ NoMemory))

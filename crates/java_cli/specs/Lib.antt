@@ -1,15 +1,3 @@
-pub mod Words
-pub mod Commands
-pub mod MainClass
-pub mod Linking
-pub mod Supported
-pub mod Limits
-pub mod Programs
-pub mod Errors
-pub mod Answers
-pub mod Lines
 pub mod Causes
-pub mod LoadCauses
-pub mod LinkCauses
 pub mod Runs
 pub mod Headline

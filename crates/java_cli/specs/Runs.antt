@@ -5,11 +5,12 @@ use Rattle.jvm_edges.specs.Files.{Files}
 use Rattle.ref_model.specs.Setting.{Setting}
 use Rattle.machine.specs.declared.execution.Execution.{Execution}
 use Rattle.machine.specs.Runs.{IsRun}
-use Rattle.java_cli.specs.Limits.{most_files}
-use Rattle.java_cli.specs.Words.{Command}
-use Rattle.java_cli.specs.MainClass.{class_named}
-use Rattle.java_cli.specs.Programs.{IsProgram}
-use Rattle.java_cli.specs.Causes.{Contents, HaveContents, AreClasses, Due, runs, IsDue, contents_of}
+use Rattle.program_files.specs.Limits.{most_files}
+use Rattle.command_line.specs.Commands.{Command}
+use Rattle.program_files.specs.MainClass.{class_named}
+use Rattle.program_files.specs.Programs.{IsProgram}
+use Rattle.program_files.specs.Contents.{Contents, HaveContents, AreClasses}
+use Rattle.java_cli.specs.Causes.{Due, runs, IsDue, contents_of}
 
 -- the program that the files of a command are, by the store's files
 pub record IsGiven (known : Option Files) (c : Command) (p : Setting) : Type 0 where

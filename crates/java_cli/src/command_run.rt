@@ -1,22 +1,23 @@
+//! A command, from its files to the end of the run.
+
 ghost use Rattle.std.specs.Prelude.{◌≡◌, IfOk, IfErr};
 ghost use Rattle.jvm_edges.specs.Causes.{Rose};
-ghost use Rattle.java_cli.specs.Commands.{command_texts};
-ghost use Rattle.java_cli.specs.Causes.{IsExact, IsRefusal, StoreFaults};
+ghost use Rattle.command_line.specs.Commands.{command_texts};
+ghost use Rattle.java_cli.specs.Causes.{IsExact, IsRefusal};
+ghost use Rattle.program_files.specs.StoreFaults.{StoreFaults};
 ghost use Rattle.java_cli.specs.Runs.{IsRunDue, RanCommand};
 
-use crate::class_files::read_files;
-use crate::program::{accept_files, start};
-use crate::report::{Which, Why};
-use crate::words::Command;
+use command_line::{Command, Which, Why};
 use jvm_edges::{Gate, Store};
 use machine::{Execution, run};
+use program_files::{accept_files, read_files, start};
 use ref_model::Limits;
 use std::alloc::Global;
 
-/// The most FILE words of a command.
+/// The most FILE arguments of a command.
 const MOST_FILES: u32 = 256;
 
-/// The limits of a run. (own)
+/// The limits of a run.
 const RUN_LIMITS: Limits = Limits {
     heap_cells: 4_194_304,
     threads: 100_000,

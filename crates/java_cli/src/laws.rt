@@ -2,8 +2,9 @@
 
 ghost use Rattle.std.specs.Prelude.{List};
 ghost use Rattle.std.specs.List.{AllByRecursion};
-ghost use Rattle.java_cli.specs.Words.{Command};
-ghost use Rattle.java_cli.specs.Causes.{Contents, AreBytes, OneIsDue};
+ghost use Rattle.command_line.specs.Commands.{Command};
+ghost use Rattle.program_files.specs.Contents.{Contents};
+ghost use Rattle.java_cli.specs.Causes.{AreBytes, OneIsDue};
 
 /// Exactly one answer is due to a command whose files have these bytes.
 pub fn one_answer()

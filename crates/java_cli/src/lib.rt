@@ -1,20 +1,12 @@
-//! Runs a Java program from its class files: all that `jvt run MAIN FILE ..` does but collect its words.
+//! Runs a Java program from its class files: all that `jvt run MAIN FILE ..` does but collect its arguments.
 #![tactic(auto)]
 
-mod class_files;
 mod command_run;
-mod errors;
-mod fault_names;
 mod laws;
-mod line;
-mod main_class;
-mod program;
 mod report;
-mod supported;
 mod top_call;
-mod utf8;
-mod words;
 
+pub use command_line::{SinkName, Which, Why};
 pub use laws::one_answer;
-pub use report::{Report, SinkName, Which, Why};
+pub use report::Report;
 pub use top_call::{jvt, no_memory};

@@ -1,5 +1,5 @@
-//! Calls `jvt` with the words of each line of `programs.txt`, and prints what came of it: the words, what the program wrote, or
-//! the line of a refusal, and the status.
+//! Calls `jvt` with the arguments in each line of `programs.txt`, and prints what came of it: the line, what the program wrote or the
+//! refusal, and the status.
 #![tactic(auto)]
 
 use java_cli::jvt;
@@ -22,17 +22,17 @@ fn main(rt: HostRuntime) -> io::Result<ExitCode> {
     Ok(ExitCode::SUCCESS)
 }
 
-// The program's name, and the words of a line.
-fn words_of(alloc: Global, line: &str) -> Result<Vec<String>, AllocError> {
-    let mut words = Vec::new(alloc);
-    words.push(String::from_str(alloc, "jvt")?)?;
-    for word in line.split_whitespace() {
-        words.push(String::from_str(alloc, word)?)?;
+// The program's name, and the arguments in a line.
+fn arguments_of(alloc: Global, line: &str) -> Result<Vec<String>, AllocError> {
+    let mut args = Vec::new(alloc);
+    args.push(String::from_str(alloc, "jvt")?)?;
+    for arg in line.split_whitespace() {
+        args.push(String::from_str(alloc, arg)?)?;
     }
-    Ok(words)
+    Ok(args)
 }
 
-// Calls `jvt` with the words of a line, and gives the status.
+// Calls `jvt` with the arguments in a line, and gives the status.
 fn run_program<S: Store, O: Sink, E: Sink>(
     alloc: Global,
     line: &str,
@@ -40,9 +40,9 @@ fn run_program<S: Store, O: Sink, E: Sink>(
     out: &mut O,
     err: &mut E,
 ) -> Result<u8, AllocError> {
-    let words = words_of(alloc, line)?;
+    let args = arguments_of(alloc, line)?;
     let (clock, gate) = (StepClock::new(0), OpenGate::new());
-    let report = jvt(alloc, &words, store, out, err, &clock, &gate);
+    let report = jvt(alloc, &args, store, out, err, &clock, &gate);
     Ok(report.why.status())
 }
 

@@ -1,6 +1,6 @@
 //! What no program can show of itself: its history, the gate, and sinks and memory that fail.
 
-use crate::words_of;
+use crate::arguments_of;
 use history::{Entry, What};
 use java_cli::{Report, SinkName, Which, Why, jvt, no_memory};
 use jvm_edges::{Gate, ListClock, MapStore, MemSink, OpenGate};
@@ -54,7 +54,7 @@ fn run_a<G: Gate + Sync>(
     err: &mut MemSink,
     gate: &G,
 ) -> Result<Report, AllocError> {
-    let words = words_of(alloc, "run A A.class")?;
+    let args = arguments_of(alloc, "run A A.class")?;
     let mut files = Vec::new(alloc);
     files.push((
         String::from_str(alloc, "A.class")?,
@@ -62,7 +62,7 @@ fn run_a<G: Gate + Sync>(
     ))?;
     let mut store = MapStore::new(files, Vec::new(alloc));
     let clock = ListClock::new(vec![in alloc; 0]?);
-    Ok(jvt(alloc, &words, &mut store, out, err, &clock, gate))
+    Ok(jvt(alloc, &args, &mut store, out, err, &clock, gate))
 }
 
 // A sink that takes two bytes a put, and whose puts of these numbers fail.
@@ -108,8 +108,12 @@ fn a_sink_that_fails_has_its_line_on_the_other(rt: HostRuntime) -> Result<(), Fa
         let out = &mut sink(rt.alloc(), &[fails_at])?;
         let err = &mut sink(rt.alloc(), &[])?;
         let report = run_a(rt.alloc(), &A_CLASS, out, err, &OpenGate::new())?;
-        let which = SinkName::Out;
-        assert_eq!(rt; report.why, Why::SinkFault { which, written });
+        assert!(rt;
+            matches!(
+                report.why,
+                Why::SinkFault { which: SinkName::Out, written: taken } if taken == written
+            )
+        );
         assert_eq!(rt; report.why.status(), 74);
         assert_eq!(rt; report.out_written, written);
         assert_eq!(rt; report.history.len(), 3);
@@ -123,15 +127,22 @@ fn a_file_of_one_byte_too_many_is_refused(rt: HostRuntime) -> Result<(), Fail> {
     let (out, err) = (&mut sink(rt.alloc(), &[])?, &mut sink(rt.alloc(), &[])?);
     let bytes = vec![in rt.alloc(); 0u8; 4_194_305]?;
     let report = run_a(rt.alloc(), &bytes, out, err, &OpenGate::new())?;
-    let (which, number) = (Which::FileSize, 4_194_304);
-    assert_eq!(rt; report.why, Why::Limit { which, number });
+    assert!(rt;
+        matches!(
+            report.why,
+            Why::Limit {
+                which: Which::FileSize,
+                number: 4_194_304
+            }
+        )
+    );
     assert_eq!(rt; report.why.status(), 71);
     assert_eq!(rt; err.bytes(), b"jvt: limit FileSize 4194304\n".as_slice());
     Ok(())
 }
 
 #[test]
-fn want_of_memory_for_the_words_has_its_line(rt: HostRuntime) -> Result<(), Fail> {
+fn want_of_memory_for_the_arguments_has_its_line(rt: HostRuntime) -> Result<(), Fail> {
     let err = &mut sink(rt.alloc(), &[])?;
     let report = no_memory(rt.alloc(), err);
     assert_eq!(rt; report.why.status(), 75);

@@ -4,17 +4,16 @@ use Rattle.std.proofs.lemmas.List.{length-map}
 use Rattle.jvm_edges.specs.Causes.{Rose}
 use Rattle.link_model.specs.World.{World}
 use Rattle.link_rules.specs.Program.{Program}
-use Rattle.java_cli.specs.Commands.{command_texts}
-use Rattle.java_cli.specs.declared.report.Why.TheVariants.{NoMemory}
-use Rattle.java_cli.specs.Errors.{load_answer, accept_answer, start_answer}
-use Rattle.java_cli.specs.Causes.{IsExact, StoreFaults}
-use Rattle.java_cli.specs.Words.{texts}
+use Rattle.command_line.specs.Commands.{command_texts, texts}
+use Rattle.command_line.specs.declared.answer.Why.TheVariants.{NoMemory}
+use Rattle.program_files.specs.Errors.{load_answer, accept_answer, start_answer}
+use Rattle.java_cli.specs.Causes.{IsExact}
+use Rattle.program_files.specs.StoreFaults.{StoreFaults}
 use Rattle.ref_model.specs.Setting.{Setting}
-use Rattle.java_cli.specs.Limits.{run_limits}
-use Rattle.java_cli.specs.MainClass.{class_named}
-use Rattle.java_cli.specs.Programs.{world_of_files, IsProgram}
-use Rattle.java_cli.proofs.LoadLaws.{answer_is, refusal_is}
-use Rattle.java_cli.proofs.AnswerLaws.{too_many_exact, stopped_exact, load_refusal, unaccepted_exact, accept_refusal, accept_faults, unstarted_exact, start_refusal, start_faults, memory_exact, run_due, ran_command, all_spelled}
+use Rattle.program_files.specs.Limits.{run_limits}
+use Rattle.program_files.specs.MainClass.{class_named}
+use Rattle.program_files.specs.Programs.{world_of_files, IsProgram}
+use Rattle.java_cli.proofs.AnswerLaws.{answer_is, refusal_is, too_many_exact, stopped_exact, load_refusal, unaccepted_exact, accept_refusal, accept_faults, unstarted_exact, start_refusal, start_faults, memory_exact, run_due, ran_command}
 use Rattle.java_cli.proofs.command_run.run_command.Goals as goal
 
 -- the program of a world
@@ -74,7 +73,7 @@ returns-in_err-main-clause-exact g c =
     let classes = c.in_ok-classes.classes.items in
     answer_is c.from_residual-in_err-main.result (start_answer c.in_err-main.field-0.0) (IsExact known faulty (command_texts c.args.command.now)) c.from_residual-in_err-main.ensures.1
     (unstarted_exact known faulty (command_texts c.args.command.now) classes c.in_err-main.field-0.0 (few_texts c.args.command.now.files.now c.if-command.false) c.in_ok-classes.ensures.found
-    c.in_ok-checked.ensures.accepted (c.in_err-main.ensures.refused classes (ap program_in_world c.world.ensures.world ∙ c.in_ok-checked.ensures.program) (all_spelled _ _ classes c.in_ok-classes.ensures.found)))
+    c.in_ok-checked.ensures.accepted (c.in_err-main.ensures.refused classes (ap program_in_world c.world.ensures.world ∙ c.in_ok-checked.ensures.program)))
 
 pub returns-in_err-main-clause-refusal : goal.returns-in_err-main-clause-refusal
 returns-in_err-main-clause-refusal g c =

@@ -1,4 +1,4 @@
-use Rattle.java_cli.specs.Commands.{command_texts}
+use Rattle.command_line.specs.Commands.{command_texts}
 use Rattle.java_cli.proofs.AnswerLaws.{of_command, refused_headline, refused_out, refused_store}
 use Rattle.java_cli.proofs.LineLaws.{takes, line_named, line_of_none}
 use Rattle.java_cli.proofs.RunLaws.{headline_is, idle_is, line_is, out_faults_is, delivered_exact, delivered_store}
@@ -37,8 +37,8 @@ pub returns-in-Err-clause-store_faults : goal.returns-in-Err-clause-store_faults
 returns-in-Err-clause-store_faults g c = refused_store _ c.refuse.result.why _ _ c.refuse.ensures.why c.in-Err.ensures.faults
 
 pub returns-in-Err-clause-line : goal.returns-in-Err-clause-line
-returns-in-Err-clause-line g c idle = line_named _ _ _ _ _ (command_texts c.in-Some.command) c.refuse.result.why _ c.in-Some.ensures c.refuse.ensures.no_faults c.refuse.ensures.line
+returns-in-Err-clause-line g c idle = line_named _ _ _ _ _ (command_texts c.in-Some.command) c.refuse.result.why _ c.in-Some.ensures c.refuse.ensures.err_written c.refuse.ensures.line
 
 pub returns-in-None-clause-line : goal.returns-in-None-clause-line
 returns-in-None-clause-line g c idle =
-    line_of_none _ _ _ _ _ c.idle_report.result.why _ c.in-None.ensures c.idle_report.ensures.no_faults (takes _ _ _ _ _ c.put_all.result c.put_all.ensures.ok c.put_all.ensures.part c.put_all.ensures.short c.put_all.ensures.cause c.put_all.ensures.kept)
+    line_of_none _ _ _ _ _ c.idle_report.result.why _ c.in-None.ensures c.idle_report.ensures.err_written (takes _ _ _ _ _ c.put_all.result c.put_all.ensures.ok c.put_all.ensures.part c.put_all.ensures.short c.put_all.ensures.cause c.put_all.ensures.kept)

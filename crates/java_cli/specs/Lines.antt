@@ -1,8 +1,0 @@
-use Rattle.std.specs.Prelude.{ℕ, List}
-use Rattle.java_cli.specs.declared.line.Line.{Line}
-use Rattle.java_cli.specs.declared.line.Line.TheVariants.{Fixed, Made}
-
--- the bytes of a line
-abbrev pub bytes_of : Line → List ℕ
-bytes_of (Fixed bytes) = bytes.now
-bytes_of (Made bytes) = bytes.items

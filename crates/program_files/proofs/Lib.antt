@@ -1,0 +1,4 @@
+pub mod LoadLaws
+pub mod LinkLaws
+pub mod SupportLaws
+pub mod StartLaws

@@ -1,0 +1,151 @@
+-- What was read of a file is its contents in the store.
+use Rattle.std.proofs.Common.{◌≡◌, ℕ, zero, suc, ◌+◌, get_or, add-one, String, string_bytes, ◌<◌, ◌≤◌, ◌⊎◌, inl, inr, List, [], ◌∷◌, ◌++◌, length, take, drop, Option, Some, None, Result, Ok, Err, refl, sym, ap, subst, ◌∙◌, arith}
+use Rattle.std.specs.Prelude.{IfOk, IfErr, IsErrAnd, IfSome, min}
+use Rattle.std.specs.Global.{Global}
+use Rattle.std.specs.List.{AllZip}
+use Rattle.std.proofs.lemmas.List.{length-take, take_all}
+use Rattle.std.proofs.lemmas.Option.{same_Some}
+use Rattle.jvm_edges.specs.Causes.{Rose}
+use Rattle.jvm_edges.specs.Files.{Files, file_named, first_bytes}
+use Rattle.class_model.specs.declared.class_file.ClassFile.{ClassFile}
+use Rattle.program_files.specs.declared.errors.LoadError.{LoadError}
+use Rattle.program_files.specs.declared.errors.LoadError.TheVariants.{Missing, TooLarge, NoMemory}
+use Rattle.command_line.specs.Commands.{texts}
+use Rattle.program_files.specs.Limits.{most_bytes}
+use Rattle.program_files.specs.Errors.{load_answer, loaded_answer}
+use Rattle.program_files.specs.Contents.{Contents, HasContents, IsBad}
+use Rattle.program_files.specs.LoadCauses.{IsRead, IsWrongFile, NotRead, IsStopped}
+use Rattle.program_files.specs.StoreFaults.{StoreFaults}
+use Rattle.class_grammar.specs.Grammar.{SpellsOnly}
+
+abbrev no_file : Contents
+no_file = None
+
+pub missing_is : (known : Option Files) (n : ℕ) (name : List ℕ) → IfSome known (λ files. no_file ≡ first_bytes 4194305 (file_named name files)) → IsWrongFile known n name (Missing n)
+missing_is known n name found = record { contents = None; holds = by_told known found; wrong = refl }
+  where
+    by_file : (file : Contents) → no_file ≡ first_bytes 4194305 file → no_file ≡ file
+    by_file None e = refl
+    by_file (Some file) e = absurd cc
+
+    by_told : (known : Option Files) → IfSome known (λ files. no_file ≡ first_bytes 4194305 (file_named name files)) → HasContents known name None
+    by_told None found = tt
+    by_told (Some files) found = by_file (file_named name files) found
+
+pub large_is : (known : Option Files) (n : ℕ) (name bytes : List ℕ) → IfSome known (λ files. Some bytes ≡ first_bytes 4194305 (file_named name files)) → most_bytes < length bytes
+    → IsWrongFile known n name TooLarge
+large_is None n name bytes found large = record { contents = Some bytes; holds = tt; wrong = inl (large, refl) }
+large_is (Some files) n name bytes found large = by_file (file_named name files) refl found
+  where
+    by_file : (file : Contents) → file_named name files ≡ file → Some bytes ≡ first_bytes 4194305 file → IsWrongFile (Some files) n name TooLarge
+    by_file None is e = absurd cc
+    by_file (Some file) is e =
+        let size : length bytes ≡ min 4194305 (length file) = ap length (same_Some bytes (take 4194305 file) e) ∙ length-take 4194305 file in
+        record { contents = Some file; holds = sym is; wrong = inl (omega (arith, size), refl) }
+
+-- a file of which fewer bytes were read than were asked for was read whole
+pub whole_is : (known : Option Files) (name bytes : List ℕ) → IfSome known (λ files. Some bytes ≡ first_bytes 4194305 (file_named name files)) → length bytes ≤ most_bytes → HasContents known name (Some bytes)
+whole_is None name bytes found small = tt
+whole_is (Some files) name bytes found small = by_file (file_named name files) found
+  where
+    by_file : (file : Contents) → Some bytes ≡ first_bytes 4194305 file → Some bytes ≡ file
+    by_file None e = absurd cc
+    by_file (Some file) e =
+        let front = same_Some bytes (take 4194305 file) e in
+        let size : length bytes ≡ min 4194305 (length file) = ap length front ∙ length-take 4194305 file in
+        ap (λ (b : List ℕ). Some b) (front ∙ take_all 4194305 file (omega (arith, size)))
+
+pub read_is : (known : Option Files) (name bytes : List ℕ) (r : Result ClassFile LoadError) → length bytes ≤ most_bytes → HasContents known name (Some bytes) → IfOk r (SpellsOnly bytes) → IfOk r (IsRead known name)
+read_is known name bytes (Ok f) small holds spells = record { contents = Some bytes; holds = holds; class = (small, spells.spelled); only = λ g is. spells.only g is.1 }
+read_is known name bytes (Err why) small holds spells = tt
+
+bad_is : (known : Option Files) (faulty : Type 0) (n : ℕ) (name bytes : List ℕ) (error : LoadError) → HasContents known name (Some bytes) → IsBad n bytes error → NotRead known faulty n name error
+bad_is known faulty n name bytes error holds bad =
+    subst (λ (e : LoadError). NotRead known faulty n name e) (sym bad.is_error)
+    (record { contents = Some bytes; holds = holds; wrong = inr (record { at = bad.at; reason = bad.reason; small = bad.small; none = bad.none; first = bad.first; is_error = refl }) })
+
+pub not_read_is : (known : Option Files) (faulty : Type 0) (n : ℕ) (name bytes : List ℕ) (r : Result ClassFile LoadError) → HasContents known name (Some bytes) → IfErr r (λ error. (error ≡ NoMemory) ⊎ IsBad n bytes error)
+    → IfErr r (NotRead known faulty n name)
+not_read_is known faulty n name bytes (Ok f) holds bad = tt
+not_read_is known faulty n name bytes (Err error) holds bad = elim bad [
+  | inl e ↦ subst (λ (e : LoadError). NotRead known faulty n name e) (sym e) tt
+  | inr b ↦ bad_is known faulty n name bytes error holds b
+]
+
+-- an error of the bytes alone comes after no fault of the store
+pub class_faults : (n : ℕ) (bytes : List ℕ) (r : Result ClassFile LoadError) (before now : ℕ) → now ≡ before → IfErr r (λ error. (error ≡ NoMemory) ⊎ IsBad n bytes error) → StoreFaults (loaded_answer r) before now
+class_faults n bytes (Ok f) before now kept bad = kept
+class_faults n bytes (Err error) before now kept bad = elim bad [
+  | inl e ↦ subst (λ (e : LoadError). StoreFaults (load_answer e) before now) (sym e) tt
+  | inr b ↦ subst (λ (e : LoadError). StoreFaults (load_answer e) before now) (sym b.is_error) kept
+]
+
+-- ---- one file after the other
+
+zip_more : {A B : Type 0} (R : A → B → Type 0) (xs : List A) (ys : List B) (x : A) (y : B) → AllZip R xs ys → R x y → AllZip R (xs ++ x ∷ []) (ys ++ y ∷ [])
+zip_more R [] [] x y all here = (here, tt)
+zip_more R [] (b ∷ ys) x y all here = absurd all
+zip_more R (a ∷ xs) [] x y all here = absurd all
+zip_more R (a ∷ xs) (b ∷ ys) x y all here = (all.0, zip_more R xs ys x y all.1 here)
+
+pub read_more : (known now : Option Files) (names : List (List ℕ)) (classes : List ClassFile) (name : List ℕ) (f : ClassFile) → AllZip (IsRead known) names classes → now ≡ known → IsRead now name f
+    → AllZip (IsRead known) (names ++ name ∷ []) (classes ++ f ∷ [])
+read_more known now names classes name f all same here = zip_more (IsRead known) names classes name f all (subst (λ (t : Option Files). IsRead t name f) same here)
+
+pub stopped_at : (known now : Option Files) (faulty : Type 0) (names front back : List (List ℕ)) (name : List ℕ) (classes : List ClassFile) (n : ℕ) (error : LoadError) → names ≡ front ++ name ∷ back → length front ≡ n
+    → AllZip (IsRead known) front classes → now ≡ known → NotRead now faulty n name error → IsStopped known faulty names error
+stopped_at known now faulty names front back name classes n error parts here read same cause = record {
+  front = front;
+  name = name;
+  back = back;
+  classes = classes;
+  parts = parts;
+  read = read;
+  cause = subst (λ (k : ℕ). NotRead known faulty k name error) (sym here) (subst (λ (t : Option Files). NotRead t faulty n name error) same cause);
+}
+
+-- ---- the words of the files, of which so many were read
+
+texts_size : (names : List (String Global)) (i : ℕ) → i < length names → length (texts (take i names)) ≡ i
+texts_size [] i lt = absurd (omega (arith, lt))
+texts_size (x ∷ names) zero lt = refl
+texts_size (x ∷ names) (suc i) lt = ap suc (texts_size names i (omega (arith, lt)))
+
+texts_split : (names : List (String Global)) (i : ℕ) (s : String Global) → i < length names → s ≡ get_or names i s → texts names ≡ texts (take i names) ++ string_bytes s ∷ texts (drop (suc i) names)
+texts_split [] i s lt is = absurd (omega (arith, lt))
+texts_split (x ∷ names) zero s lt is = ap (λ (y : String Global). string_bytes y ∷ texts names) (sym is)
+texts_split (x ∷ names) (suc i) s lt is = ap (λ (l : List (List ℕ)). string_bytes x ∷ l) (texts_split names i s (omega (arith, lt)) is)
+
+texts_suc : (names : List (String Global)) (i : ℕ) (s : String Global) → i < length names → s ≡ get_or names i s → texts (take (suc i) names) ≡ texts (take i names) ++ string_bytes s ∷ []
+texts_suc [] i s lt is = absurd (omega (arith, lt))
+texts_suc (x ∷ names) zero s lt is = ap (λ (y : String Global). string_bytes y ∷ []) (sym is)
+texts_suc (x ∷ names) (suc i) s lt is = ap (λ (l : List (List ℕ)). string_bytes x ∷ l) (texts_suc names i s (omega (arith, lt)) is)
+
+-- one file more
+pub one_more_read : (known now : Option Files) (names : List (String Global)) (i : ℕ) (s : String Global) (name : List ℕ) (classes more : List ClassFile) (f : ClassFile) → i < length names → s ≡ get_or names i s → name ≡ string_bytes s
+    → more ≡ classes ++ f ∷ [] → AllZip (IsRead known) (texts (take i names)) classes → now ≡ known → IsRead now name f → AllZip (IsRead known) (texts (take (i + 1) names)) more
+one_more_read known now names i s name classes more f lt is name_is more_is all same here =
+    let words : texts (take (i + 1) names) ≡ texts (take i names) ++ name ∷ [] =
+    ap (λ (n : ℕ). texts (take n names)) (add-one i) ∙ texts_suc names i s lt is ∙ ap (λ (n : List ℕ). texts (take i names) ++ n ∷ []) (sym name_is) in
+    subst (λ (ns : List (List ℕ)). AllZip (IsRead known) ns more) (sym words)
+    (subst (λ (fs : List ClassFile). AllZip (IsRead known) (texts (take i names) ++ name ∷ []) fs) (sym more_is)
+    (read_more known now (texts (take i names)) classes name f all same here))
+
+-- One file was not read. The store had no fault before it, so a fault since then is one of the whole call.
+pub one_not_read : (known now : Option Files) (before since after : ℕ) (names : List (String Global)) (i : ℕ) (s : String Global) (name : List ℕ) (classes : List ClassFile) (error : LoadError) → i < length names → s ≡ get_or names i s
+    → name ≡ string_bytes s → AllZip (IsRead known) (texts (take i names)) classes → now ≡ known → since ≡ before → NotRead now (Rose since after) i name error → IsStopped known (Rose before after) (texts names) error
+one_not_read known now before since after names i s name classes error lt is name_is all same faults cause =
+    stopped_at known now (Rose before after) (texts names) (texts (take i names)) (texts (drop (suc i) names)) name classes i error
+    (texts_split names i s lt is ∙ ap (λ (n : List ℕ). texts (take i names) ++ n ∷ texts (drop (suc i) names)) (sym name_is))
+    (texts_size names i lt) all same (subst (λ (n : ℕ). NotRead now (Rose n after) i name error) faults cause)
+
+-- ---- what a `?` answers
+
+pub err_is : {A : Type 0} (r : Result A LoadError) (error : LoadError) (P : LoadError → Type 0) → IsErrAnd r (λ e. e ≡ error) → P error → IfErr r P
+err_is (Ok x) error P is p = absurd is
+err_is (Err e) error P is p = subst P (sym is) p
+
+pub faults_is : {A : Type 0} (r : Result A LoadError) (error : LoadError) (before since after : ℕ) → IsErrAnd r (λ e. e ≡ error) → since ≡ before → StoreFaults (load_answer error) since after → StoreFaults (loaded_answer r) before after
+faults_is (Ok x) error before since after is same faults = absurd is
+faults_is (Err e) error before since after is same faults =
+    subst (λ (x : LoadError). StoreFaults (load_answer x) before after) (sym is) (subst (λ (n : ℕ). StoreFaults (load_answer error) n after) same faults)

@@ -1,0 +1,13 @@
+//! The program that a command's files are: reads the class files, links them with the built-in classes, types their code, and finds main.
+#![tactic(auto)]
+
+mod class_files;
+mod errors;
+mod fault_names;
+mod main_class;
+mod program;
+mod supported;
+
+pub use class_files::read_files;
+pub use errors::{AcceptError, LoadError, StartError};
+pub use program::{accept_files, start};
