@@ -11,7 +11,7 @@ class ZeroLengths {
     }
 
     static String made(int a, int b, int c, int d) {
-        try { return shape(new int[a][b][c][d]); } catch (Throwable t) { return t.getClass().getName(); }
+        try { return shape(new int[a][b][c][d]); } catch (NegativeArraySizeException e) { return "negative"; }
     }
 
     // the length 0 in each dimension, before and behind lengths whose product passes 2^32
