@@ -123,21 +123,33 @@ fn operands_have_their_signs_and_their_widths(rt: HostRuntime) {
 
 // JVMS 6.5: iushr, lrem, lshl, i2c.
 #[test]
-fn operations_are_those_of_the_arithmetic(rt: HostRuntime) -> Result<(), Fail> {
-    let table = [
-        (0x7c, Simple::IntBinary(IntOp::Ushr)),
-        (0x71, Simple::LongBinary(LongOp::Rem)),
-        (0x79, Simple::LongShift(ShiftOp::Shl)),
-        (0x92, Simple::IntNarrow(Narrow::Char)),
-        (0x5c, Simple::Dup2),
-    ];
-    for (opcode, expected) in table {
-        let Some(Op::Simple(found)) = last_of(rt.alloc(), &[opcode]) else {
-            return Err(Fail::from("an opcode without operands"));
-        };
-        assert_eq!(rt; found, expected);
-    }
-    Ok(())
+fn operations_are_those_of_the_arithmetic(rt: HostRuntime) {
+    let alloc = rt.alloc();
+    assert!(rt;
+        matches!(
+            last_of(alloc, &[0x7c]),
+            Some(Op::Simple(Simple::IntBinary(IntOp::Ushr)))
+        )
+    );
+    assert!(rt;
+        matches!(
+            last_of(alloc, &[0x71]),
+            Some(Op::Simple(Simple::LongBinary(LongOp::Rem)))
+        )
+    );
+    assert!(rt;
+        matches!(
+            last_of(alloc, &[0x79]),
+            Some(Op::Simple(Simple::LongShift(ShiftOp::Shl)))
+        )
+    );
+    assert!(rt;
+        matches!(
+            last_of(alloc, &[0x92]),
+            Some(Op::Simple(Simple::IntNarrow(Narrow::Char)))
+        )
+    );
+    assert!(rt; matches!(last_of(alloc, &[0x5c]), Some(Op::Simple(Simple::Dup2))));
 }
 
 #[test]
