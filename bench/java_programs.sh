@@ -60,6 +60,9 @@ own_rules() {
     javac --release 8 -Xlint:-options -g -d "$data/own" "$top/bench/own/"*.java
     # No method in Java may be called `<clinit>`.
     sed -i 's/\$clinit\$/<clinit>/' "$data/own/OtherInitializers.class" "$data/own/SynchronizedInitializer.class"
+    javac --release 8 -Xlint:-options -g:none -d "$data/own" "$top/bench/own/special/Main.java"
+    javac --release 8 -Xlint:-options -g:none -cp "$data/own" -d "$data/own" "$top/bench/own/special/later/Later.java"
+    for class in D E; do python3 "$top/bench/own/owner.py" "$data/own/special/$class.class" m special/C; done
     mkdir "$data/sketches"
     cp "$top/bench/own/stdout" "$work/own"
     python3 "$top/bench/own/sketches.py" "$top/bench/own/sketches.txt" "$data/sketches" "$work/own"

@@ -41,7 +41,7 @@ use Rattle.verify_types.specs.Typing.{AreTyped}
 use Rattle.state_model.specs.Frames.{Frame}
 use Rattle.ref_model.specs.Kinds.{argument_slots}
 use Rattle.ref_model.specs.Members.{is_initializer}
-use Rattle.ref_model.specs.Fetch.{Named, named_method}
+use Rattle.ref_model.specs.Fetch.{Named, named_method, method_of as number_of}
 use Rattle.ref_model.specs.Frames.{first_frame, callee, caller}
 use Rattle.ref_model.specs.LocalRows.{most_frames, has_local_call, frames_called, static_called, row}
 use Rattle.frame_soundness.specs.Typed.{Waits, IsUnder, AreUnder, Typed, given_back, back_of, initializes}
@@ -65,9 +65,10 @@ pub record IsNamed (w : World) (info : MethodInfo) (m : Named) : Type 0 where
 inside : (a b : Named) → ◌≡◌ {A = Option Named} (Some a) (Some b) → a ≡ b
 inside a b same = cc
 
-pub is_named : (w : World) (site : Site) (class : Option ℕ) (info : MethodInfo) (m : Named)
-    → named_method w (record { site = site; class = class }) ≡ Some m → method_of w site ≡ Ok info → IsNamed w info m
-is_named w (sites.Method n) class info m named e =
+pub is_named : (w : World) (site : Site) (info : MethodInfo) (m : Named)
+    → (number_of site >>= λ n. slice_get w.methods n >>= λ x. Some (record { number = n; method = x })) ≡ Some m
+    → method_of w site ≡ Ok info → IsNamed w info m
+is_named w (sites.Method n) info m named e =
     let x = some_is (slice_get w.methods n) (λ x. Some (record { number = n; method = x })) m named in
     let same = inside (record { number = n; method = x.0 }) m x.2 in
     let here : slice_get w.methods n ≡ Some info = found (slice_get w.methods n) info whys.Kind e in
@@ -79,10 +80,10 @@ is_named w (sites.Method n) class info m named e =
   where
     one : (o : Option MethodInfo) (a b : MethodInfo) → o ≡ Some a → o ≡ Some b → a ≡ b
     one o a b x y = cc
-is_named w sites.Plain class info m named e = absurd cc
-is_named w (sites.Field n) class info m named e = absurd cc
-is_named w (sites.Class n) class info m named e = absurd cc
-is_named w (sites.Value v) class info m named e = absurd cc
+is_named w sites.Plain info m named e = absurd cc
+is_named w (sites.Field n) info m named e = absurd cc
+is_named w (sites.Class n) info m named e = absurd cc
+is_named w (sites.Value v) info m named e = absurd cc
 
 -- ---- what the typing says of the call
 
@@ -111,7 +112,7 @@ called_types w env i s after index m world known named e =
     (sym world) here in
     let method = ok_is (method_of w i.resolution.site) (λ x. named_class i.resolution then λ class. static_state w x s) after there in
     let class = ok_is (named_class i.resolution) (λ class. static_state w method.0 s) after method.2 in
-    static_types w s after method.0 m (is_named w i.resolution.site i.resolution.class method.0 m named method.1) class.2
+    static_types w s after method.0 m (is_named w i.resolution.site method.0 m named method.1) class.2
 
 -- ---- the frames
 

@@ -172,7 +172,7 @@ invocation_took w env i s after invocation index m world known receiver named e 
     let class = ok_is (named_class i.resolution) (λ class. called env i.instr.pc invocation method.0 class s) after method.2 in
     let site : method_of w i.resolution.site ≡ Ok method.0 =
     subst (λ (v : World). method_of v i.resolution.site ≡ Ok method.0) (sym world) method.1 in
-    let n = is_named w i.resolution.site i.resolution.class method.0 m named site in
+    let n = is_named w i.resolution.site method.0 m named site in
     let call : called env i.instr.pc invocation m.method class.0 s ≡ Ok after =
     subst (λ (x : MethodInfo). called env i.instr.pc invocation x class.0 s ≡ Ok after) n.info_is class.2 in
     subst (λ (v : World). Took v s after m) (sym world) (took env s after i.instr.pc class.0 m invocation receiver call)

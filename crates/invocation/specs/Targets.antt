@@ -8,6 +8,7 @@ use Rattle.instruction_rows.specs.Rows.{Row, invoke}
 use Rattle.link_model.specs.declared.members.MethodCode.{MethodCode}
 use Rattle.link_model.specs.declared.members.MethodInfo.{MethodInfo}
 use Rattle.link_model.specs.declared.sites.Resolution.{Resolution}
+use Rattle.link_model.specs.declared.sites.SelectionFailure.{SelectionFailure}
 use Rattle.link_model.specs.Decoded.{code_at}
 use Rattle.link_model.specs.World.{World}
 use Rattle.heap_objs.specs.Heap.{Heap}
@@ -21,7 +22,7 @@ use Rattle.ref_model.specs.Kinds.{argument_slots}
 use Rattle.ref_model.specs.LocalRows.{has_local_call, most_frames}
 use Rattle.ref_model.specs.NativeRows.{native_acted}
 use Rattle.ref_model.specs.Natives.{native_row}
-use Rattle.ref_model.specs.Calls.{choice_of, chosen, entered, invoked, method_numbered}
+use Rattle.ref_model.specs.Calls.{choice_of, chosen, entered, invoked, method_numbered, unless_failed}
 use Rattle.heap_instructions.specs.Operands.{operands}
 use Rattle.heap_instructions.specs.Outcomes.{with_heap}
 use Rattle.invocation.specs.Arguments.{takes_double}
@@ -128,7 +129,12 @@ IsVirtual w resolution n slots heap m target = (r : State) (depth : ℕ) →
 
 abbrev pub special_effect : World → Resolution → ℕ → ℕ → State → ℕ → List Slot → Option Effect
 special_effect w resolution n slots r depth stack =
-    on_receiver w resolution slots r stack (λ class. numbered_effect w r depth n (suc slots) stack)
+    on_receiver w resolution slots r stack (λ class. unless_failed resolution.failure (numbered_effect w r depth n (suc slots) stack))
+
+-- what invokespecial selected when the program was linked
+abbrev pub IsLinkedTarget : World → Option SelectionFailure → ℕ → ℕ → Target → Type 0
+IsLinkedTarget w failure n slots target = (r : State) (depth : ℕ) (stack : List Slot) →
+    Gives w r depth stack (unless_failed failure (numbered_effect w r depth n slots stack)) target
 
 abbrev pub IsSpecial : World → Resolution → ℕ → ℕ → Heap → Continuation → Target → Type 0
 IsSpecial w resolution n slots heap m target = (r : State) (depth : ℕ) →

@@ -5,11 +5,12 @@ ghost use Rattle.std.specs.Prelude.{◌≡◌, ◌≤◌, IfOk, IfSome, None, So
 ghost use Rattle.opcodes.specs.declared.op.ValueKind.TheVariants as kinds;
 ghost use Rattle.instruction_rows.specs.Table.{row};
 ghost use Rattle.link_model.specs.Decoded.{code_at};
+ghost use Rattle.link_model.specs.World.{World};
 ghost use Rattle.ref_model.specs.Fetch as fetch;
 ghost use Rattle.ref_model.specs.Members.{native_at};
 ghost use Rattle.ref_model.specs.Operands.{FindsOperands, HasOperand};
 ghost use Rattle.invocation.specs.Natives.{IfNative, IsNative, IsNativeInvoked, IsSpecialNative, IsVirtualNative, ReceivesNative, SelectsNative};
-ghost use Rattle.invocation.specs.Targets.{IfCode, IsInvoked, IsLocalCode, IsNumbered, IsReceived, IsSelected, IsSpecial, IsStaticCallee, IsVirtual};
+ghost use Rattle.invocation.specs.Targets.{IfCode, IsInvoked, IsLinkedTarget, IsLocalCode, IsNumbered, IsReceived, IsSelected, IsSpecial, IsStaticCallee, IsVirtual};
 ghost use Rattle.invocation.specs.InvocationCache.{AreSelected, IsNamed};
 ghost use Rattle.heap_instructions.specs.Operands.{operands};
 
@@ -22,7 +23,7 @@ use continuation::Mounted;
 use heap_instructions::late_failure;
 use heap_objs::Heap;
 use items::NoMemory;
-use link_model::{MethodCode, MethodInfo, Resolution, Site, is_synchronized};
+use link_model::{MethodCode, MethodInfo, Resolution, SelectionFailure, Site, is_synchronized};
 use link_rules::Choice;
 use opcodes::Op;
 use ref_model::Exception;
@@ -242,6 +243,23 @@ fn invoke_virtual<W: CallWorld>(
     }
 }
 
+// What invokespecial selected when the program was linked, or the error of its failure.
+#[inline(always)]
+fn linked_target(failure: Option<SelectionFailure>, method: NamedMethod) -> Target
+    ensures target { (w : World) → IsNamed w method
+        → IsLinkedTarget w failure method.number (suc method.slots) result }
+    ensures takes { (w : World) → IsNamed w method
+        → IfCode result (λ callee. callee.slots ≡ suc method.slots) }
+    ensures native { (w : World) → IsNamed w method
+        → IfNative result (IsNative w method.number) }
+{
+    match failure {
+        None => method.bound,
+        Some(SelectionFailure::Abstract) => Target::Throws(Exception::AbstractMethodError),
+        Some(SelectionFailure::Several) => Target::Throws(Exception::IncompatibleClassChangeError),
+    }
+}
+
 // invokespecial.
 #[inline(always)]
 fn invoke_special<W: CallWorld>(
@@ -265,7 +283,7 @@ fn invoke_special<W: CallWorld>(
     match receiver {
         Ok(receiver) => {
             if world.is_sub(receiver.class, receiver.named) {
-                method.bound
+                linked_target(resolution.failure, method)
             } else {
                 Target::Throws(late_failure(world, receiver.named))
             }

@@ -13,6 +13,8 @@ use Rattle.opcodes.specs.declared.op.Op.{Op}
 use Rattle.opcodes.specs.declared.op.Op.TheVariants as ops
 use Rattle.opcodes.specs.declared.op.Instr.{Instr}
 use Rattle.instruction_rows.specs.declared.value.Value.TheVariants as values
+use Rattle.link_rules.specs.declared.choice.Choice.{Choice}
+use Rattle.link_rules.specs.declared.choice.Choice.TheVariants.{Method, Abstract, Several}
 use Rattle.link_rules.specs.declared.place.MemberPlace.{MemberPlace}
 use Rattle.link_rules.specs.Program.{Program}
 use Rattle.link_rules.specs.Members.{Key, field_number, method_number}
@@ -22,6 +24,8 @@ use Rattle.link_rules.specs.Selection.{select_special}
 use Rattle.link_model.specs.declared.sites.Site.{Site}
 use Rattle.link_model.specs.declared.sites.Site.TheVariants as sites
 use Rattle.link_model.specs.declared.sites.Resolution.{Resolution}
+use Rattle.link_model.specs.declared.sites.SelectionFailure.{SelectionFailure}
+use Rattle.link_model.specs.declared.sites.SelectionFailure.TheVariants as failures
 use Rattle.link_model.specs.Codes.{body_of, instructions_of}
 use Rattle.link_model.specs.Numbering.{Numbering, array_number, array_of_kind, array_of_primitive, class_number, kind_named}
 use Rattle.link_model.specs.Strings.{string_number}
@@ -33,16 +37,16 @@ pub record Linking : Type 0 where
   pub strings : List (List ℕ)
 
 abbrev pub plain : Resolution
-plain = record { site = sites.Plain; class = None }
+plain = record { site = sites.Plain; class = None; failure = None }
 
 -- a site that names nothing else
 abbrev pub alone : Option Site → Resolution
-alone site = option_map_or (λ s. record { site = s; class = None }) site plain
+alone site = option_map_or (λ s. record { site = s; class = None; failure = None }) site plain
 
 -- a site of a member of the class of this name
 abbrev pub member_of : Linking → List ℕ → Option Site → Resolution
 member_of l name site =
-    option_map_or (λ s. record { site = s; class = class_number l.numbering name }) site plain
+    option_map_or (λ s. record { site = s; class = class_number l.numbering name; failure = None }) site plain
 
 -- what the function says of the constant at an index
 abbrev pub resolution_at : List Const → ℕ → (Const → Resolution) → Resolution
@@ -77,23 +81,36 @@ field_resolution l pool c = plain
 
 -- ---- methods (JVMS 5.4.3.3, 5.4.3.4)
 
--- the method that invokespecial selects in the code of class c, of the one that its constant means (JVMS 6.5)
-abbrev pub special_place : Linking → ℕ → List ℕ → Key → MemberPlace → MemberPlace
-special_place l c name key resolved =
-    option_map_or (λ home. select_special l.program c home key resolved) (home_of l.program name) resolved
+-- what invokespecial selects in the code of class c of the method that its constant means (JVMS 6.5)
+abbrev pub special_choice : Linking → ℕ → List ℕ → Key → MemberPlace → Choice
+special_choice l c name key resolved =
+    option_map_or (λ home. select_special l.program c home key) (home_of l.program name) (Method resolved)
 
--- the method that the constant means, or that invokespecial selects
-abbrev pub method_place : Linking → ℕ → Bool → Bool → List ℕ → Key → Option MemberPlace
-method_place l c special of_interface name key =
-    option_map (λ at. if special then special_place l c name key at else at)
-    (resolved_method l.program of_interface name key)
+-- each other invocation has the method that its constant means
+abbrev pub method_choice : Linking → ℕ → Bool → List ℕ → Key → MemberPlace → Choice
+method_choice l c special name key resolved = if special then special_choice l c name key resolved else Method resolved
 
-abbrev pub method_site : Linking → ℕ → Bool → Bool → List ℕ → Key → Option Site
-method_site l c special of_interface name key =
-    option_map (λ at. sites.Method (method_number l.program at)) (method_place l c special of_interface name key)
+-- the method that is selected, or else the one that the constant means
+abbrev pub chosen_place : MemberPlace → Choice → MemberPlace
+chosen_place resolved (Method at) = at
+chosen_place resolved choice = resolved
+
+abbrev pub failure_of : Choice → Option SelectionFailure
+failure_of (Method at) = None
+failure_of Abstract = Some failures.Abstract
+failure_of Several = Some failures.Several
+
+-- an invocation of a method of the class of this name
+abbrev pub call_of : Linking → List ℕ → MemberPlace → Choice → Resolution
+call_of l name resolved choice = record {
+  site = sites.Method (method_number l.program (chosen_place resolved choice));
+  class = class_number l.numbering name;
+  failure = failure_of choice;
+}
 
 abbrev pub named_method : Linking → ℕ → Bool → Bool → List ℕ → Key → Resolution
-named_method l c special of_interface name key = member_of l name (method_site l c special of_interface name key)
+named_method l c special of_interface name key =
+    option_map_or (λ at. call_of l name at (method_choice l c special name key at)) (resolved_method l.program of_interface name key) plain
 
 abbrev pub method_resolution : Linking → ℕ → List Const → Bool → Const → Resolution
 method_resolution l c pool special (Methodref class member) =

@@ -12,4 +12,4 @@ pub use initializers::{is_initializer, is_synchronized};
 pub use lookups::Lookups;
 pub use members::{FieldInfo, MethodCode, MethodInfo};
 pub use resolutions::Resolutions;
-pub use sites::{ArrayType, Resolution, Site};
+pub use sites::{ArrayType, Resolution, SelectionFailure, Site};

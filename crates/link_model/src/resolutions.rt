@@ -10,6 +10,7 @@ use crate::{Resolution, Site};
 static PLAIN: Resolution = Resolution {
     site: Site::Plain,
     class: None,
+    failure: None,
 };
 
 /// What the constants of a method's instructions mean: by instruction, the number of the meaning in a table. So an instruction takes

@@ -72,6 +72,21 @@ fn sole_body(bodies: &[MemberPlace]) -> Choice
     }
 }
 
+// The one maximally specific method of the superinterfaces that isn't abstract.
+fn interface_choice(
+    alloc: Global,
+    world: &Hierarchy,
+    class: u32,
+    key: MemberKey,
+) -> Result<Choice, NoMemory>
+    ensures { IfOk result (λ choice.
+        choice ≡ spec.interface_choice world.now class (key_of key.entry)) }
+{
+    let all = inherited(alloc, world, class, key)?;
+    let bodies = most_specific_bodies(alloc, world, &all)?;
+    Ok(sole_body(&bodies))
+}
+
 // What is selected of a method that isn't private, by its key.
 fn select_by_key(
     alloc: Global,
@@ -85,9 +100,7 @@ fn select_by_key(
     if let Some(at) = first_override(world, key, world.superclasses(class)) {
         return Ok(by_body(world, at));
     }
-    let all = inherited(alloc, world, class, key)?;
-    let bodies = most_specific_bodies(alloc, world, &all)?;
-    Ok(sole_body(&bodies))
+    interface_choice(alloc, world, class, key)
 }
 
 /// What invokevirtual or invokeinterface of a method selects on an object of a class (JVMS 5.4.6).
@@ -137,13 +150,13 @@ fn is_superclass(world: &Hierarchy, class: u32, named: u32) -> bool
 }
 
 // The class in which the search of invokespecial begins.
-fn special_start(world: &Hierarchy, class: u32, named: u32, key: MemberKey) -> Option<u32>
+fn special_start(world: &Hierarchy, class: u32, named: u32, key: MemberKey) -> u32
     ensures { result ≡ spec.special_start world.now class named (key_of key.entry) }
 {
     if key.name != CONSTRUCTOR.as_slice() && is_superclass(world, class, named) {
-        world.parent(class)
+        world.parent(class).unwrap_or(named)
     } else {
-        Some(named)
+        named
     }
 }
 
@@ -171,93 +184,43 @@ fn first_instance(world: &Hierarchy, key: MemberKey, classes: &[u32]) -> Option<
     None
 }
 
-fn only_body(bodies: &[MemberPlace]) -> Option<MemberPlace>
-    ensures { result ≡ spec.only_body bodies.now }
+// The method of instances of this key that is declared from a class on.
+fn special_declared(world: &Hierarchy, key: MemberKey, start: u32) -> Option<MemberPlace>
+    ensures { result ≡ spec.special_declared world.now (key_of key.entry) start }
 {
-    match bodies {
-        [only] => Some(*only),
-        _ => None,
+    if world.classes().is_interface(start) {
+        instance_method(world, key, start).or(object_method(world, key))
+    } else {
+        first_instance(world, key, world.superclasses(start))
     }
 }
 
-// What is found from an interface on.
-fn from_interface(
-    alloc: Global,
-    world: &Hierarchy,
-    key: MemberKey,
-    start: u32,
-) -> Result<Option<MemberPlace>, NoMemory>
-    ensures { IfOk result (λ o. o ≡ spec.from_interface world.now (key_of key.entry) start) }
-{
-    if let Some(found) = instance_method(world, key, start) {
-        return Ok(Some(found));
-    }
-    if let Some(found) = object_method(world, key) {
-        return Ok(Some(found));
-    }
-    sole_from(alloc, world, key, start)
-}
-
-// The one maximally specific method of the superinterfaces that isn't abstract.
-fn sole_from(
-    alloc: Global,
-    world: &Hierarchy,
-    key: MemberKey,
-    start: u32,
-) -> Result<Option<MemberPlace>, NoMemory>
-    ensures { IfOk result (λ o. o ≡ spec.sole_from world.now (key_of key.entry) start) }
-{
-    let all = inherited(alloc, world, start, key)?;
-    let bodies = most_specific_bodies(alloc, world, &all)?;
-    Ok(only_body(&bodies))
-}
-
-// What is found from a class on.
-fn from_class(
-    alloc: Global,
-    world: &Hierarchy,
-    key: MemberKey,
-    start: u32,
-) -> Result<Option<MemberPlace>, NoMemory>
-    ensures { IfOk result (λ o. o ≡ spec.from_class world.now (key_of key.entry) start) }
-{
-    if let Some(found) = first_instance(world, key, world.superclasses(start)) {
-        return Ok(Some(found));
-    }
-    sole_from(alloc, world, key, start)
-}
-
+// What is selected from a class on.
 fn special_from(
     alloc: Global,
     world: &Hierarchy,
     key: MemberKey,
     start: u32,
-) -> Result<Option<MemberPlace>, NoMemory>
-    ensures { IfOk result (λ o. o ≡ spec.special_from world.now (key_of key.entry) start) }
+) -> Result<Choice, NoMemory>
+    ensures { IfOk result (λ choice.
+        choice ≡ spec.special_from world.now (key_of key.entry) start) }
 {
-    if world.classes().is_interface(start) {
-        from_interface(alloc, world, key, start)
-    } else {
-        from_class(alloc, world, key, start)
+    if let Some(at) = special_declared(world, key, start) {
+        return Ok(by_body(world, at));
     }
+    interface_choice(alloc, world, start, key)
 }
 
-/// The method that invokespecial in the code of a class runs, where its constant names this class and means this method (JVMS 6.5);
-/// where none is found, the method that the constant means (own).
+/// What invokespecial in the code of a class selects, where its constant names this class and a method of this key (JVMS 6.5).
 pub fn select_special(
     alloc: Global,
     world: &Hierarchy,
     class: u32,
     named: u32,
     key: MemberKey,
-    resolved: MemberPlace,
-) -> Result<MemberPlace, NoMemory>
-    ensures { IfOk result (λ at. at ≡
-        spec.select_special world.now class named (key_of key.entry) resolved) }
+) -> Result<Choice, NoMemory>
+    ensures { IfOk result (λ choice. choice ≡
+        spec.select_special world.now class named (key_of key.entry)) }
 {
-    let Some(start) = special_start(world, class, named, key) else {
-        return Ok(resolved);
-    };
-    let found = special_from(alloc, world, key, start)?;
-    Ok(found.unwrap_or(resolved))
+    special_from(alloc, world, key, special_start(world, class, named, key))
 }

@@ -31,11 +31,13 @@ sole_body [] = Abstract
 sole_body (at ∷ []) = Method at
 sole_body (at ∷ other ∷ rest) = Several
 
--- what is selected by a key: the first override, going up from the class; else the one maximally specific method of its
--- superinterfaces that isn't abstract
+-- the one maximally specific method of the superinterfaces that isn't abstract
+abbrev pub interface_choice : Program → ℕ → Key → Choice
+interface_choice p c key = sole_body (most_specific_bodies p c key)
+
+-- what is selected by a key: the first override, going up from the class; else what its superinterfaces give
 abbrev pub select_by_key : Program → ℕ → Key → Choice
-select_by_key p c key =
-    option_map_or (by_body p) (first_in (override p key) (superclasses p c)) (sole_body (most_specific_bodies p c key))
+select_by_key p c key = option_map_or (by_body p) (first_in (override p key) (superclasses p c)) (interface_choice p c key)
 
 -- what is selected of a method of a file with this pool
 abbrev pub select_in : Program → ℕ → MemberPlace → List Const → Member → Choice
@@ -55,37 +57,26 @@ is_superclass p c named = is_among (drop 1 (superclasses p c)) named
 
 -- The class in which the search begins: that above the class c whose code it is, where the constant names a class above c and no
 -- constructor; else the class named. ACC_SUPER counts as set (JVMS 4.1).
-abbrev pub special_start : Program → ℕ → ℕ → Key → Option ℕ
+abbrev pub special_start : Program → ℕ → ℕ → Key → ℕ
 special_start p c named key =
-    if not (same_text key.name (codes "<init>")) && is_superclass p c named then parent_of p c else Some named
+    if not (same_text key.name (codes "<init>")) && is_superclass p c named then unwrap_or (parent_of p c) named else named
 
 -- the method of instances of this key that the class declares
 abbrev pub instance_method : Program → Key → ℕ → Option MemberPlace
 instance_method p key c =
     option_and_then (λ at. if has_method is_static p at then None else Some at) (declared_method p key c)
 
-abbrev pub only_body : List MemberPlace → Option MemberPlace
-only_body (at ∷ []) = Some at
-only_body bodies = None
+-- the method of instances of this key that is declared from a class on: in it or above it; of an interface in it, or else in Object
+abbrev pub special_declared : Program → Key → ℕ → Option MemberPlace
+special_declared p key start =
+    if is_interface p start
+    then option_or (instance_method p key start) (object_method p key)
+    else first_in (instance_method p key) (superclasses p start)
 
--- the one maximally specific method of the superinterfaces that isn't abstract
-abbrev pub sole_from : Program → Key → ℕ → Option MemberPlace
-sole_from p key start = only_body (most_specific_bodies p start key)
+-- what is selected from a class on: what is declared, else what the superinterfaces give
+abbrev pub special_from : Program → Key → ℕ → Choice
+special_from p key start = option_map_or (by_body p) (special_declared p key start) (interface_choice p start key)
 
--- what is found from a class on: there and in its superclasses, else in the superinterfaces
-abbrev pub from_class : Program → Key → ℕ → Option MemberPlace
-from_class p key start = option_or (first_in (instance_method p key) (superclasses p start)) (sole_from p key start)
-
--- from an interface on: there, else in Object, else in the superinterfaces
-abbrev pub from_interface : Program → Key → ℕ → Option MemberPlace
-from_interface p key start =
-    option_or (instance_method p key start) (option_or (object_method p key) (sole_from p key start))
-
-abbrev pub special_from : Program → Key → ℕ → Option MemberPlace
-special_from p key start = if is_interface p start then from_interface p key start else from_class p key start
-
--- The method that invokespecial in the code of class c runs, where its constant names this class and means this method; where none is
--- found, the method that the constant means (own).
-abbrev pub select_special : Program → ℕ → ℕ → Key → MemberPlace → MemberPlace
-select_special p c named key resolved =
-    unwrap_or (option_and_then (special_from p key) (special_start p c named key)) resolved
+-- what invokespecial in the code of class c selects, where its constant names this class and a method of this key
+abbrev pub select_special : Program → ℕ → ℕ → Key → Choice
+select_special p c named key = special_from p key (special_start p c named key)

@@ -1,6 +1,6 @@
 use crate::MemberPlace;
 
-/// What an invocation selects (JVMS 5.4.6).
+/// What an invocation selects (JVMS 5.4.6, 6.5).
 #[derive(Clone, Copy, Debug, PartialEq, Eq)]
 pub enum Choice {
     /// This method, which isn't abstract.

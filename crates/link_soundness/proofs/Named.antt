@@ -21,6 +21,8 @@ use Rattle.opcodes.specs.declared.op.Simple.{Simple}
 use Rattle.opcodes.specs.declared.op.Simple.TheVariants as simples
 use Rattle.link_rules.specs.declared.reference.Invocation.{Invocation as Call}
 use Rattle.link_rules.specs.declared.reference.Purpose.TheVariants as purposes
+use Rattle.link_rules.specs.declared.choice.Choice.{Choice}
+use Rattle.link_rules.specs.declared.choice.Choice.TheVariants.{Method, Abstract, Several}
 use Rattle.link_rules.specs.declared.place.MemberPlace.{MemberPlace}
 use Rattle.link_rules.specs.declared.why.LinkWhy.TheVariants.{BadCode, WrongKind}
 use Rattle.link_rules.specs.Program.{Program, class_named, has_flag, is_abstract, is_array_name, is_interface}
@@ -41,7 +43,7 @@ use Rattle.link_model.specs.Decoded.{code_at}
 use Rattle.link_model.specs.Fields.{is_static_field}
 use Rattle.link_model.specs.Infos.{field_info, fields_of, method_info, methods_of}
 use Rattle.link_model.specs.Numbering.{array_number, class_number, number_of}
-use Rattle.link_model.specs.Sites.{Linking, class_resolution, field_resolution, field_site, instr_resolution, member_of, method_resolution, method_place, method_site, named_class, named_field, named_method as named_method_of, resolution_at, resolution_of, plain, special_place}
+use Rattle.link_model.specs.Sites.{Linking, class_resolution, field_resolution, field_site, instr_resolution, member_of, method_resolution, named_class, named_field, named_method as named_method_of, resolution_at, resolution_of, plain, call_of, chosen_place, special_choice}
 use Rattle.link_model.specs.World.{World, array_type}
 use Rattle.link_model.specs.Worlds.{linking_of, world_of}
 use Rattle.descriptors.specs.Meaning.{kind_of}
@@ -58,7 +60,7 @@ use Rattle.link_soundness.proofs.Instances.{instance_named}
 use Rattle.link_soundness.proofs.CodeNumbers.{member_of_code, resolutions_are, instructions_are}
 use Rattle.link_soundness.proofs.LinkedCode.{instructions_link}
 use Rattle.link_soundness.proofs.Tests.{beq_true, lower}
-use Rattle.link_soundness.proofs.Places.{HasField, HasMethod, IsOfInstances, field_flag, field_is, field_resolved, method_flag, method_is, method_resolved, special_selected}
+use Rattle.link_soundness.proofs.Places.{HasField, HasMethod, IsOfChoice, IsOfInstances, field_flag, field_is, field_resolved, method_flag, method_is, method_resolved, special_selected}
 
 -- ---- what an instruction names, whatever the state is
 
@@ -152,7 +154,7 @@ method_named p c call of_interface name key m none e =
     by (resolved_method p of_interface name key) refl kinds.1 e
   where
     by : (o : Option MemberPlace) → resolved_method p of_interface name key ≡ o → is_method_kind p call.is_static o ≡ true
-        → named_method (world_of p) (member_of (linking_of p) name (option_map (λ x. sites.Method (method_number p x)) (option_map (λ x. x) o))) ≡ Some m
+        → named_method (world_of p) (option_map_or (λ x. call_of (linking_of p) name x (Method x)) o plain) ≡ Some m
         → has_flag ACC_STATIC m.method.flags ≡ call.is_static
     by None is kind e = absurd cc
     by (Some x) is kind e =
@@ -168,25 +170,25 @@ special_named p c of_interface name key m none e =
     (passed (beq (is_interface_name p name) of_interface && is_method_kind p false (resolved_method p of_interface name key)) WrongKind none.1.0) in
     by (resolved_method p of_interface name key) refl kinds.1 e
   where
-    of_place : (x : MemberPlace) → IsOfInstances p x
-        → named_method (world_of p) (member_of (linking_of p) name (Some (sites.Method (method_number p x)))) ≡ Some m
-        → has_flag ACC_STATIC m.method.flags ≡ false
-    of_place x h e = method_at_place p x h.has m e ∙ h.flag
+    -- the method that is selected, or else the one that the constant means
+    place_of : (x : MemberPlace) (choice : Choice) → IsOfInstances p x → IsOfChoice p choice → IsOfInstances p (chosen_place x choice)
+    place_of x (Method at) has of = of
+    place_of x Abstract has of = has
+    place_of x Several has of = has
 
-    selected : (x : MemberPlace) → IsOfInstances p x → (home : Option ℕ)
-        → IsOfInstances p (option_map_or (λ h. select_special p c h key x) home x)
+    selected : (x : MemberPlace) → IsOfInstances p x → (home : Option ℕ) → IsOfChoice p (option_map_or (λ h. select_special p c h key) home (Method x))
     selected x has None = has
-    selected x has (Some h) = special_selected p c h key x has
+    selected x has (Some h) = special_selected p c h key
 
     by : (o : Option MemberPlace) → resolved_method p of_interface name key ≡ o → is_method_kind p false o ≡ true
-        → named_method (world_of p)
-        (member_of (linking_of p) name (option_map (λ x. sites.Method (method_number p x)) (option_map (special_place (linking_of p) c name key) o))) ≡ Some m
+        → named_method (world_of p) (option_map_or (λ x. call_of (linking_of p) name x (special_choice (linking_of p) c name key x)) o plain) ≡ Some m
         → has_flag ACC_STATIC m.method.flags ≡ false
     by None is kind e = absurd cc
     by (Some x) is kind e =
-        of_place (special_place (linking_of p) c name key x)
-        (selected x (record { has = method_resolved p of_interface name key x is; flag = beq_true (has_method is_static p x) false kind }) (home_of p name))
-        e
+        let has : IsOfInstances p x = record { has = method_resolved p of_interface name key x is; flag = beq_true (has_method is_static p x) false kind } in
+        let choice = special_choice (linking_of p) c name key x in
+        let of = place_of x choice has (selected x has (home_of p name)) in
+        method_at_place p (chosen_place x choice) of.has m e ∙ of.flag
 
 -- the constant of an invocation but invokespecial
 call_named : (p : Program) (c : ℕ) (pool : List Const) (call : Call) (m : Named) (k : Const) → AllNone (method_const_faults p c pool call k)

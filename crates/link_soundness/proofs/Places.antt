@@ -6,12 +6,14 @@ use Rattle.items.specs.First.{Each, first_in}
 use Rattle.class_model.specs.declared.class_file.ClassFile.{ClassFile}
 use Rattle.class_model.specs.declared.member.Member.{Member}
 use Rattle.class_grammar.specs.Names.{object_class}
+use Rattle.link_rules.specs.declared.choice.Choice.{Choice}
+use Rattle.link_rules.specs.declared.choice.Choice.TheVariants.{Method, Abstract, Several}
 use Rattle.link_rules.specs.declared.place.MemberPlace.{MemberPlace}
 use Rattle.link_rules.specs.Program.{Program, class_named, is_interface}
 use Rattle.link_rules.specs.Hierarchy.{supers, superclasses, parent_of}
-use Rattle.link_rules.specs.Members.{Key, declared_field, declared_method, field_in, field_number, has_field, has_key, has_method, index_of, is_open, is_private, is_public_instance, is_static, method_in, method_number, place}
+use Rattle.link_rules.specs.Members.{Key, declared_field, declared_method, field_in, field_number, has_field, has_key, has_method, index_of, is_abstract_method, is_open, is_private, is_public_instance, is_static, method_in, method_number, place}
 use Rattle.link_rules.specs.Resolution.{chosen, class_method, field_of, from_interfaces, if_open, inherited, interface_method, most_specific_bodies, object_method, open_method}
-use Rattle.link_rules.specs.Selection.{from_class, from_interface, instance_method, only_body, select_special, sole_from, special_from, special_start}
+use Rattle.link_rules.specs.Selection.{by_body, instance_method, interface_choice, select_special, sole_body, special_declared, special_from, special_start}
 use Rattle.link_rules.specs.Instructions.{resolved_field, resolved_method}
 use Rattle.link_rules.specs.Constants.{home_of}
 use Rattle.link_model.specs.Infos.{field_info, fields_of, method_info, methods_of}
@@ -201,44 +203,41 @@ bodies_instances : (p : Program) (key : Key) (bodies : List MemberPlace) → Eac
 bodies_instances p key [] have are_open = tt
 bodies_instances p key (x ∷ bodies) have are_open = (open_instance p key x have.0 are_open.0, bodies_instances p key bodies have.1 are_open.1)
 
-only_is : (P : MemberPlace → Type 0) (bodies : List MemberPlace) (at : MemberPlace) → Each P bodies → only_body bodies ≡ Some at → P at
-only_is P [] at each e = absurd cc
-only_is P (x ∷ []) at each e = subst P (same_place x at e) each.0
-only_is P (x ∷ y ∷ bodies) at each e = absurd cc
+-- what a choice gives
+abbrev pub IsOfChoice : Program → Choice → Type 0
+IsOfChoice p (Method at) = IsOfInstances p at
+IsOfChoice p choice = Unit {0}
 
-sole_has : (p : Program) (key : Key) (start : ℕ) (at : MemberPlace) → sole_from p key start ≡ Some at → IsOfInstances p at
-sole_has p key start at e =
-    only_is (IsOfInstances p) (most_specific_bodies p start key) at
-    (bodies_instances p key (most_specific_bodies p start key) (bodies_have p key start) (bodies_open p key start)) e
+sole_is : (p : Program) (bodies : List MemberPlace) → Each (IsOfInstances p) bodies → IsOfChoice p (sole_body bodies)
+sole_is p [] each = tt
+sole_is p (x ∷ []) each = each.0
+sole_is p (x ∷ y ∷ bodies) each = tt
 
-from_class_has : (p : Program) (key : Key) (start : ℕ) (at : MemberPlace) → from_class p key start ≡ Some at → IsOfInstances p at
-from_class_has p key start at e =
-    either_has (IsOfInstances p) (first_in (instance_method p key) (superclasses p start)) (sole_from p key start) at
-    (λ x is. first_found (IsOfInstances p) (instance_method p key) (λ c y found. instance_has p key c y found) (superclasses p start) x is)
-    (λ x is. sole_has p key start x is) e
-
-from_interface_has : (p : Program) (key : Key) (start : ℕ) (at : MemberPlace) → from_interface p key start ≡ Some at → IsOfInstances p at
-from_interface_has p key start at e =
-    either_has (IsOfInstances p) (instance_method p key start) (option_or (object_method p key) (sole_from p key start)) at
-    (λ x is. instance_has p key start x is)
-    (λ x is. either_has (IsOfInstances p) (object_method p key) (sole_from p key start) x
-    (λ y found. of_object p y (object_method_has p key y found)) (λ y found. sole_has p key start y found) is)
-    e
-
-special_has : (p : Program) (key : Key) (start : ℕ) (at : MemberPlace) → special_from p key start ≡ Some at → IsOfInstances p at
-special_has p key start at e = by (is_interface p start) e
+body_is : (p : Program) (at : MemberPlace) → IsOfInstances p at → IsOfChoice p (by_body p at)
+body_is p at has = by (has_method is_abstract_method p at)
   where
-    by : (b : Bool) → (if b then from_interface p key start else from_class p key start) ≡ Some at → IsOfInstances p at
-    by true e = from_interface_has p key start at e
-    by false e = from_class_has p key start at e
+    by : (b : Bool) → IsOfChoice p (if b then Abstract else Method at)
+    by true = tt
+    by false = has
 
-pub special_selected : (p : Program) (c named : ℕ) (key : Key) (resolved : MemberPlace) → IsOfInstances p resolved → IsOfInstances p (select_special p c named key resolved)
-special_selected p c named key resolved has = by (special_start p c named key) refl
+declared_on : (p : Program) (key : Key) (start : ℕ) (at : MemberPlace) → special_declared p key start ≡ Some at → IsOfInstances p at
+declared_on p key start at e = by (is_interface p start) e
   where
-    by : (o : Option ℕ) → special_start p c named key ≡ o → IsOfInstances p (unwrap_or (option_and_then (special_from p key) o) resolved)
-    by None is = has
-    by (Some start) is = found (special_from p key start) refl
-      where
-        found : (x : Option MemberPlace) → special_from p key start ≡ x → IsOfInstances p (unwrap_or x resolved)
-        found None e = has
-        found (Some at) e = special_has p key start at e
+    by : (b : Bool) → (if b then option_or (instance_method p key start) (object_method p key) else first_in (instance_method p key) (superclasses p start)) ≡ Some at
+        → IsOfInstances p at
+    by true e =
+        either_has (IsOfInstances p) (instance_method p key start) (object_method p key) at
+        (λ x is. instance_has p key start x is) (λ x is. of_object p x (object_method_has p key x is)) e
+    by false e = first_found (IsOfInstances p) (instance_method p key) (λ c y found. instance_has p key c y found) (superclasses p start) at e
+
+special_is : (p : Program) (key : Key) (start : ℕ) → IsOfChoice p (special_from p key start)
+special_is p key start = by (special_declared p key start) refl
+  where
+    by : (o : Option MemberPlace) → special_declared p key start ≡ o → IsOfChoice p (option_map_or (by_body p) o (interface_choice p start key))
+    by None e =
+        sole_is p (most_specific_bodies p start key)
+        (bodies_instances p key (most_specific_bodies p start key) (bodies_have p key start) (bodies_open p key start))
+    by (Some at) e = body_is p at (declared_on p key start at e)
+
+pub special_selected : (p : Program) (c named : ℕ) (key : Key) → IsOfChoice p (select_special p c named key)
+special_selected p c named key = special_is p key (special_start p c named key)

@@ -1,7 +1,6 @@
 //! What the constant of an instruction means, by numbers (JVMS 5.4.3, 6.5), and which class a row of an exception table catches.
 
 ghost use Rattle.std.specs.Prelude.{◌≡◌, Some, map, IfOk, OnOk, slice_get};
-ghost use Rattle.std.specs.Option.{option_map};
 ghost use Rattle.link_model.specs.Sites as spec;
 ghost use Rattle.link_resolution.specs.Keys.{key_of};
 ghost use Rattle.link_tables.specs.KnownResolutions.{Knows};
@@ -15,13 +14,13 @@ use class_model::{Const, Row};
 use instruction_rows::Value;
 use items::NoMemory;
 use link_checks::{resolved_field, resolved_method};
-use link_model::{Resolution, Site};
+use link_model::{Resolution, SelectionFailure, Site};
 use link_numbers::{
     ArrayNumbers, MemberNumbers, Names, array_of_kind, array_of_primitive, kind_named,
     string_number,
 };
 use link_resolution::{MemberKey, home_of, key_at, name_at, select_special};
-use link_rules::MemberPlace;
+use link_rules::{Choice, MemberPlace};
 use opcodes::Op;
 use std::alloc::Global;
 
@@ -37,6 +36,7 @@ pub struct Linker<'a> {
 pub(crate) const PLAIN: Resolution = Resolution {
     site: Site::Plain,
     class: None,
+    failure: None,
 };
 
 // A site that names nothing else.
@@ -44,7 +44,11 @@ fn without_class(site: Option<Site>) -> Resolution
     ensures { result ≡ spec.alone site }
 {
     match site {
-        Some(site) => Resolution { site, class: None },
+        Some(site) => Resolution {
+            site,
+            class: None,
+            failure: None,
+        },
         None => PLAIN,
     }
 }
@@ -62,6 +66,7 @@ fn member_of(
         Some(site) => Ok(Resolution {
             site,
             class: l.numbers.class_number(alloc, name)?,
+            failure: None,
         }),
         None => Ok(PLAIN),
     }
@@ -167,47 +172,6 @@ pub fn field_at(
     }
 }
 
-// The method that invokespecial selects of the one that its constant means.
-fn special_place(
-    alloc: Global,
-    l: Linker,
-    class: u32,
-    name: &[u16],
-    key: MemberKey,
-    resolved: MemberPlace,
-) -> Result<MemberPlace, NoMemory>
-    ensures { IfOk result (λ at. at ≡ spec.special_place
-        (linking_in l.entry) class name.now (key_of key.entry) resolved) }
-{
-    let world = l.members.hierarchy();
-    match home_of(world.classes(), name) {
-        Some(home) => select_special(alloc, world, class, home, key, resolved),
-        None => Ok(resolved),
-    }
-}
-
-// The method that an invocation names.
-fn method_place(
-    alloc: Global,
-    l: Linker,
-    call: Call,
-    name: &[u16],
-    key: MemberKey,
-) -> Result<Option<MemberPlace>, NoMemory>
-    ensures { IfOk result (λ o. o ≡ spec.method_place (linking_in l.entry)
-        call.class call.special call.of_interface name.now (key_of key.entry)) }
-{
-    let world = l.members.hierarchy();
-    let Some(resolved) = resolved_method(alloc, world, call.of_interface, name, key)? else {
-        return Ok(None);
-    };
-    if !call.special {
-        return Ok(Some(resolved));
-    }
-    let at = special_place(alloc, l, call.class, name, key, resolved)?;
-    Ok(Some(at))
-}
-
 // In the code of which class a method is called, whether by invokespecial, and whether its constant is of an interface.
 #[derive(Clone, Copy)]
 struct Call {
@@ -216,20 +180,80 @@ struct Call {
     of_interface: bool,
 }
 
-fn method_site(
+// What invokespecial selects of the method that its constant means.
+fn special_choice(
+    alloc: Global,
+    l: Linker,
+    class: u32,
+    name: &[u16],
+    key: MemberKey,
+    resolved: MemberPlace,
+) -> Result<Choice, NoMemory>
+    ensures { IfOk result (λ choice. choice ≡ spec.special_choice
+        (linking_in l.entry) class name.now (key_of key.entry) resolved) }
+{
+    let world = l.members.hierarchy();
+    match home_of(world.classes(), name) {
+        Some(home) => select_special(alloc, world, class, home, key),
+        None => Ok(Choice::Method(resolved)),
+    }
+}
+
+// Each other invocation has the method that its constant means.
+fn method_choice(
     alloc: Global,
     l: Linker,
     call: Call,
     name: &[u16],
     key: MemberKey,
-) -> Result<Option<Site>, NoMemory>
-    ensures { IfOk result (λ site. site ≡ spec.method_site (linking_in l.entry)
-        call.class call.special call.of_interface name.now (key_of key.entry)) }
+    resolved: MemberPlace,
+) -> Result<Choice, NoMemory>
+    ensures { IfOk result (λ choice. choice ≡ spec.method_choice
+        (linking_in l.entry) call.class call.special name.now (key_of key.entry) resolved) }
 {
-    match method_place(alloc, l, call, name, key)? {
-        Some(at) => Ok(Some(Site::Method(l.members.method_number(at)?))),
-        None => Ok(None),
+    if !call.special {
+        return Ok(Choice::Method(resolved));
     }
+    special_choice(alloc, l, call.class, name, key, resolved)
+}
+
+// The method that is selected, or else the one that the constant means.
+fn chosen_place(resolved: MemberPlace, choice: Choice) -> MemberPlace
+    ensures { result ≡ spec.chosen_place resolved choice }
+{
+    match choice {
+        Choice::Method(at) => at,
+        Choice::Abstract | Choice::Several => resolved,
+    }
+}
+
+fn failure_of(choice: Choice) -> Option<SelectionFailure>
+    ensures { result ≡ spec.failure_of choice }
+{
+    match choice {
+        Choice::Method(_) => None,
+        Choice::Abstract => Some(SelectionFailure::Abstract),
+        Choice::Several => Some(SelectionFailure::Several),
+    }
+}
+
+// An invocation of a method of the class of this name.
+fn call_of(
+    alloc: Global,
+    l: Linker,
+    name: &[u16],
+    resolved: MemberPlace,
+    choice: Choice,
+) -> Result<Resolution, NoMemory>
+    ensures { IfOk result (λ n. n ≡
+        spec.call_of (linking_in l.entry) name.now resolved choice) }
+{
+    let at = chosen_place(resolved, choice);
+    Ok(Resolution {
+        site: Site::Method(l.members.method_number(at)?),
+        class: l.numbers.class_number(alloc, name)?,
+        failure: failure_of(choice),
+    })
 }
 
 fn named_method(
@@ -242,8 +266,12 @@ fn named_method(
     ensures { IfOk result (λ n. n ≡ spec.named_method (linking_in l.entry)
         call.class call.special call.of_interface name.now (key_of key.entry)) }
 {
-    let site = method_site(alloc, l, call, name, key)?;
-    member_of(alloc, l, name, site)
+    let world = l.members.hierarchy();
+    let Some(resolved) = resolved_method(alloc, world, call.of_interface, name, key)? else {
+        return Ok(PLAIN);
+    };
+    let choice = method_choice(alloc, l, call, name, key, resolved)?;
+    call_of(alloc, l, name, resolved, choice)
 }
 
 fn method_resolution(
@@ -304,6 +332,7 @@ pub(crate) fn class_resolution(number: Option<u32>) -> Resolution
         Some(class) => Resolution {
             site: Site::Class(class),
             class: None,
+            failure: None,
         },
         None => PLAIN,
     }

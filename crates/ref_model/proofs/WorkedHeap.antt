@@ -122,10 +122,10 @@ abbrev null : Slot
 null = One Null
 
 abbrev of_field : ℕ → Resolution
-of_field n = record { site = sites.Field n; class = Some 7 }
+of_field n = record { site = sites.Field n; class = Some 7; failure = None }
 
 abbrev of_class : ℕ → Resolution
-of_class n = record { site = sites.Class n; class = None }
+of_class n = record { site = sites.Class n; class = None; failure = None }
 
 -- what an effect gives with everything as it is
 abbrev Leaves : Option Effect → List Slot → Type 0

@@ -19,7 +19,7 @@ use Rattle.ref_model.proofs.WorkedWorld.{world, of_nothing}
 
 -- the field of a long
 abbrev large : Resolution
-large = record { site = sites.Field 2; class = Some 7 }
+large = record { site = sites.Field 2; class = Some 7; failure = None }
 
 -- a long above a reference above an int
 abbrev stack : List Slot

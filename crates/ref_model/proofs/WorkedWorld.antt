@@ -123,7 +123,7 @@ abbrev pub method : List ℕ → Signature → MethodInfo
 method name signature = record { class = 7; flags = 9; name = name; signature = signature }
 
 abbrev pub of_nothing : Resolution
-of_nothing = record { site = sites.Plain; class = None }
+of_nothing = record { site = sites.Plain; class = None; failure = None }
 
 -- The main methods: 0 catches nothing, 1 catches what its division throws, 3 calls 2.
 abbrev pub world : World
@@ -144,6 +144,6 @@ world = record {
       ∷ Some (code 1 0 two_hundred [])
       ∷ Some (code 1 1 call [])
       ∷ [];
-  resolutions = [] ∷ [] ∷ [] ∷ (record { site = sites.Method 2; class = Some 7 } ∷ []) ∷ [];
+  resolutions = [] ∷ [] ∷ [] ∷ (record { site = sites.Method 2; class = Some 7; failure = None } ∷ []) ∷ [];
   catches = [] ∷ (None ∷ []) ∷ [] ∷ [] ∷ [];
 }

@@ -12,6 +12,8 @@ use Rattle.instruction_rows.specs.Rows.{Invocation, virtual, special, static, in
 use Rattle.instruction_rows.specs.SlotEffect.{popped}
 use Rattle.link_model.specs.declared.members.MethodCode.{MethodCode}
 use Rattle.link_model.specs.declared.sites.Resolution.{Resolution}
+use Rattle.link_model.specs.declared.sites.SelectionFailure.{SelectionFailure}
+use Rattle.link_model.specs.declared.sites.SelectionFailure.TheVariants as failures
 use Rattle.link_model.specs.World.{World}
 pub use Rattle.link_model.specs.Methods.{selecting_class, choice_of}
 use Rattle.link_model.specs.Decoded.{code_at}
@@ -57,14 +59,19 @@ chosen w (Method at) act = act (method_number w.program at)
 chosen w Abstract act = Some (throws exceptions.AbstractMethodError)
 chosen w Several act = Some (throws exceptions.IncompatibleClassChangeError)
 
+-- what invokespecial selected when the program was linked (JVMS 6.5)
+abbrev pub unless_failed : Option SelectionFailure → Option Effect → Option Effect
+unless_failed None runs = runs
+unless_failed (Some failures.Abstract) runs = Some (throws exceptions.AbstractMethodError)
+unless_failed (Some failures.Several) runs = Some (throws exceptions.IncompatibleClassChangeError)
+
 -- what runs for a receiver of this class
-abbrev pub selected : World → Invocation → Named → ℕ → (ℕ → Option Effect) → Option Effect
-selected w virtual m class act = choice_of w class m.number >>= λ choice. chosen w choice act
-selected w (interface count) m class act = choice_of w class m.number >>= λ choice. chosen w choice act
--- the constant of invokespecial means the method that is selected
-selected w special m class act = act m.number
-selected w static m class act = None
-selected w dynamic m class act = None
+abbrev pub selected : World → Option SelectionFailure → Invocation → Named → ℕ → (ℕ → Option Effect) → Option Effect
+selected w failure virtual m class act = choice_of w class m.number >>= λ choice. chosen w choice act
+selected w failure (interface count) m class act = choice_of w class m.number >>= λ choice. chosen w choice act
+selected w failure special m class act = unless_failed failure (act m.number)
+selected w failure static m class act = None
+selected w failure dynamic m class act = None
 
 -- ---- calls
 
@@ -76,7 +83,7 @@ abbrev pub instance_called : World → Resolution → Invocation → Named → S
 instance_called w resolution invocation m r depth stack =
     let slots = argument_slots m.method.signature in
     popped kinds.Reference (drop slots stack) >>= λ x.
-    on_instance w resolution r x.0 (λ o class. selected w invocation m class (λ n.
+    on_instance w resolution r x.0 (λ o class. selected w resolution.failure invocation m class (λ n.
     method_numbered w n >>= λ chosen. entered w r depth chosen (suc slots) stack))
 
 -- a method of a class

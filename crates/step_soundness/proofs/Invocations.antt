@@ -1,5 +1,5 @@
 -- Invocations of frames that keep to the typing.
-use Rattle.std.proofs.Common.{◌≡◌, ℕ, suc, true, List, ◌∷◌, drop, Option, Some, refl, subst}
+use Rattle.std.proofs.Common.{◌≡◌, ℕ, suc, true, List, ◌∷◌, drop, Option, Some, None, refl, subst}
 use Rattle.std.specs.Prelude.{slice_get}
 use Rattle.items.specs.Options.{◌>>=◌}
 use Rattle.items.proofs.Binds.{some_is, bind_is}
@@ -9,6 +9,8 @@ use Rattle.link_rules.specs.declared.choice.Choice.TheVariants.{Method, Abstract
 use Rattle.link_rules.specs.Members.{method_number}
 use Rattle.instruction_rows.specs.Rows.{Invocation, virtual, special, static, interface, dynamic, invoke}
 use Rattle.instruction_rows.specs.SlotEffect.{popped}
+use Rattle.link_model.specs.declared.sites.SelectionFailure.{SelectionFailure}
+use Rattle.link_model.specs.declared.sites.SelectionFailure.TheVariants as failures
 use Rattle.link_model.specs.World.{World}
 use Rattle.link_model.specs.Methods.{choice_of}
 use Rattle.verify_types.specs.Effects.{row_of}
@@ -19,7 +21,7 @@ use Rattle.ref_model.specs.Kinds.{argument_slots}
 use Rattle.ref_model.specs.State.{State}
 use Rattle.ref_model.specs.Fetch.{Named, named_method}
 use Rattle.ref_model.specs.Effects.{Effect, throws, on_instance}
-use Rattle.ref_model.specs.Calls.{entered, chosen, selected, method_numbered, instance_called, called, invoked}
+use Rattle.ref_model.specs.Calls.{entered, chosen, selected, unless_failed, method_numbered, instance_called, called, invoked}
 use Rattle.frame_soundness.specs.Typed.{Typed}
 use Rattle.frame_soundness.specs.TypedStates.{IsTypedState}
 use Rattle.frame_soundness.specs.CallLaws.{takes_receiver}
@@ -59,15 +61,23 @@ by_found w f below next m class act effect runs e =
     by_choice w f below next choice.0 act effect
     (λ n is acts. runs n (bind_is (choice_of w class m.number) (chosen_method w) choice.0 (Some n) choice.1 is) acts) choice.2
 
-selected_runs : (w : World) (f : Frame) (below : List Frame) (next : ℕ) (invocation : Invocation) (m : Named) (class : ℕ)
-    (act : ℕ → Option Effect) (effect : Effect)
+-- what was selected when the program was linked runs, or an error is thrown
+by_failure : (w : World) (f : Frame) (below : List Frame) (next : ℕ) (failure : Option SelectionFailure) (runs : Option Effect) (effect : Effect)
+    → (runs ≡ Some effect → IsCallResult w f below next effect) → unless_failed failure runs ≡ Some effect → IsCallResult w f below next effect
+by_failure w f below next None runs effect goes e = goes e
+by_failure w f below next (Some failures.Abstract) runs effect goes e = result_of w f below next (throws AbstractMethodError) effect e tt
+by_failure w f below next (Some failures.Several) runs effect goes e = result_of w f below next (throws IncompatibleClassChangeError) effect e tt
+
+selected_runs : (w : World) (f : Frame) (below : List Frame) (next : ℕ) (failure : Option SelectionFailure) (invocation : Invocation) (m : Named)
+    (class : ℕ) (act : ℕ → Option Effect) (effect : Effect)
     → ((n : ℕ) → method_run w invocation m class ≡ Some n → act n ≡ Some effect → IsCallResult w f below next effect)
-    → selected w invocation m class act ≡ Some effect → IsCallResult w f below next effect
-selected_runs w f below next virtual m class act effect runs e = by_found w f below next m class act effect runs e
-selected_runs w f below next (interface count) m class act effect runs e = by_found w f below next m class act effect runs e
-selected_runs w f below next special m class act effect runs e = runs m.number refl e
-selected_runs w f below next static m class act effect runs e = absurd cc
-selected_runs w f below next dynamic m class act effect runs e = absurd cc
+    → selected w failure invocation m class act ≡ Some effect → IsCallResult w f below next effect
+selected_runs w f below next failure virtual m class act effect runs e = by_found w f below next m class act effect runs e
+selected_runs w f below next failure (interface count) m class act effect runs e = by_found w f below next m class act effect runs e
+selected_runs w f below next failure special m class act effect runs e =
+    by_failure w f below next failure (act m.number) effect (λ acts. runs m.number refl acts) e
+selected_runs w f below next failure static m class act effect runs e = absurd cc
+selected_runs w f below next failure dynamic m class act effect runs e = absurd cc
 
 -- ---- a method of an object
 
@@ -82,12 +92,12 @@ instance_goes w f below invocation index depth m r effect typed fits t known tak
     let i = t.0.at.place.instruction in
     let slots = argument_slots m.method.signature in
     let x = some_is (popped kinds.Reference (drop slots f.stack))
-    (λ x. on_instance w i.resolution r x.0 (λ o class. selected w invocation m class (λ n.
+    (λ x. on_instance w i.resolution r x.0 (λ o class. selected w i.resolution.failure invocation m class (λ n.
     method_numbered w n >>= λ chosen. entered w r depth chosen (suc slots) f.stack))) effect e in
     instance_cases w i.resolution r x.0.0
-    (λ o class. selected w invocation m class (λ n. method_numbered w n >>= λ chosen. entered w r depth chosen (suc slots) f.stack)) effect
+    (λ o class. selected w i.resolution.failure invocation m class (λ n. method_numbered w n >>= λ chosen. entered w r depth chosen (suc slots) f.stack)) effect
     (IsCallResult w f below i.instr.next) x.2 (λ e. tt) (λ o class at at_hand of_class is_named sub act.
-    selected_runs w f below i.instr.next invocation m class
+    selected_runs w f below i.instr.next i.resolution.failure invocation m class
     (λ n. method_numbered w n >>= λ chosen. entered w r depth chosen (suc slots) f.stack) effect
     (λ n runs acts.
     let c = some_is (method_numbered w n) (λ chosen. entered w r depth chosen (suc slots) f.stack) effect acts in

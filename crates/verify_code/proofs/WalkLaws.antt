@@ -146,7 +146,7 @@ last_is [] ns = refl
 last_is (i ∷ is) ns = sym (ne_eqb (length (i ∷ is)) 0 (λ e. omega arith))
 
 abbrev Resolution_at : List Resolution → Resolution
-Resolution_at ns = get_or ns 0 (record { site = Plain; class = None })
+Resolution_at ns = get_or ns 0 (record { site = Plain; class = None; failure = None })
 
 -- the first of what is left, as the walk has it
 head_is : (env : Environment) (entry before : Option TypeState) (i : Instr) (is : List Instr) (ns : List Resolution) (resolution : Resolution) (is_last : Bool)

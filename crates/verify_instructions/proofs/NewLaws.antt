@@ -16,7 +16,7 @@ use Rattle.verify_types.specs.Calls.{made_by}
 use Rattle.verify_instructions.specs.Tables.{new_at}
 
 abbrev plain : Resolution
-plain = record { site = Plain; class = None }
+plain = record { site = Plain; class = None; failure = None }
 
 abbrev pub At : ℕ → Instr → Bool
 At pc i = eqb i.pc pc

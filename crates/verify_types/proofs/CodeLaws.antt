@@ -40,7 +40,7 @@ linked_code w m code ns cs [] e bytes b some = let none : length bytes ≡ 0 = a
 linked_code w m code ns cs (i ∷ is) e bytes b some =
     let Ordered : List Instr → Type 0 = λ js. InOrder 0 (with_resolutions js ns) in
     record {
-      first = record { instr = i; resolution = get_or ns 0 (record { site = Plain; class = None }) };
+      first = record { instr = i; resolution = get_or ns 0 (record { site = Plain; class = None; failure = None }) };
       rest = with_resolutions is (drop 1 ns);
       parts = ap (λ js. with_resolutions js ns) (sym e);
       ordered = subst Ordered e (in_order 0 bytes (i ∷ is) ns b);

@@ -180,19 +180,19 @@ no_handler = refl
 
 -- what the constants of A, of its constructor and of its field mean
 abbrev plain : Resolution
-plain = record { site = sites.Plain; class = None }
+plain = record { site = sites.Plain; class = None; failure = None }
 
 abbrev class_a : Resolution
-class_a = record { site = sites.Class 3; class = Some 3 }
+class_a = record { site = sites.Class 3; class = Some 3; failure = None }
 
 abbrev constructor_a : Resolution
-constructor_a = record { site = sites.Method 0; class = Some 3 }
+constructor_a = record { site = sites.Method 0; class = Some 3; failure = None }
 
 abbrev constructor_of_object : Resolution
-constructor_of_object = record { site = sites.Method 0; class = Some 0 }
+constructor_of_object = record { site = sites.Method 0; class = Some 0; failure = None }
 
 abbrev field_a : Resolution
-field_a = record { site = sites.Field 0; class = Some 3 }
+field_a = record { site = sites.Field 0; class = Some 3; failure = None }
 
 abbrev created : MethodInfo → List Instr → List Row → List Resolution → Environment
 created m is rows resolutions = environment_of names m (code_of is rows (0 ∷ 0 ∷ [])) resolutions []

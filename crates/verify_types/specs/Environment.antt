@@ -108,7 +108,7 @@ map_frames w m max_locals (Err fault) = []
 abbrev pub with_resolutions : List Instr → List Resolution → List Instruction
 with_resolutions [] resolutions = []
 with_resolutions (i ∷ is) resolutions =
-    record { instr = i; resolution = get_or resolutions 0 (record { site = Plain; class = None }) } ∷ with_resolutions is (drop 1 resolutions)
+    record { instr = i; resolution = get_or resolutions 0 (record { site = Plain; class = None; failure = None }) } ∷ with_resolutions is (drop 1 resolutions)
 
 -- the rows of an exception table, each with its entry of the table of classes
 abbrev pub with_catches : List Row → List (Option ℕ) → List Handler

@@ -1,0 +1,5 @@
+package special;
+
+interface K { default int m() { return 2; } }
+
+interface L extends I { int m(); }
