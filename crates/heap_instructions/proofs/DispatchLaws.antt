@@ -17,7 +17,8 @@ use Rattle.heap_instructions.specs.declared.outcome.Outcome.{Outcome}
 use Rattle.heap_instructions.specs.declared.outcome.Outcome.TheVariants as outcomes
 use Rattle.heap_instructions.specs.Operands.{ChangesOperands}
 use Rattle.heap_instructions.specs.Outcomes.{Acts, KeptUnlessDone, with_heap, with_statics}
-use Rattle.heap_instructions.specs.Dispatch.{IsHeapRun, IsRun, frame_with, is_floating}
+use Rattle.link_rules.specs.Instructions.{is_floating_primitive}
+use Rattle.heap_instructions.specs.Dispatch.{IsHeapRun, IsRun, frame_with}
 
 pub kept_same : {A : Type 0} (o : Outcome) (x : A) → KeptUnlessDone o x x
 kept_same outcomes.Done x = tt
@@ -79,7 +80,7 @@ part_run_ok w resolution r part heap next_heap statics m next (Ok o) is run =
 
 -- ---- newarray
 
-pub array_row : (primitive : Primitive) → is_floating primitive ≡ false → new_array_row primitive ≡ event (new_array primitive)
+pub array_row : (primitive : Primitive) → is_floating_primitive primitive ≡ false → new_array_row primitive ≡ event (new_array primitive)
 array_row primitives.Float is = cc
 array_row primitives.Double is = cc
 array_row primitives.Boolean is = refl

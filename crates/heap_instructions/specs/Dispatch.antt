@@ -1,8 +1,6 @@
 -- What the instruction of an opcode does, where it is one on fields, arrays or objects, or a division by 0.
-use Rattle.std.specs.Prelude.{ℤ, pos, ◌≡◌, Bool, true, false, [], ◌∷◌, List, Option, None}
+use Rattle.std.specs.Prelude.{ℤ, pos, ◌≡◌, [], ◌∷◌, List, Option, None}
 use Rattle.opcodes.specs.declared.op.ValueKind.TheVariants as kinds
-use Rattle.opcodes.specs.declared.op.Primitive.{Primitive}
-use Rattle.opcodes.specs.declared.op.Primitive.TheVariants as primitives
 use Rattle.instruction_rows.specs.declared.value.Slot.{Slot}
 use Rattle.instruction_rows.specs.declared.value.Value.{Value}
 use Rattle.instruction_rows.specs.Rows.{int, long, Row, local, event}
@@ -41,12 +39,6 @@ pub record IsHeapRun (w : World) (resolution : Resolution) (row : Row) (heap nex
   pub kept : KeptUnlessDone outcome m next
   pub kept_heap : KeptUnlessDone outcome heap next_heap
   pub only : ChangesOperands m next
-
--- whether an array's elements are floats or doubles
-abbrev pub is_floating : Primitive → Bool
-is_floating primitives.Float = true
-is_floating primitives.Double = true
-is_floating primitive = false
 
 -- A division had this outcome: where its function has no result for the divisor 0, that is of its effect.
 abbrev pub DividesInts : Continuation → Outcome → Type 0

@@ -3,7 +3,6 @@
 ghost use Rattle.std.specs.Prelude.{◌≡◌, IfOk};
 ghost use Rattle.instruction_rows.specs.Table.{row, simple_row, new_array_row};
 ghost use Rattle.ref_model.specs.Operands.{FindsOperands};
-ghost use Rattle.heap_instructions.specs.Dispatch as spec;
 ghost use Rattle.heap_instructions.specs.Dispatch.{IsHeapRun, IsRun};
 ghost use Rattle.heap_instructions.specs.Operands.{HasTop, operands};
 
@@ -19,6 +18,7 @@ use instruction_rows::Value;
 use items::NoMemory;
 use jvm_words::{IntOp, LongOp};
 use link_model::Resolution;
+use link_rules::is_floating_primitive;
 use opcodes::{Op, Primitive, Simple};
 use std::alloc::Global;
 
@@ -98,13 +98,6 @@ pub fn run_field<W: EventWorld>(
     }
 }
 
-// Whether an array's elements are floats or doubles.
-fn is_floating(primitive: Primitive) -> bool
-    ensures { result ≡ spec.is_floating primitive }
-{
-    matches!(primitive, Primitive::Float | Primitive::Double)
-}
-
 // newarray; an array of floats or doubles is refused.
 fn new_primitive_array<W: EventWorld>(
     world: &W,
@@ -119,7 +112,7 @@ fn new_primitive_array<W: EventWorld>(
     ensures { IfOk result (λ outcome. IsHeapRun (W.world world.now) resolution.now
         (new_array_row primitive) heap.old heap.new mounted.old mounted.new outcome) }
 {
-    if is_floating(primitive) {
+    if is_floating_primitive(primitive) {
         return Ok(Outcome::Undefined);
     }
     new_array(world, resolution, heap, mounted)

@@ -30,7 +30,7 @@ fn kind_of_element_type(element: &ElementType) -> ValueKind
 
 /// The kind of the values of a type.
 #[inline(always)]
-pub(crate) fn value_kind(field: &FieldType) -> ValueKind
+pub fn value_kind(field: &FieldType) -> ValueKind
     ensures { result ≡ spec.value_kind field.now }
 {
     if field.dimensions == 0 {

@@ -18,7 +18,7 @@ pub use arrays::{array_length, array_load, array_store, new_array, new_arrays};
 pub use dispatch::{run_event, run_field, run_plain};
 pub use divisions::{divide_ints, divide_longs};
 pub use fields::{get_field, get_static, late_failure, put_field, put_static};
-pub use kinds::kept;
+pub use kinds::{kept, value_kind};
 pub use makers::{make_array, make_object, make_text};
 pub use objects::{check_cast, instance_of, new_object, throw_object};
 pub use operands::{

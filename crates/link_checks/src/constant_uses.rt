@@ -10,7 +10,7 @@ use link_rules::{Invocation, LinkWhy, Purpose};
 use std::alloc::Global;
 
 /// What an instruction asks of a constant: a field, static or of an object, a method that is invoked so, or a class for a purpose.
-#[derive(Clone, Copy, Debug, PartialEq, Eq)]
+#[derive(Clone, Copy, PartialEq, Eq)]
 pub enum Use {
     StaticField,
     ObjectField,

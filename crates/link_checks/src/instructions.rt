@@ -18,8 +18,8 @@ use link_resolution::{
     Hierarchy, MemberKey, argument_slots, class_method, dimensions_of, field_of, home_of,
     interface_method, is_floating, is_floating_array, key_at, name_at,
 };
-use link_rules::{Invocation, LinkWhy, MemberPlace, Purpose};
-use opcodes::{Op, Primitive};
+use link_rules::{Invocation, LinkWhy, MemberPlace, Purpose, is_floating_primitive};
+use opcodes::Op;
 use std::alloc::Global;
 
 /// A class whose code names constants of its pool.
@@ -371,12 +371,6 @@ fn push_fault_at(pool: &[Const], wide: bool, index: u16) -> Option<LinkWhy>
         Some(constant) => push_fault(wide, constant),
         None => Some(LinkWhy::BadCode),
     }
-}
-
-fn is_floating_primitive(primitive: Primitive) -> bool
-    ensures { result ≡ spec.is_floating_primitive primitive }
-{
-    matches!(primitive, Primitive::Float | Primitive::Double)
 }
 
 const VIRTUAL: Invocation = Invocation {

@@ -1,6 +1,6 @@
 -- What the machine asks of a linked world at each instruction (JVMS 6.5).
-use Rattle.std.specs.Prelude.{ℕ, ◌-◌, List, [], Option, Some, None, position, get_or, slice_get, ◌==◌, if◌then◌else◌}
-use Rattle.std.specs.Option.{option_and_then, option_map_or}
+use Rattle.std.specs.Prelude.{ℕ, ◌+◌, ◌-◌, Bool, true, false, List, [], Option, Some, None, length, position, get_or, slice_get, ◌==◌, ◌&&◌, if◌then◌else◌}
+use Rattle.std.specs.Option.{option_and_then, option_map, option_map_or}
 use Rattle.descriptors.specs.declared.kind.Kind.{Kind}
 use Rattle.opcodes.specs.declared.op.Instr.{Instr}
 use Rattle.stack_maps.specs.declared.types.Base.{Base}
@@ -44,3 +44,22 @@ element w n = option_and_then (element_of n) (array_type w n)
 -- the number of an array class, by the type of its objects
 abbrev pub array_of : World → Kind → Option ℕ
 array_of w kind = array_number (numbering_of w.program) kind
+
+-- ---- array classes by type
+
+abbrev pub same_base : Base → Base → Bool
+same_base (bases.Class a) (bases.Class b) = a == b
+same_base bases.Bool bases.Bool = true
+same_base bases.Byte bases.Byte = true
+same_base bases.Char bases.Char = true
+same_base bases.Short bases.Short = true
+same_base bases.Int bases.Int = true
+same_base bases.Long bases.Long = true
+same_base a b = false
+
+abbrev pub same_type : ArrayType → ArrayType → Bool
+same_type a b = (a.dimensions == b.dimensions) && same_base a.base b.base
+
+-- the number of an array class
+abbrev pub array_class : World → ArrayType → Option ℕ
+array_class w t = option_map (λ place. length w.names + place) (position (λ other. same_type other t) w.arrays)

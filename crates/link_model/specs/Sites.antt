@@ -30,7 +30,7 @@ use Rattle.link_model.specs.Codes.{body_of, instructions_of}
 use Rattle.link_model.specs.Numbering.{Numbering, array_number, array_of_kind, array_of_primitive, class_number, kind_named}
 use Rattle.link_model.specs.Strings.{string_number}
 
--- what sites are told by: the program, its numbers and its Strings
+-- what resolution needs: the program, its numbers and its Strings
 pub record Linking : Type 0 where
   pub program : Program
   pub numbering : Numbering
@@ -39,9 +39,9 @@ pub record Linking : Type 0 where
 abbrev pub plain : Resolution
 plain = record { site = sites.Plain; class = None; failure = None }
 
--- a site that names nothing else
-abbrev pub alone : Option Site → Resolution
-alone site = option_map_or (λ s. record { site = s; class = None; failure = None }) site plain
+-- a site that names no class besides
+abbrev pub without_class : Option Site → Resolution
+without_class site = option_map_or (λ s. record { site = s; class = None; failure = None }) site plain
 
 -- a site of a member of the class of this name
 abbrev pub member_of : Linking → List ℕ → Option Site → Resolution
@@ -56,14 +56,14 @@ resolution_at pool index of = option_map_or of (slice_get pool index) plain
 
 -- the String of a text
 abbrev pub string_resolution : Linking → List ℕ → Resolution
-string_resolution l text = alone (option_map (λ n. sites.Value (values.Ref n)) (string_number l.strings text))
+string_resolution l text = without_class (option_map (λ n. sites.Value (values.Ref n)) (string_number l.strings text))
 
 abbrev pub string_at : Linking → List Const → ℕ → Resolution
 string_at l pool index = option_map_or (string_resolution l) (text_at pool index) plain
 
 abbrev pub push_resolution : Linking → List Const → Const → Resolution
-push_resolution l pool (Integer n) = alone (Some (sites.Value (values.Int n)))
-push_resolution l pool (Long n) = alone (Some (sites.Value (values.Long n)))
+push_resolution l pool (Integer n) = without_class (Some (sites.Value (values.Int n)))
+push_resolution l pool (Long n) = without_class (Some (sites.Value (values.Long n)))
 push_resolution l pool (Text index) = string_at l pool index
 push_resolution l pool c = plain
 
@@ -122,7 +122,7 @@ method_resolution l c pool special const = plain
 -- ---- classes (JVMS 5.4.3.1)
 
 abbrev pub class_resolution : Option ℕ → Resolution
-class_resolution number = alone (option_map sites.Class number)
+class_resolution number = without_class (option_map sites.Class number)
 
 -- the class at an index
 abbrev pub named_class : Linking → List Const → ℕ → Resolution

@@ -1,10 +1,15 @@
-use class_model::Row;
+//! The fields and methods of a world, and the code of a method.
+
+ghost use Rattle.std.specs.Prelude.{◌≡◌};
+ghost use Rattle.link_model.specs.Fields.{is_static_field};
+
+use class_model::{ACC_STATIC, Row};
 use descriptors::{Kind, Signature};
 use items::Items;
 use opcodes::Instr;
 
 /// A field of a class of the world (JVMS 4.5). `class` is the number of the class that declares it.
-#[derive(Debug, Drop)]
+#[derive(Drop)]
 pub struct FieldInfo {
     pub class: u32,
     pub flags: u16,
@@ -12,8 +17,17 @@ pub struct FieldInfo {
     pub kind: Kind,
 }
 
+impl FieldInfo {
+    /// Whether the field is static.
+    pub fn is_static(&self) -> bool
+        ensures { result ≡ is_static_field self.now }
+    {
+        self.flags & ACC_STATIC == ACC_STATIC
+    }
+}
+
 /// A method of a class of the world (JVMS 4.6). `class` is the number of the class that declares it.
-#[derive(Debug, Drop)]
+#[derive(Drop)]
 pub struct MethodInfo {
     pub class: u32,
     pub flags: u16,

@@ -2,7 +2,7 @@ use instruction_rows::Value;
 use stack_maps::Base;
 
 /// What the constant of an instruction means (JVMS 5.4.3), by numbers of the world.
-#[derive(Clone, Copy, Debug, PartialEq, Eq)]
+#[derive(Clone, Copy)]
 pub enum Site {
     /// The instruction names no constant.
     Plain,
@@ -27,7 +27,7 @@ pub enum SelectionFailure {
 
 /// What the constant of an instruction means, and the class that it names: for a field or a method, the class in which it is looked
 /// for (JVMS 4.4.2). An invokespecial that selects no method has `failure`.
-#[derive(Clone, Copy, Debug, PartialEq, Eq)]
+#[derive(Clone, Copy)]
 pub struct Resolution {
     pub site: Site,
     pub class: Option<u32>,
@@ -35,7 +35,7 @@ pub struct Resolution {
 }
 
 /// An array type: its dimensions, at least one, and the type of its last elements.
-#[derive(Clone, Copy, Debug, PartialEq, Eq)]
+#[derive(Clone, Copy)]
 pub struct ArrayType {
     pub dimensions: u8,
     pub base: Base,

@@ -4,3 +4,4 @@ pub mod MemberNumbers
 pub mod Codes
 pub mod KnownClasses
 pub mod Decodings
+pub mod ArrayTypes

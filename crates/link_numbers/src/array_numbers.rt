@@ -1,8 +1,9 @@
-//! The numbers of array types (own).
+//! The numbers of array types.
 
 ghost use Rattle.std.specs.Prelude.{◌≡◌, ◌++◌, ◌+◌, ◌<◌, ◌^◌, length, take, get_or, OnOk, IfOk};
 ghost use Rattle.std.specs.List.{sum};
 ghost use Rattle.link_model.specs.Numbering as spec;
+ghost use Rattle.link_numbers.specs.ArrayTypes as types;
 ghost use Rattle.link_numbers.specs.Starts.{starts_of};
 
 use crate::kinds::kind_of;
@@ -66,7 +67,23 @@ fn base_at(index: u32) -> Base
     }
 }
 
-// Adds the array types of such elements with so many dimensions at most.
+// The place of a type among the types that are no arrays. Floats and doubles, which have no operations here, have none.
+fn place_of(base: Base) -> Option<usize>
+    ensures { result ≡ types.place_of base }
+{
+    match base {
+        Base::Bool => Some(0),
+        Base::Byte => Some(1),
+        Base::Char => Some(2),
+        Base::Short => Some(3),
+        Base::Int => Some(4),
+        Base::Long => Some(5),
+        Base::Float | Base::Double => None,
+        Base::Class(class) => Some(8 + class as usize),
+    }
+}
+
+// Adds the array types with these last elements and at most `depth` dimensions.
 fn add_arrays(arrays: &mut Vec<ArrayType>, base: Base, depth: u8) -> Result<(), NoMemory>
     ensures { OnOk result (arrays.new.items ≡
         arrays.old.items ++ spec.arrays_of_base base depth) }
@@ -122,21 +139,34 @@ impl ArrayNumbers {
     fn start(&self, index: usize) -> u32
         requires { index < length self.now.depths }
         ensures start { result ≡ length self.now.names + sum (take index self.now.depths) }
-        ensures room { result + get_or self.now.depths index 0 < 2 ^ 32 }
+        ensures fits { result + get_or self.now.depths index 0 < 2 ^ 32 }
     {
         self.starts[index]
+    }
+
+    // The number of an array type, by the place of its elements' type and its dimensions.
+    fn number_at(&self, index: usize, dimensions: u8) -> Option<u32>
+        ensures { result ≡ types.number_at self.now index dimensions }
+    {
+        let depths = self.depths();
+        if index >= depths.len() || dimensions == 0 || depths[index] < dimensions {
+            return None;
+        }
+        Some(self.start(index) + u32::from(dimensions - 1))
     }
 
     /// The number of an array type. `None`: no array of such elements is as deep.
     pub fn array_number(&self, kind: &Kind) -> Option<u32>
         ensures { result ≡ spec.array_number self.now kind.now }
     {
-        let index = element_index(self.names(), &kind.element);
-        let depths = self.depths();
-        if index >= depths.len() || kind.dimensions == 0 || depths[index] < kind.dimensions {
-            return None;
-        }
-        Some(self.start(index) + u32::from(kind.dimensions - 1))
+        self.number_at(element_index(self.names(), &kind.element), kind.dimensions)
+    }
+
+    /// The number of an array type by its last elements, in constant time. `None`: no array of them is as deep, or they are floats or doubles.
+    pub fn type_number(&self, array: ArrayType) -> Option<u32>
+        ensures { result ≡ types.type_number self.now array }
+    {
+        self.number_at(place_of(array.base)?, array.dimensions)
     }
 
     /// The number of a class or an array class, by its name in a constant. `None`: no constant has the name.

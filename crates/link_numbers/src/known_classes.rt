@@ -9,7 +9,7 @@ use items::NoMemory;
 use std::alloc::Global;
 
 /// The numbers of classes that typing speaks of. `None`: the world has no class of the name.
-#[derive(Clone, Copy, Debug, PartialEq, Eq)]
+#[derive(Clone, Copy)]
 pub struct KnownClasses {
     pub object: Option<u32>,
     pub cloneable: Option<u32>,

@@ -1,7 +1,7 @@
 use crate::MemberPlace;
 
 /// What an invocation selects (JVMS 5.4.6, 6.5).
-#[derive(Clone, Copy, Debug, PartialEq, Eq)]
+#[derive(Clone, Copy)]
 pub enum Choice {
     /// This method, which isn't abstract.
     Method(MemberPlace),

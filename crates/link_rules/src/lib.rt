@@ -5,6 +5,7 @@ mod choice;
 mod fault;
 mod laws;
 mod place;
+mod primitive;
 mod reference;
 mod why;
 
@@ -12,5 +13,6 @@ pub use choice::Choice;
 pub use fault::LinkFault;
 pub use laws::first_faults;
 pub use place::MemberPlace;
+pub use primitive::is_floating_primitive;
 pub use reference::{Invocation, Purpose};
 pub use why::LinkWhy;

@@ -1,5 +1,5 @@
 /// How an instruction invokes a method (JVMS 6.5).
-#[derive(Clone, Copy, Debug, PartialEq, Eq)]
+#[derive(Clone, Copy, PartialEq, Eq)]
 pub struct Invocation {
     /// Whether the method is one of the class itself, and not of its instances.
     pub is_static: bool,
@@ -12,7 +12,7 @@ pub struct Invocation {
 }
 
 /// What an instruction names a class for (JVMS 6.5).
-#[derive(Clone, Copy, Debug, PartialEq, Eq)]
+#[derive(Clone, Copy, PartialEq, Eq)]
 pub enum Purpose {
     /// For its objects: checkcast, instanceof, the rows of an exception table.
     Type,

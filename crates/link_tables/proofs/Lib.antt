@@ -5,3 +5,4 @@ pub mod InstanceLaws
 pub mod PlaceLaws
 pub mod OwnFieldLaws
 pub mod KnownResolutionLaws
+pub mod ArrayLaws

@@ -5,7 +5,7 @@ use Rattle.link_model.specs.World.{World}
 use Rattle.link_model.specs.InstanceFields.{instance_fields}
 use Rattle.link_model.specs.Infos.{fields_of}
 use Rattle.link_model.specs.Resolutions.{numbered}
-use Rattle.link_model.specs.Numbering.{numbering_of}
+use Rattle.link_model.specs.Numbering.{arrays_of, numbering_of}
 use Rattle.link_tables.specs.PcTables.{AreByPc}
 use Rattle.link_tables.specs.Places.{place_by}
 use Rattle.link_numbers.specs.KnownClasses.{known_in}
@@ -14,6 +14,7 @@ use Rattle.link_tables.specs.declared.tables.Tables.TheInside.{Inside}
 -- the known classes are those of the names, each method has a number, and the tables of pcs are those of the codes
 pub record AreNumbered (a : Inside) : Type 0 where
   pub known : a.number_tables.known ≡ known_in a.number_tables.numbers.names
+  pub arrays : a.number_tables.arrays.items ≡ arrays_of a.number_tables.numbers.depths
   pub numbering : a.number_tables.numbers ≡ numbering_of a.members
   pub instance_fields : a.member_tables.instance_fields.items ≡ tabulate (instance_fields a.members) (length a.members.classes)
   pub fields : a.member_tables.fields.items ≡ fields_of a.members

@@ -7,30 +7,22 @@ ghost use Rattle.link_tables.specs.Places as spec;
 
 use crate::instance_fields::row_at;
 use crate::pc_tables::add_first;
-use class_model::ACC_STATIC;
 use items::{Items, NoMemory};
 use link_model::FieldInfo;
-use link_resolution::has_flag;
 use std::alloc::Global;
-
-fn is_static(field: &FieldInfo) -> bool
-    ensures { result ≡ is_static_field field.now }
-{
-    has_flag(field.flags, ACC_STATIC)
-}
 
 // The place of a field, if it is static: the number of static fields before it.
 fn static_place(field: &FieldInfo, before: u32) -> Option<u32>
     ensures { result ≡ spec.if_static field.now before }
 {
-    if is_static(field) { Some(before) } else { None }
+    if field.is_static() { Some(before) } else { None }
 }
 
 // How many static fields come before the next field. Numbers from 2^32 on count as memory run out.
 fn behind(field: &FieldInfo, before: u32) -> Result<u32, NoMemory>
     ensures { IfOk result (λ n. n ≡ before + cond (is_static_field field.now) 1 0) }
 {
-    if is_static(field) {
+    if field.is_static() {
         return before.checked_add(1).ok_or(NoMemory);
     }
     Ok(before)
@@ -55,7 +47,7 @@ fn is_own(fields: &[FieldInfo], class: u32, n: u32) -> bool
     ensures { result ≡ spec.is_own fields.now class n }
 {
     match fields.get(n as usize) {
-        Some(field) => field.class == class && !is_static(field),
+        Some(field) => field.class == class && !field.is_static(),
         None => false,
     }
 }

@@ -41,7 +41,7 @@ pub(crate) const PLAIN: Resolution = Resolution {
 
 // A site that names nothing else.
 fn without_class(site: Option<Site>) -> Resolution
-    ensures { result ≡ spec.alone site }
+    ensures { result ≡ spec.without_class site }
 {
     match site {
         Some(site) => Resolution {

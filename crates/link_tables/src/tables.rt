@@ -279,10 +279,7 @@ impl Tables {
     pub fn main_of(&self, name: &[u16]) -> Option<u32>
         ensures { result ≡ main_of self.now name.now }
     {
-        main_among(
-            &self.member_tables.methods,
-            self.hierarchy().classes().class_named(name)?,
-        )
+        main_among(&self.member_tables.methods, self.hierarchy().classes().class_named(name)?)
     }
 
     /// The numbers of the fields of an object of a class, those of the superclass first, in constant time.
@@ -305,6 +302,14 @@ impl Tables {
         ensures { result ≡ asked.array_of self.now kind.now }
     {
         self.number_tables.numbers.array_number(kind)
+    }
+
+    /// The number of an array class by its last elements and its dimensions, in constant time. `None`: the program has no array of such
+    /// elements as deep, or they are floats or doubles.
+    pub fn array_class(&self, wanted: ArrayType) -> Option<u32>
+        ensures { result ≡ asked.array_class self.now wanted }
+    {
+        self.number_tables.numbers.type_number(wanted)
     }
 
     /// The array type with a number, in constant time. `None`: the number isn't that of an array class.

@@ -1,10 +1,10 @@
 -- Classes and array classes as the machine asks for them, by their numbers in the linked world.
-use Rattle.std.specs.Prelude.{ℕ, ◌-◌, Bool, true, false, List, [], ◌++◌, Option, Some, None, codes, length, map, position, replicate, get_or, ◌==◌, ◌&&◌, ◌+◌, if◌then◌else◌}
-use Rattle.std.specs.Option.{option_map}
+use Rattle.std.specs.Prelude.{ℕ, ◌-◌, Bool, List, [], ◌++◌, Option, Some, None, codes, map, replicate, get_or, ◌==◌, if◌then◌else◌}
 use Rattle.stack_maps.specs.declared.types.Base.{Base}
 use Rattle.stack_maps.specs.declared.types.Base.TheVariants as bases
 use Rattle.link_model.specs.declared.sites.ArrayType.{ArrayType}
 use Rattle.link_model.specs.World.{World, array_type}
+pub use Rattle.link_model.specs.LookUps.{same_base, same_type, array_class}
 pub use Rattle.link_model.specs.Subtypes.{is_array, type_of, base_below, type_below, is_sub}
 
 -- ---- elements
@@ -16,23 +16,6 @@ element_of array = record array { dimensions = array.dimensions - 1 }
 -- whether an object of the class may be an element of the array
 abbrev pub is_element : World → ℕ → ArrayType → Bool
 is_element w class array = type_below w (type_of w class) (element_of array)
-
-abbrev pub same_base : Base → Base → Bool
-same_base (bases.Class a) (bases.Class b) = a == b
-same_base bases.Bool bases.Bool = true
-same_base bases.Byte bases.Byte = true
-same_base bases.Char bases.Char = true
-same_base bases.Short bases.Short = true
-same_base bases.Int bases.Int = true
-same_base bases.Long bases.Long = true
-same_base a b = false
-
-abbrev pub same_type : ArrayType → ArrayType → Bool
-same_type a b = (a.dimensions == b.dimensions) && same_base a.base b.base
-
--- the number of an array class
-abbrev pub array_class : World → ArrayType → Option ℕ
-array_class w t = option_map (λ place. length w.names + place) (position (λ other. same_type other t) w.arrays)
 
 -- ---- names (java.lang.Class.getName)
 

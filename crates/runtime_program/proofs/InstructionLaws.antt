@@ -2,11 +2,10 @@
 use Rattle.std.proofs.Common.{◌≡◌, ℕ, suc, ◌+◌, Bool, true, false, cond, not, List, [], ◌∷◌, drop, length, get_or, Option, Some, None, refl, sym, ap, ◌∙◌, arith}
 use Rattle.std.specs.Prelude.{find, nat_lt, position, slice_get, ◌==◌}
 use Rattle.std.specs.Option.{option_and_then, option_map, option_map_or}
-use Rattle.std.specs.List.{prefix_len}
 use Rattle.std.proofs.lemmas.List.{get_or-drop}
-use Rattle.std.proofs.lemmas.Bool.Decides.{nat_tests}
 use Rattle.items.specs.Options.{◌>>=◌}
 use Rattle.opcodes.specs.declared.op.Instr.{Instr}
+use Rattle.link_resolution.proofs.Positions.{position_cons}
 use Rattle.link_model.specs.declared.members.MethodCode.{MethodCode}
 use Rattle.link_model.specs.declared.sites.Resolution.{Resolution}
 use Rattle.link_model.specs.Decoded.{code_at}
@@ -16,22 +15,6 @@ use Rattle.link_model.specs.World.{World}
 use Rattle.verify_types.specs.Environment.{Instruction, with_resolutions}
 use Rattle.ref_model.specs.Fetch.{instruction_in}
 use Rattle.runtime_program.specs.Instructions.{instruction_by}
-
--- ---- one item more in front
-
-shifted : (t : Bool) (n m : ℕ) → m ≡ suc n → cond t (Some m) None ≡ option_map suc (cond t (Some n) None)
-shifted true n m e = ap Some e
-shifted false n m e = refl
-
-by_test : (b : Bool) (n k l : ℕ) → l ≡ k + 1
-    → cond (nat_lt (cond (not b) (1 + n) 0) l) (Some (cond (not b) (1 + n) 0)) None ≡ cond b (Some 0) (option_map suc (cond (nat_lt n k) (Some n) None))
-by_test true n k l e = grind (arith, nat_tests)
-by_test false n k l e =
-    let same : nat_lt (1 + n) l ≡ nat_lt n k = grind (arith, nat_tests) in
-    ap (λ t. cond t (Some (1 + n)) None) same ∙ shifted (nat_lt n k) n (1 + n) (omega arith)
-
-pub position_cons : {X : Type 0} (p : X → Bool) (x : X) (xs : List X) → position p (x ∷ xs) ≡ cond (p x) (Some 0) (option_map suc (position p xs))
-position_cons p x xs = by_test (p x) (prefix_len (λ y. not (p y)) xs) (length xs) (length (x ∷ xs)) (omega arith)
 
 -- ---- the instruction that is found, by its index
 

@@ -2,20 +2,11 @@
 
 ghost use Rattle.std.specs.Prelude.{◌≡◌, length, IfOk};
 ghost use Rattle.link_resolution.specs.Tables.{tabulate};
-ghost use Rattle.ref_model.specs.Members.{field_place, is_static_field};
+ghost use Rattle.ref_model.specs.Members.{field_place};
 
-use class_model::ACC_STATIC;
 use items::NoMemory;
-use link_model::FieldInfo;
-use link_resolution::has_flag;
 use link_tables::Tables;
 use std::alloc::Global;
-
-fn is_static(field: &FieldInfo) -> bool
-    ensures { result ≡ is_static_field field.now }
-{
-    has_flag(field.flags, ACC_STATIC)
-}
 
 // The place of an instance field among the values of an object. `None`: there is no such instance field.
 fn instance_place(tables: &Tables, n: u32) -> Option<u32>
@@ -24,7 +15,7 @@ fn instance_place(tables: &Tables, n: u32) -> Option<u32>
     match tables.field(n) {
         None => None,
         Some(field) => {
-            if is_static(field) {
+            if field.is_static() {
                 None
             } else {
                 tables.place(n)

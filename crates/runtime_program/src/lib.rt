@@ -19,7 +19,6 @@ mod subtypes;
 mod tables;
 mod typing;
 
-pub use array_classes::array_class;
 pub use class_numbers::named;
 pub use field_values::zero_of;
 pub use program::ReadyProgram;

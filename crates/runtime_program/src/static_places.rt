@@ -4,24 +4,16 @@ ghost use Rattle.std.specs.Prelude.{◌≡◌, ◌+◌, cond, slice_get, unwrap_
 ghost use Rattle.ref_model.specs.Members.{is_static_field};
 ghost use Rattle.runtime_program.specs.StaticPlaces.{AreStaticPlaces};
 
-use class_model::ACC_STATIC;
 use items::NoMemory;
 use link_model::FieldInfo;
-use link_resolution::has_flag;
 use link_tables::Tables;
 use std::alloc::Global;
-
-fn is_static(field: &FieldInfo) -> bool
-    ensures { result ≡ is_static_field field.now }
-{
-    has_flag(field.flags, ACC_STATIC)
-}
 
 // How many static fields come before the next field. Numbers from 2^32 on count as memory run out.
 fn behind(field: &FieldInfo, before: u32) -> Result<u32, NoMemory>
     ensures { IfOk result (λ n. n ≡ before + cond (is_static_field field.now) 1 0) }
 {
-    if is_static(field) {
+    if field.is_static() {
         return before.checked_add(1).ok_or(NoMemory);
     }
     Ok(before)

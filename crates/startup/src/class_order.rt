@@ -3,12 +3,11 @@
 ghost use Rattle.std.specs.Prelude.{◌≡◌, ◌++◌, reverse, IfOk, OnOk};
 ghost use Rattle.std.specs.List.{fold};
 ghost use Rattle.std.specs.Option.{option_to_list};
-ghost use Rattle.link_rules.specs.Members.{has_method, is_static as is_static_member};
 ghost use Rattle.ref_model.specs.Opening as spec;
 ghost use Rattle.startup.specs.Order as order;
 
 use items::NoMemory;
-use link_resolution::{ClassSet, Hierarchy, MemberKey, is_static};
+use link_resolution::{ClassSet, Hierarchy, MemberKey};
 use link_rules::MemberPlace;
 use link_tables::Tables;
 use std::alloc::Global;
@@ -62,23 +61,10 @@ fn class_order(alloc: Global, hierarchy: &Hierarchy) -> Result<ClassSet, NoMemor
     Ok(order)
 }
 
-// Whether the method at a place is static.
-fn is_static_at(hierarchy: &Hierarchy, at: MemberPlace) -> bool
-    ensures { result ≡ has_method is_static_member hierarchy.now at }
-{
-    match hierarchy.classes().file(at.class) {
-        Some(file) => match file.methods.get(at.index) {
-            Some(method) => is_static(method),
-            None => false,
-        },
-        None => false,
-    }
-}
-
 fn static_at(tables: &Tables, at: MemberPlace) -> Result<Option<u32>, NoMemory>
     ensures { IfOk result (λ n. n ≡ spec.static_at tables.now.program at) }
 {
-    if is_static_at(tables.hierarchy(), at) {
+    if tables.hierarchy().has_static_method(at) {
         let number = tables.method_number(at)?;
         Ok(Some(number))
     } else {

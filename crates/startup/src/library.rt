@@ -7,7 +7,7 @@ ghost use Rattle.startup.specs.FirstObjects as spec;
 use items::NoMemory;
 use link_model::ArrayType;
 use link_tables::Tables;
-use runtime_program::{array_class, named};
+use runtime_program::named;
 use stack_maps::Base;
 use std::alloc::Global;
 
@@ -22,19 +22,13 @@ pub struct Library {
 }
 
 // The number of String[].
-fn words_class(program: &Tables) -> Result<Option<u32>, NoMemory>
-    ensures { IfOk result (λ n. n ≡ class_of_words program.now) }
+fn words_class(program: &Tables) -> Option<u32>
+    ensures { result ≡ class_of_words program.now }
 {
-    match program.string() {
-        Some(string) => array_class(
-            program,
-            ArrayType {
-                dimensions: 1,
-                base: Base::Class(string),
-            },
-        ),
-        None => Ok(None),
-    }
+    program.array_class(ArrayType {
+        dimensions: 1,
+        base: Base::Class(program.string()?),
+    })
 }
 
 fn library_of(
@@ -63,6 +57,6 @@ pub(crate) fn library_in(alloc: Global, program: &Tables) -> Result<Option<Libra
     let stream = named(alloc, program, b"java/io/PrintStream")?;
     let thread = named(alloc, program, b"java/lang/Thread")?;
     let state = named(alloc, program, b"java/lang/Thread$State")?;
-    let words = words_class(program)?;
+    let words = words_class(program);
     Ok(library_of(error, stream, thread, state, words))
 }

@@ -7,8 +7,9 @@ ghost use Rattle.ref_model.specs.Operands.{argument_kinds};
 ghost use Rattle.frame_soundness.specs.NativeKinds.{GivesKind, FitsNative};
 ghost use Rattle.startup_checks.specs.Receivers.{receiver_kinds};
 
-use crate::kinds::{has_kind, value_kind};
+use crate::kinds::has_kind;
 use descriptors::{Kind as FieldType, Signature};
+use heap_instructions::value_kind;
 use items::NoMemory;
 use lib_table::Native;
 use native_methods::takes;

@@ -5,8 +5,8 @@ ghost use Rattle.instruction_rows.specs.Kinds as spec;
 ghost use Rattle.link_model.specs.Fields.{is_static_field};
 ghost use Rattle.frame_soundness.specs.StateKinds as fields;
 
-use crate::kinds::value_kind;
 use crate::methods::has_static_flag;
+use heap_instructions::value_kind;
 use instruction_rows::Value;
 use items::NoMemory;
 use link_model::{FieldInfo, Lookups};

@@ -20,8 +20,8 @@ returns-clause-start c =
     c.index.ensures ∙ ap (λ (xs : List ℕ). get_or xs c.args.index c.index.result.now) starts
     ∙ get_or-starts (length n.names) n.depths c.args.index c.index.result.now c.requires
 
-pub returns-clause-room : goal.returns-clause-room
-returns-clause-room c =
+pub returns-clause-fits : goal.returns-clause-fits
+returns-clause-fits c =
     let n = c.args.self.now in
     let starts : c.self.inside.starts.items ≡ starts_of (length n.names) n.depths = c.self.invariant.starts ∙ ap (λ (m : Numbering). starts_of (length m.names) m.depths) c.self.view_is in
     let few : length n.names + sum n.depths < 4294967296 = subst (λ (m : Numbering). length m.names + sum m.depths < 4294967296) c.self.view_is c.self.invariant.few in
