@@ -3,6 +3,7 @@
 
 mod error;
 mod lookups;
+mod numbers;
 mod subtypes;
 mod world;
 

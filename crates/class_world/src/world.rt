@@ -8,16 +8,18 @@ ghost use Rattle.link_rules.specs.Program as spec;
 ghost use Rattle.link_rules.specs.Faults.{Links, link_fault};
 ghost use Rattle.link_rules.specs.Hierarchy as hierarchy;
 ghost use Rattle.link_rules.specs.Members as members;
-ghost use Rattle.link_rules.specs.Selection as selection;
 ghost use Rattle.link_resolution.specs.Keys.{key_of};
 ghost use Rattle.link_model.specs.World.{array_type};
 ghost use Rattle.link_model.specs.Worlds.{world_of};
 ghost use Rattle.link_model.specs.LookUps as asked;
 ghost use Rattle.link_model.specs.MainMethod.{main_of};
+ghost use Rattle.link_model.specs.Methods as methods;
 ghost use Rattle.link_model.specs.Fields.{instance_fields, place};
 ghost use Rattle.link_model.specs.Subtypes.{is_sub, type_below, type_of};
+ghost use Rattle.class_world.specs.Numbers.{HasNumbers};
 
 use crate::error::LinkError;
+use crate::numbers::has_numbers;
 use crate::subtypes;
 use class_model::ClassFile;
 use descriptors::Kind;
@@ -58,6 +60,8 @@ pub fn link(
     // The program that is answered has these classes, and it links.
     ensures found { IfOk result (λ world. world ≡ spec.program built_in.items files.items) }
     ensures linked { IfOk result Links }
+    // Each thing has a number; a program with more of them counts as memory run out.
+    ensures numbers { IfOk result (λ world. HasNumbers (world_of world)) }
     // A program that links is answered, unless memory ran out.
     ensures only { Links (spec.program built_in.items files.items)
         → OkUnless result LinkError.NoMemory
@@ -69,17 +73,30 @@ pub fn link(
 {
     let hierarchy = Hierarchy::new(alloc, Classes::new(alloc, built_in, files)?)?;
     match link_fault(alloc, &hierarchy)? {
-        None => Ok(World {
-            tables: Tables::new(alloc, hierarchy)?,
-        }),
+        None => numbered(Tables::new(alloc, hierarchy)?),
         Some(LinkFault { class, why }) => Err(LinkError::Fault { class, why }),
     }
 }
 
+// The world of these tables, if each thing has a number.
+fn numbered(tables: Tables) -> Result<World, LinkError>
+    requires links { Links tables.program }
+    requires world { tables ≡ world_of tables.program }
+    ensures world { OkUnless result LinkError.NoMemory (λ world. world ≡ tables.program) }
+    ensures numbers { IfOk result (λ world. HasNumbers (world_of world)) }
+{
+    if has_numbers(&tables) {
+        Ok(World { tables })
+    } else {
+        Err(LinkError::NoMemory)
+    }
+}
+
 impl World {
-    /// That the program links (JVMS 5.3, 5.4). It does nothing.
+    /// That the program links (JVMS 5.3, 5.4), and that each of its things has a number. It does nothing.
     pub fn links(&self)
-        ensures { Links self.now }
+        ensures links { Links self.now }
+        ensures numbers { HasNumbers (world_of self.now) }
     {
         let _ = self.tables.name_count();
     }
@@ -123,7 +140,7 @@ impl World {
     pub fn is_sub(&self, class: u32, other: u32) -> bool
         ensures { result ≡ is_sub (world_of self.now) class other }
     {
-        subtypes::is_sub(self.tables(), class, other)
+        subtypes::is_sub(self, class, other)
     }
 
     /// Whether the objects of a class or an array class are of a type, in constant time (JVMS 6.5: aastore). A class that is no array class
@@ -131,7 +148,7 @@ impl World {
     pub fn is_of_type(&self, class: u32, kind: ArrayType) -> bool
         ensures { result ≡ type_below (world_of self.now) (type_of (world_of self.now) class) kind }
     {
-        subtypes::is_of_type(self.tables(), class, kind)
+        subtypes::is_of_type(self, class, kind)
     }
 
     /// The method of this key that the class itself declares. `None`: it declares none.
@@ -141,11 +158,36 @@ impl World {
         self.tables.hierarchy().declared_method(key, class)
     }
 
-    /// What invokevirtual or invokeinterface of a method selects on an object of a class (JVMS 5.4.6).
-    pub fn select(&self, alloc: Global, class: u32, method: MemberPlace) -> Result<Choice, NoMemory>
-        ensures { IfOk result (λ choice. choice ≡ selection.select self.now class method) }
+    // The class in which selection begins.
+    fn selecting_class(&self, class: u32) -> Option<u32>
+        ensures { result ≡ methods.selecting_class (world_of self.now) class }
     {
-        select(alloc, self.tables.hierarchy(), class, method)
+        if self.array_type(class).is_some() {
+            self.tables.object()
+        } else {
+            Some(class)
+        }
+    }
+
+    /// What invokevirtual or invokeinterface of a method selects on an object of a class or an array class (JVMS 5.4.6). This goes up the
+    /// superclasses. `None`: there is no method of this number.
+    pub fn select(
+        &self,
+        alloc: Global,
+        class: u32,
+        method: u32,
+    ) -> Result<Option<Choice>, NoMemory>
+        ensures { IfOk result (λ choice.
+            choice ≡ methods.choice_of (world_of self.now) class method) }
+    {
+        let Some(start) = self.selecting_class(class) else {
+            return Ok(None);
+        };
+        let Some(at) = self.tables.method_place(method)? else {
+            return Ok(None);
+        };
+        let choice = select(alloc, self.tables.hierarchy(), start, at)?;
+        Ok(Some(choice))
     }
 
     /// What the instruction at a pc of a method names, in constant time; at a pc where none begins, nothing (JVMS 6.5).

@@ -1,7 +1,7 @@
 use ref_model::Exception;
 
 /// What became of an instruction or of a native method.
-#[derive(Clone, Copy, Debug, PartialEq, Eq)]
+#[derive(Clone, Copy)]
 pub enum Outcome {
     /// It is done: the operand stack is that with which the frame goes on.
     Done,
@@ -9,7 +9,7 @@ pub enum Outcome {
     Throws(Exception),
     /// It throws this object, and nothing has changed.
     ThrowsObject(u32),
-    /// A look-up has nothing, the result has no room, or this isn't done here: nothing is said, and nothing has changed. Frames that keep to
-    /// the typing never get there (own).
+    /// A look-up has nothing, the result has no room, or the instruction isn't one of this crate: nothing has changed. Well typed frames
+    /// never get here.
     Undefined,
 }

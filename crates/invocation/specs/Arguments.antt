@@ -1,4 +1,4 @@
--- Methods with a double among their arguments. They are in no program that runs (own).
+-- Methods with a double among their arguments. They are in no program that runs.
 use Rattle.std.specs.Prelude.{Bool, true, false, ◌==◌, if◌then◌else◌}
 use Rattle.std.specs.List.{list_any}
 use Rattle.descriptors.specs.declared.kind.ElementType.{ElementType}

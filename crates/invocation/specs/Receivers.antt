@@ -16,7 +16,7 @@ use Rattle.heap_instructions.specs.Operands.{operands}
 use Rattle.heap_instructions.specs.Outcomes.{with_heap}
 use Rattle.invocation.specs.declared.receivers.Receiver.{Receiver}
 
--- what is done with the class of a receiver, where it is an instance of the class that the instruction names (own)
+-- what is done with the class of a receiver, where it is an instance of the class that the instruction names
 abbrev pub tested : World → Receiver → (ℕ → Option Effect) → Option Effect
 tested w receiver act =
     if is_sub w receiver.class receiver.named then act receiver.class else Some (throws (late_failure w receiver.named))

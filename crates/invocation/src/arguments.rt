@@ -50,7 +50,7 @@ fn is_double(kind: &Kind) -> bool
     kind.dimensions == 0 && matches!(kind.element, ElementType::Double)
 }
 
-/// Whether one of a method's arguments is a double, as in no program that runs (own).
+/// Whether one of a method's arguments is a double, as in no program that runs.
 pub(crate) fn takes_double(signature: &Signature) -> bool
     ensures { result ≡ taken.takes_double signature.now }
 {

@@ -17,7 +17,7 @@ use ref_model::Exception;
 pub enum Entered {
     /// Its frame is the top one.
     Begun,
-    /// It throws a new exception, and the frames are as before: there are 2,048 (own).
+    /// It throws a new exception, and the frames are as before: there are 2,048.
     Throws(Exception),
     /// The definitions have no effect here, and the frames are as before: its local variables are
     /// fewer than the slots that it takes.

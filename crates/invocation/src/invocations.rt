@@ -156,7 +156,7 @@ fn selected_anew<W: CallWorld>(
     }
 }
 
-// What an invocation on an object comes to: the late check of its class, and selection (own).
+// What an invocation on an object comes to: the late check of its class, and selection.
 #[inline(never)]
 fn received_anew<W: CallWorld>(
     alloc: Global,

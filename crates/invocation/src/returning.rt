@@ -23,7 +23,7 @@ pub enum Left {
     Undefined,
 }
 
-/// Whether the top frame is a root frame (own).
+/// Whether the top frame is a root frame.
 #[inline(always)]
 pub fn is_root<W: CallWorld>(world: &W, mounted: &Mounted) -> bool
     requires { 0 < length mounted.now.stack.frames }

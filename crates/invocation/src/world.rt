@@ -1,3 +1,5 @@
+//! What invocations, returns and exceptions ask of a linked world.
+
 ghost use Rattle.std.specs.Prelude.{◌≡◌, IfOk, IfSome, false, slice_get};
 ghost use Rattle.std.specs.Option.{option_copied, option_map, option_map_or};
 ghost use Rattle.link_rules.specs.Members as linked;
@@ -40,7 +42,7 @@ pub trait CallWorld: EventWorld {
         ensures { IfSome result (λ n.
             n ≡ linked.method_number (Self.world self.now).program place) };
 
-    /// Whether it is jvt.Native.hold, whose frame pins its thread (own).
+    /// Whether it is jvt.Native.hold, whose frame pins its thread.
     fn is_hold(&self, method: &MethodInfo) -> bool
         ensures { result ≡ members.is_hold (Self.world self.now) method.now };
 

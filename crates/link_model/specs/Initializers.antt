@@ -15,9 +15,12 @@ takes_nothing (kind ∷ kinds) = false
 abbrev pub is_of_initializer : Signature → Bool
 is_of_initializer signature = takes_nothing signature.args && is_none signature.result
 
+abbrev pub is_static_method : MethodInfo → Bool
+is_static_method m = has_flag ACC_STATIC m.flags
+
 -- Whether it is the initializer of its class: a static method `<clinit>` with the descriptor `()V`. The machine alone makes its frames.
 abbrev pub is_initializer : MethodInfo → Bool
-is_initializer m = has_flag ACC_STATIC m.flags && same_text m.name (codes "<clinit>") && is_of_initializer m.signature
+is_initializer m = is_static_method m && same_text m.name (codes "<clinit>") && is_of_initializer m.signature
 
 -- Whether it holds a monitor while it runs. Of the flags of a class initializer only that of static means something (JVMS 4.6).
 abbrev pub is_synchronized : MethodInfo → Bool

@@ -1,12 +1,12 @@
 -- Which classes and array classes are below others, by their numbers (JVMS 6.5: checkcast, instanceof, aastore).
-use Rattle.std.specs.Prelude.{ℕ, Bool, true, false, List, Option, codes, is_some, nat_lt, unwrap_or, ◌==◌, ◌&&◌, ◌||◌, if◌then◌else◌}
+use Rattle.std.specs.Prelude.{ℕ, Bool, true, false, List, Option, codes, is_some, nat_le, nat_lt, unwrap_or, ◌==◌, ◌&&◌, ◌||◌, if◌then◌else◌}
 use Rattle.std.specs.Option.{option_map_or}
 use Rattle.class_grammar.specs.Names.{object_class}
 use Rattle.link_rules.specs.Hierarchy.{is_below}
 use Rattle.stack_maps.specs.declared.types.Base.{Base}
 use Rattle.stack_maps.specs.declared.types.Base.TheVariants as bases
 use Rattle.link_model.specs.declared.sites.ArrayType.{ArrayType}
-use Rattle.link_model.specs.World.{World, array_type, name_number}
+use Rattle.link_model.specs.World.{World, array_type, class_count, name_number}
 
 -- ---- what is above each array class
 
@@ -50,10 +50,14 @@ same_primitive bases.Float bases.Float = true
 same_primitive bases.Double bases.Double = true
 same_primitive a b = false
 
--- Of two types of last elements: a class is below itself, its superclasses and its superinterfaces; a primitive type is below itself
--- alone.
+-- A class is below itself, its superclasses and its superinterfaces (JLS 4.10.2). A class that isn't in the program, named by a
+-- descriptor or a map alone, counts as one whose only superclass is Object.
+abbrev pub class_below : World → ℕ → ℕ → Bool
+class_below w a b = a == b || is_below w.program a b || (nat_le (class_count w) a && is_object w b)
+
+-- of two types of last elements: a primitive type is below itself alone
 abbrev pub base_below : World → Base → Base → Bool
-base_below w (bases.Class a) (bases.Class b) = is_below w.program a b
+base_below w (bases.Class a) (bases.Class b) = class_below w a b
 base_below w a b = same_primitive a b
 
 -- Of two types: with as many dimensions, where their last elements are below one another; with more dimensions, where the other has as

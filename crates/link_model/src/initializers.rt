@@ -5,7 +5,7 @@ ghost use Rattle.link_model.specs.Initializers as spec;
 
 use crate::MethodInfo;
 use class_grammar::is_same;
-use class_model::{ACC_STATIC, ACC_SYNCHRONIZED};
+use class_model::ACC_SYNCHRONIZED;
 use descriptors::{Kind, Signature};
 
 fn takes_nothing(args: &[Kind]) -> bool
@@ -28,7 +28,7 @@ fn is_of_initializer(signature: &Signature) -> bool
 pub fn is_initializer(method: &MethodInfo) -> bool
     ensures { result ≡ spec.is_initializer method.now }
 {
-    method.flags & ACC_STATIC == ACC_STATIC
+    method.is_static()
         && is_same(&method.name, b"<clinit>")
         && is_of_initializer(&method.signature)
 }

@@ -2,6 +2,7 @@
 
 ghost use Rattle.std.specs.Prelude.{◌≡◌};
 ghost use Rattle.link_model.specs.Fields.{is_static_field};
+ghost use Rattle.link_model.specs.Initializers.{is_static_method};
 
 use class_model::{ACC_STATIC, Row};
 use descriptors::{Kind, Signature};
@@ -33,6 +34,15 @@ pub struct MethodInfo {
     pub flags: u16,
     pub name: Items<u16>,
     pub signature: Signature,
+}
+
+impl MethodInfo {
+    /// Whether the method is static.
+    pub fn is_static(&self) -> bool
+        ensures { result ≡ is_static_method self.now }
+    {
+        self.flags & ACC_STATIC == ACC_STATIC
+    }
 }
 
 /// The code of a method (JVMS 4.7.3). `map` is the body of its StackMapTable, or that of a table without frames.

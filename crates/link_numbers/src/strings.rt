@@ -9,11 +9,9 @@ use crate::names::Names;
 use class_grammar::text_at;
 use class_model::{ClassFile, Const};
 use items::NoMemory;
+use link_model::OBJECTS_BEFORE_STRINGS;
 use link_resolution::Hierarchy;
 use std::alloc::Global;
-
-/// How many objects of the machine come before the first String.
-const OBJECTS_BEFORE: u32 = 10;
 
 // Puts an ASCII text after all others.
 fn push_ascii(alloc: Global, strings: &mut Names, text: &[u8]) -> Result<(), NoMemory>
@@ -86,7 +84,7 @@ pub fn string_number(strings: &Names, text: &[u16]) -> Result<Option<u32>, NoMem
     ensures { IfOk result (λ n. n ≡ spec.string_number strings.now text.now) }
 {
     match strings.number(text) {
-        Some(place) => Ok(Some(place.checked_add(OBJECTS_BEFORE).ok_or(NoMemory)?)),
+        Some(place) => Ok(Some(place.checked_add(OBJECTS_BEFORE_STRINGS).ok_or(NoMemory)?)),
         None => Ok(None),
     }
 }

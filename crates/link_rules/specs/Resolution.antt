@@ -1,4 +1,4 @@
--- The field or method that a name means in a class (JVMS 5.4.3.2 to 5.4.3.4). Access isn't checked. (own)
+-- The field or method that a name means in a class (JVMS 5.4.3.2 to 5.4.3.4). Access isn't checked.
 use Rattle.std.specs.Prelude.{ℕ, Bool, not, List, [], ◌∷◌, Option, Some, None, filter, filter_map, ◌==◌, ◌&&◌, if◌then◌else◌}
 use Rattle.std.specs.Option.{option_or, option_and_then}
 use Rattle.std.specs.List.{list_any}
@@ -43,7 +43,7 @@ specific_bodies p all = filter (is_specific_body p all) all
 abbrev pub most_specific_bodies : Program → ℕ → Key → List MemberPlace
 most_specific_bodies p c key = specific_bodies p (inherited p c key)
 
--- The only one with a body; else any, here the first that is met. (own)
+-- The only one with a body; else any, here the first that is met.
 abbrev pub chosen : List MemberPlace → List MemberPlace → Option MemberPlace
 chosen (at ∷ []) all = Some at
 chosen bodies [] = None

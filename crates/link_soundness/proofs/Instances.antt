@@ -1,6 +1,6 @@
 -- The objects of a class have the fields that getfield and putfield name, at their places (JVMS 2.7, 5.4.3.2, 6.5).
 use Rattle.std.proofs.Common.{◌≡◌, ◌⊎◌, inl, inr, ℕ, zero, suc, ◌+◌, ◌<◌, ◌≤◌, Bool, true, false, not, List, [], ◌∷◌, ◌++◌, length, reverse, Option, Some, None, refl, ap, sym, subst, ◌∙◌, arith}
-use Rattle.std.specs.Prelude.{option_and_then, position, slice_get, nat_lt, unwrap_or, codes, ◌-◌, ◌==◌, ◌&&◌, ◌||◌, if◌then◌else◌}
+use Rattle.std.specs.Prelude.{option_and_then, position, slice_get, nat_le, nat_lt, unwrap_or, codes, ◌-◌, ◌==◌, ◌&&◌, ◌||◌, if◌then◌else◌}
 use Rattle.std.specs.Option.{option_map, option_map_or}
 use Rattle.std.specs.List.{flat_map, enumerate_from}
 use Rattle.std.proofs.lemmas.Bool.{eqb-true}
@@ -32,8 +32,8 @@ use Rattle.link_model.specs.Fields.{field_place, instance_fields, is_static_fiel
 use Rattle.link_model.specs.Infos.{field_info}
 use Rattle.link_model.specs.Numbering.{array_number, class_number, number_of}
 use Rattle.link_model.specs.Sites.{member_of, named_field}
-use Rattle.link_model.specs.Subtypes.{base_below, is_above_arrays, is_array_super, is_named, is_object, is_sub, type_below, type_of}
-use Rattle.link_model.specs.World.{World, array_type, name_number}
+use Rattle.link_model.specs.Subtypes.{base_below, class_below, is_above_arrays, is_array_super, is_named, is_object, is_sub, type_below, type_of}
+use Rattle.link_model.specs.World.{World, array_type, class_count, name_number}
 use Rattle.link_model.specs.Worlds.{linking_of, world_of}
 use Rattle.verify_types.proofs.ListLaws.{and_true, numbered, option_true, true_and}
 use Rattle.ref_model.specs.Fetch as fetch
@@ -46,7 +46,7 @@ use Rattle.link_soundness.proofs.Chains.{IsUp, suffix, up_holds, up_join}
 use Rattle.link_soundness.proofs.LinkedCode.{each_at}
 use Rattle.link_soundness.proofs.Numbers.{number_of_class}
 use Rattle.link_soundness.proofs.Places.{HasField, field_flag, field_is, field_resolved}
-use Rattle.link_soundness.proofs.Supers.{IsAbove, IsRoot, below_above, first_each, or_left, parent_inside, parts_at, root_parent, supers_above}
+use Rattle.link_soundness.proofs.Supers.{IsAbove, IsRoot, below_above, first_each, named_inside, or_left, parent_inside, parts_at, root_parent, supers_above}
 use Rattle.link_soundness.proofs.Tests.{beq_true, lower, or_true}
 
 -- ---- Object and what is above a class
@@ -123,7 +123,7 @@ below_inside p a b e = by (slice_get p.classes a) refl e
 -- an object of a class h is one of an array class only where h is above arrays
 record IsPlain (w : World) (class h : ℕ) : Type 0 where
   pub none : array_type w class ≡ None
-  pub below : is_below w.program class h ≡ true
+  pub below : class_below w class h ≡ true
 
 deep : (w : World) (h : ℕ) (a : ArrayType) (d : ℕ) → 1 ≤ d
     → (if d == 0 then base_below w a.base (bases.Class h) else nat_lt 0 d && is_array_super w (bases.Class h)) ≡ true → is_above_arrays w h ≡ true
@@ -212,23 +212,37 @@ instance_named p c name key class links settled none = λ n number at field_is_n
 
     -- where the class that is named is h
     of_class : (n at h : ℕ) (x : MemberPlace) (has : HasField p x) → is_static has.member ≡ false → slice_get (instance_fields w x.class) at ≡ Some n
-        → IsAbove p (object_of p) h x.class → array_type w h ≡ None → is_sub w class h ≡ true → Answer n at
-    of_class n at h x has flag lies up no_array sub = either (sub_is w class h (dimensions_are_there p) no_array sub)
+        → h < length p.classes → IsAbove p (object_of p) h x.class → array_type w h ≡ None → is_sub w class h ≡ true → Answer n at
+    of_class n at h x has flag lies inside up no_array sub = either (sub_is w class h (dimensions_are_there p) no_array sub)
       where
         no : IsRoot p (object_of p) h → Answer n at
         no root = absurd (no_root p x has links settled flag (root_above p h x.class links settled root up))
 
-        joined : array_type w class ≡ None → is_below p class h ≡ true → IsAbove p (object_of p) class h → IsAbove p (object_of p) h x.class → Answer n at
-        joined plain below (inr root) up = no root
-        joined plain below (inl u) (inr root) = absurd (no_root p x has links settled flag root)
-        joined plain below (inl u) (inl v) = (
-          fields_first p class x.class n at settled (below_inside p class h below) (slice_get_within p.classes x.class has.file has.file_is)
+        joined : array_type w class ≡ None → class < length p.classes → IsAbove p (object_of p) class h → IsAbove p (object_of p) h x.class → Answer n at
+        joined plain low (inr root) up = no root
+        joined plain low (inl u) (inr root) = absurd (no_root p x has links settled flag root)
+        joined plain low (inl u) (inl v) = (
+          fields_first p class x.class n at settled low (slice_get_within p.classes x.class has.file has.file_is)
               (up_join (parent_of p) u.steps class h x.class u.is v) lies,
           plain,
         )
 
+        itself : array_type w class ≡ None → class ≡ h → Answer n at
+        itself plain same =
+            joined plain (subst (λ c. c < length p.classes) (sym same) inside)
+            (subst (λ c. IsAbove p (object_of p) c h) (sym same) (inl (record { steps = 0; is = refl }))) up
+
+        in_program : array_type w class ≡ None → ((class == h) ≡ true) ⊎ (is_below p class h ≡ true) → Answer n at
+        in_program plain (inl same) = itself plain (eqb-true class h same)
+        in_program plain (inr below) = joined plain (below_inside p class h below) (above p class h links settled below) up
+
+        -- a class that isn't in the program is below itself and Object
+        below_it : array_type w class ≡ None → ((class == h || is_below p class h) ≡ true) ⊎ ((nat_le (class_count w) class && is_object w h) ≡ true) → Answer n at
+        below_it plain (inl e) = in_program plain (or_true (class == h) (is_below p class h) e)
+        below_it plain (inr e) = no (inr (number_is (object_of p) h (and_true (nat_le (class_count w) class) (is_object w h) e).1))
+
         either : IsPlain w class h ⊎ (is_above_arrays w h ≡ true) → Answer n at
-        either (inl plain) = joined plain.none plain.below (above p class h links settled plain.below) up
+        either (inl plain) = below_it plain.none (or_true (class == h || is_below p class h) (nat_le (class_count w) class && is_object w h) plain.below)
         either (inr e) = no (arrays_root p h settled e)
 
     -- the class that is named, by whether it is an array class
@@ -254,7 +268,7 @@ instance_named p c name key class links settled none = λ n number at field_is_n
             let g = position_found (λ other. same_text other name) w.names home known in
             let no_array : array_type w home ≡ None =
             ap (λ (b : Bool). if b then None else slice_get w.arrays (home - length w.names)) (lower home (length w.names) (slice_get_within w.names home g.item g.at)) in
-            of_class n at home x has flag lies (resolved_above p home key x links settled e) no_array (subst (λ k. is_sub w class k ≡ true) same sub)
+            of_class n at home x has flag lies (named_inside p name home is) (resolved_above p home key x links settled e) no_array (subst (λ k. is_sub w class k ≡ true) same sub)
 
     by : (n number at : ℕ) → is_sub w class number ≡ true → field_place w n ≡ Some at
         → (o : Option MemberPlace) → resolved_field p name key ≡ o → is_field_kind p false o ≡ true

@@ -1,4 +1,4 @@
--- A class of a program has the number of its place among the names of the world (own).
+-- A class of a program has the number of its place among the names of the world.
 use Rattle.std.proofs.Common.{◌≡◌, ℕ, zero, suc, ◌+◌, Bool, true, false, cond, not, List, [], ◌∷◌, ◌++◌, length, Option, Some, None, nat_lt, refl, ap, sym, ◌∙◌, arith}
 use Rattle.std.specs.Prelude.{is_some, map, position, if◌then◌else◌}
 use Rattle.std.specs.Option.{option_map}

@@ -1,4 +1,4 @@
--- What is asked of a linked world once, when its program begins (own): no law says yet that linking gives it.
+-- What is asked of a linked world once, when its program begins: no law says yet that linking gives it.
 use Rattle.std.specs.Prelude.{◌≡◌, ℕ, zero, suc, ◌<◌, Bool, true, false, not, Option, Some, None, codes, length, slice_get, ◌==◌, ◌&&◌}
 use Rattle.std.specs.Option.{option_map_or}
 use Rattle.class_grammar.specs.Names.{object_class}

@@ -1,4 +1,4 @@
-//! What is asked of a linked world once, when its program begins (own).
+//! What is asked of a linked world once, when its program begins.
 
 ghost use Rattle.std.specs.Prelude.{◌≡◌, ℕ, ◌<◌, true};
 ghost use Rattle.link_rules.specs.Hierarchy.{parent_of};

@@ -1,5 +1,5 @@
 -- The place of an array type among all of them, which are grouped by the type of their last elements.
-use Rattle.std.proofs.Common.{◌≡◌, ◌≢◌, ℕ, zero, suc, ◌+◌, ◌-◌, ◌≤◌, Bool, true, false, cond, List, [], ◌∷◌, ◌++◌, length, Option, Some, None, get_or, take, refl, sym, ap, ◌∙◌, arith, length-append, nat_eq, nat_lt}
+use Rattle.std.proofs.Common.{◌≡◌, ℕ, zero, suc, ◌+◌, ◌-◌, ◌≤◌, Bool, true, false, cond, List, [], ◌∷◌, length, Option, Some, None, get_or, take, refl, sym, ap, ◌∙◌, arith, length-append, nat_eq, nat_lt}
 use Rattle.std.specs.Prelude.{nat_le, position, ◌==◌, ◌&&◌}
 use Rattle.std.specs.List.{enumerate_from, flat_map, sum}
 use Rattle.std.specs.Option.{option_and_then, option_map, option_map_or, option_or}
@@ -37,6 +37,12 @@ not_class i class h = grind (arith, nat_tests)
 same_class : (i class : ℕ) → nat_eq (suc (suc (suc (suc (suc (suc (suc (suc i))))))) - 8) class ≡ nat_eq (suc (suc (suc (suc (suc (suc (suc (suc i)))))))) (8 + class)
 same_class i class = grind (arith, nat_tests)
 
+class_at : (i : ℕ) → base_at (suc (suc (suc (suc (suc (suc (suc (suc i)))))))) ≡ bases.Class (suc (suc (suc (suc (suc (suc (suc (suc i))))))) - 8)
+class_at i = grind (arith, nat_tests)
+
+past_class : (i k : ℕ) → k ≤ 7 → false ≡ nat_eq (suc (suc (suc (suc (suc (suc (suc (suc i)))))))) k
+past_class i k h = grind (arith, nat_tests)
+
 same_at : (i : ℕ) (b : Base) → same_base (base_at i) b ≡ is_place i b
 same_at zero b = by_base (λ v. same_base bases.Bool v ≡ is_place 0 v) refl refl refl refl refl refl refl refl (λ c. not_class 0 c (omega arith)) b
 same_at (suc zero) b = by_base (λ v. same_base bases.Byte v ≡ is_place 1 v) refl refl refl refl refl refl refl refl (λ c. not_class 1 c (omega arith)) b
@@ -47,8 +53,10 @@ same_at (suc (suc (suc (suc (suc zero))))) b = by_base (λ v. same_base bases.Lo
 same_at (suc (suc (suc (suc (suc (suc zero)))))) b = by_base (λ v. same_base bases.Float v ≡ is_place 6 v) refl refl refl refl refl refl refl refl (λ c. not_class 6 c (omega arith)) b
 same_at (suc (suc (suc (suc (suc (suc (suc zero))))))) b = by_base (λ v. same_base bases.Double v ≡ is_place 7 v) refl refl refl refl refl refl refl refl (λ c. not_class 7 c (omega arith)) b
 same_at (suc (suc (suc (suc (suc (suc (suc (suc i)))))))) b =
+    ap (λ v. same_base v b) (class_at i) ∙
     by_base (λ v. same_base (bases.Class (suc (suc (suc (suc (suc (suc (suc (suc i))))))) - 8)) v ≡ is_place (suc (suc (suc (suc (suc (suc (suc (suc i)))))))) v)
-    refl refl refl refl refl refl refl refl (same_class i) b
+    (past_class i 0 (omega arith)) (past_class i 1 (omega arith)) (past_class i 2 (omega arith)) (past_class i 3 (omega arith))
+    (past_class i 4 (omega arith)) (past_class i 5 (omega arith)) refl refl (same_class i) b
 
 -- ---- in one group
 
@@ -63,7 +71,7 @@ size_of b (suc n) = let front = size_of b n in simp length-append (omega arith)
 none_in_empty : (s : Bool) (d : ℕ) → None ≡ cond s (in_group d 0) None
 none_in_empty false d = refl
 none_in_empty true zero = refl
-none_in_empty true (suc d) = refl
+none_in_empty true (suc d) = grind (arith, nat_tests)
 
 last_or_before : (n d size : ℕ) (s : Bool) → size ≡ n
     → option_or (cond s (in_group d n) None) (cond ((suc n == d) && s) (Some size) None) ≡ cond s (in_group d (suc n)) None
@@ -120,10 +128,8 @@ place_from : (t : ArrayType) (k i j : ℕ) (depths : List ℕ) → j ≡ k + i �
 place_from t k i j [] e same = none i t.dimensions
   where
     none : (i d : ℕ) → None ≡ option_map (λ place. sum (take i []) + place) (in_group d (get_or [] i 0))
-    none zero zero = refl
-    none zero (suc d) = refl
-    none (suc i) zero = refl
-    none (suc i) (suc d) = refl
+    none zero d = ap (λ o. option_map (λ place. sum (take 0 []) + place) o) (none_in_empty true d)
+    none (suc i) d = ap (λ o. option_map (λ place. sum (take (suc i) []) + place) o) (none_in_empty true d)
 place_from t k zero j (n ∷ depths) e same =
     let here : nat_eq k j ≡ true = grind (arith, nat_tests) in
     place_in_groups t k n depths

@@ -6,6 +6,7 @@ use Rattle.link_model.specs.InstanceFields.{instance_fields}
 use Rattle.link_model.specs.Infos.{fields_of, methods_of, codes_of}
 use Rattle.link_model.specs.Numbering.{arrays_of, numbering_of}
 use Rattle.link_model.specs.Sites.{resolutions_of, catches_of}
+use Rattle.link_model.specs.Strings.{strings_of}
 use Rattle.link_model.specs.Worlds.{linking_of}
 use Rattle.link_numbers.specs.KnownClasses.{known_in}
 use Rattle.link_tables.specs.ResolutionTables.{AreListsOf}
@@ -34,3 +35,4 @@ pub record AreOfCodes (p : Program) (t : CodeTables) : Type 0 where
   pub by_pc : AreByPc (codes_of p) t.by_pc.items
   pub resolutions : AreListsOf t.resolutions.table.items t.resolutions.numbers.items (resolutions_of (linking_of p))
   pub catches : t.catches.items ≡ catches_of (linking_of p)
+  pub strings : t.strings ≡ strings_of p

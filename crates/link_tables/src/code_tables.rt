@@ -10,15 +10,16 @@ use crate::resolutions::{NumberedResolutions, all_catches, all_resolutions};
 use crate::sites::Linker;
 use items::{Items, NoMemory};
 use link_model::MethodCode;
-use link_numbers::{ArrayNumbers, MemberNumbers, all_strings};
+use link_numbers::{ArrayNumbers, MemberNumbers, Names, all_strings};
 use std::alloc::Global;
 
-/// The tables of the instructions and exception tables of each method.
+/// The tables of the instructions and exception tables of each method, and the texts of the Strings that they name.
 #[derive(Drop)]
 pub(crate) struct CodeTables {
     pub(crate) by_pc: Vec<Items<u16>>,
     pub(crate) resolutions: NumberedResolutions,
     pub(crate) catches: Vec<Items<Option<u32>>>,
+    pub(crate) strings: Names,
 }
 
 /// Those of a program with these codes.
@@ -45,5 +46,6 @@ pub(crate) fn code_tables(
         by_pc,
         resolutions,
         catches,
+        strings,
     })
 }

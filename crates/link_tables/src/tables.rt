@@ -7,9 +7,11 @@ ghost use Rattle.link_rules.specs.Members as members;
 ghost use Rattle.link_model.specs.World as spec;
 ghost use Rattle.link_model.specs.LookUps as asked;
 ghost use Rattle.link_model.specs.MainMethod.{main_of};
+ghost use Rattle.link_model.specs.Methods.{method_place};
 ghost use Rattle.link_model.specs.Resolutions.{meanings};
 ghost use Rattle.link_model.specs.Fields.{instance_fields, place};
 ghost use Rattle.link_model.specs.Pools as pools;
+ghost use Rattle.link_model.specs.Strings.{strings_of};
 ghost use Rattle.link_model.specs.Worlds.{world_of};
 ghost use Rattle.link_model.specs.Infos.{codes_of};
 ghost use Rattle.link_tables.specs.Parts.{AreNumbers, AreMembers, AreOfCodes};
@@ -27,7 +29,7 @@ use class_grammar::class_name_at;
 use descriptors::Kind;
 use items::{Items, NoMemory};
 use link_model::{ArrayType, FieldInfo, MethodCode, MethodInfo, Resolutions, Site};
-use link_numbers::{ArrayNumbers, Codes, KnownClasses, MemberNumbers, all_codes};
+use link_numbers::{ArrayNumbers, Codes, KnownClasses, MemberNumbers, Names, all_codes};
 use link_resolution::{Hierarchy, dimensions_of, is_array_name, last_element, name_in};
 use link_rules::MemberPlace;
 use stack_maps::{Base, VType};
@@ -136,6 +138,13 @@ impl Tables {
         }
     }
 
+    /// The texts of the Strings that constants are, in the order of their numbers.
+    pub fn strings(&self) -> &Names
+        ensures { result.now ≡ strings_of self.now.program }
+    {
+        &self.code_tables.strings
+    }
+
     /// The array types, in the order of their numbers after those of the names.
     pub fn arrays(&self) -> &[ArrayType]
         ensures { result.now ≡ self.now.arrays }
@@ -199,6 +208,13 @@ impl Tables {
         self.member_tables.methods.len() as u32
     }
 
+    /// The methods, in the order of their numbers.
+    pub fn methods(&self) -> &[MethodInfo]
+        ensures { result.now ≡ self.now.methods }
+    {
+        &self.member_tables.methods
+    }
+
     /// A method. `None`: there is no method of this number.
     pub fn method(&self, n: u32) -> Option<&MethodInfo>
         ensures { option_copied result ≡ slice_get self.now.methods n }
@@ -218,6 +234,20 @@ impl Tables {
         ensures { IfOk result (λ n. n ≡ members.method_number self.now.program at) }
     {
         self.members.method_number(at)
+    }
+
+    /// Where the method of a number is declared. `None`: there is no method of this number.
+    pub fn method_place(&self, n: u32) -> Result<Option<MemberPlace>, NoMemory>
+        ensures { IfOk result (λ place. place ≡ method_place self.now n) }
+    {
+        let Some(method) = self.method(n) else {
+            return Ok(None);
+        };
+        let first = self.first_method(method.class)?;
+        Ok(Some(MemberPlace {
+            class: method.class,
+            index: n.saturating_sub(first) as usize,
+        }))
     }
 
     /// The code of a method. `None`: it has none, or there is no method of this number.

@@ -11,14 +11,11 @@ use crate::world::MachineWorld;
 use continuation::Mounted;
 use heap_instructions::{Outcome, make_object};
 use items::NoMemory;
+use link_model::OUT_OF_MEMORY;
 use ref_model::Exception;
 use vthread_state::{Phase, Status};
 
-/// The OutOfMemoryError that is there from the start.
-const OUT_OF_MEMORY: u32 = 0;
-
-/// Throws a new exception of the machine: an object without a message, or the OutOfMemoryError of the start where there is no room for it
-/// (own).
+/// Throws a new exception of the machine: an object without a message, or the OutOfMemoryError of the start if there is no room for it.
 #[inline(never)]
 pub(crate) fn raise<W: MachineWorld>(
     world: &W,

@@ -12,12 +12,10 @@ use heap_instructions::class_number;
 use heap_objs::Heap;
 use invocation::{Caught, catch_object};
 use items::NoMemory;
+use link_model::MAIN_NAME;
 use native_methods::push_text;
 use std::alloc::Global;
 use vthread_state::{Phase, Status};
-
-/// The number of the String that is the name of main's thread.
-const MAIN_NAME: u32 = 10;
 
 // The name of main's thread. `None`: there is no such String.
 fn main_name(heap: &Heap) -> Option<&[u16]>

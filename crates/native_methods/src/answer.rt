@@ -9,7 +9,7 @@ use instruction_rows::Value;
 use ref_model::Exception;
 
 /// What a native method answers to its arguments.
-#[derive(Clone, Copy, Debug, PartialEq, Eq)]
+#[derive(Clone, Copy)]
 pub(crate) enum Answer {
     /// It returns without a result.
     Returns,
@@ -21,7 +21,7 @@ pub(crate) enum Answer {
     Undefined,
 }
 
-/// The outcome of an answer, which takes the place of so many operands.
+/// The outcome of an answer that replaces the topmost operands.
 pub(crate) fn outcome_of(mounted: &mut Mounted, count: u16, answer: Answer) -> Outcome
     requires top { HasTop mounted.old }
     requires count { count ≤ length (operands mounted.old) }

@@ -11,11 +11,9 @@ use crate::state::{NativeState, text_at};
 use crate::texts::null_text;
 use crate::utf8::push_text;
 use items::NoMemory;
+use link_model::ERR_STREAM;
 use ref_model::Exception;
 use std::alloc::Global;
-
-/// The number of System.err; every other stream is System.out (own).
-const ERR_STREAM: u32 = 2;
 
 // Appends a text in UTF-8 and a line's end.
 fn push_line(out: &mut Vec<u8>, units: &[u16]) -> Result<(), NoMemory>

@@ -141,7 +141,7 @@ one_not_read known now before since after names i s name classes error lt is nam
 
 -- ---- what a `?` answers
 
-pub err_is : {A : Type 0} (r : Result A LoadError) (error : LoadError) (P : LoadError → Type 0) → IsErrAnd r (λ e. e ≡ error) → P error → IfErr r P
+pub err_is : {A E : Type 0} (r : Result A E) (error : E) (P : E → Type 0) → IsErrAnd r (λ e. e ≡ error) → P error → IfErr r P
 err_is (Ok x) error P is p = absurd is
 err_is (Err e) error P is p = subst P (sym is) p
 

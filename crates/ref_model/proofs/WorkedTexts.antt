@@ -118,7 +118,7 @@ with_nothing_more = refl
 with_null : Throws string_concat (One Null ∷ ref 1 ∷ []) exceptions.NullPointerException
 with_null = refl
 
--- the number of an object is its hash code (own)
+-- the number of an object is its hash code
 second_object : Gives object_hash_code (ref 1 ∷ []) (Int (pos 1))
 unfolding int_wrap
 second_object = refl

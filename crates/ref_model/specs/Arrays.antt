@@ -146,7 +146,7 @@ ints_popped zero stack = Some ([], stack)
 ints_popped (suc n) stack =
     popped kinds.Int stack >>= λ x. ints_popped n x.1 >>= λ y. Some (y.0 ++ x.0 ∷ [], y.1)
 
--- all are tested for room at once (own)
+-- all are tested for room at once
 abbrev pub with_arrays : World → State → ℕ → List ℕ → Option (Option (State × ℕ))
 with_arrays w r class lengths =
     if nat_le (cells_of_lengths lengths) r.room

@@ -1,5 +1,5 @@
 -- The native methods of java.lang.StringBuilder. A builder has one field, the String of its text so far; null is the empty text. What
--- appends makes a new String. (own)
+-- appends makes a new String.
 use Rattle.std.specs.Prelude.{ℕ, pos, List, [], ◌∷◌, ◌++◌, Option, Some, None, length, slice_get}
 use Rattle.items.specs.Options.{◌>>=◌}
 use Rattle.opcodes.specs.declared.op.ValueKind.TheVariants.{Int, Long, Reference}

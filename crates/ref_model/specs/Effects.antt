@@ -40,7 +40,7 @@ abbrev pub not_null : Option ℕ → (ℕ → Option Effect) → Option Effect
 not_null None act = Some (throws exceptions.NullPointerException)
 not_null (Some o) act = act o
 
--- ---- The late check (own): an object that isn't an instance of the class that an instruction names. A type of an interface stands for
+-- ---- The late check: an object that isn't an instance of the class that an instruction names. A type of an interface stands for
 -- every object in the typing, so there this happens (JVMS 6.5: invokeinterface).
 
 abbrev pub late_failure : World → ℕ → Exception

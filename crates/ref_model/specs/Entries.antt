@@ -1,4 +1,4 @@
--- How steps lie in entries (own): all steps of an entry but the last are local instructions. The last is an event; or it is an invokestatic
+-- How steps lie in entries: all steps of an entry but the last are local instructions. The last is an event; or it is an invokestatic
 -- that is local; or it is the step after ten thousand local instructions, of whichever kind.
 use Rattle.std.specs.Prelude.{ℕ, zero, suc, Bool, true, false, List, [], ◌∷◌, Option, Some, None, is_some, nat_le, not, slice_get, ◌==◌, ◌&&◌, ◌||◌}
 use Rattle.std.specs.Option.{option_map_or}

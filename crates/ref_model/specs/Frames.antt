@@ -69,7 +69,7 @@ is_empty (f ∷ below) = false
 abbrev pub is_initializer_frame : World → Frame → Bool
 is_initializer_frame w f = option_map_or is_initializer (slice_get w.methods f.method) false
 
--- whether it is a root frame, over these: the bottom frame of its thread, or that of a class initializer (own)
+-- whether it is a root frame, over these: the bottom frame of its thread, or that of a class initializer
 abbrev pub is_root : World → Frame → List Frame → Bool
 is_root w f below = is_empty below || is_initializer_frame w f
 

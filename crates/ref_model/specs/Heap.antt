@@ -62,7 +62,7 @@ object_with r o place v (text units) = None
 abbrev pub with_value : State → ℕ → ℕ → Value → Option State
 with_value r o place v = object_at r o >>= object_with r o place v
 
--- ---- new objects, which have the next number. They have to fit in the room that is left. (own)
+-- ---- new objects, which have the next number. They have to fit in the room that is left.
 
 -- an object of so many fields, or an array of so many elements
 abbrev pub cells_of_values : ℕ → ℕ

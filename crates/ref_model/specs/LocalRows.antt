@@ -16,7 +16,7 @@ use Rattle.ref_model.specs.Members.{native_at, is_synchronized, is_hold}
 use Rattle.ref_model.specs.Fetch.{fetched, constant_of, Named, named_method}
 use Rattle.ref_model.specs.Frames.{contents, moved, behind, callee, caller, is_root, returned}
 
--- how many frames a thread may have (own)
+-- how many frames a thread may have
 abbrev pub most_frames : ℕ
 most_frames = 2048
 

@@ -41,6 +41,6 @@ native_in index f = slice_get f.methods index >>= native_of_member f
 abbrev pub native_at : World → ℕ → Option Native
 native_at w n = method_place w n >>= λ at. class_at (native_in at.index) None w.program at.class
 
--- jvt.Native.hold, whose frame pins its thread (own)
+-- jvt.Native.hold, whose frame pins its thread
 abbrev pub is_hold : World → MethodInfo → Bool
 is_hold w m = class_at (λ f. same_text (own_name f) (codes "jvt/Native")) false w.program m.class && same_text m.name (codes "hold")

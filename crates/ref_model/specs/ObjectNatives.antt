@@ -26,7 +26,7 @@ object_init r = native (Reference ∷ []) (λ this. returns r)
 abbrev pub object_equals : State → NativeRow
 object_equals r = native (Reference ∷ Reference ∷ []) (λ other this. returns_value r (boolean (same_reference this other)))
 
--- hashCode(): the number of the object (own)
+-- hashCode(): the number of the object
 abbrev pub identity_hash : State → Option ℕ → Answer
 identity_hash r None = fails exceptions.NullPointerException
 identity_hash r (Some o) = returns_value r (values.Int (int_wrap w32 (pos o)))

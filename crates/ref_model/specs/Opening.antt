@@ -148,7 +148,7 @@ statics_in p f = map (static_opening p f) (filter is_static f.fields)
 abbrev pub opening_statics : Program → List Value
 opening_statics p = flat_map (statics_in p) p.classes
 
--- ---- class initializers (JVMS 2.9.2, 5.5): in the order of the classes, each after that of its superclass (own)
+-- ---- class initializers (JVMS 2.9.2, 5.5): in the order of the classes, each after that of its superclass
 
 abbrev pub with_class : List ℕ → ℕ → List ℕ
 with_class order class = if is_among order class then order else order ++ class ∷ []

@@ -19,7 +19,7 @@ written r None units = fails exceptions.NullPointerException
 written r (Some stream) units =
     returns (if stream == err_stream then record r { err = r.err ++ text_bytes units } else record r { out = r.out ++ text_bytes units })
 
--- a line ends with LF (own)
+-- a line ends with LF
 abbrev pub line : List ℕ → List ℕ
 line units = units ++ 10 ∷ []
 

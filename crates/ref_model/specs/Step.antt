@@ -70,7 +70,7 @@ after_effect w r t next f below (invokes g stack) = Some (with_frames r t (g ∷
 after_effect w r t next f below (throws e) = raised w r t e
 after_effect w r t next f below (throws_object o) = Some (throwing r t o)
 
--- A return from a root frame: with the bottom frame the thread is done; below the frame of a class initializer the next one begins. (own)
+-- A return from a root frame: with the bottom frame the thread is done; below the frame of a class initializer the next one begins.
 abbrev pub root_left : State → ℕ → List Frame → State
 root_left r t [] = finished r t
 root_left r t (f ∷ below) = with_frames r t (f ∷ below)

@@ -16,7 +16,7 @@ is_low u = nat_le 0xdc00 u && nat_le u 0xdfff
 abbrev pub joined : ℕ → ℕ → ℕ
 joined high low = 0x10000 + (high - 0xd800) * 0x400 + (low - 0xdc00)
 
--- a surrogate alone is written as a question mark (own)
+-- a surrogate alone is written as a question mark
 abbrev pub question_mark : List ℕ
 question_mark = codes "?"
 
@@ -48,7 +48,7 @@ decimal_text n = signed_decimal n
 abbrev pub boolean_text : ℤ → List ℕ
 boolean_text n = if is_zero n then codes "false" else codes "true"
 
--- a char, of which the low 16 bits count: an argument isn't narrowed by a call (own)
+-- a char, of which the low 16 bits count: an argument isn't narrowed by a call
 abbrev pub char_text : ℤ → List ℕ
 char_text n = low_bits 16 n ∷ []
 

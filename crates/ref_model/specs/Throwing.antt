@@ -49,7 +49,7 @@ abbrev pub throwing_new : State → ℕ → Option (State × ℕ) → State
 throwing_new r t None = throwing r t out_of_memory
 throwing_new r t (Some x) = throwing x.0 t x.1
 
--- a new object without a message, or the OutOfMemoryError of the start where there is no room for it (own)
+-- a new object without a message, or the OutOfMemoryError of the start where there is no room for it
 abbrev pub raised : World → State → ℕ → Exception → Option State
 raised w r t e =
     name_number w (exception_name e) >>= λ class. Some (throwing_new r t (with_instance r class (new_values w class)))

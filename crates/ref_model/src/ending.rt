@@ -1,4 +1,4 @@
-/// Which limit a run came to. (own)
+/// Which limit a run came to.
 #[derive(Clone, Copy, Debug, PartialEq, Eq)]
 pub enum Which {
     /// The files of the command.
@@ -20,12 +20,12 @@ pub enum Ending {
     MainThrew,
     /// The program called `System.exit` with this status.
     Exited(i32),
-    /// No thread can go on, and none waits for a time. (own)
+    /// No thread can go on, and none waits for a time.
     Stalled,
-    /// Each carrier has a pinned thread that can't go on, and another thread could. (own)
+    /// Each carrier has a pinned thread that can't go on, and another thread could.
     Starved,
-    /// The run came to a limit, which is this number. (own)
+    /// The run came to a limit, which is this number.
     Limit(Which, u32),
-    /// The run was given up. (own)
+    /// The run was given up.
     Halted,
 }

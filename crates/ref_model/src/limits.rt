@@ -1,4 +1,4 @@
-/// The limits of a run. (own)
+/// The limits of a run.
 #[derive(Clone, Copy, Debug, PartialEq, Eq)]
 pub struct Limits {
     /// The cells of 16 bytes that objects may take. An object takes one and one for each field, an array one and one for

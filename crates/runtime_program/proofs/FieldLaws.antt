@@ -10,7 +10,7 @@ use Rattle.link_rules.specs.Hierarchy.{superclasses}
 use Rattle.link_model.specs.declared.members.FieldInfo.{FieldInfo}
 use Rattle.link_model.specs.World.{World}
 use Rattle.link_model.specs.Fields.{declares, field_place, instance_fields, is_field_of, is_static_field, own_fields, place}
-use Rattle.runtime_program.proofs.InstructionLaws.{position_cons}
+use Rattle.link_resolution.proofs.Positions.{position_cons}
 
 -- no number of the list is this one
 abbrev Lacks : ℕ → List ℕ → Type 0

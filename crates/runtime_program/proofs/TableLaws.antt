@@ -11,7 +11,7 @@ use Rattle.link_resolution.specs.Tables.{row_at, tabulate}
 use Rattle.link_resolution.proofs.TableLaws.{get_tabulate, past_tabulate, row-tabulate}
 use Rattle.link_resolution.proofs.HierarchyLaws.{no_superclasses}
 use Rattle.link_model.specs.World.{World}
-use Rattle.ref_model.specs.Members.{own_fields, is_static_field, field_place, field_zero, method_place, native_at, new_values, static_place}
+use Rattle.ref_model.specs.Members.{own_fields, is_static_field, field_place, field_zero, native_at, new_values, static_place}
 use Rattle.runtime_program.specs.Places.{initializer_of}
 
 -- the entry of a table, where the function gives none past the end
@@ -30,14 +30,8 @@ entry_or-tabulate f n past none c =
 
 -- ---- methods
 
-no_place : (w : World) (n : ℕ) → length w.methods ≤ n → method_place w n ≡ None
-no_place w n h = rw (slice_get_past w.methods n h) refl
-
 no_native : (w : World) (n : ℕ) → length w.methods ≤ n → native_at w n ≡ None
 no_native w n h = rw (slice_get_past w.methods n h) refl
-
-pub places_are : (w : World) (n : ℕ) → option_and_then (λ o. o) (slice_get (tabulate (method_place w) (length w.methods)) n) ≡ method_place w n
-places_are w n = entry-tabulate (method_place w) (length w.methods) (no_place w) n
 
 pub natives_are : (w : World) (n : ℕ) → option_and_then (λ o. o) (slice_get (tabulate (native_at w) (length w.methods)) n) ≡ native_at w n
 natives_are w n = entry-tabulate (native_at w) (length w.methods) (no_native w) n

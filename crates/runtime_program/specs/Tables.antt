@@ -2,7 +2,7 @@
 use Rattle.std.specs.Prelude.{◌≡◌, length, map}
 use Rattle.link_resolution.specs.Tables.{tabulate}
 use Rattle.link_model.specs.World.{World}
-use Rattle.ref_model.specs.Members.{field_place, method_place, native_at, new_values}
+use Rattle.ref_model.specs.Members.{field_place, native_at, new_values}
 use Rattle.runtime_program.specs.Arrays.{inner_class}
 use Rattle.runtime_program.specs.Exceptions.{exceptions_of}
 use Rattle.runtime_program.specs.Places.{initializer_of}
@@ -10,7 +10,6 @@ use Rattle.runtime_program.specs.StaticPlaces.{AreStaticPlaces}
 use Rattle.runtime_program.specs.declared.tables.ReadyTables.{ReadyTables}
 
 pub record HasTables (w : World) (t : ReadyTables) : Type 0 where
-  pub places : t.places.items ≡ tabulate (method_place w) (length w.methods)
   pub natives : t.natives.items ≡ tabulate (native_at w) (length w.methods)
   pub initializers : t.initializers.items ≡ tabulate (initializer_of w) (length w.methods)
   pub new_values : t.new_values.items ≡ tabulate (new_values w) (length w.program.classes)

@@ -10,7 +10,7 @@ use ref_model::Exception;
 use std::alloc::Global;
 
 /// The numbers of these classes, `None` where no pool or descriptor has the name.
-#[derive(Clone, Copy, Debug)]
+#[derive(Clone, Copy)]
 pub(crate) struct ExceptionClasses {
     abstract_method: Option<u32>,
     arithmetic: Option<u32>,

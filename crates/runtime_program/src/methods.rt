@@ -1,4 +1,4 @@
-//! Where methods are declared, and which of them are native (JVMS 4.6).
+//! Which methods are native, and which are class initializers (JVMS 4.6).
 
 ghost use Rattle.std.specs.Prelude.{◌≡◌, false, codes, length, IfOk};
 ghost use Rattle.link_resolution.specs.Tables.{tabulate};
@@ -16,37 +16,6 @@ use link_resolution::{key_in, own_name};
 use link_rules::MemberPlace;
 use link_tables::Tables;
 use std::alloc::Global;
-
-// Where the method of a number is declared.
-fn place_of(tables: &Tables, n: u32) -> Result<Option<MemberPlace>, NoMemory>
-    ensures { IfOk result (λ place. place ≡ spec.method_place tables.now n) }
-{
-    match tables.method(n) {
-        None => Ok(None),
-        Some(method) => {
-            let first = tables.first_method(method.class)?;
-            Ok(Some(MemberPlace {
-                class: method.class,
-                index: n.saturating_sub(first) as usize,
-            }))
-        }
-    }
-}
-
-/// Where all methods are declared, by their numbers.
-pub(crate) fn all_places(
-    alloc: Global,
-    tables: &Tables,
-) -> Result<Vec<Option<MemberPlace>>, NoMemory>
-    ensures { IfOk result (λ v. v.items
-        ≡ tabulate (spec.method_place tables.now) (length tables.now.methods)) }
-{
-    let mut places = Vec::new(alloc);
-    for n in 0..tables.method_count() {
-        places.push(place_of(tables, n)?)?;
-    }
-    Ok(places)
-}
 
 fn native_of_member(file: &ClassFile, member: &Member) -> Option<Native>
     ensures { result ≡ spec.native_of_member file.now member.now }
@@ -72,7 +41,7 @@ fn native_at_place(tables: &Tables, at: MemberPlace) -> Option<Native>
 fn native_at(tables: &Tables, n: u32) -> Result<Option<Native>, NoMemory>
     ensures { IfOk result (λ native. native ≡ spec.native_at tables.now n) }
 {
-    match place_of(tables, n)? {
+    match tables.method_place(n)? {
         Some(at) => Ok(native_at_place(tables, at)),
         None => Ok(None),
     }

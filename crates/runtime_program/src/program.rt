@@ -27,7 +27,7 @@ use crate::instructions::instruction;
 use crate::methods::is_hold;
 use crate::static_places::static_place_in;
 use crate::subtypes::is_sub;
-use crate::tables::{ReadyTables, flag_entry, native_entry, number_entry, place_entry, tables_of};
+use crate::tables::{ReadyTables, flag_entry, native_entry, number_entry, tables_of};
 use class_world::World;
 use instruction_rows::Value;
 use interp_local::{Fetched, Prepared};
@@ -138,14 +138,6 @@ impl ReadyProgram {
         instruction(self.tables(), method, pc)
     }
 
-    /// Where a method is declared. `None`: there is no method of this number.
-    #[inline(always)]
-    pub fn method_place(&self, n: u32) -> Option<MemberPlace>
-        ensures { result ≡ members.method_place self.now n }
-    {
-        place_entry(&self.extra.places, n)
-    }
-
     /// The number of the method at a place. A class that isn't there counts as memory run out.
     pub fn method_number(&self, at: MemberPlace) -> Result<u32, NoMemory>
         ensures { IfOk result (λ n. n ≡ linked.method_number self.now.program at) }
@@ -188,30 +180,12 @@ impl ReadyProgram {
         }
     }
 
-    // The class in which selection begins.
-    fn selecting_class(&self, class: u32) -> Option<u32>
-        ensures { result ≡ calls.selecting_class self.now class }
-    {
-        if self.array_type(class).is_some() {
-            self.tables().object()
-        } else {
-            Some(class)
-        }
-    }
-
     /// What invokevirtual or invokeinterface of a method selects on an object of a class (JVMS 5.4.6). This goes up the superclasses.
     /// `None`: there is no method of this number.
     pub fn choice(&self, alloc: Global, class: u32, method: u32) -> Result<Option<Choice>, NoMemory>
         ensures { IfOk result (λ choice. choice ≡ calls.choice_of self.now class method) }
     {
-        let Some(start) = self.selecting_class(class) else {
-            return Ok(None);
-        };
-        let Some(at) = self.method_place(method) else {
-            return Ok(None);
-        };
-        let choice = self.world().select(alloc, start, at)?;
-        Ok(Some(choice))
+        self.world().select(alloc, class, method)
     }
 
     /// The pc of the handler that catches an object of a class at a pc of a method (JVMS 2.10). This goes over the exception table.

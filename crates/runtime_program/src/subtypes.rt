@@ -6,6 +6,7 @@ ghost use Rattle.link_model.specs.Worlds.{world_of};
 ghost use Rattle.ref_model.specs.Classes as spec;
 
 use class_world::World;
+use link_model::class_below;
 use link_tables::Tables;
 
 // Whether a class is no array class by its number.
@@ -23,7 +24,7 @@ pub(crate) fn is_sub(world: &World, class: u32, other: u32) -> bool
 {
     let tables = world.tables();
     if is_plain(tables, class) && is_plain(tables, other) {
-        return tables.hierarchy().is_below(class, other);
+        return class_below(world, class, other);
     }
     world.is_sub(class, other)
 }

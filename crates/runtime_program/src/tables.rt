@@ -8,20 +8,18 @@ use crate::array_classes::all_inner_classes;
 use crate::exception_classes::{ExceptionClasses, exception_classes};
 use crate::field_values::all_new_values;
 use crate::instance_places::all_instance_places;
-use crate::methods::{all_initializers, all_natives, all_places};
+use crate::methods::{all_initializers, all_natives};
 use crate::static_places::{StaticPlaces, all_static_places};
 use instruction_rows::Value;
 use items::{Items, NoMemory};
 use lib_table::Native;
-use link_rules::MemberPlace;
 use link_tables::Tables;
 use std::alloc::Global;
 
-/// By method: where it is declared, what the machine does in place of its code, and whether it is a class initializer. By class: the values
+/// By method: what the machine does in place of its code, and whether it is a class initializer. By class: the values
 /// of a new object. By field: how many static fields come before it, and its place in an object. By array class: the class of its elements.
 #[derive(Drop)]
 pub(crate) struct ReadyTables {
-    pub(crate) places: Vec<Option<MemberPlace>>,
     pub(crate) natives: Vec<Option<Native>>,
     pub(crate) initializers: Vec<bool>,
     pub(crate) new_values: Vec<Items<Value>>,
@@ -35,7 +33,6 @@ pub(crate) struct ReadyTables {
 pub(crate) fn tables_of(alloc: Global, tables: &Tables) -> Result<ReadyTables, NoMemory>
     ensures { IfOk result (λ t. HasTables tables.now t) }
 {
-    let places = all_places(alloc, tables)?;
     let natives = all_natives(alloc, tables)?;
     let initializers = all_initializers(alloc, tables)?;
     let new_values = all_new_values(alloc, tables)?;
@@ -44,7 +41,6 @@ pub(crate) fn tables_of(alloc: Global, tables: &Tables) -> Result<ReadyTables, N
     let inner_classes = all_inner_classes(alloc, tables)?;
     let exceptions = exception_classes(alloc, tables)?;
     Ok(ReadyTables {
-        places,
         natives,
         initializers,
         new_values,
@@ -55,18 +51,7 @@ pub(crate) fn tables_of(alloc: Global, tables: &Tables) -> Result<ReadyTables, N
     })
 }
 
-/// The entry of a table; past its end none.
-#[inline(always)]
-pub(crate) fn place_entry(table: &[Option<MemberPlace>], n: u32) -> Option<MemberPlace>
-    ensures { result ≡ option_and_then (λ o. o) (slice_get table.now n) }
-{
-    match table.get(n as usize) {
-        Some(entry) => *entry,
-        None => None,
-    }
-}
-
-/// The same of natives.
+/// The entry of a table of natives; past its end none.
 #[inline(always)]
 pub(crate) fn native_entry(table: &[Option<Native>], n: u32) -> Option<Native>
     ensures { result ≡ option_and_then (λ o. o) (slice_get table.now n) }

@@ -1,3 +1,5 @@
+//! The state in which a program begins.
+
 ghost use Rattle.std.specs.Prelude.{◌≡◌, ◌+◌, [], length, IfOk};
 ghost use Rattle.ref_model.specs.Opening.{opening, opening_statics};
 ghost use Rattle.startup.specs.Openings.{opened_state, setting};
@@ -10,7 +12,8 @@ use continuation::Mounted;
 use heap_objs::Heap;
 use instruction_rows::Value;
 use items::NoMemory;
-use link_numbers::{Names, all_strings};
+use link_model::OBJECTS_BEFORE_STRINGS;
+use link_numbers::Names;
 use ref_model::Limits;
 use runtime_program::ReadyProgram;
 use std::alloc::Global;
@@ -23,14 +26,14 @@ pub struct Opened {
     pub mounted: Mounted,
 }
 
-/// How many objects of the machine come before the first String.
-const OBJECTS_BEFORE: u32 = 10;
-
 // The number of the array of words, the last object. Numbers from 2^32 on count as memory run out.
 fn words_number(strings: &Names) -> Result<u32, NoMemory>
     ensures { IfOk result (λ n. n ≡ 10 + length strings.now) }
 {
-    strings.count().checked_add(OBJECTS_BEFORE).ok_or(NoMemory)
+    strings
+        .count()
+        .checked_add(OBJECTS_BEFORE_STRINGS)
+        .ok_or(NoMemory)
 }
 
 /// Begins a program whose main method has this number (JVMS 5.2, 5.5). A program that can't begin counts as memory run out: it lacks a
@@ -53,10 +56,10 @@ pub fn open(
     let Some(library) = library_in(alloc, program.tables())? else {
         return Err(NoMemory);
     };
-    let strings = all_strings(alloc, program.tables().hierarchy())?;
-    let heap = first_heap(alloc, program, library, &strings, limits.heap_cells)?;
-    let statics = first_statics(alloc, program.tables(), &strings)?;
-    let mounted = first_frames(alloc, program, main, words_number(&strings)?)?;
+    let strings = program.tables().strings();
+    let heap = first_heap(alloc, program, library, strings, limits.heap_cells)?;
+    let statics = first_statics(alloc, program.tables(), strings)?;
+    let mounted = first_frames(alloc, program, main, words_number(strings)?)?;
     Ok(Opened {
         heap,
         statics,

@@ -1,4 +1,4 @@
-//! The heap with which a program begins (own).
+//! The heap with which a program begins.
 
 ghost use Rattle.std.specs.Prelude.{◌≡◌, ◌<◌, [], length, map, slice_index_or, IfOk, OnOk};
 ghost use Rattle.std.specs.List.{range_with_len};
@@ -12,12 +12,10 @@ use crate::library::Library;
 use heap_objs::Heap;
 use instruction_rows::Value;
 use items::NoMemory;
+use link_model::FIRST_STATE_NAME;
 use link_numbers::Names;
 use runtime_program::ReadyProgram;
 use std::alloc::Global;
-
-/// The number of the String that is the name of the first state of a thread.
-const FIRST_STATE_NAME: u32 = 11;
 
 // Makes an object whose fields have their first values.
 fn add_object(program: &ReadyProgram, heap: &mut Heap, class: u32) -> Result<(), NoMemory>
@@ -96,7 +94,7 @@ fn machine_objects(
     Ok(heap)
 }
 
-/// The heap with which a program begins, of so many cells, by the classes and the Strings of the program.
+/// The heap with which a program begins: its limit of cells, and objects by the classes and the Strings of the program.
 pub(crate) fn first_heap(
     alloc: Global,
     program: &ReadyProgram,

@@ -1,4 +1,4 @@
-//! The values with which static fields begin (JVMS 2.3, 2.4, 4.7.2; the streams and the states: own).
+//! The values with which static fields begin (JVMS 2.3, 2.4, 4.7.2).
 
 ghost use Rattle.std.specs.Prelude.{◌≡◌, ◌++◌, ◌+◌, Some, filter, map, position, IfOk, OnOk};
 ghost use Rattle.std.specs.Option.{option_map};
@@ -16,26 +16,20 @@ use descriptors::Kind;
 use heap_instructions::kept;
 use instruction_rows::Value;
 use items::NoMemory;
+use link_model::{ERR_STREAM, FIRST_STATE, OUT_STREAM};
 use link_numbers::{Names, kind_of, string_number};
 use link_resolution::{is_static, key_in, own_name};
 use link_tables::Tables;
 use runtime_program::zero_of;
 use std::alloc::Global;
 
-/// The numbers of the streams, and of the first state of a thread.
-const OUT: u32 = 1;
-
-const ERR: u32 = 2;
-
-const FIRST_STATE: u32 = 4;
-
 fn stream_of(name: &[u16]) -> Option<u32>
     ensures { result ≡ parts.stream_of name.now }
 {
     if is_same(name, b"out") {
-        Some(OUT)
+        Some(OUT_STREAM)
     } else if is_same(name, b"err") {
-        Some(ERR)
+        Some(ERR_STREAM)
     } else {
         None
     }

@@ -1,4 +1,4 @@
-//! The classes of which the opening heap has objects (own).
+//! The classes of which the opening heap has objects.
 
 ghost use Rattle.std.specs.Prelude.{◌≡◌, IfOk};
 ghost use Rattle.ref_model.specs.Opening.{words_class as class_of_words};
@@ -12,7 +12,7 @@ use stack_maps::Base;
 use std::alloc::Global;
 
 /// The numbers of these classes.
-#[derive(Clone, Copy, Debug, PartialEq, Eq)]
+#[derive(Clone, Copy)]
 pub struct Library {
     pub error: u32,
     pub stream: u32,

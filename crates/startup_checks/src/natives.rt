@@ -50,7 +50,8 @@ pub fn gives(native: Native) -> Option<ValueKind>
 fn kinds_of_arguments(alloc: Global, signature: &Signature) -> Result<Vec<ValueKind>, NoMemory>
     ensures { IfOk result (λ v. v.items ≡ map spec.value_kind (reverse signature.now.args)) }
 {
-    Ok(signature.args.iter().rev().map(value_kind).collect(alloc)?)
+    let kinds = signature.args.iter().rev().map(|kind| value_kind(kind));
+    Ok(kinds.collect(alloc)?)
 }
 
 // The kinds of what a method of this descriptor takes, the topmost first.

@@ -5,7 +5,6 @@ ghost use Rattle.instruction_rows.specs.Kinds as spec;
 ghost use Rattle.link_model.specs.Fields.{is_static_field};
 ghost use Rattle.frame_soundness.specs.StateKinds as fields;
 
-use crate::methods::has_static_flag;
 use heap_instructions::value_kind;
 use instruction_rows::Value;
 use items::NoMemory;
@@ -53,7 +52,7 @@ fn add_static(kinds: &mut Vec<ValueKind>, field: &FieldInfo) -> Result<(), NoMem
     ensures { OnOk result (kinds.new.items ≡ kinds.old.items
         ++ map fields.kind_of_field (filter is_static_field (field.now ∷ []))) }
 {
-    if has_static_flag(field.flags) {
+    if field.is_static() {
         kinds.push(value_kind(&field.kind))?;
     }
     Ok(())

@@ -2,9 +2,9 @@
 
 ghost use Rattle.std.specs.Prelude.{◌≡◌, true, IfOk};
 ghost use Rattle.step_soundness.specs.MethodKinds.{HasFitNatives};
-ghost use Rattle.startup_checks.specs.Methods.{FitsAt};
+ghost use Rattle.startup_checks.specs.Methods.{FitsAt, NativeFits};
 
-use crate::methods::{is_static, native_fits};
+use crate::natives::fits_native;
 use items::NoMemory;
 use lib_table::Native;
 use link_model::MethodInfo;
@@ -29,11 +29,26 @@ pub trait MethodWorld {
         ensures { result ≡ members.native_at (world self.now) n };
 }
 
+// Whether what the machine does in a method's place fits its descriptor.
+fn native_fits(
+    alloc: Global,
+    method: &MethodInfo,
+    receiver: bool,
+    native: Option<Native>,
+) -> Result<bool, NoMemory>
+    ensures { IfOk result (λ b. b ≡ true → NativeFits method.now receiver native) }
+{
+    match native {
+        None => Ok(true),
+        Some(n) => fits_native(alloc, &method.signature, receiver, n),
+    }
+}
+
 // Whether what the machine does in place of this method fits its descriptor.
 fn fits_at(alloc: Global, method: &MethodInfo, native: Option<Native>) -> Result<bool, NoMemory>
     ensures { IfOk result (λ b. b ≡ true → FitsAt method.now native) }
 {
-    native_fits(alloc, method, !is_static(method), native)
+    native_fits(alloc, method, !method.is_static(), native)
 }
 
 /// Whether each native method takes and gives back what its descriptor says.

@@ -33,8 +33,9 @@ Itself w t = assignable w t t ≡ true
 
 -- ---- one type
 
-class_itself : (a : ℕ) (b c d : Bool) → (eqb a a || b || c || d) ≡ true
-class_itself a b c d = ap (λ t. t || b || c || d) (eq-eqb a a refl)
+class_itself : (a : ℕ) (b c d : Bool) → (b || (eqb a a || c || d)) ≡ true
+class_itself a true c d = refl
+class_itself a false c d = ap (λ t. t || c || d) (eq-eqb a a refl)
 
 base_itself : (w : World) (b : Base) → base_assignable w b b ≡ true
 base_itself w (bases.Class a) = class_itself a (is_interface w.program a) (is_below w.program a a) (nat_le (class_count w) a && is_object w a)

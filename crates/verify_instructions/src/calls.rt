@@ -6,7 +6,7 @@ ghost use Rattle.link_model.specs.Resolutions.{meanings};
 ghost use Rattle.verify_types.specs.ClassTypes as types;
 ghost use Rattle.verify_types.specs.Environment as environment;
 ghost use Rattle.verify_types.specs.Operands.{all_wanted};
-ghost use Rattle.verify_types.specs.Assignability.{is_number};
+ghost use Rattle.link_model.specs.Subtypes.{is_number};
 ghost use Rattle.verify_instructions.specs.Tables.{new_at};
 ghost use Rattle.verify_types.specs.Calls as spec;
 ghost use Rattle.verify_types.specs.Objects.{named_class};

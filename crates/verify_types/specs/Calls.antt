@@ -22,7 +22,8 @@ use Rattle.link_model.specs.declared.sites.Site.{Site}
 use Rattle.link_model.specs.declared.sites.Site.TheVariants as sites
 use Rattle.link_model.specs.World.{World, class_type}
 use Rattle.verify_types.specs.ClassTypes.{type_of_kind}
-use Rattle.verify_types.specs.Assignability.{is_number, assignable}
+use Rattle.link_model.specs.Subtypes.{is_number}
+use Rattle.verify_types.specs.Assignability.{assignable}
 use Rattle.verify_types.specs.TypeStates.{TypeState, with_stack, is_this, is_new, replaced}
 use Rattle.verify_types.specs.Environment.{Instruction, Handler, Environment, is_constructor, instruction_at}
 use Rattle.verify_types.specs.Operands.{only_if, wanted, all_wanted}

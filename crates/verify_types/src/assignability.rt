@@ -3,36 +3,14 @@
 ghost use Rattle.std.specs.Prelude.{◌≡◌};
 ghost use Rattle.verify_types.specs.Assignability as spec;
 
-use link_model::Lookups;
+use link_model::{Lookups, class_below, is_array_super, same_primitive};
 use stack_maps::{Base, VType};
-
-// Whether this is the number of one of the classes above each array class (JLS 4.10.3).
-fn is_above_arrays<L: Lookups>(w: &L, class: u32) -> bool
-    ensures { result ≡ spec.is_above_arrays (L.world w.now) class }
-{
-    is_number(w.object(), class)
-        || is_number(w.cloneable(), class)
-        || is_number(w.serializable(), class)
-}
-
-// Whether the number that was found, if any, is this one.
-fn is_number(found: Option<u32>, class: u32) -> bool
-    ensures { result ≡ spec.is_number found class }
-{
-    match found {
-        Some(n) => n == class,
-        None => false,
-    }
-}
 
 // Whether a class or an interface is assignable to another.
 fn class_assignable<L: Lookups>(w: &L, a: u32, b: u32) -> bool
     ensures { result ≡ spec.class_assignable (L.world w.now) a b }
 {
-    a == b
-        || w.is_interface(b)
-        || w.is_below(a, b)
-        || (w.class_count() <= a as usize && is_number(w.object(), b))
+    w.is_interface(b) || class_below(w, a, b)
 }
 
 // Whether the last elements of arrays, or classes, are assignable.
@@ -44,24 +22,7 @@ fn base_assignable<L: Lookups>(w: &L, a: Base, b: Base) -> bool
             Base::Class(from) => class_assignable(w, from, to),
             _ => false,
         },
-        Base::Bool => matches!(a, Base::Bool),
-        Base::Byte => matches!(a, Base::Byte),
-        Base::Char => matches!(a, Base::Char),
-        Base::Short => matches!(a, Base::Short),
-        Base::Int => matches!(a, Base::Int),
-        Base::Long => matches!(a, Base::Long),
-        Base::Float => matches!(a, Base::Float),
-        Base::Double => matches!(a, Base::Double),
-    }
-}
-
-// Whether a class is above each array class.
-fn is_array_super<L: Lookups>(w: &L, base: Base) -> bool
-    ensures { result ≡ spec.is_array_super (L.world w.now) base }
-{
-    match base {
-        Base::Class(class) => is_above_arrays(w, class),
-        _ => false,
+        _ => same_primitive(a, b),
     }
 }
 

@@ -21,6 +21,6 @@ loop-instr-preserved c =
     let numbers = number_more old new c.loop-instr.numbers.items c.in_ok-number_of.field-0 done x extends c.loop-instr.invariant.2 c.in_ok-number_of.ensures.number in (
       c.in_ok-number_of.ensures.known,
       extends_twice c.args.table.now.items old new c.loop-instr.invariant.1 extends,
-      subst (λ (ns : List ℕ). AreNumbersOf new ns (map resolution (take (c.loop-instr.instr-index + 1) c.args.instrs.now))) (sym c.in_ok-push.ensures.items)
+      subst (λ (ns : List ℕ). AreNumbersOf new ns (map resolution (take (c.loop-instr.instr-index + 1) c.args.instrs.now))) (sym {A = List ℕ} c.in_ok-push.ensures.items)
           (subst (λ (xs : List Resolution). AreNumbersOf new (c.loop-instr.numbers.items ++ c.in_ok-number_of.field-0 ∷ []) xs) (sym more) numbers),
     )

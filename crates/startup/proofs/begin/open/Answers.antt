@@ -16,9 +16,9 @@ use Rattle.startup.proofs.begin.open.Goals as goal
 pub returns-clause-statics : goal.returns-clause-statics
 returns-clause-statics c =
     let w : World = c.args.program.now in
-    let strings : List (List ℕ) = c.in_ok-strings.strings in
+    let strings : List (List ℕ) = c.strings-strings.result.now in
     let texts : strings ≡ strings_of w.program =
-    c.in_ok-strings.ensures ∙ ap strings_of c.hierarchy.ensures ∙ ap (λ (v : World). strings_of v.program) c.tables-2.ensures in
+    c.strings-strings.ensures ∙ ap (λ (v : World). strings_of v.program) c.tables-2.ensures in
     c.in_ok-statics.ensures ∙ ap (λ (v : World). flat_map (static_values strings) v.program.classes) c.tables-3.ensures
     ∙ ap (λ (ts : List (List ℕ)). flat_map (static_values ts) w.program.classes) texts ∙ statics_are w.program
 
@@ -27,12 +27,12 @@ returns-clause-state c =
     let w : World = c.args.program.now in
     let l = c.in-Some.library in
     let heap : Heap = c.in_ok-heap.heap in
-    let strings : List (List ℕ) = c.in_ok-strings.strings in
+    let strings : List (List ℕ) = c.strings-strings.result.now in
     let frames = c.in_ok-mounted.mounted.stack.frames in
     let statics = c.in_ok-statics.statics.items in
     let has : library w ≡ Some l = ap library (sym c.tables.ensures) ∙ sym c.in_ok-library.ensures ∙ c.in-Some.is in
     let texts : strings ≡ strings_of w.program =
-    c.in_ok-strings.ensures ∙ ap strings_of c.hierarchy.ensures ∙ ap (λ (v : World). strings_of v.program) c.tables-2.ensures in
+    c.strings-strings.ensures ∙ ap (λ (v : World). strings_of v.program) c.tables-2.ensures in
     let objects : heap.objects ≡ first_objects w l = ap (λ (h : Heap). h.objects) c.in_ok-heap.ensures in
     let words : c.in_ok-words_number.field-0 ≡ main_words w = c.in_ok-words_number.ensures ∙ ap (λ (ts : List (List ℕ)). 10 + length ts) texts in
     let all : frames_with w c.args.main (main_words w) ≡ Some frames =
