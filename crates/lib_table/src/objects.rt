@@ -98,7 +98,6 @@ static CLASSES: [ClassDeclaration; 5] = [
 ];
 
 /// The declarations of these classes.
-#[tactic(auto, unfolding(crate::specs::Objects::classes))]
 pub fn object_classes() -> &'static [ClassDeclaration]
     ensures { map class_of result.now ≡ classes }
 {

@@ -61,7 +61,6 @@ static CLASSES: [ClassDeclaration; 2] = [
 ];
 
 /// The declarations of these classes.
-#[tactic(auto, unfolding(crate::specs::System::classes))]
 pub fn system_classes() -> &'static [ClassDeclaration]
     ensures { map class_of result.now ≡ classes }
 {

@@ -65,7 +65,6 @@ static CLASSES: [ClassDeclaration; 2] = [
 ];
 
 /// The declarations of these classes.
-#[tactic(auto, unfolding(crate::specs::Texts::classes))]
 pub fn text_classes() -> &'static [ClassDeclaration]
     ensures { map class_of result.now ≡ classes }
 {

@@ -179,7 +179,6 @@ static CLASSES: [ClassDeclaration; 5] = [
 ];
 
 /// The declarations of these classes.
-#[tactic(auto, unfolding(crate::specs::ThreadBuilders::classes))]
 pub fn builder_classes() -> &'static [ClassDeclaration]
     ensures { map class_of result.now ≡ classes }
 {

@@ -188,7 +188,6 @@ static CLASSES: [ClassDeclaration; 5] = [
 ];
 
 /// The declarations of these classes.
-#[tactic(auto, unfolding(crate::specs::Threads::classes))]
 pub fn thread_classes() -> &'static [ClassDeclaration]
     ensures { map class_of result.now ≡ classes }
 {

@@ -64,7 +64,6 @@ static CLASSES: [ClassDeclaration; 27] = [
 ];
 
 /// The declarations of these classes.
-#[tactic(auto, unfolding(crate::specs::Throwables::classes))]
 pub fn throwable_classes() -> &'static [ClassDeclaration]
     ensures { map class_of result.now ≡ classes }
 {
