@@ -1,0 +1,9 @@
+pub mod Look
+pub mod Schedule
+pub mod Puts
+pub mod Entries
+pub mod Run
+pub mod Stalled
+pub mod Woken
+pub mod Changes
+pub mod Laws
