@@ -177,6 +177,7 @@ ran_is bytes counts old_out new_out contents faults old new c known x r ran wrot
       answer = rw (wrote.history, wrote.why_is) answer;
       entries = rw wrote.history run_is.entries;
       grouped = rw wrote.history run_is.grouped;
+      few = rw wrote.history run_is.few;
       complete = run_is.complete;
       out = rw (run_is.prints, wrote.out_written) (takes_front bytes counts old_out new_out x.out.items wrote.out_fault wrote.out);
       out_taken = rw (wrote.why_is, run_is.prints, wrote.out_written) (taken_is (ending_answer x.ending) wrote.out_fault wrote.err_fault (length x.out.items) none short);

@@ -11,7 +11,7 @@ use Rattle.ref_model.specs.Setting.{Setting}
 use Rattle.ref_model.specs.State.{State}
 use Rattle.ref_model.specs.Ending.{ending}
 use Rattle.ref_model.specs.Run.{run}
-use Rattle.machine.specs.Runs.{AreGrouped, IsComplete, IsMainEntry, entries_left}
+use Rattle.machine.specs.Runs.{AreGrouped, IsComplete, IsMainEntry, entries_left, most_entries}
 use Rattle.ref_model.specs.declared.ending.Which.TheVariants as machine
 use Rattle.java_cli.specs.declared.report.Report.{Report}
 use Rattle.command_line.specs.declared.answer.SinkName.TheVariants.{Out, Err}
@@ -66,7 +66,8 @@ pub record TakesLine {E : Type 0} (contents : E → Option (List ℕ)) (faults :
 -- The history of the report, without its mount and unmount entries, is a history of the reference machine for the program that the
 -- command's files are; the answer says how that history ends; and what the sinks took is that history's output and error output, or
 -- their fronts after a fault of the sink. Of the err sink, `Errs` says what it took where the error output is this. In each entry all steps
--- but the last are local instructions; and a program whose main thread alone ends in time has ended.
+-- but the last are local instructions; the history has no more entries than the limit allows; and a program whose main thread alone ends in
+-- time has ended.
 pub record Ran (c : Command) (known : Option Files) (before after : Option (List ℕ)) (Errs : List ℕ → Type 0) (r : Report) : Type 0 where
   pub program : Setting
   pub state : State
@@ -75,6 +76,7 @@ pub record Ran (c : Command) (known : Option Files) (before after : Option (List
   pub answer : IsRunAnswer program (length r.history.items) (ending state) r.why
   pub entries : AllByRecursion IsMainEntry r.history.items
   pub grouped : AreGrouped program (java r.history.items)
+  pub few : length r.history.items ≤ most_entries program
   pub complete : IsComplete program state
   pub out : Appends before (take r.out_written state.out) after
   pub out_taken : IsOutTaken r.why r.out_written (length state.out)

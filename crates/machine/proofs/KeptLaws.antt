@@ -35,6 +35,16 @@ use Rattle.machine.proofs.GroupLaws.{more_grouped}
 use Rattle.machine.proofs.HistoryLaws.{all_more, java_same}
 use Rattle.machine.proofs.AloneLaws.{complete}
 
+-- ---- one entry more
+
+pub one_longer : {A : Type 0} (xs : List A) (x : A) → length (xs ++ x ∷ []) ≡ length xs + 1
+one_longer [] x = refl
+one_longer (y ∷ ys) x = let more = one_longer ys x in omega arith
+
+-- where three more have room, one more leaves room for two
+still_few : (h : List Entry) (e : Entry) (events : ℕ) → length h + 3 ≤ events → length (h ++ e ∷ []) ≤ events - 2
+still_few h e events room = let longer = one_longer h e in omega arith
+
 -- ---- the parts of a state
 
 pub is_state : (a : Parts) (frames : List Frame) (q : State) → AreParts a frames q → state_of a frames ≡ q
@@ -77,6 +87,7 @@ begins p a frames s h ready opens typed selected empty = subst (λ (es : List En
     runs = let state : Option State = Some (state_of a frames) in bind_is (opening p) (λ r. replay p [] (first_outcome r) >>= λ o. Some o.state) (state_of a frames) state opens refl;
     entries = tt;
     grouped = λ r opened. refl;
+    few = omega arith;
   };
   typed = typed;
   parts = λ works. own_parts a frames;
@@ -84,8 +95,9 @@ begins p a frames s h ready opens typed selected empty = subst (λ (es : List En
 })
 
 -- the history with one more entry
-more_legal : (p : Setting) (h : List Entry) (n : ℕ) (r q : State) → (x : IsLegal p h) → r ≡ x.state → ending r ≡ None → Advances p.world n r q → IsLegal p (h ++ main_entry n ∷ [])
-more_legal p h n r q x same goes one =
+more_legal : (p : Setting) (h : List Entry) (n : ℕ) (r q : State) → (x : IsLegal p h) → r ≡ x.state → ending r ≡ None → length h + 3 ≤ p.limits.events → Advances p.world n r q
+    → IsLegal p (h ++ main_entry n ∷ [])
+more_legal p h n r q x same goes room one =
     let runs : run p h ≡ Some r = ap (run p) (sym (java_same h x.entries)) ∙ x.runs ∙ ap (λ (s : State). Some s) (sym same) in
     let all : AllByRecursion IsMainEntry (h ++ main_entry n ∷ []) = all_more IsMainEntry h (main_entry n) x.entries (refl, (refl, refl)) in
     record {
@@ -96,14 +108,15 @@ more_legal p h n r q x same goes one =
           ap (λ (es : List Entry). are_grouped_from p es (first_outcome s)) (java_same (h ++ main_entry n ∷ []) all)
           ∙ more_grouped p h (main_entry n) s r opens runs
           (ap (λ (es : List Entry). are_grouped_from p es (first_outcome s)) (sym (java_same h x.entries)) ∙ x.grouped s opens) one.grouped;
+      few = still_few h (main_entry n) p.limits.events room;
     }
 
 pub kept_more : (p : Setting) (a b : Parts) (frames after : List Frame) (s t : Kept) (h g : List Entry) (u : Bool) → IsConsistent p a frames s h u → u ≡ false → ending (state_of a frames) ≡ None
-    → IsMade p.world (state_of a frames) h g (state_of b after) → AreSelected p.world t → IsConsistent p b after t g false
+    → length h + 3 ≤ p.limits.events → IsMade p.world (state_of a frames) h g (state_of b after) → AreSelected p.world t → IsConsistent p b after t g false
 unfolding more_legal
-kept_more p a b frames after s t h g u x works goes made selected = subst (λ (es : List Entry). IsConsistent p b after t es false) (sym made.entries) (record {
+kept_more p a b frames after s t h g u x works goes room made selected = subst (λ (es : List Entry). IsConsistent p b after t es false) (sym made.entries) (record {
   ready = x.ready;
-  legal = more_legal p h made.local (state_of a frames) (state_of b after) x.legal (here p a frames s h u x works) goes made.advances;
+  legal = more_legal p h made.local (state_of a frames) (state_of b after) x.legal (here p a frames s h u x works) goes room made.advances;
   typed = made.advances.kept.typed;
   parts = λ same. own_parts b after;
   selected = selected;
@@ -120,24 +133,24 @@ gave_up p a b frames after s t h g u x same selected = subst (λ (es : List Entr
 
 -- after an entry that was made or given up
 pub kept_after : {E : Type 0} (p : Setting) (a b : Parts) (frames after : List Frame) (s t : Kept) (h g : List Entry) (u v : Bool) (made : Result (Unit {0}) E) → IsConsistent p a frames s h u → u ≡ false → ending (state_of a frames) ≡ None
-    → OnOk made (IsMade p.world (state_of a frames) h g (state_of b after)) → OnErr made (g ≡ h) → AreSelected p.world t → v ≡ is_err made → IsConsistent p b after t g v
-kept_after p a b frames after s t h g u v (Ok x) kept works goes is same selected failed =
-    subst (λ (c : Bool). IsConsistent p b after t g c) (sym failed) (kept_more p a b frames after s t h g u kept works goes is selected)
-kept_after p a b frames after s t h g u v (Err e) kept works goes is same selected failed =
+    → length h + 3 ≤ p.limits.events → OnOk made (IsMade p.world (state_of a frames) h g (state_of b after)) → OnErr made (g ≡ h) → AreSelected p.world t → v ≡ is_err made → IsConsistent p b after t g v
+kept_after p a b frames after s t h g u v (Ok x) kept works goes room is same selected failed =
+    subst (λ (c : Bool). IsConsistent p b after t g c) (sym failed) (kept_more p a b frames after s t h g u kept works goes room is selected)
+kept_after p a b frames after s t h g u v (Err e) kept works goes room is same selected failed =
     subst (λ (c : Bool). IsConsistent p b after t g c) (sym failed) (gave_up p a b frames after s t h g u kept same selected)
 
 pub grown_after : {E : Type 0} (m : Known) (p : Setting) (a b : Parts) (frames after : List Frame) (s t : Kept) (h g : List Entry) (u v : Bool) (made : Result (Unit {0}) E) (j k : ℕ) → IsConsistent p a frames s h u → u ≡ false → ending (state_of a frames) ≡ None
-    → OnOk made (IsMade p.world (state_of a frames) h g (state_of b after)) → AreSelected p.world t → v ≡ is_err made → p ≡ m.setting → h ≡ m.history → j ≡ m.spare → j ≤ k + 1
+    → length h + 3 ≤ p.limits.events → OnOk made (IsMade p.world (state_of a frames) h g (state_of b after)) → AreSelected p.world t → v ≡ is_err made → p ≡ m.setting → h ≡ m.history → j ≡ m.spare → j ≤ k + 1
     → OnOk made (HasGrown m (record { setting = p; history = g; spare = k; given_up = v }))
-grown_after m p a b frames after s t h g u v (Ok x) j k kept works goes is selected failed setting history spare left = record {
+grown_after m p a b frames after s t h g u v (Ok x) j k kept works goes room is selected failed setting history spare left = record {
   local = is.local;
   history = is.entries ∙ ap (λ (es : List Entry). es ++ main_entry is.local ∷ []) history;
-  legal = (kept_more p a b frames after s t h g u kept works goes is selected).legal;
+  legal = (kept_more p a b frames after s t h g u kept works goes room is selected).legal;
   setting = setting;
   spare = let same = spare in omega arith;
   works = failed;
 }
-grown_after m p a b frames after s t h g u v (Err e) j k kept works goes is selected failed setting history spare left = tt
+grown_after m p a b frames after s t h g u v (Err e) j k kept works goes room is selected failed setting history spare left = tt
 
 -- ---- what the history gives
 
@@ -169,24 +182,26 @@ pub goes_on : (p : Setting) (a : Parts) (frames : List Frame) (s : Kept) (h : Li
 goes_on p a frames s h u n x works none =
     none_within p.limits (length h) (ending (state_of a frames)) (ending_is p a frames s h u n x works ∙ none)
 
--- fewer entries were made than the limit of events allows
-room_within : (limits : Limits) (n : ℕ) (o : Option Ending) → ending_within limits n o ≡ None → n < limits.events
+-- three more entries have room
+room_within : (limits : Limits) (n : ℕ) (o : Option Ending) → ending_within limits n o ≡ None → n + 3 ≤ limits.events
 room_within limits n None none = by (nat_lt limits.events (n + 3)) refl none
   where
-    by : (b : Bool) → nat_lt limits.events (n + 3) ≡ b → (if b then Some (Limit Events limits.events) else None) ≡ None → n < limits.events
+    by : (b : Bool) → nat_lt limits.events (n + 3) ≡ b → (if b then Some (Limit Events limits.events) else None) ≡ None → n + 3 ≤ limits.events
     by true is none = absurd cc
     by false is none = let far = ltb-false limits.events (n + 3) is in omega arith
 room_within limits n (Some e) none = absurd cc
 
+pub room_left : (p : Setting) (a : Parts) (frames : List Frame) (s : Kept) (h : List Entry) (u : Bool) (n : ℕ) → IsConsistent p a frames s h u → u ≡ false
+    → run_ending (record { setting = p; history = h; spare = n; given_up = u }) ≡ None → length h + 3 ≤ p.limits.events
+room_left p a frames s h u n x works none =
+    room_within p.limits (length h) (ending (state_of a frames)) (ending_is p a frames s h u n x works ∙ none)
+
 pub has_room : (m : Known) → IsLegal m.setting m.history → run_ending m ≡ None → length m.history < m.setting.limits.events
 has_room m x none =
     let within = λ (q : State). ending_within m.setting.limits (length m.history) (ending q) in
-    room_within m.setting.limits (length m.history) (ending x.state)
-    (sym (bind_is (state_after m) within x.state (within x.state) x.runs refl) ∙ none)
-
-pub one_longer : {A : Type 0} (xs : List A) (x : A) → length (xs ++ x ∷ []) ≡ length xs + 1
-one_longer [] x = refl
-one_longer (y ∷ ys) x = let more = one_longer ys x in omega arith
+    let room : length m.history + 3 ≤ m.setting.limits.events = room_within m.setting.limits (length m.history) (ending x.state)
+    (sym (bind_is (state_after m) within x.state (within x.state) x.runs refl) ∙ none) in
+    omega arith
 
 -- each entry brings the end nearer
 pub nearer : (m n : Known) → IsLegal m.setting m.history → run_ending m ≡ None → HasGrown m n
@@ -226,5 +241,6 @@ is_run p a frames s h u n told x works ended =
       tells = sym (x.parts works).err;
       entries = x.legal.entries;
       grouped = x.legal.grouped;
+      few = x.legal.few;
       complete = complete p h q told x.legal.entries runs is;
     }

@@ -13,7 +13,7 @@ use Rattle.ref_model.specs.Setting.{Setting}
 use Rattle.ref_model.specs.State.{State}
 use Rattle.ref_model.specs.Ending.{ending}
 use Rattle.ref_model.specs.Run.{run}
-use Rattle.machine.specs.Runs.{AreGrouped, IsMainEntry, entries_left, main_entry}
+use Rattle.machine.specs.Runs.{AreGrouped, IsMainEntry, entries_left, main_entry, most_entries}
 
 -- What a machine was given, and its history. The state of the program is no part of it, since these give it.
 pub record Known : Type 0 where
@@ -56,12 +56,14 @@ errors m = option_map_or (λ (q : State). q.err) (state_after m) []
 
 -- ---- what holds of the history
 
--- It is one of the reference machine, of steps of the main thread that carrier 0 made, and its entries are grouped.
+-- It is one of the reference machine, of steps of the main thread that carrier 0 made; its entries are grouped, and no more than the limit
+-- allows.
 pub record IsLegal (p : Setting) (history : List Entry) : Type 0 where
   pub state : State
   pub runs : run p (java history) ≡ Some state
   pub entries : AllByRecursion IsMainEntry history
   pub grouped : AreGrouped p (java history)
+  pub few : length history ≤ most_entries p
 
 -- One more entry was made, of the main thread.
 pub record HasGrown (old new : Known) : Type 0 where

@@ -1,5 +1,5 @@
 -- What a run of a program leaves.
-use Rattle.std.specs.Prelude.{◌≡◌, ◌+◌, ◌*◌, ◌<◌, ◌≤◌, ℕ, suc, true, List, Option, Some, None, length}
+use Rattle.std.specs.Prelude.{◌≡◌, ◌+◌, ◌-◌, ◌*◌, ◌<◌, ◌≤◌, ℕ, suc, true, List, Option, Some, None, length}
 use Rattle.std.specs.List.{AllByRecursion}
 use Rattle.history.specs.declared.entry.Entry.{Entry}
 use Rattle.history.specs.declared.entry.What.{What}
@@ -33,6 +33,10 @@ main_entry n = record { carrier = 0; what = Step 0 (suc n) None }
 abbrev pub entries_left : ℕ
 entries_left = 3
 
+-- The most entries that a history has: one is made only where the limit allows `entries_left` more, so the last leaves room for two.
+abbrev pub most_entries : Setting → ℕ
+most_entries p = p.limits.events - 2
+
 -- The run ended as the program did; or the program hasn't ended, and fewer entries than one more step needs were left.
 abbrev pub IsEndingOf : Setting → ℕ → Option Ending → Ending → Type 0
 IsEndingOf p entries (Some e) told = told ≡ e
@@ -49,7 +53,8 @@ abbrev pub IsComplete : Setting → State → Type 0
 IsComplete p last = (n : ℕ) (q : State) (e : Ending) → alone p n ≡ Some q → ending q ≡ Some e → 3 * n + 3 ≤ p.limits.events → last ≡ q
 
 -- The history, without its mount and unmount entries, is one of the reference machine, whose entries are grouped; the run ended so, and
--- what the program wrote to its two streams is the output of that history. A program that ends in time has ended.
+-- what the program wrote to its two streams is the output of that history. The history has no more entries than the limit allows, and a
+-- program that ends in time has ended.
 pub record IsRun (p : Setting) (history : List Entry) (out err : List ℕ) (told : Ending) : Type 0 where
   pub state : State
   pub runs : run p (java history) ≡ Some state
@@ -58,4 +63,5 @@ pub record IsRun (p : Setting) (history : List Entry) (out err : List ℕ) (told
   pub tells : state.err ≡ err
   pub entries : AllByRecursion IsMainEntry history
   pub grouped : AreGrouped p (java history)
+  pub few : length history ≤ most_entries p
   pub complete : IsComplete p state

@@ -143,7 +143,8 @@ impl<'p> Machine<'p> {
         })
     }
 
-    /// That the history is one of the reference machine, whose entries are those of the main thread, and grouped.
+    /// That the history is one of the reference machine, whose entries are those of the main thread, grouped, and no more than the limit
+    /// allows.
     #[inline(always)]
     pub fn is_legal(&self)
         ensures { IsLegal self.now.setting self.now.history }
