@@ -36,15 +36,14 @@ use Rattle.state_model.specs.Objects.{Object, instance, text}
 use Rattle.ref_model.specs.declared.exception.Exception.{Exception}
 use Rattle.ref_model.specs.declared.exception.Exception.TheVariants as exceptions
 use Rattle.ref_model.specs.Kinds.{kind_of_base, kind_of_elements, kept_in}
-use Rattle.ref_model.specs.State.{State}
+use Rattle.ref_model.specs.Memory.{Memory}
 use Rattle.ref_model.specs.Heap.{Array, object_at, array_of, array_at, object_with, with_value}
 use Rattle.ref_model.specs.Effects.{Effect, done, gives, throws}
 use Rattle.ref_model.specs.Arrays.{on_found, on_array, on_array_of, place_in, on_place, may_hold, held_or_thrown, array_loaded, array_stored, length_gotten}
-use Rattle.frame_soundness.specs.StateKinds.{IsOfKind, ValuesFit, ObjectFits}
-use Rattle.frame_soundness.specs.TypedStates.{IsTypedState}
+use Rattle.frame_soundness.specs.StateKinds.{IsOfKind, ValuesFit, ObjectFits, MemoryFits}
 use Rattle.frame_soundness.specs.EventLaws.{IsKept}
 use Rattle.frame_soundness.proofs.ValueLaws.{item_set, PoppedAs, wanted_popped}
-use Rattle.frame_soundness.proofs.FieldLaws.{kept_is, same_types, same_effect, same_popped, same_state, changed_fits}
+use Rattle.frame_soundness.proofs.FieldLaws.{kept_is, same_types, same_effect, same_popped, same_memory, changed_fits}
 
 -- ---- kinds of elements
 
@@ -112,12 +111,12 @@ each_set P (y ∷ ys) zero x each of = (of, each.1)
 each_set P (y ∷ ys) (suc n) x each of = (each.0, each_set P ys n x each.1 of)
 
 -- an array of the heap
-record IsArray (w : World) (r : State) (o : ℕ) (a : Array) : Type 0 where
+record IsArray (w : World) (r : Memory) (o : ℕ) (a : Array) : Type 0 where
   pub at : object_at r o ≡ Some (instance a.class a.values)
   pub type : array_type w a.class ≡ Some a.type
   pub each : Each (IsOfKind (kind_of_elements a.type)) a.values
 
-array_is : (w : World) (r : State) (o : ℕ) (x : Object) (a : Array) → IsTypedState w r → object_at r o ≡ Some x → array_of w x ≡ Some a
+array_is : (w : World) (r : Memory) (o : ℕ) (x : Object) (a : Array) → MemoryFits w r → object_at r o ≡ Some x → array_of w x ≡ Some a
     → IsArray w r o a
 array_is w r o (text units) a fits at e = absurd cc
 array_is w r o (instance c vs) a fits at e = by (array_type w c) refl e
@@ -128,15 +127,15 @@ array_is w r o (instance c vs) a fits at e = by (array_type w c) refl e
     by (Some t) is e =
         let made : Array = record { class = c; type = t; values = vs } in
         let same : made ≡ a = cc in
-        subst (IsArray w r o) same (record { at = at; type = is; each = subst (ValuesFit w c vs) is (fits.values.heap o (instance c vs) at) })
+        subst (IsArray w r o) same (record { at = at; type = is; each = subst (ValuesFit w c vs) is (fits.heap o (instance c vs) at) })
 
-found_array : (w : World) (r : State) (o : ℕ) (a : Array) → IsTypedState w r → array_at w r o ≡ Some a → IsArray w r o a
+found_array : (w : World) (r : Memory) (o : ℕ) (a : Array) → MemoryFits w r → array_at w r o ≡ Some a → IsArray w r o a
 found_array w r o a fits e =
     let x = some_is (object_at r o) (array_of w) a e in array_is w r o x.0 a fits x.1 x.2
 
 -- ---- what is done on an array, or thrown
 
-array_cases : (w : World) (r : State) (reference : Option ℕ) (act : ℕ → Array → Option Effect) (effect : Effect) (P : Effect → Type 0)
+array_cases : (w : World) (r : Memory) (reference : Option ℕ) (act : ℕ → Array → Option Effect) (effect : Effect) (P : Effect → Type 0)
     → on_array w r reference act ≡ Some effect → ((x : Exception) → P (throws x))
     → ((o : ℕ) (a : Array) → array_at w r o ≡ Some a → act o a ≡ Some effect → P effect) → P effect
 array_cases w r None act effect P e thrown acted =
@@ -147,7 +146,7 @@ array_cases w r (Some o) act effect P e thrown acted = by (array_at w r o) refl 
     by None is e = subst P (same_effect (throws exceptions.VerifyError) effect e) (thrown exceptions.VerifyError)
     by (Some a) is e = acted o a is e
 
-served_cases : (w : World) (r : State) (element : Element) (reference : Option ℕ) (act : ℕ → Array → Option Effect) (effect : Effect)
+served_cases : (w : World) (r : Memory) (element : Element) (reference : Option ℕ) (act : ℕ → Array → Option Effect) (effect : Effect)
     (P : Effect → Type 0) → on_array_of w r element reference act ≡ Some effect → ((x : Exception) → P (throws x))
     → ((o : ℕ) (a : Array) → array_at w r o ≡ Some a → kind_of_elements a.type ≡ kind_of_element element → act o a ≡ Some effect → P effect)
     → P effect
@@ -169,8 +168,8 @@ placed_cases (Some n) act effect P e thrown acted = acted n e
 
 -- ---- loads
 
-loaded : (w : World) (element : Element) (r : State) (t : VType) (below : List VType) (left : List Slot) (effect : Effect) (o place : ℕ)
-    (a : Array) → IsTypedState w r → AreOf below left → array_at w r o ≡ Some a → kind_of_elements a.type ≡ kind_of_element element
+loaded : (w : World) (element : Element) (r : Memory) (t : VType) (below : List VType) (left : List Slot) (effect : Effect) (o place : ℕ)
+    (a : Array) → MemoryFits w r → AreOf below left → array_at w r o ≡ Some a → kind_of_elements a.type ≡ kind_of_element element
     → (slice_get a.values place >>= λ v. Some (gives r v left)) ≡ Some effect → IsKept w (type_pushed (element_type element t) below) effect
 loaded w element r t below left effect o place a fits of at served e =
     let v = some_is (slice_get a.values place) (λ v. Some (gives r v left)) effect e in
@@ -179,8 +178,8 @@ loaded w element r t below left effect o place a fits of at served e =
     kept_is w (type_pushed (element_type element t) below) (gives r v.0 left) effect v.2
     (fits, pushed_kinds (element_type element t) v.0 below left (element_kind element t ∙ ap Some (sym (kind ∙ served))) of)
 
-pub array_loads_keep : (w : World) (element : Element) (r : State) (ts rest : List VType) (xs : List Slot) (effect : Effect)
-    → IsTypedState w r → AreOf ts xs → array_load_types element ts ≡ Ok rest → array_loaded w element r xs ≡ Some effect
+pub array_loads_keep : (w : World) (element : Element) (r : Memory) (ts rest : List VType) (xs : List Slot) (effect : Effect)
+    → MemoryFits w r → AreOf ts xs → array_load_types element ts ≡ Ok rest → array_loaded w element r xs ≡ Some effect
     → IsKept w rest effect
 array_loads_keep w element r ts rest xs effect fits of types e =
     let i = ok_is (type_popped kinds.Int ts) (λ (x : VType × List VType). array_popped element x.1 then λ y.
@@ -240,9 +239,9 @@ kept_in_kind t (values.Ref object) = refl
 same_object : (o : Option Object) (a b : Object) → o ≡ Some a → o ≡ Some b → a ≡ b
 same_object o a b x y = cc
 
--- the state with another element
-element_fits : (w : World) (r q : State) (o place : ℕ) (v : Value) (a : Array) → IsTypedState w r → array_at w r o ≡ Some a
-    → kind_of v ≡ kind_of_elements a.type → with_value r o place v ≡ Some q → IsTypedState w q
+-- the memory with another element
+element_fits : (w : World) (r q : Memory) (o place : ℕ) (v : Value) (a : Array) → MemoryFits w r → array_at w r o ≡ Some a
+    → kind_of v ≡ kind_of_elements a.type → with_value r o place v ≡ Some q → MemoryFits w q
 element_fits w r q o place v a fits at kind e =
     let here = found_array w r o a fits at in
     let x = some_is (object_at r o) (object_with r o place v) q e in
@@ -254,18 +253,18 @@ element_fits w r q o place v a fits at kind e =
     subst (Each (IsOfKind (kind_of_elements a.type))) (item_set place v a.values others.0 others.1)
     (each_set (IsOfKind (kind_of_elements a.type)) a.values place v here.each kind) in
     let object : ObjectFits w (instance a.class others.0) = subst (ValuesFit w a.class others.0) (sym here.type) set in
-    subst (IsTypedState w) (same_state (record r { heap = slice_set r.heap o (instance a.class others.0) }) q others.2)
+    subst (MemoryFits w) (same_memory (record r { heap = slice_set r.heap o (instance a.class others.0) }) q others.2)
     (changed_fits w r o (instance a.class others.0) fits object)
 
-held : (w : World) (r : State) (rest : List VType) (left : List Slot) (effect : Effect) (may : Bool) (after : Option State)
-    → ((q : State) → after ≡ Some q → IsTypedState w q) → AreOf rest left → held_or_thrown may after left ≡ Some effect → IsKept w rest effect
+held : (w : World) (r : Memory) (rest : List VType) (left : List Slot) (effect : Effect) (may : Bool) (after : Option Memory)
+    → ((q : Memory) → after ≡ Some q → MemoryFits w q) → AreOf rest left → held_or_thrown may after left ≡ Some effect → IsKept w rest effect
 held w r rest left effect false after fits of e = kept_is w rest (throws exceptions.ArrayStoreException) effect e tt
 held w r rest left effect true after fits of e =
     let q = some_is after (λ q. Some (done q left)) effect e in
     kept_is w rest (done q.0 left) effect q.2 (fits q.0 q.1, of)
 
-pub array_stores_keep : (w : World) (element : Element) (r : State) (ts rest : List VType) (xs : List Slot) (effect : Effect)
-    → IsTypedState w r → AreOf ts xs → array_store_types w element ts ≡ Ok rest → array_stored w element r xs ≡ Some effect
+pub array_stores_keep : (w : World) (element : Element) (r : Memory) (ts rest : List VType) (xs : List Slot) (effect : Effect)
+    → MemoryFits w r → AreOf ts xs → array_store_types w element ts ≡ Ok rest → array_stored w element r xs ≡ Some effect
     → IsKept w rest effect
 array_stores_keep w element r ts rest xs effect fits of types e =
     let k = kind_of_element element in
@@ -327,7 +326,7 @@ array_stores_keep w element r ts rest xs effect fits of types e =
 
 -- ---- arraylength
 
-pub lengths_keep : (w : World) (r : State) (ts rest : List VType) (xs : List Slot) (effect : Effect) → IsTypedState w r → AreOf ts xs
+pub lengths_keep : (w : World) (r : Memory) (ts rest : List VType) (xs : List Slot) (effect : Effect) → MemoryFits w r → AreOf ts xs
     → length_types ts ≡ Ok rest → length_gotten w r xs ≡ Some effect → IsKept w rest effect
 lengths_keep w r ts rest xs effect fits of popping e =
     let c = ok_is (type_popped kinds.Reference ts) (λ (x : VType × List VType). only_if (is_array x.0) whys.Kind (types.Int ∷ x.1)) rest popping in

@@ -28,13 +28,12 @@ use Rattle.state_model.specs.Objects.{Object, instance}
 use Rattle.ref_model.specs.declared.exception.Exception.TheVariants as exceptions
 use Rattle.ref_model.specs.Classes.{element_of, same_base, same_type, array_class}
 use Rattle.ref_model.specs.Kinds.{kind_of_base, kind_of_elements}
-use Rattle.ref_model.specs.State.{State}
+use Rattle.ref_model.specs.Memory.{Memory}
 use Rattle.ref_model.specs.Heap.{with_objects}
 use Rattle.ref_model.specs.Fetch.{class_of}
 use Rattle.ref_model.specs.Effects.{Effect, gives_new, throws}
 use Rattle.ref_model.specs.Arrays.{element_zero, not_negative, cells_of_lengths, element_class, inner_number, all_joined, arrays_from, ints_popped, with_arrays, arrays_made}
-use Rattle.frame_soundness.specs.StateKinds.{IsOfKind, ValuesFit, ObjectFits}
-use Rattle.frame_soundness.specs.TypedStates.{IsTypedState}
+use Rattle.frame_soundness.specs.StateKinds.{IsOfKind, ValuesFit, ObjectFits, MemoryFits}
 use Rattle.frame_soundness.specs.EventLaws.{IsKept, HasDimensions}
 use Rattle.frame_soundness.proofs.FieldLaws.{kept_is, same_types}
 use Rattle.frame_soundness.proofs.ObjectLaws.{array_fits, made_keeps}
@@ -152,8 +151,8 @@ lengths_popped (suc n) ts rest xs e of =
 
 -- ---- multianewarray
 
-pub arrays_keep : (w : World) (resolution : Resolution) (r : State) (dimensions : ℕ) (t : VType) (ts rest : List VType) (xs : List Slot)
-    (effect : Effect) → HasDimensions w → IsTypedState w r → AreOf ts xs → kind_of_type t ≡ Some kinds.Reference
+pub arrays_keep : (w : World) (resolution : Resolution) (r : Memory) (dimensions : ℕ) (t : VType) (ts rest : List VType) (xs : List Slot)
+    (effect : Effect) → HasDimensions w → MemoryFits w r → AreOf ts xs → kind_of_type t ≡ Some kinds.Reference
     → types_popped (replicate dimensions kinds.Int) ts ≡ Ok rest → arrays_made w dimensions resolution r xs ≡ Some effect
     → IsKept w (type_pushed t rest) effect
 arrays_keep w resolution r dimensions t ts rest xs effect dims fits of kind taken e =

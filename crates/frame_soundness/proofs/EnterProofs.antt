@@ -25,7 +25,7 @@ use Rattle.state_model.specs.Frames.{Frame}
 use Rattle.ref_model.specs.declared.exception.Exception.TheVariants.{AbstractMethodError, StackOverflowError}
 use Rattle.ref_model.specs.Kinds.{argument_slots}
 use Rattle.ref_model.specs.Members.{native_at, is_synchronized, is_hold}
-use Rattle.ref_model.specs.State.{State}
+use Rattle.ref_model.specs.Memory.{Memory}
 use Rattle.ref_model.specs.Fetch.{Named, named_method}
 use Rattle.ref_model.specs.Frames.{callee, caller}
 use Rattle.ref_model.specs.LocalRows.{most_frames}
@@ -34,7 +34,7 @@ use Rattle.ref_model.specs.NativeRows.{native_acted}
 use Rattle.ref_model.specs.Natives.{native_row, native_takes}
 use Rattle.ref_model.specs.Calls.{code_entered, native_entered, entered}
 use Rattle.frame_soundness.specs.Typed.{Waits, IsUnder, AreUnder, Typed, back_of, initializes}
-use Rattle.frame_soundness.specs.TypedStates.{IsTypedState}
+use Rattle.frame_soundness.specs.StateKinds.{MemoryFits}
 use Rattle.frame_soundness.specs.CallLaws.{CallerWaits, takes_receiver}
 use Rattle.frame_soundness.specs.NativeKinds.{FitsNative}
 use Rattle.frame_soundness.specs.EnterLaws.{IsOfClass, IsChosen, IsCallResult}
@@ -94,8 +94,8 @@ native_at_rest : (w : World) (s : Signature) (n : Native) (takes : List ValueKin
 native_at_rest w s n takes ts rest x fits e taken popped =
     taken_by w s (kinds.Reference ∷ []) n takes ts rest x.1 fits e taken (ap (λ r. r then λ (y : VType × List VType). Ok y.1) popped)
 
-instance_native : (w : World) (f : Frame) (below : List Frame) (m chosen : Named) (r : State) (n : Native) (effect : Effect)
-    → (typed : AreTyped w) → IsTypedState w r → (t : Typed w (f ∷ below)) → Took w t.0.at.state (fine w f typed t.0.at).after m
+instance_native : (w : World) (f : Frame) (below : List Frame) (m chosen : Named) (r : Memory) (n : Native) (effect : Effect)
+    → (typed : AreTyped w) → MemoryFits w r → (t : Typed w (f ∷ below)) → Took w t.0.at.state (fine w f typed t.0.at).after m
     → row_goes_on (row_of t.0.at.place.instruction) ≡ true → IsChosen w m chosen → native_at w chosen.number ≡ Some n
     → (native_row w r n >>= λ row. native_acted row f.stack) ≡ Some effect
     → IsCallResult w f below t.0.at.place.instruction.instr.next effect
@@ -108,8 +108,8 @@ instance_native w f below m chosen r n effect typed fits t k goes c at e =
 
 -- ---- the method that was selected
 
-pub methods_are_entered : (w : World) (f : Frame) (below : List Frame) (invocation : Invocation) (index depth : ℕ) (m chosen : Named) (r : State)
-    (effect : Effect) → AreTyped w → IsTypedState w r → (t : Typed w (f ∷ below))
+pub methods_are_entered : (w : World) (f : Frame) (below : List Frame) (invocation : Invocation) (index depth : ℕ) (m chosen : Named) (r : Memory)
+    (effect : Effect) → AreTyped w → MemoryFits w r → (t : Typed w (f ∷ below))
     → row_of t.0.at.place.instruction ≡ invoke invocation index → takes_receiver invocation ≡ true
     → named_method w t.0.at.place.instruction.resolution ≡ Some m → slice_get w.methods chosen.number ≡ Some chosen.method
     → IsChosen w m chosen → entered w r depth chosen (suc (argument_slots m.method.signature)) f.stack ≡ Some effect
@@ -131,8 +131,8 @@ methods_are_entered w f below invocation index depth m chosen r effect typed fit
 
 -- ---- a static method
 
-static_native : (w : World) (f : Frame) (below : List Frame) (index : ℕ) (m : Named) (r : State) (n : Native) (effect : Effect)
-    → (typed : AreTyped w) → IsTypedState w r → (t : Typed w (f ∷ below)) → Called w t.0.at.state (fine w f typed t.0.at).after m
+static_native : (w : World) (f : Frame) (below : List Frame) (index : ℕ) (m : Named) (r : Memory) (n : Native) (effect : Effect)
+    → (typed : AreTyped w) → MemoryFits w r → (t : Typed w (f ∷ below)) → Called w t.0.at.state (fine w f typed t.0.at).after m
     → row_of t.0.at.place.instruction ≡ invoke static index → IsOfClass w m → native_at w m.number ≡ Some n
     → (native_row w r n >>= λ row. native_acted row f.stack) ≡ Some effect
     → IsCallResult w f below t.0.at.place.instruction.instr.next effect
@@ -177,8 +177,8 @@ static_code w f below next index depth m effect typed t known named c (Some code
     by false true e = begins_there e
     by false false e = result_of w f below next (throws StackOverflowError) effect e tt
 
-pub statics_are_entered : (w : World) (f : Frame) (below : List Frame) (index depth : ℕ) (m : Named) (r : State) (effect : Effect) → AreTyped w
-    → IsTypedState w r → (t : Typed w (f ∷ below)) → row_of t.0.at.place.instruction ≡ invoke static index
+pub statics_are_entered : (w : World) (f : Frame) (below : List Frame) (index depth : ℕ) (m : Named) (r : Memory) (effect : Effect) → AreTyped w
+    → MemoryFits w r → (t : Typed w (f ∷ below)) → row_of t.0.at.place.instruction ≡ invoke static index
     → named_method w t.0.at.place.instruction.resolution ≡ Some m → IsOfClass w m
     → entered w r depth m (argument_slots m.method.signature) f.stack ≡ Some effect
     → IsCallResult w f below t.0.at.place.instruction.instr.next effect

@@ -25,12 +25,12 @@ use Rattle.verify_types.specs.Environment.{Environment}
 use Rattle.verify_types.specs.Effects.{row_of, row_state}
 use Rattle.state_model.specs.Frames.{Frame}
 use Rattle.ref_model.specs.declared.exception.Exception.TheVariants.{NullPointerException}
-use Rattle.ref_model.specs.State.{State}
+use Rattle.ref_model.specs.Memory.{Memory}
 use Rattle.ref_model.specs.Effects.{Effect, done, invokes, throws, throws_object, not_null}
 use Rattle.ref_model.specs.Instances.{object_thrown}
 use Rattle.ref_model.specs.Step.{event_effect}
 use Rattle.frame_soundness.specs.Typed.{Typed}
-use Rattle.frame_soundness.specs.TypedStates.{IsTypedState}
+use Rattle.frame_soundness.specs.StateKinds.{MemoryFits}
 use Rattle.frame_soundness.specs.EventLaws.{IsKept}
 use Rattle.frame_soundness.specs.StepKinds.{IsLinkedWorld, IsEventResolution, IsResult}
 use Rattle.frame_soundness.proofs.FetchLaws.{parts, fine}
@@ -57,8 +57,8 @@ thrown_keeps w rest xs effect e =
     by (Some o) e = kept_is w rest (throws_object o) effect e tt
 
 -- an event but new
-stack_keeps : (w : World) (own pc : ℕ) (resolution : Resolution) (e : Event) (r : State) (ts rest : List VType) (xs : List Slot) (effect : Effect)
-    → IsLinkedWorld w → IsTypedState w r → IsEventResolution w resolution e r xs → AreOf ts xs → stack_after w own pc resolution e ts ≡ Ok rest
+stack_keeps : (w : World) (own pc : ℕ) (resolution : Resolution) (e : Event) (r : Memory) (ts rest : List VType) (xs : List Slot) (effect : Effect)
+    → IsLinkedWorld w → MemoryFits w r → IsEventResolution w resolution e r xs → AreOf ts xs → stack_after w own pc resolution e ts ≡ Ok rest
     → event_effect w resolution e r xs ≡ Some effect → ((index : ℕ) → e ≢ new index) → IsKept w rest effect
 stack_keeps w own pc resolution (get_static index) r ts rest xs effect linked fits names of typed e other =
     static_gets_keep w resolution r ts rest xs effect linked.fields names fits of typed e
@@ -116,8 +116,8 @@ record EventKept (w : World) (after : TypeState) (f : Frame) (effect : Effect) :
 same_state : (a b : TypeState) → ◌≡◌ {A = Result TypeState RowWhy} (Ok a) (Ok b) → a ≡ b
 same_state a b e = cc
 
-other_kept : (w : World) (own pc : ℕ) (resolution : Resolution) (e : Event) (r : State) (f : Frame) (s after : TypeState) (effect : Effect)
-    → IsLinkedWorld w → IsTypedState w r → IsEventResolution w resolution e r f.stack → AreOf s.types.locals f.locals → AreOf s.types.stack f.stack
+other_kept : (w : World) (own pc : ℕ) (resolution : Resolution) (e : Event) (r : Memory) (f : Frame) (s after : TypeState) (effect : Effect)
+    → IsLinkedWorld w → MemoryFits w r → IsEventResolution w resolution e r f.stack → AreOf s.types.locals f.locals → AreOf s.types.stack f.stack
     → (stack_after w own pc resolution e s.types.stack then λ stack. Ok (with_stack s stack)) ≡ Ok after
     → event_effect w resolution e r f.stack ≡ Some effect → ((index : ℕ) → e ≢ new index) → EventKept w after f effect
 other_kept w own pc resolution e r f s after effect linked fits names locals stack typed made other =
@@ -137,8 +137,8 @@ topped test (t ∷ ts) (x ∷ xs) of = (by (test t), topped test ts xs of.1)
     by true = tt
     by false = of.0
 
-new_kept : (w : World) (pc : ℕ) (resolution : Resolution) (index : ℕ) (r : State) (f : Frame) (s after : TypeState) (effect : Effect)
-    → IsTypedState w r → IsEventResolution w resolution (new index) r f.stack → AreOf s.types.locals f.locals → AreOf s.types.stack f.stack
+new_kept : (w : World) (pc : ℕ) (resolution : Resolution) (index : ℕ) (r : Memory) (f : Frame) (s after : TypeState) (effect : Effect)
+    → MemoryFits w r → IsEventResolution w resolution (new index) r f.stack → AreOf s.types.locals f.locals → AreOf s.types.stack f.stack
     → made_anew pc s ≡ Ok after → event_effect w resolution (new index) r f.stack ≡ Some effect → EventKept w after f effect
 new_kept w pc resolution index r f s after effect fits names locals stack typed made =
     let made_state = with_types s (record { locals = replaced (is_new pc) types.Top s.types.locals; stack = types.Uninit pc ∷ s.types.stack }) in
@@ -148,8 +148,8 @@ new_kept w pc resolution index r f s after effect fits names locals stack typed 
       locals = topped (is_new pc) s.types.locals f.locals locals;
     })
 
-event_kept : (w : World) (own pc : ℕ) (resolution : Resolution) (e : Event) (r : State) (f : Frame) (s after : TypeState) (effect : Effect)
-    → IsLinkedWorld w → IsTypedState w r → IsEventResolution w resolution e r f.stack → AreOf s.types.locals f.locals → AreOf s.types.stack f.stack
+event_kept : (w : World) (own pc : ℕ) (resolution : Resolution) (e : Event) (r : Memory) (f : Frame) (s after : TypeState) (effect : Effect)
+    → IsLinkedWorld w → MemoryFits w r → IsEventResolution w resolution e r f.stack → AreOf s.types.locals f.locals → AreOf s.types.stack f.stack
     → event_state w own pc resolution e s ≡ Ok after → event_effect w resolution e r f.stack ≡ Some effect → EventKept w after f effect
 event_kept w own pc resolution (new index) r f s after effect linked fits names locals stack typed made =
     new_kept w pc resolution index r f s after effect fits names locals stack typed made
@@ -158,19 +158,19 @@ event_kept w own pc resolution e r f s after effect linked fits names locals sta
 
 -- ---- the frame after it
 
-never_done : (reference : Option ℕ) (q : State) (stack : List Slot) → not_null reference (λ o. Some (throws_object o)) ≡ Some (done q stack) → ⊥
+never_done : (reference : Option ℕ) (q : Memory) (stack : List Slot) → not_null reference (λ o. Some (throws_object o)) ≡ Some (done q stack) → ⊥
 never_done None q stack e = cc
 never_done (Some o) q stack e = cc
 
 -- what is done goes on after the instruction
-goes_on : (w : World) (resolution : Resolution) (e : Event) (r q : State) (xs stack : List Slot)
+goes_on : (w : World) (resolution : Resolution) (e : Event) (r q : Memory) (xs stack : List Slot)
     → event_effect w resolution e r xs ≡ Some (done q stack) → row_goes_on (event e) ≡ true
 goes_on w resolution throw r q xs stack made =
     let x = some_is (popped kinds.Reference xs) (λ x. not_null x.0 (λ o. Some (throws_object o))) (done q stack) made in
     absurd (never_done x.0.0 q stack x.2)
 goes_on w resolution e r q xs stack made = refl
 
-pub events_go_on : (w : World) (f : Frame) (below : List Frame) (e : Event) (r : State) (effect : Effect) → IsLinkedWorld w → IsTypedState w r
+pub events_go_on : (w : World) (f : Frame) (below : List Frame) (e : Event) (r : Memory) (effect : Effect) → IsLinkedWorld w → MemoryFits w r
     → (t : Typed w (f ∷ below)) → row_of t.0.at.place.instruction ≡ event e
     → IsEventResolution w t.0.at.place.instruction.resolution e r f.stack → event_effect w t.0.at.place.instruction.resolution e r f.stack ≡ Some effect
     → IsResult w f below t.0.at.place.instruction.instr.next effect
@@ -196,7 +196,7 @@ events_go_on w f below e r effect linked fits t known names made =
         let goes = ap row_goes_on known ∙ goes_on w t.0.at.place.instruction.resolution e r q f.stack stack made in
         let slots : Contents Slot = record { locals = f.locals; stack = stack } in
         let a = arrived w f t.0.at good.after next slots (good.on goes) (record { locals = k.locals; stack = k.kept.1 }) good.after_shallow in
-        record { frame = a.frame; is = a.is; typed = on_frames w f a.frame below a.method a.stands t.1; state = k.kept.0 }
+        record { frame = a.frame; is = a.is; typed = on_frames w f a.frame below a.method a.stands t.1; values = k.kept.0 }
     by (invokes g stack) k made = k.kept
     by (throws x) k made = tt
     by (throws_object o) k made = tt

@@ -33,13 +33,12 @@ use Rattle.ref_model.specs.declared.exception.Exception.TheVariants as exception
 use Rattle.ref_model.specs.Classes.{is_sub}
 use Rattle.ref_model.specs.Kinds.{value_kind, kept}
 use Rattle.ref_model.specs.Members.{is_static_field, instance_fields, field_place, static_place}
-use Rattle.ref_model.specs.State.{State}
+use Rattle.ref_model.specs.Memory.{Memory}
 use Rattle.ref_model.specs.Heap.{object_at, class_of, class_at, values_of, values_at, object_with, with_value}
 use Rattle.ref_model.specs.Fetch.{field_of}
 use Rattle.ref_model.specs.Effects.{Effect, done, gives, throws, late_failure, on_instance}
 use Rattle.ref_model.specs.Fields.{stored, static_gotten, static_put, field_gotten, field_put}
-use Rattle.frame_soundness.specs.StateKinds.{IsOfKind, kind_of_field, field_kind, instance_kinds, ValuesFit, ObjectFits, static_kinds, HasFieldKinds}
-use Rattle.frame_soundness.specs.TypedStates.{IsTypedState}
+use Rattle.frame_soundness.specs.StateKinds.{IsOfKind, kind_of_field, field_kind, instance_kinds, ValuesFit, ObjectFits, static_kinds, HasFieldKinds, MemoryFits}
 use Rattle.frame_soundness.specs.EventLaws.{IsKept, IsStaticResolution, IsInstanceResolution, OfReceiver, got_object, put_object}
 use Rattle.frame_soundness.proofs.ValueLaws.{zip_got, zip_set, item_set, place_among, field_same, wanted_popped}
 use Rattle.frame_soundness.proofs.ReturnLaws.{kept_kind}
@@ -62,15 +61,15 @@ static_kind w n f at static_flag = place_among is_static_field kind_of_field w.f
 
 -- ---- getstatic
 
-pub static_gets_keep : (w : World) (resolution : Resolution) (r : State) (ts rest : List VType) (xs : List Slot) (effect : Effect)
-    → HasFieldKinds w → IsStaticResolution w resolution → IsTypedState w r → AreOf ts xs → get_static_types w resolution ts ≡ Ok rest
+pub static_gets_keep : (w : World) (resolution : Resolution) (r : Memory) (ts rest : List VType) (xs : List Slot) (effect : Effect)
+    → HasFieldKinds w → IsStaticResolution w resolution → MemoryFits w r → AreOf ts xs → get_static_types w resolution ts ≡ Ok rest
     → static_gotten w resolution r xs ≡ Some effect → IsKept w rest effect
 static_gets_keep w resolution r ts rest xs effect field_kinds is_static fits of types e =
     let f = ok_is (typed_field w resolution.site) (λ (f : FieldInfo). Ok (type_pushed (type_of_kind w f.kind) ts)) rest types in
     let n = some_is (field_of resolution.site) (λ n. slice_get r.statics (static_place w n) >>= λ v. Some (gives r v xs)) effect e in
     let v = some_is (slice_get r.statics (static_place w n.0)) (λ v. Some (gives r v xs)) effect n.2 in
     let at = field_same w resolution.site n.0 f.0 n.1 f.1 in
-    let kind = zip_got (static_kinds w) r.statics (static_place w n.0) (kind_of_field f.0) v.0 fits.values.statics
+    let kind = zip_got (static_kinds w) r.statics (static_place w n.0) (kind_of_field f.0) v.0 fits.statics
     (static_kind w n.0 f.0 at (is_static n.0 f.0 n.1 at)) v.1 in
     let stack = pushed_kinds (type_of_kind w f.0.kind) v.0 ts xs (field_kinds n.0 f.0 at ∙ ap Some (sym kind)) of in
     kept_is w rest (gives r v.0 xs) effect v.2
@@ -102,8 +101,8 @@ stored_is w f ts rest xs x kind types of e =
 same_field : (o : Option FieldInfo) (a b : FieldInfo) → o ≡ Some a → o ≡ Some b → a ≡ b
 same_field o a b x y = cc
 
-pub static_puts_keep : (w : World) (resolution : Resolution) (r : State) (ts rest : List VType) (xs : List Slot) (effect : Effect)
-    → HasFieldKinds w → IsStaticResolution w resolution → IsTypedState w r → AreOf ts xs → put_static_types w resolution ts ≡ Ok rest
+pub static_puts_keep : (w : World) (resolution : Resolution) (r : Memory) (ts rest : List VType) (xs : List Slot) (effect : Effect)
+    → HasFieldKinds w → IsStaticResolution w resolution → MemoryFits w r → AreOf ts xs → put_static_types w resolution ts ≡ Ok rest
     → static_put w resolution r xs ≡ Some effect → IsKept w rest effect
 static_puts_keep w resolution r ts rest xs effect field_kinds is_static fits of types e =
     let f = ok_is (typed_field w resolution.site) (λ (f : FieldInfo). wanted w (type_of_kind w f.kind) ts) rest types in
@@ -123,9 +122,9 @@ static_puts_keep w resolution r ts rest xs effect field_kinds is_static fits of 
     subst (λ (h : FieldInfo). wanted w (type_of_kind w h.kind) ts ≡ Ok rest) same f.2 in
     let k = stored_is w g.0 ts rest xs x.0 (field_kinds n.0 g.0 g.1) here of x.1 in
     let statics = subst (λ (vs : List Value). AllZip IsOfKind (static_kinds w) vs) (item_set (static_place w n.0) x.0.0 r.statics s.0 s.1)
-    (zip_set (static_kinds w) r.statics (static_place w n.0) (kind_of_field g.0) x.0.0 fits.values.statics
+    (zip_set (static_kinds w) r.statics (static_place w n.0) (kind_of_field g.0) x.0.0 fits.statics
     (static_kind w n.0 g.0 g.1 (is_static n.0 g.0 n.1 g.1)) k.kind) in
-    kept_is w rest (done (record r { statics = s.0 }) x.0.1) effect s.2 (record { values = record { heap = fits.values.heap; statics = statics }; threads = fits.threads }, k.below)
+    kept_is w rest (done (record r { statics = s.0 }) x.0.1) effect s.2 (record { heap = fits.heap; statics = statics }, k.below)
 
 -- ---- fields of an object
 
@@ -140,7 +139,7 @@ tested w named class acted effect P thrown false sub act e =
     subst P (same_effect (throws (late_failure w named)) effect e) (thrown (late_failure w named))
 
 -- what is done on an instance, or thrown
-pub instance_cases : (w : World) (resolution : Resolution) (r : State) (reference : Option ℕ) (act : ℕ → ℕ → Option Effect) (effect : Effect)
+pub instance_cases : (w : World) (resolution : Resolution) (r : Memory) (reference : Option ℕ) (act : ℕ → ℕ → Option Effect) (effect : Effect)
     (P : Effect → Type 0) → on_instance w resolution r reference act ≡ Some effect → ((x : Exception) → P (throws x))
     → ((o class named : ℕ) → reference ≡ Some o → class_at w r o ≡ Some class → resolution.class ≡ Some named → is_sub w class named ≡ true
     → act o class ≡ Some effect → P effect)
@@ -156,18 +155,18 @@ instance_cases w resolution r (Some o) act effect P e thrown acted =
     (acted o class.0 named.0 refl class.1 named.1) named.2
 
 -- an object of a class that is no array
-pub record Instance (w : World) (r : State) (o class : ℕ) (values : List Value) : Type 0 where
+pub record Instance (w : World) (r : Memory) (o class : ℕ) (values : List Value) : Type 0 where
   pub at : object_at r o ≡ Some (instance class values)
   pub fit : AllZip IsOfKind (instance_kinds w class) values
 
-instance_of : (w : World) (r : State) (o class : ℕ) (x : Object) → IsTypedState w r → object_at r o ≡ Some x → class_of w x ≡ Some class
+instance_of : (w : World) (r : Memory) (o class : ℕ) (x : Object) → MemoryFits w r → object_at r o ≡ Some x → class_of w x ≡ Some class
     → array_type w class ≡ None → (values : List Value) → values_of x ≡ Some values → Instance w r o class values
 instance_of w r o class (text units) fits at of_class no_array values has = absurd cc
 instance_of w r o class (instance c vs) fits at of_class no_array values has =
     let same : c ≡ class = cc in
     let all : vs ≡ values = cc in
     let none : array_type w c ≡ None = ap (array_type w) same ∙ no_array in
-    let here : AllZip IsOfKind (instance_kinds w c) vs = subst (ValuesFit w c vs) none (fits.values.heap o (instance c vs) at) in
+    let here : AllZip IsOfKind (instance_kinds w c) vs = subst (ValuesFit w c vs) none (fits.heap o (instance c vs) at) in
     let moved : AllZip IsOfKind (instance_kinds w class) vs = subst (λ (n : ℕ). AllZip IsOfKind (instance_kinds w n) vs) same here in
     record {
       at = at ∙ ap (λ n. Some (instance n vs)) same ∙ ap (λ ys. Some (instance class ys)) all;
@@ -188,8 +187,8 @@ place_kind w class place n f lies at =
     ∙ ap (λ o. Some (option_map_or kind_of_field o kinds.Reference)) at
 
 -- the object on which a field instruction works
-field_instance : (w : World) (resolution : Resolution) (r : State) (o class named n place : ℕ) (values : List Value)
-    → IsInstanceResolution w resolution class → IsTypedState w r → field_of resolution.site ≡ Some n → resolution.class ≡ Some named → is_sub w class named ≡ true
+field_instance : (w : World) (resolution : Resolution) (r : Memory) (o class named n place : ℕ) (values : List Value)
+    → IsInstanceResolution w resolution class → MemoryFits w r → field_of resolution.site ≡ Some n → resolution.class ≡ Some named → is_sub w class named ≡ true
     → field_place w n ≡ Some place → class_at w r o ≡ Some class → values_at r o ≡ Some values → Instance w r o class values
 field_instance w resolution r o class named n place values lies fits at is_named sub placed of_class has =
     let x = some_is (object_at r o) (class_of w) class of_class in
@@ -202,8 +201,8 @@ field_instance w resolution r o class named n place values lies fits at is_named
 
 -- ---- getfield
 
-gotten : (w : World) (resolution : Resolution) (r : State) (o class named n : ℕ) (f : FieldInfo) (below : List VType) (left : List Slot)
-    (effect : Effect) → HasFieldKinds w → IsInstanceResolution w resolution class → IsTypedState w r → field_of resolution.site ≡ Some n
+gotten : (w : World) (resolution : Resolution) (r : Memory) (o class named n : ℕ) (f : FieldInfo) (below : List VType) (left : List Slot)
+    (effect : Effect) → HasFieldKinds w → IsInstanceResolution w resolution class → MemoryFits w r → field_of resolution.site ≡ Some n
     → slice_get w.fields n ≡ Some f → AreOf below left → class_at w r o ≡ Some class → resolution.class ≡ Some named
     → is_sub w class named ≡ true
     → (field_place w n >>= λ place. values_at r o >>= λ fields. slice_get fields place >>= λ v. Some (gives r v left)) ≡ Some effect
@@ -222,8 +221,8 @@ gotten w resolution r o class named n f below left effect field_kinds lies fits 
 pub same_popped : (o : Option (Option ℕ × List Slot)) (a b : Option ℕ × List Slot) → o ≡ Some a → o ≡ Some b → a ≡ b
 same_popped o a b x y = cc
 
-pub field_gets_keep : (w : World) (resolution : Resolution) (r : State) (ts rest : List VType) (xs : List Slot) (effect : Effect)
-    → HasFieldKinds w → OfReceiver w r (got_object xs) (IsInstanceResolution w resolution) → IsTypedState w r → AreOf ts xs → get_field_types w resolution ts ≡ Ok rest
+pub field_gets_keep : (w : World) (resolution : Resolution) (r : Memory) (ts rest : List VType) (xs : List Slot) (effect : Effect)
+    → HasFieldKinds w → OfReceiver w r (got_object xs) (IsInstanceResolution w resolution) → MemoryFits w r → AreOf ts xs → get_field_types w resolution ts ≡ Ok rest
     → field_gotten w resolution r xs ≡ Some effect → IsKept w rest effect
 field_gets_keep w resolution r ts rest xs effect field_kinds lies fits of types e =
     let f = ok_is (typed_field w resolution.site)
@@ -257,24 +256,21 @@ set_at (x ∷ xs) zero z (suc p) y e = inr e
 set_at (x ∷ xs) (suc o) z zero y e = inr e
 set_at (x ∷ xs) (suc o) z (suc p) y e = set_at xs o z p y e
 
--- the state in which one object has changed
-pub changed_fits : (w : World) (r : State) (o : ℕ) (x : Object) → IsTypedState w r → ObjectFits w x
-    → IsTypedState w (record r { heap = slice_set r.heap o x })
-changed_fits w r o x fits of = record {
-  values = record { heap = λ p y e. by p y (set_at r.heap o x p y e); statics = fits.values.statics };
-  threads = fits.threads;
-}
+-- the memory in which one object has changed
+pub changed_fits : (w : World) (r : Memory) (o : ℕ) (x : Object) → MemoryFits w r → ObjectFits w x
+    → MemoryFits w (record r { heap = slice_set r.heap o x })
+changed_fits w r o x fits of = record { heap = λ p y e. by p y (set_at r.heap o x p y e); statics = fits.statics }
   where
     by : (p : ℕ) (y : Object) → (y ≡ x) ⊎ (slice_get r.heap p ≡ Some y) → ObjectFits w y
     by p y (inl same) = subst (ObjectFits w) (sym same) of
-    by p y (inr e) = fits.values.heap p y e
+    by p y (inr e) = fits.heap p y e
 
-pub same_state : (a b : State) → ◌≡◌ {A = Option State} (Some a) (Some b) → a ≡ b
-same_state a b e = cc
+pub same_memory : (a b : Memory) → ◌≡◌ {A = Option Memory} (Some a) (Some b) → a ≡ b
+same_memory a b e = cc
 
-set_fits : (w : World) (r q : State) (o class place : ℕ) (v : Value) (x : Object) → IsTypedState w r → object_at r o ≡ Some x
+set_fits : (w : World) (r q : Memory) (o class place : ℕ) (v : Value) (x : Object) → MemoryFits w r → object_at r o ≡ Some x
     → class_of w x ≡ Some class → array_type w class ≡ None → slice_get (instance_kinds w class) place ≡ Some (kind_of v)
-    → object_with r o place v x ≡ Some q → IsTypedState w q
+    → object_with r o place v x ≡ Some q → MemoryFits w q
 set_fits w r q o class place v (text units) fits at of_class no_array kind e = absurd cc
 set_fits w r q o class place v (instance c vs) fits at of_class no_array kind e =
     let h = instance_of w r o class (instance c vs) fits at of_class no_array vs refl in
@@ -286,11 +282,11 @@ set_fits w r q o class place v (instance c vs) fits at of_class no_array kind e 
     let here : ValuesFit w class others.0 (array_type w class) =
     subst (ValuesFit w class others.0) (sym no_array) set in
     let object : ObjectFits w (instance c others.0) = subst (λ (n : ℕ). ObjectFits w (instance n others.0)) (sym same) here in
-    subst (IsTypedState w) (same_state (record r { heap = slice_set r.heap o (instance c others.0) }) q others.2)
+    subst (MemoryFits w) (same_memory (record r { heap = slice_set r.heap o (instance c others.0) }) q others.2)
     (changed_fits w r o (instance c others.0) fits object)
 
-put : (w : World) (resolution : Resolution) (r : State) (o class named n : ℕ) (f : FieldInfo) (v : Value) (rest : List VType) (left : List Slot)
-    (effect : Effect) → IsInstanceResolution w resolution class → IsTypedState w r → field_of resolution.site ≡ Some n
+put : (w : World) (resolution : Resolution) (r : Memory) (o class named n : ℕ) (f : FieldInfo) (v : Value) (rest : List VType) (left : List Slot)
+    (effect : Effect) → IsInstanceResolution w resolution class → MemoryFits w r → field_of resolution.site ≡ Some n
     → slice_get w.fields n ≡ Some f → kind_of v ≡ kind_of_field f → AreOf rest left → class_at w r o ≡ Some class
     → resolution.class ≡ Some named → is_sub w class named ≡ true
     → (field_place w n >>= λ place. with_value r o place v >>= λ q. Some (done q left)) ≡ Some effect → IsKept w rest effect
@@ -319,8 +315,8 @@ object_is w resolution xs n f x y o site at value reference is =
     (bind_is (stored f xs) (λ x. popped kinds.Reference x.1 >>= λ y. y.0) x (Some o) value
     (bind_is (popped kinds.Reference x.1) (λ y. y.0) y (Some o) reference is)))
 
-pub field_puts_keep : (w : World) (resolution : Resolution) (r : State) (own : ℕ) (ts rest : List VType) (xs : List Slot) (effect : Effect)
-    → HasFieldKinds w → OfReceiver w r (put_object w resolution xs) (IsInstanceResolution w resolution) → IsTypedState w r → AreOf ts xs → put_field_types w own resolution ts ≡ Ok rest
+pub field_puts_keep : (w : World) (resolution : Resolution) (r : Memory) (own : ℕ) (ts rest : List VType) (xs : List Slot) (effect : Effect)
+    → HasFieldKinds w → OfReceiver w r (put_object w resolution xs) (IsInstanceResolution w resolution) → MemoryFits w r → AreOf ts xs → put_field_types w own resolution ts ≡ Ok rest
     → field_put w resolution r xs ≡ Some effect → IsKept w rest effect
 field_puts_keep w resolution r own ts rest xs effect field_kinds lies fits of types e =
     let f = ok_is (typed_field w resolution.site)

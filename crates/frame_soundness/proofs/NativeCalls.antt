@@ -12,12 +12,12 @@ use Rattle.instruction_rows.specs.Soundness.{AreOf}
 use Rattle.instruction_rows.proofs.KindLaws.{pushed_kinds}
 use Rattle.instruction_rows.proofs.StackLaws.{applied_of}
 use Rattle.link_model.specs.World.{World}
-use Rattle.ref_model.specs.State.{State}
+use Rattle.ref_model.specs.Memory.{Memory}
 use Rattle.ref_model.specs.Effects.{Effect, done, gives}
 use Rattle.ref_model.specs.NativeRows.{Answer, returns, returns_value, fails, native, answered, native_acted}
 use Rattle.ref_model.specs.Natives.{native_row}
 use Rattle.frame_soundness.specs.Typed.{given_back}
-use Rattle.frame_soundness.specs.TypedStates.{IsTypedState}
+use Rattle.frame_soundness.specs.StateKinds.{MemoryFits}
 use Rattle.frame_soundness.specs.EventLaws.{IsKept}
 use Rattle.frame_soundness.specs.NativeLaws.{native_result, IsAnswer, Always, IsBack}
 use Rattle.frame_soundness.proofs.FieldLaws.{kept_is}
@@ -52,8 +52,8 @@ answered_keeps w result back (returns_value q v) rest left is fit of = by back (
 pub same_pair : (o : Option (Answer × List Slot)) (a b : Answer × List Slot) → o ≡ Some a → o ≡ Some b → a ≡ b
 same_pair o a b x y = cc
 
-pub natives_go_on : (w : World) (r : State) (n : Native) (takes : List ValueKind) (act : Function takes Answer) (back : Option VType)
-    (ts rest : List VType) (xs : List Slot) (effect : Effect) → IsTypedState w r → native_row w r n ≡ Some (native takes act)
+pub natives_go_on : (w : World) (r : Memory) (n : Native) (takes : List ValueKind) (act : Function takes Answer) (back : Option VType)
+    (ts rest : List VType) (xs : List Slot) (effect : Effect) → MemoryFits w r → native_row w r n ≡ Some (native takes act)
     → types_popped takes ts ≡ Ok rest → AreOf ts xs → IsBack back (native_result n) → native_acted (native takes act) xs ≡ Some effect
     → IsKept w (given_back back rest) effect
 natives_go_on w r n takes act back ts rest xs effect fits row types of fit made =

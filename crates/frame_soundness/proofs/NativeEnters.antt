@@ -20,14 +20,14 @@ use Rattle.verify_types.specs.TypeStates.{TypeState}
 use Rattle.verify_types.specs.Effects.{row_of}
 use Rattle.verify_types.specs.Typing.{AreTyped}
 use Rattle.state_model.specs.Frames.{Frame}
-use Rattle.ref_model.specs.State.{State}
+use Rattle.ref_model.specs.Memory.{Memory}
 use Rattle.ref_model.specs.Fetch.{Named}
 use Rattle.ref_model.specs.Effects.{Effect, done, invokes, throws, throws_object}
 use Rattle.ref_model.specs.NativeRows.{Answer, NativeRow, native, answered, native_acted}
 use Rattle.ref_model.specs.Natives.{native_row, native_takes}
 use Rattle.ref_model.specs.Operands.{argument_kinds}
 use Rattle.frame_soundness.specs.Typed.{Typed, given_back, result_type}
-use Rattle.frame_soundness.specs.TypedStates.{IsTypedState}
+use Rattle.frame_soundness.specs.StateKinds.{MemoryFits}
 use Rattle.frame_soundness.specs.EventLaws.{IsKept}
 use Rattle.frame_soundness.specs.NativeLaws.{native_result, IsAnswer}
 use Rattle.frame_soundness.specs.NativeKinds.{GivesKind, IsNativeOf, FitsNative}
@@ -74,8 +74,8 @@ pub record Leaves (w : World) (s after : TypeState) (m : Named) : Type 0 where
 
 -- ---- what it does
 
-pub native_goes : (w : World) (f : Frame) (below : List Frame) (m : Named) (r : State) (n : Native) (effect : Effect) → (typed : AreTyped w)
-    → IsTypedState w r → (t : Typed w (f ∷ below)) → (k : Leaves w t.0.at.state (fine w f typed t.0.at).after m)
+pub native_goes : (w : World) (f : Frame) (below : List Frame) (m : Named) (r : Memory) (n : Native) (effect : Effect) → (typed : AreTyped w)
+    → MemoryFits w r → (t : Typed w (f ∷ below)) → (k : Leaves w t.0.at.state (fine w f typed t.0.at).after m)
     → row_goes_on (row_of t.0.at.place.instruction) ≡ true
     → ((takes : List ValueKind) → native_takes n ≡ Some takes → IsTaken w m.method.signature n takes t.0.at.state.types.stack k.left)
     → (native_row w r n >>= λ row. native_acted row f.stack) ≡ Some effect
@@ -91,7 +91,7 @@ native_goes w f below m r n effect typed fits t k goes takes_is e =
         let a = arrived w f t.0.at good.after t.0.at.place.instruction.instr.next slots (good.on goes)
         (record { locals = k.locals f.locals t.0.kinds.locals; stack = subst (λ (us : List VType). AreOf us stack) (sym types) h.1 })
         good.after_shallow in
-        record { frame = a.frame; is = a.is; typed = on_frames w f a.frame below a.method a.stands t.1; state = h.0 }
+        record { frame = a.frame; is = a.is; typed = on_frames w f a.frame below a.method a.stands t.1; values = h.0 }
     kept (invokes g stack) h = absurd h
     kept (throws x) h = tt
     kept (throws_object o) h = tt

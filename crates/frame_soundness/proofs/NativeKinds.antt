@@ -23,7 +23,7 @@ use Rattle.verify_types.specs.ClassTypes.{type_of_element, type_of_kind}
 use Rattle.verify_types.specs.Operands.{only_if, popped_as, wanted, all_wanted}
 use Rattle.verify_types.specs.Calls.{argument_types}
 use Rattle.ref_model.specs.Kinds.{kind_of_element_type, value_kind}
-use Rattle.ref_model.specs.State.{State}
+use Rattle.ref_model.specs.Memory.{Memory}
 use Rattle.ref_model.specs.NativeRows.{Answer, native, row_kinds}
 use Rattle.ref_model.specs.Natives.{native_row, native_takes}
 use Rattle.ref_model.specs.Operands.{argument_kinds}
@@ -143,6 +143,6 @@ back_kind w (Some t) (Some k) gives = type_kind w t gives.0 ∙ sym gives.1
 -- ---- the table
 
 -- the kinds that a row takes are those that are said of its native method
-pub natives_take : (w : World) (r : State) (n : Native) (takes : List ValueKind) (act : Function takes Answer)
+pub natives_take : (w : World) (r : Memory) (n : Native) (takes : List ValueKind) (act : Function takes Answer)
     → native_row w r n ≡ Some (native takes act) → native_takes n ≡ Some takes
 natives_take w r n takes act e = sym (rows_take w r n) ∙ ap row_kinds e

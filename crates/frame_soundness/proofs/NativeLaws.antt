@@ -19,7 +19,7 @@ use Rattle.state_model.specs.Objects.{Object, instance, text}
 use Rattle.ref_model.specs.declared.exception.Exception.TheVariants.{VerifyError}
 use Rattle.ref_model.specs.Kinds.{kind_of_elements}
 use Rattle.ref_model.specs.Classes.{class_name}
-use Rattle.ref_model.specs.State.{State}
+use Rattle.ref_model.specs.Memory.{Memory}
 use Rattle.ref_model.specs.Heap.{object_at, class_at, units_at, values_of, values_at, object_with, with_value, cells_of_units, with_text}
 use Rattle.ref_model.specs.Texts.{hex_text, decimal_text, boolean_text, char_text, null_text, text_bytes}
 use Rattle.ref_model.specs.NativeRows.{Answer, returns, fails, NativeRow, new_text, gives_text, on_units, on_text, on_text_or, reference}
@@ -28,17 +28,16 @@ use Rattle.ref_model.specs.StringNatives.{unit_at, char_given, concatenated}
 use Rattle.ref_model.specs.BuilderNatives.{text_in, builder_text, on_builder, builder_given, builder_with, appended}
 use Rattle.ref_model.specs.Printing.{err_stream, written, line}
 use Rattle.ref_model.specs.Natives.{native_row}
-use Rattle.frame_soundness.specs.StateKinds.{IsOfKind, instance_kinds, ValuesFit, ObjectFits}
-use Rattle.frame_soundness.specs.TypedStates.{IsTypedState}
+use Rattle.frame_soundness.specs.StateKinds.{IsOfKind, instance_kinds, ValuesFit, ObjectFits, MemoryFits}
 use Rattle.frame_soundness.specs.NativeLaws.{native_result, IsAnswer, IsRow}
 use Rattle.frame_soundness.proofs.ValueLaws.{zip_set, item_set}
-use Rattle.frame_soundness.proofs.FieldLaws.{same_state, changed_fits}
+use Rattle.frame_soundness.proofs.FieldLaws.{same_memory, changed_fits}
 use Rattle.frame_soundness.proofs.ArrayLaws.{each_got, each_set}
 use Rattle.frame_soundness.proofs.ObjectLaws.{more_fits}
 
 -- ---- texts
 
-text_fits : (w : World) (r : State) (units : List ℕ) → IsTypedState w r → IsAnswer w (Some kinds.Reference) (gives_text r units)
+text_fits : (w : World) (r : Memory) (units : List ℕ) → MemoryFits w r → IsAnswer w (Some kinds.Reference) (gives_text r units)
 text_fits w r units fits = by (nat_le (cells_of_units (length units)) r.room)
   where
     by : (b : Bool) → IsAnswer w (Some kinds.Reference) (new_text (if b then
@@ -46,7 +45,7 @@ text_fits w r units fits = by (nat_le (cells_of_units (length units)) r.room)
     by false = tt
     by true = (refl, more_fits w r (cells_of_units (length units)) (text units ∷ []) fits (tt, tt))
 
-on_text_is : (w : World) (result : Option ValueKind) (r : State) (this : Option ℕ) (act : List ℕ → Answer)
+on_text_is : (w : World) (result : Option ValueKind) (r : Memory) (this : Option ℕ) (act : List ℕ → Answer)
     → ((units : List ℕ) → IsAnswer w result (act units)) → IsAnswer w result (on_text r this act)
 on_text_is w result r None act each = tt
 on_text_is w result r (Some o) act each = by (units_at r o)
@@ -55,7 +54,7 @@ on_text_is w result r (Some o) act each = by (units_at r o)
     by None = tt
     by (Some units) = each units
 
-on_text_or_is : (w : World) (result : Option ValueKind) (otherwise : List ℕ) (r : State) (this : Option ℕ) (act : List ℕ → Answer)
+on_text_or_is : (w : World) (result : Option ValueKind) (otherwise : List ℕ) (r : Memory) (this : Option ℕ) (act : List ℕ → Answer)
     → ((units : List ℕ) → IsAnswer w result (act units)) → IsAnswer w result (on_text_or otherwise r this act)
 on_text_or_is w result otherwise r None act each = each otherwise
 on_text_or_is w result otherwise r (Some o) act each = by (units_at r o)
@@ -73,11 +72,11 @@ boolean_kind b = refl
 
 -- ---- objects
 
-identity_is : (w : World) (r : State) (this : Option ℕ) → IsTypedState w r → IsAnswer w (Some kinds.Int) (identity_hash r this)
+identity_is : (w : World) (r : Memory) (this : Option ℕ) → MemoryFits w r → IsAnswer w (Some kinds.Int) (identity_hash r this)
 identity_is w r None fits = tt
 identity_is w r (Some o) fits = (refl, fits)
 
-described_is : (w : World) (r : State) (this : Option ℕ) (hash : List ℕ) → IsTypedState w r
+described_is : (w : World) (r : Memory) (this : Option ℕ) (hash : List ℕ) → MemoryFits w r
     → IsAnswer w (Some kinds.Reference) (described w r this hash)
 described_is w r None hash fits = tt
 described_is w r (Some o) hash fits = by (class_at w r o)
@@ -87,11 +86,11 @@ described_is w r (Some o) hash fits = by (class_at w r o)
     by None = tt
     by (Some class) = text_fits w r (class_name w class ++ codes "@" ++ hash) fits
 
-char_is : (w : World) (r : State) (u : Option ℕ) → IsTypedState w r → IsAnswer w (Some kinds.Int) (char_given r u)
+char_is : (w : World) (r : Memory) (u : Option ℕ) → MemoryFits w r → IsAnswer w (Some kinds.Int) (char_given r u)
 char_is w r None fits = tt
 char_is w r (Some u) fits = (refl, fits)
 
-concatenated_is : (w : World) (r : State) (this : Option ℕ) (units others : List ℕ) → IsTypedState w r
+concatenated_is : (w : World) (r : Memory) (this : Option ℕ) (units others : List ℕ) → MemoryFits w r
     → IsAnswer w (Some kinds.Reference) (concatenated r this units others)
 concatenated_is w r this units [] fits = (ap Some (sym (reference_kind this)), fits)
 concatenated_is w r this units (u ∷ others) fits = text_fits w r (units ++ u ∷ others) fits
@@ -99,7 +98,7 @@ concatenated_is w r this units (u ∷ others) fits = text_fits w r (units ++ u �
 -- ---- builders
 
 -- the value that a text is in is a reference
-text_kind : (r : State) (v : Value) (units : List ℕ) → text_in r v ≡ Some units → kind_of v ≡ kinds.Reference
+text_kind : (r : Memory) (v : Value) (units : List ℕ) → text_in r v ≡ Some units → kind_of v ≡ kinds.Reference
 text_kind r values.Null units e = refl
 text_kind r (values.Ref o) units e = refl
 text_kind r (values.Int n) units e = absurd cc
@@ -121,18 +120,18 @@ replaced_fits w class place old new vs None fit at kind =
 replaced_fits w class place old new vs (Some t) fit at kind =
     each_set (IsOfKind (kind_of_elements t)) vs place new fit (kind ∙ each_got (IsOfKind (kind_of_elements t)) vs place old fit at)
 
-object_set : (w : World) (r q : State) (o place : ℕ) (old new : Value) (x : Object) (vs : List Value) → IsTypedState w r
+object_set : (w : World) (r q : Memory) (o place : ℕ) (old new : Value) (x : Object) (vs : List Value) → MemoryFits w r
     → object_at r o ≡ Some x → values_of x ≡ Some vs → slice_get vs place ≡ Some old → kind_of new ≡ kind_of old
-    → object_with r o place new x ≡ Some q → IsTypedState w q
+    → object_with r o place new x ≡ Some q → MemoryFits w q
 object_set w r q o place old new (text units) vs fits at has old_at kind e = absurd cc
 object_set w r q o place old new (instance c ys) vs fits at has old_at kind e =
     let same : vs ≡ ys = cc in
     let others = some_is (with_item place new ys) (λ zs. Some (record r { heap = slice_set r.heap o (instance c zs) })) q e in
-    let here = replaced_fits w c place old new ys (array_type w c) (fits.values.heap o (instance c ys) at)
+    let here = replaced_fits w c place old new ys (array_type w c) (fits.heap o (instance c ys) at)
     (ap (λ zs. slice_get zs place) (sym same) ∙ old_at) kind in
     let object : ObjectFits w (instance c others.0) =
     subst (λ zs. ValuesFit w c zs (array_type w c)) (item_set place new ys others.0 others.1) here in
-    subst (IsTypedState w) (same_state (record r { heap = slice_set r.heap o (instance c others.0) }) q others.2)
+    subst (MemoryFits w) (same_memory (record r { heap = slice_set r.heap o (instance c others.0) }) q others.2)
     (changed_fits w r o (instance c others.0) fits object)
 
 -- an object of the heap is that of the heap with more after it
@@ -141,21 +140,21 @@ front_at [] ys p x e = absurd cc
 front_at (y ∷ xs) ys zero x e = e
 front_at (y ∷ xs) ys (suc p) x e = front_at xs ys p x e
 
-given_is : (w : World) (o : ℕ) (after : Option State) → ((q : State) → after ≡ Some q → IsTypedState w q)
+given_is : (w : World) (o : ℕ) (after : Option Memory) → ((q : Memory) → after ≡ Some q → MemoryFits w q)
     → IsAnswer w (Some kinds.Reference) (builder_given o after)
 given_is w o None fits = tt
 given_is w o (Some q) fits = (refl, fits q refl)
 
-appended_is : (w : World) (r : State) (this : Option ℕ) (units : List ℕ) → IsTypedState w r
+appended_is : (w : World) (r : Memory) (this : Option ℕ) (units : List ℕ) → MemoryFits w r
     → IsAnswer w (Some kinds.Reference) (appended r this units)
 appended_is w r None units fits = tt
 appended_is w r (Some o) units fits = by (builder_text r o) refl
   where
-    set : (before : List ℕ) (q : State) (n : ℕ) → builder_text r o ≡ Some before
+    set : (before : List ℕ) (q : Memory) (n : ℕ) → builder_text r o ≡ Some before
         → with_value (record r { heap = r.heap ++ text (before ++ units) ∷ []; room = n }) o 0 (values.Ref (length r.heap)) ≡ Some q
-        → IsTypedState w (record r { heap = r.heap ++ text (before ++ units) ∷ []; room = n }) → IsTypedState w q
+        → MemoryFits w (record r { heap = r.heap ++ text (before ++ units) ∷ []; room = n }) → MemoryFits w q
     set before q n found e more =
-        let s : State = record r { heap = r.heap ++ text (before ++ units) ∷ []; room = n } in
+        let s : Memory = record r { heap = r.heap ++ text (before ++ units) ∷ []; room = n } in
         let vs = some_is (values_at r o) (λ fields. slice_get fields 0 >>= text_in r) before found in
         let old = some_is (slice_get vs.0 0) (text_in r) before vs.2 in
         let x = some_is (object_at r o) values_of vs.0 vs.1 in
@@ -182,7 +181,7 @@ appended_is w r (Some o) units fits = by (builder_text r o) refl
     by None found = tt
     by (Some before) found = made before found (nat_le (cells_of_units (length (before ++ units))) r.room)
 
-on_builder_is : (w : World) (result : Option ValueKind) (r : State) (this : Option ℕ) (act : ℕ → List ℕ → Answer)
+on_builder_is : (w : World) (result : Option ValueKind) (r : Memory) (this : Option ℕ) (act : ℕ → List ℕ → Answer)
     → ((o : ℕ) (units : List ℕ) → IsAnswer w result (act o units)) → IsAnswer w result (on_builder r this act)
 on_builder_is w result r None act each = tt
 on_builder_is w result r (Some o) act each = by (builder_text r o)
@@ -193,14 +192,14 @@ on_builder_is w result r (Some o) act each = by (builder_text r o)
 
 -- ---- output
 
-written_is : (w : World) (r : State) (stream : Option ℕ) (units : List ℕ) → IsTypedState w r → IsAnswer w None (written r stream units)
+written_is : (w : World) (r : Memory) (stream : Option ℕ) (units : List ℕ) → MemoryFits w r → IsAnswer w None (written r stream units)
 written_is w r None units fits = tt
 written_is w r (Some stream) units fits = by (stream == err_stream)
   where
     by : (b : Bool) → IsAnswer w None (returns
         (if b then record r { err = r.err ++ text_bytes units } else record r { out = r.out ++ text_bytes units }))
-    by true = (refl, record { values = record { heap = fits.values.heap; statics = fits.values.statics }; threads = fits.threads })
-    by false = (refl, record { values = record { heap = fits.values.heap; statics = fits.values.statics }; threads = fits.threads })
+    by true = (refl, record { heap = fits.heap; statics = fits.statics })
+    by false = (refl, record { heap = fits.heap; statics = fits.statics })
 
 -- ---- the table
 
@@ -211,7 +210,7 @@ kept : (w : World) (result : Option ValueKind) (known row : NativeRow) → ◌�
     → IsRow w result known → IsRow w result row
 kept w result known row e is = subst (IsRow w result) (inside known row e) is
 
-pub natives_keep : (w : World) (r : State) (n : Native) (row : NativeRow) → IsTypedState w r → native_row w r n ≡ Some row
+pub natives_keep : (w : World) (r : Memory) (n : Native) (row : NativeRow) → MemoryFits w r → native_row w r n ≡ Some row
     → IsRow w (native_result n) row
 natives_keep w r natives.ObjectInit row fits e = kept w None _ row e (λ this. (refl, fits))
 natives_keep w r natives.ObjectEquals row fits e = kept w (Some kinds.Int) _ row e (λ other this. (refl, fits))
@@ -249,7 +248,7 @@ natives_keep w r natives.StringBuilderLength row fits e =
 natives_keep w r natives.StringBuilderToString row fits e =
     kept w (Some kinds.Reference) _ row e (λ this. on_builder_is w (Some kinds.Reference) r this _ (λ o units. text_fits w r units fits))
 natives_keep w r natives.SystemExit row fits e =
-    kept w None _ row e (λ status. (refl, record { values = record { heap = fits.values.heap; statics = fits.values.statics }; threads = fits.threads }))
+    kept w None _ row e (λ status. (refl, record { heap = fits.heap; statics = fits.statics }))
 natives_keep w r natives.PrintStreamPrintln row fits e = kept w None _ row e (λ stream. written_is w r stream (line []) fits)
 natives_keep w r natives.PrintStreamPrintlnInt row fits e = kept w None _ row e (λ n stream. written_is w r stream (line (decimal_text n)) fits)
 natives_keep w r natives.PrintStreamPrintlnLong row fits e = kept w None _ row e (λ n stream. written_is w r stream (line (decimal_text n)) fits)

@@ -34,14 +34,13 @@ use Rattle.ref_model.specs.declared.exception.Exception.TheVariants as exception
 use Rattle.ref_model.specs.Classes.{is_sub}
 use Rattle.ref_model.specs.Kinds.{zero_of_kind, zero_of, value_kind, kind_of_elements}
 use Rattle.ref_model.specs.Members.{instance_fields, field_zero, new_values}
-use Rattle.ref_model.specs.State.{State}
+use Rattle.ref_model.specs.Memory.{Memory}
 use Rattle.ref_model.specs.Heap.{class_at, cells_of_values, with_objects, with_instance}
 use Rattle.ref_model.specs.Fetch.{class_of}
 use Rattle.ref_model.specs.Effects.{Effect, done, gives, gives_new, throws}
 use Rattle.ref_model.specs.Arrays.{element_zero, with_array, not_negative, array_made}
 use Rattle.ref_model.specs.Instances.{object_made, cast, object_cast, judged, object_judged}
-use Rattle.frame_soundness.specs.StateKinds.{IsOfKind, kind_of_field, field_kind, ValuesFit, ObjectFits}
-use Rattle.frame_soundness.specs.TypedStates.{IsTypedState}
+use Rattle.frame_soundness.specs.StateKinds.{IsOfKind, kind_of_field, field_kind, ValuesFit, ObjectFits, MemoryFits}
 use Rattle.frame_soundness.specs.EventLaws.{IsKept, IsObjectResolution}
 use Rattle.frame_soundness.proofs.Arguments.{on_top}
 use Rattle.frame_soundness.proofs.Exceptions.{class_kind}
@@ -59,7 +58,7 @@ as_class w class (slot ∷ rest) of =
 same_pair : (a b : ℕ × List VType) → ◌≡◌ {A = Result (ℕ × List VType) RowWhy} (Ok a) (Ok b) → a ≡ b
 same_pair a b e = cc
 
-cast_keeps : (w : World) (class : ℕ) (r : State) (reference : Option ℕ) (ts : List VType) (xs : List Slot) (effect : Effect) → IsTypedState w r
+cast_keeps : (w : World) (class : ℕ) (r : Memory) (reference : Option ℕ) (ts : List VType) (xs : List Slot) (effect : Effect) → MemoryFits w r
     → AreOf ts xs → cast w class r reference xs ≡ Some effect → IsKept w ts effect
 cast_keeps w class r None ts xs effect fits of e = kept_is w ts (done r xs) effect e (fits, of)
 cast_keeps w class r (Some o) ts xs effect fits of e =
@@ -70,8 +69,8 @@ cast_keeps w class r (Some o) ts xs effect fits of e =
     by true = (fits, of)
     by false = tt
 
-pub casts_keep : (w : World) (resolution : Resolution) (r : State) (ts rest : List VType) (class : ℕ) (xs : List Slot) (effect : Effect)
-    → IsTypedState w r → AreOf ts xs → object_taken w resolution ts ≡ Ok (class, rest) → object_cast w resolution r xs ≡ Some effect
+pub casts_keep : (w : World) (resolution : Resolution) (r : Memory) (ts rest : List VType) (class : ℕ) (xs : List Slot) (effect : Effect)
+    → MemoryFits w r → AreOf ts xs → object_taken w resolution ts ≡ Ok (class, rest) → object_cast w resolution r xs ≡ Some effect
     → IsKept w (class_type w class ∷ rest) effect
 casts_keep w resolution r ts rest class xs effect fits of taken e =
     let c = ok_is (typed_class resolution.site) (λ class. wanted w (object_type w) ts then λ (rest : List VType). Ok (class, rest)) (class, rest) taken in
@@ -89,8 +88,8 @@ casts_keep w resolution r ts rest class xs effect fits of taken e =
 
 -- ---- instanceof
 
-judged_keeps : (w : World) (class : ℕ) (r : State) (reference : Option ℕ) (rest : List VType) (left : List Slot) (effect : Effect)
-    → IsTypedState w r → AreOf rest left → judged w class r reference left ≡ Some effect → IsKept w (types.Int ∷ rest) effect
+judged_keeps : (w : World) (class : ℕ) (r : Memory) (reference : Option ℕ) (rest : List VType) (left : List Slot) (effect : Effect)
+    → MemoryFits w r → AreOf rest left → judged w class r reference left ≡ Some effect → IsKept w (types.Int ∷ rest) effect
 judged_keeps w class r None rest left effect fits of e =
     kept_is w (types.Int ∷ rest) (gives r (values.Int (pos 0)) left) effect e
     (fits, pushed_kinds types.Int (values.Int (pos 0)) rest left refl of)
@@ -100,8 +99,8 @@ judged_keeps w class r (Some o) rest left effect fits of e =
     kept_is w (types.Int ∷ rest) (gives r (values.Int n) left) effect c.2
     (fits, pushed_kinds types.Int (values.Int n) rest left refl of)
 
-pub judgements_keep : (w : World) (resolution : Resolution) (r : State) (ts rest : List VType) (class : ℕ) (xs : List Slot) (effect : Effect)
-    → IsTypedState w r → AreOf ts xs → object_taken w resolution ts ≡ Ok (class, rest) → object_judged w resolution r xs ≡ Some effect
+pub judgements_keep : (w : World) (resolution : Resolution) (r : Memory) (ts rest : List VType) (class : ℕ) (xs : List Slot) (effect : Effect)
+    → MemoryFits w r → AreOf ts xs → object_taken w resolution ts ≡ Ok (class, rest) → object_judged w resolution r xs ≡ Some effect
     → IsKept w (types.Int ∷ rest) effect
 judgements_keep w resolution r ts rest class xs effect fits of taken e =
     let c = ok_is (typed_class resolution.site) (λ class. wanted w (object_type w) ts then λ (rest : List VType). Ok (class, rest)) (class, rest) taken in
@@ -132,21 +131,18 @@ each_at P [] n x each e = absurd cc
 each_at P (y ∷ ys) zero x each e = let same : y ≡ x = cc in subst P same each.0
 each_at P (y ∷ ys) (suc n) x each e = each_at P ys n x each.1 e
 
--- the state with new objects
-pub more_fits : (w : World) (r : State) (cells : ℕ) (objects : List Object) → IsTypedState w r → Each (ObjectFits w) objects
-    → IsTypedState w (record r { heap = r.heap ++ objects; room = r.room - cells })
-more_fits w r cells objects fits each = record {
-  values = record { heap = λ p y e. by p y (join_at r.heap objects p y e); statics = fits.values.statics };
-  threads = fits.threads;
-}
+-- the memory with new objects
+pub more_fits : (w : World) (r : Memory) (cells : ℕ) (objects : List Object) → MemoryFits w r → Each (ObjectFits w) objects
+    → MemoryFits w (record r { heap = r.heap ++ objects; room = r.room - cells })
+more_fits w r cells objects fits each = record { heap = λ p y e. by p y (join_at r.heap objects p y e); statics = fits.statics }
   where
     by : (p : ℕ) (y : Object) → (slice_get r.heap p ≡ Some y) ⊎ Later objects y → ObjectFits w y
-    by p y (inl e) = fits.values.heap p y e
+    by p y (inl e) = fits.heap p y e
     by p y (inr later) = each_at (ObjectFits w) objects later.place y each later.is
 
 -- a new object is pushed, where there is room
-pub made_keeps : (w : World) (r : State) (cells : ℕ) (objects : List Object) (t : VType) (rest : List VType) (left : List Slot)
-    (effect : Effect) → IsTypedState w r → Each (ObjectFits w) objects → kind_of_type t ≡ Some kinds.Reference → AreOf rest left
+pub made_keeps : (w : World) (r : Memory) (cells : ℕ) (objects : List Object) (t : VType) (rest : List VType) (left : List Slot)
+    (effect : Effect) → MemoryFits w r → Each (ObjectFits w) objects → kind_of_type t ≡ Some kinds.Reference → AreOf rest left
     → ◌≡◌ {A = Option Effect} (Some (gives_new (with_objects r cells objects) left)) (Some effect) → IsKept w (type_pushed t rest) effect
 made_keeps w r cells objects t rest left effect fits each kind of e =
     kept_is w (type_pushed t rest) (gives_new (with_objects r cells objects) left) effect e (by (nat_le cells r.room))
@@ -177,8 +173,8 @@ pub new_fits : (w : World) (class : ℕ) → array_type w class ≡ None → Obj
 new_fits w class no_array =
     subst (ValuesFit w class (new_values w class)) (sym no_array) (zeros_fit w (instance_fields w class))
 
-pub new_objects_keep : (w : World) (resolution : Resolution) (r : State) (pc : ℕ) (ts : List VType) (xs : List Slot) (effect : Effect)
-    → IsObjectResolution w resolution → IsTypedState w r → AreOf ts xs → object_made w resolution r xs ≡ Some effect
+pub new_objects_keep : (w : World) (resolution : Resolution) (r : Memory) (pc : ℕ) (ts : List VType) (xs : List Slot) (effect : Effect)
+    → IsObjectResolution w resolution → MemoryFits w r → AreOf ts xs → object_made w resolution r xs ≡ Some effect
     → IsKept w (types.Uninit pc ∷ ts) effect
 new_objects_keep w resolution r pc ts xs effect no_array fits of e =
     let class = some_is (class_of resolution.site) (λ class. Some (gives_new (with_instance r class (new_values w class)) xs)) effect e in
@@ -201,8 +197,8 @@ array_fits w class n v e =
     inside : (a b : Value) → ◌≡◌ {A = Option Value} (Some a) (Some b) → a ≡ b
     inside a b e = cc
 
-pub new_arrays_keep : (w : World) (resolution : Resolution) (r : State) (t : VType) (ts : List VType) (x : VType × List VType) (xs : List Slot)
-    (effect : Effect) → IsTypedState w r → AreOf ts xs → kind_of_type t ≡ Some kinds.Reference → type_popped kinds.Int ts ≡ Ok x
+pub new_arrays_keep : (w : World) (resolution : Resolution) (r : Memory) (t : VType) (ts : List VType) (x : VType × List VType) (xs : List Slot)
+    (effect : Effect) → MemoryFits w r → AreOf ts xs → kind_of_type t ≡ Some kinds.Reference → type_popped kinds.Int ts ≡ Ok x
     → array_made w resolution r xs ≡ Some effect → IsKept w (type_pushed t x.1) effect
 new_arrays_keep w resolution r t ts taken_types xs effect fits of kind taken e =
     let rest = taken_types.1 in

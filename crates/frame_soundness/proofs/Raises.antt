@@ -16,7 +16,7 @@ use Rattle.frame_soundness.specs.Typed.{Thrown}
 use Rattle.frame_soundness.specs.TypedStates.{IsTypedState}
 use Rattle.frame_soundness.specs.ThrowLaws.{OfFrames}
 use Rattle.frame_soundness.proofs.ObjectLaws.{more_fits, new_fits}
-use Rattle.frame_soundness.proofs.ThreadLaws.{throwing_keeps}
+use Rattle.frame_soundness.proofs.ThreadLaws.{memory_keeps, throwing_keeps}
 
 -- a class with a name is no array class
 pub name_is_class : (w : World) (name : List ℕ) (class : ℕ) → name_number w name ≡ Some class → array_type w class ≡ None
@@ -34,19 +34,20 @@ same_state a b e = cc
 pub raises_keep : (w : World) (r q : State) (t : ℕ) (e : Exception) → IsTypedState w r → OfFrames r t (Thrown w) → raised w r t e ≡ Some q
     → IsTypedState w q
 raises_keep w r q t e typed good made =
-    let class = some_is (name_number w (exception_name e)) (λ class. Some (throwing_new r t (with_instance r class (new_values w class)))) q made in
+    let class = some_is (name_number w (exception_name e)) (λ class. Some (throwing_new r t (with_instance r.memory class (new_values w class)))) q made in
     let values = new_values w class.0 in
-    subst (IsTypedState w) (same_state (throwing_new r t (with_instance r class.0 values)) q class.2)
-    (by class.0 (name_is_class w (exception_name e) class.0 class.1) (nat_le (cells_of_values (length (new_values w class.0))) r.room))
+    subst (IsTypedState w) (same_state (throwing_new r t (with_instance r.memory class.0 values)) q class.2)
+    (by class.0 (name_is_class w (exception_name e) class.0 class.1) (nat_le (cells_of_values (length (new_values w class.0))) r.memory.room))
   where
     by : (class : ℕ) → array_type w class ≡ None → (b : Bool) → IsTypedState w (throwing_new r t (if b then Some (
-      record r {
-        heap = r.heap ++ instance class (new_values w class) ∷ [];
-        room = r.room - cells_of_values (length (new_values w class));
+      record r.memory {
+        heap = r.memory.heap ++ instance class (new_values w class) ∷ [];
+        room = r.memory.room - cells_of_values (length (new_values w class));
       },
-      length r.heap,
+      length r.memory.heap,
     ) else None))
     by class no_array false = throwing_keeps w r t out_of_memory typed good
     by class no_array true =
-        throwing_keeps w _ t _ (more_fits w r (cells_of_values (length (new_values w class))) (instance class (new_values w class) ∷ []) typed
-        (new_fits w class no_array, tt)) (λ x at. good x at)
+        throwing_keeps w _ t _ (memory_keeps w r _ typed
+        (more_fits w r.memory (cells_of_values (length (new_values w class))) (instance class (new_values w class) ∷ []) typed.values
+        (new_fits w class no_array, tt))) (λ x at. good x at)

@@ -1,4 +1,4 @@
--- One thread of a state that keeps to the typing is changed.
+-- One thread, or the memory, of a state that keeps to the typing is changed.
 use Rattle.std.proofs.Common.{◌≡◌, ◌⊎◌, inl, inr, ℕ, List, [], Option, Some, None, refl, ap, sym, subst, ◌∙◌}
 use Rattle.std.specs.Prelude.{slice_get, slice_set}
 use Rattle.std.specs.Option.{option_map_or}
@@ -8,18 +8,26 @@ use Rattle.vthread_state.specs.declared.thread.Status.{Status}
 use Rattle.vthread_state.specs.declared.thread.Status.TheVariants.{New, Live, Done}
 use Rattle.link_model.specs.World.{World}
 use Rattle.state_model.specs.Frames.{Frame}
-use Rattle.ref_model.specs.State.{JavaThread, State, with_thread, with_frames}
+use Rattle.ref_model.specs.Memory.{Memory}
+use Rattle.ref_model.specs.State.{JavaThread, State, with_memory, with_thread, with_frames}
 use Rattle.ref_model.specs.Throwing.{throwing, finished}
 use Rattle.frame_soundness.specs.Typed.{Typed, Thrown}
+use Rattle.frame_soundness.specs.StateKinds.{MemoryFits}
 use Rattle.frame_soundness.specs.TypedStates.{AreOfPhase, AreOfStatus, IsTypedThread, IsTypedState}
 use Rattle.frame_soundness.specs.ThrowLaws.{OfFrames}
 use Rattle.frame_soundness.proofs.Exceptions.{thrown}
 use Rattle.frame_soundness.proofs.FieldLaws.{set_at}
 
+-- another memory whose values have their kinds
+pub memory_keeps : (w : World) (r : State) (memory : Memory) → IsTypedState w r → MemoryFits w memory → IsTypedState w (with_memory r memory)
+memory_keeps w r memory typed fits = record { values = fits; threads = typed.threads }
+
+-- ---- one thread
+
 pub thread_set : (w : World) (r : State) (t : ℕ) (y : JavaThread) → IsTypedState w r → IsTypedThread w y
     → IsTypedState w (record r { threads = slice_set r.threads t y })
 thread_set w r t y typed good = record {
-  values = record { heap = typed.values.heap; statics = typed.values.statics };
+  values = typed.values;
   threads = λ p x e. by p x (set_at r.threads t y p x e);
 }
   where

@@ -11,12 +11,12 @@ use Rattle.verify_types.specs.Typing.{AreTyped}
 use Rattle.state_model.specs.Frames.{Frame}
 use Rattle.ref_model.specs.Kinds.{argument_slots}
 use Rattle.ref_model.specs.Members.{native_at}
-use Rattle.ref_model.specs.State.{State}
+use Rattle.ref_model.specs.Memory.{Memory}
 use Rattle.ref_model.specs.Fetch.{Named, named_method}
 use Rattle.ref_model.specs.Effects.{Effect, done, invokes, throws, throws_object}
 use Rattle.ref_model.specs.Calls.{entered}
 use Rattle.frame_soundness.specs.Typed.{Typed}
-use Rattle.frame_soundness.specs.TypedStates.{IsTypedState}
+use Rattle.frame_soundness.specs.StateKinds.{MemoryFits}
 use Rattle.frame_soundness.specs.CallLaws.{takes_receiver}
 use Rattle.frame_soundness.specs.NativeKinds.{FitsNative}
 use Rattle.frame_soundness.specs.StepKinds.{GoesOnBehind}
@@ -48,8 +48,8 @@ IsCallResult w f below next (throws e) = Unit {0}
 IsCallResult w f below next (throws_object o) = Unit {0}
 
 abbrev pub MethodsAreEntered : Type 0
-MethodsAreEntered = (w : World) (f : Frame) (below : List Frame) (invocation : Invocation) (index depth : ℕ) (m chosen : Named) (r : State)
-    (effect : Effect) → AreTyped w → IsTypedState w r → (t : Typed w (f ∷ below)) →
+MethodsAreEntered = (w : World) (f : Frame) (below : List Frame) (invocation : Invocation) (index depth : ℕ) (m chosen : Named) (r : Memory)
+    (effect : Effect) → AreTyped w → MemoryFits w r → (t : Typed w (f ∷ below)) →
     row_of t.0.at.place.instruction ≡ invoke invocation index → takes_receiver invocation ≡ true →
     named_method w t.0.at.place.instruction.resolution ≡ Some m → slice_get w.methods chosen.number ≡ Some chosen.method →
     IsChosen w m chosen →
@@ -58,8 +58,8 @@ MethodsAreEntered = (w : World) (f : Frame) (below : List Frame) (invocation : I
 
 -- A static method is entered by its invokestatic.
 abbrev pub StaticsAreEntered : Type 0
-StaticsAreEntered = (w : World) (f : Frame) (below : List Frame) (index depth : ℕ) (m : Named) (r : State) (effect : Effect) →
-    AreTyped w → IsTypedState w r → (t : Typed w (f ∷ below)) → row_of t.0.at.place.instruction ≡ invoke static index →
+StaticsAreEntered = (w : World) (f : Frame) (below : List Frame) (index depth : ℕ) (m : Named) (r : Memory) (effect : Effect) →
+    AreTyped w → MemoryFits w r → (t : Typed w (f ∷ below)) → row_of t.0.at.place.instruction ≡ invoke static index →
     named_method w t.0.at.place.instruction.resolution ≡ Some m → IsOfClass w m →
     entered w r depth m (argument_slots m.method.signature) f.stack ≡ Some effect →
     IsCallResult w f below t.0.at.place.instruction.instr.next effect

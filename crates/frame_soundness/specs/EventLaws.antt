@@ -18,20 +18,19 @@ use Rattle.link_model.specs.World.{World, array_type, class_type}
 use Rattle.verify_types.specs.Objects.{static_gotten as get_static_types, static_put as put_static_types, field_gotten as get_field_types, field_put as put_field_types, array_loaded as array_load_types, array_stored as array_store_types, length_gotten as length_types, object_taken}
 use Rattle.ref_model.specs.Classes.{is_sub}
 use Rattle.ref_model.specs.Members.{is_static_field, instance_fields, field_place}
-use Rattle.ref_model.specs.State.{State}
+use Rattle.ref_model.specs.Memory.{Memory}
 use Rattle.ref_model.specs.Heap.{class_at}
 use Rattle.ref_model.specs.Fetch.{field_of, class_of}
 use Rattle.ref_model.specs.Effects.{Effect, done, invokes, throws, throws_object}
 use Rattle.ref_model.specs.Fields.{stored, static_gotten, static_put, field_gotten, field_put}
 use Rattle.ref_model.specs.Arrays.{array_loaded, array_stored, length_gotten, array_made, arrays_made}
 use Rattle.ref_model.specs.Instances.{object_made, object_cast, object_judged}
-use Rattle.frame_soundness.specs.StateKinds.{HasFieldKinds}
-use Rattle.frame_soundness.specs.TypedStates.{IsTypedState}
+use Rattle.frame_soundness.specs.StateKinds.{HasFieldKinds, MemoryFits}
 
--- What an effect leaves, where the operands after the instruction have these types: values of their kinds, in the state and on the operand
+-- What an effect leaves, where the operands after the instruction have these types: values of their kinds, in memory and on the operand
 -- stack. An exception changes nothing.
 abbrev pub IsKept : World → List VType → Effect → Type 0
-IsKept w rest (done q stack) = IsTypedState w q × AreOf rest stack
+IsKept w rest (done q stack) = MemoryFits w q × AreOf rest stack
 IsKept w rest (invokes g stack) = ⊥
 IsKept w rest (throws e) = Unit {0}
 IsKept w rest (throws_object o) = Unit {0}
@@ -47,7 +46,7 @@ IsInstanceResolution w resolution class = (n named place : ℕ) → field_of res
     (slice_get (instance_fields w class) place ≡ Some n) × (array_type w class ≡ None)
 
 -- what holds of the class of the object that is at hand, if it isn't null
-abbrev pub OfReceiver : World → State → Option ℕ → (ℕ → Type 0) → Type 0
+abbrev pub OfReceiver : World → Memory → Option ℕ → (ℕ → Type 0) → Type 0
 OfReceiver w r reference Holds = (o class : ℕ) → reference ≡ Some o → class_at w r o ≡ Some class → Holds class
 
 -- the object on which getfield works: the reference on top
@@ -60,53 +59,53 @@ put_object w resolution stack =
     field_of resolution.site >>= λ n. slice_get w.fields n >>= λ f. stored f stack >>= λ x. popped kinds.Reference x.1 >>= λ y. y.0
 
 abbrev pub StaticGetsKeep : Type 0
-StaticGetsKeep = (w : World) (resolution : Resolution) (r : State) (ts rest : List VType) (xs : List Slot) (effect : Effect) →
-    HasFieldKinds w → IsStaticResolution w resolution → IsTypedState w r → AreOf ts xs → get_static_types w resolution ts ≡ Ok rest →
+StaticGetsKeep = (w : World) (resolution : Resolution) (r : Memory) (ts rest : List VType) (xs : List Slot) (effect : Effect) →
+    HasFieldKinds w → IsStaticResolution w resolution → MemoryFits w r → AreOf ts xs → get_static_types w resolution ts ≡ Ok rest →
     static_gotten w resolution r xs ≡ Some effect → IsKept w rest effect
 
 abbrev pub StaticPutsKeep : Type 0
-StaticPutsKeep = (w : World) (resolution : Resolution) (r : State) (ts rest : List VType) (xs : List Slot) (effect : Effect) →
-    HasFieldKinds w → IsStaticResolution w resolution → IsTypedState w r → AreOf ts xs → put_static_types w resolution ts ≡ Ok rest →
+StaticPutsKeep = (w : World) (resolution : Resolution) (r : Memory) (ts rest : List VType) (xs : List Slot) (effect : Effect) →
+    HasFieldKinds w → IsStaticResolution w resolution → MemoryFits w r → AreOf ts xs → put_static_types w resolution ts ≡ Ok rest →
     static_put w resolution r xs ≡ Some effect → IsKept w rest effect
 
 abbrev pub FieldGetsKeep : Type 0
-FieldGetsKeep = (w : World) (resolution : Resolution) (r : State) (ts rest : List VType) (xs : List Slot) (effect : Effect) →
-    HasFieldKinds w → OfReceiver w r (got_object xs) (IsInstanceResolution w resolution) → IsTypedState w r → AreOf ts xs →
+FieldGetsKeep = (w : World) (resolution : Resolution) (r : Memory) (ts rest : List VType) (xs : List Slot) (effect : Effect) →
+    HasFieldKinds w → OfReceiver w r (got_object xs) (IsInstanceResolution w resolution) → MemoryFits w r → AreOf ts xs →
     get_field_types w resolution ts ≡ Ok rest →
     field_gotten w resolution r xs ≡ Some effect → IsKept w rest effect
 
 abbrev pub FieldPutsKeep : Type 0
-FieldPutsKeep = (w : World) (resolution : Resolution) (r : State) (own : ℕ) (ts rest : List VType) (xs : List Slot) (effect : Effect) →
-    HasFieldKinds w → OfReceiver w r (put_object w resolution xs) (IsInstanceResolution w resolution) → IsTypedState w r → AreOf ts xs →
+FieldPutsKeep = (w : World) (resolution : Resolution) (r : Memory) (own : ℕ) (ts rest : List VType) (xs : List Slot) (effect : Effect) →
+    HasFieldKinds w → OfReceiver w r (put_object w resolution xs) (IsInstanceResolution w resolution) → MemoryFits w r → AreOf ts xs →
     put_field_types w own resolution ts ≡ Ok rest →
     field_put w resolution r xs ≡ Some effect → IsKept w rest effect
 
 -- ---- arrays
 
 abbrev pub ArrayLoadsKeep : Type 0
-ArrayLoadsKeep = (w : World) (element : Element) (r : State) (ts rest : List VType) (xs : List Slot) (effect : Effect) →
-    IsTypedState w r → AreOf ts xs → array_load_types element ts ≡ Ok rest → array_loaded w element r xs ≡ Some effect →
+ArrayLoadsKeep = (w : World) (element : Element) (r : Memory) (ts rest : List VType) (xs : List Slot) (effect : Effect) →
+    MemoryFits w r → AreOf ts xs → array_load_types element ts ≡ Ok rest → array_loaded w element r xs ≡ Some effect →
     IsKept w rest effect
 
 abbrev pub ArrayStoresKeep : Type 0
-ArrayStoresKeep = (w : World) (element : Element) (r : State) (ts rest : List VType) (xs : List Slot) (effect : Effect) →
-    IsTypedState w r → AreOf ts xs → array_store_types w element ts ≡ Ok rest → array_stored w element r xs ≡ Some effect →
+ArrayStoresKeep = (w : World) (element : Element) (r : Memory) (ts rest : List VType) (xs : List Slot) (effect : Effect) →
+    MemoryFits w r → AreOf ts xs → array_store_types w element ts ≡ Ok rest → array_stored w element r xs ≡ Some effect →
     IsKept w rest effect
 
 abbrev pub LengthsKeep : Type 0
-LengthsKeep = (w : World) (r : State) (ts rest : List VType) (xs : List Slot) (effect : Effect) →
-    IsTypedState w r → AreOf ts xs → length_types ts ≡ Ok rest → length_gotten w r xs ≡ Some effect → IsKept w rest effect
+LengthsKeep = (w : World) (r : Memory) (ts rest : List VType) (xs : List Slot) (effect : Effect) →
+    MemoryFits w r → AreOf ts xs → length_types ts ≡ Ok rest → length_gotten w r xs ≡ Some effect → IsKept w rest effect
 
 -- ---- objects
 
 abbrev pub CastsKeep : Type 0
-CastsKeep = (w : World) (resolution : Resolution) (r : State) (ts rest : List VType) (class : ℕ) (xs : List Slot) (effect : Effect) →
-    IsTypedState w r → AreOf ts xs → object_taken w resolution ts ≡ Ok (class, rest) → object_cast w resolution r xs ≡ Some effect →
+CastsKeep = (w : World) (resolution : Resolution) (r : Memory) (ts rest : List VType) (class : ℕ) (xs : List Slot) (effect : Effect) →
+    MemoryFits w r → AreOf ts xs → object_taken w resolution ts ≡ Ok (class, rest) → object_cast w resolution r xs ≡ Some effect →
     IsKept w (class_type w class ∷ rest) effect
 
 abbrev pub JudgementsKeep : Type 0
-JudgementsKeep = (w : World) (resolution : Resolution) (r : State) (ts rest : List VType) (class : ℕ) (xs : List Slot) (effect : Effect) →
-    IsTypedState w r → AreOf ts xs → object_taken w resolution ts ≡ Ok (class, rest) → object_judged w resolution r xs ≡ Some effect →
+JudgementsKeep = (w : World) (resolution : Resolution) (r : Memory) (ts rest : List VType) (class : ℕ) (xs : List Slot) (effect : Effect) →
+    MemoryFits w r → AreOf ts xs → object_taken w resolution ts ≡ Ok (class, rest) → object_judged w resolution r xs ≡ Some effect →
     IsKept w (types.Int ∷ rest) effect
 
 -- What linking gives: new names no array class (JVMS 6.5).
@@ -114,14 +113,14 @@ abbrev pub IsObjectResolution : World → Resolution → Type 0
 IsObjectResolution w resolution = (class : ℕ) → class_of resolution.site ≡ Some class → array_type w class ≡ None
 
 abbrev pub NewObjectsKeep : Type 0
-NewObjectsKeep = (w : World) (resolution : Resolution) (r : State) (pc : ℕ) (ts : List VType) (xs : List Slot) (effect : Effect) →
-    IsObjectResolution w resolution → IsTypedState w r → AreOf ts xs → object_made w resolution r xs ≡ Some effect →
+NewObjectsKeep = (w : World) (resolution : Resolution) (r : Memory) (pc : ℕ) (ts : List VType) (xs : List Slot) (effect : Effect) →
+    IsObjectResolution w resolution → MemoryFits w r → AreOf ts xs → object_made w resolution r xs ≡ Some effect →
     IsKept w (types.Uninit pc ∷ ts) effect
 
 -- an array of any type, whose length is the int on top
 abbrev pub NewArraysKeep : Type 0
-NewArraysKeep = (w : World) (resolution : Resolution) (r : State) (t : VType) (ts : List VType) (x : VType × List VType) (xs : List Slot)
-    (effect : Effect) → IsTypedState w r → AreOf ts xs → kind_of_type t ≡ Some kinds.Reference → type_popped kinds.Int ts ≡ Ok x →
+NewArraysKeep = (w : World) (resolution : Resolution) (r : Memory) (t : VType) (ts : List VType) (x : VType × List VType) (xs : List Slot)
+    (effect : Effect) → MemoryFits w r → AreOf ts xs → kind_of_type t ≡ Some kinds.Reference → type_popped kinds.Int ts ≡ Ok x →
     array_made w resolution r xs ≡ Some effect → IsKept w (type_pushed t x.1) effect
 
 -- What a linked world has: an array type has one dimension at least (JVMS 4.3.2).
@@ -130,7 +129,7 @@ HasDimensions w = Each (λ (a : ArrayType). 1 ≤ a.dimensions) w.arrays
 
 -- multianewarray, of so many lengths
 abbrev pub NewArraysOfArraysKeep : Type 0
-NewArraysOfArraysKeep = (w : World) (resolution : Resolution) (r : State) (dimensions : ℕ) (t : VType) (ts rest : List VType) (xs : List Slot)
-    (effect : Effect) → HasDimensions w → IsTypedState w r → AreOf ts xs → kind_of_type t ≡ Some kinds.Reference →
+NewArraysOfArraysKeep = (w : World) (resolution : Resolution) (r : Memory) (dimensions : ℕ) (t : VType) (ts rest : List VType) (xs : List Slot)
+    (effect : Effect) → HasDimensions w → MemoryFits w r → AreOf ts xs → kind_of_type t ≡ Some kinds.Reference →
     types_popped (replicate dimensions kinds.Int) ts ≡ Ok rest → arrays_made w dimensions resolution r xs ≡ Some effect →
     IsKept w (type_pushed t rest) effect

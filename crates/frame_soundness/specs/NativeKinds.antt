@@ -1,17 +1,16 @@
 -- Native methods by the kinds of what they take and give back, and descriptors by the same: what can be tested of a native method.
-use Rattle.std.specs.Prelude.{◌≡◌, Bool, true, false, List, [], ◌∷◌, ◌++◌, Option, Some, None, ◌==◌, if◌then◌else◌}
+use Rattle.std.specs.Prelude.{◌≡◌, Bool, true, false, List, ◌++◌, Option, Some, None, ◌==◌, if◌then◌else◌}
 use Rattle.descriptors.specs.declared.kind.ElementType.{ElementType}
 use Rattle.descriptors.specs.declared.kind.ElementType.TheVariants as elements
 use Rattle.descriptors.specs.declared.kind.Kind.{Kind as FieldType}
 use Rattle.descriptors.specs.declared.kind.Signature.{Signature}
 use Rattle.lib_table.specs.declared.native.Native.{Native}
 use Rattle.opcodes.specs.declared.op.ValueKind.{ValueKind}
-use Rattle.opcodes.specs.declared.op.ValueKind.TheVariants as kinds
 use Rattle.instruction_rows.specs.Kinds.{kind_of_type}
 use Rattle.link_model.specs.World.{World}
 use Rattle.verify_types.specs.ClassTypes.{type_of_kind}
 use Rattle.ref_model.specs.Kinds.{value_kind}
-use Rattle.ref_model.specs.State.{State}
+use Rattle.ref_model.specs.Memory.{Memory}
 use Rattle.ref_model.specs.NativeRows.{row_kinds}
 use Rattle.ref_model.specs.Natives.{native_row, native_takes}
 use Rattle.ref_model.specs.Operands.{argument_kinds}
@@ -36,7 +35,7 @@ TypesHaveKinds = (w : World) (t : FieldType) → has_kind t ≡ true → kind_of
 
 -- what is said of the kinds that a native method takes are those of its row
 abbrev pub NativesTake : Type 0
-NativesTake = (w : World) (r : State) (n : Native) → row_kinds (native_row w r n) ≡ native_takes n
+NativesTake = (w : World) (r : Memory) (n : Native) → row_kinds (native_row w r n) ≡ native_takes n
 
 -- ---- a native method fits its descriptor
 

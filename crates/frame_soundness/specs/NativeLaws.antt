@@ -1,4 +1,4 @@
--- What native methods do to a state whose values have the kinds of the typing, and what they give back.
+-- What native methods do to a memory whose values have the kinds of the typing, and what they give back.
 use Rattle.std.specs.Prelude.{◌≡◌, List, [], ◌∷◌, Option, Some, None, Ok}
 use Rattle.lib_table.specs.declared.native.Native.{Native}
 use Rattle.lib_table.specs.declared.native.Native.TheVariants as natives
@@ -10,12 +10,12 @@ use Rattle.instruction_rows.specs.Kinds.{Of, Function, kind_of, kind_of_type}
 use Rattle.instruction_rows.specs.TypeEffect.{types_popped}
 use Rattle.instruction_rows.specs.Soundness.{AreOf}
 use Rattle.link_model.specs.World.{World}
-use Rattle.ref_model.specs.State.{State}
+use Rattle.ref_model.specs.Memory.{Memory}
 use Rattle.ref_model.specs.Effects.{Effect}
 use Rattle.ref_model.specs.NativeRows.{Answer, returns, returns_value, fails, NativeRow, native, native_acted}
 use Rattle.ref_model.specs.Natives.{native_row}
 use Rattle.frame_soundness.specs.Typed.{given_back}
-use Rattle.frame_soundness.specs.TypedStates.{IsTypedState}
+use Rattle.frame_soundness.specs.StateKinds.{MemoryFits}
 use Rattle.frame_soundness.specs.EventLaws.{IsKept}
 
 -- the kind of what a native method gives back, by its descriptor; of a method without a result, and of one that has no row, None
@@ -45,8 +45,8 @@ native_result n = None
 
 -- an answer with a result of this kind, or without one
 abbrev pub IsAnswer : World → Option ValueKind → Answer → Type 0
-IsAnswer w result (returns q) = (result ≡ None) × IsTypedState w q
-IsAnswer w result (returns_value q v) = (result ≡ Some (kind_of v)) × IsTypedState w q
+IsAnswer w result (returns q) = (result ≡ None) × MemoryFits w q
+IsAnswer w result (returns_value q v) = (result ≡ Some (kind_of v)) × MemoryFits w q
 IsAnswer w result (fails e) = Unit {0}
 
 -- what holds of a function of values of these kinds, whatever they are
@@ -57,9 +57,9 @@ Always P (k ∷ ks) f = (x : Of k) → Always P ks (f x)
 abbrev pub IsRow : World → Option ValueKind → NativeRow → Type 0
 IsRow w result (native takes act) = Always (IsAnswer w result) takes act
 
--- A native method keeps the state's values of their kinds, and gives back what its descriptor says.
+-- A native method keeps the memory's values of their kinds, and gives back what its descriptor says.
 abbrev pub NativesKeep : Type 0
-NativesKeep = (w : World) (r : State) (n : Native) (row : NativeRow) → IsTypedState w r → native_row w r n ≡ Some row →
+NativesKeep = (w : World) (r : Memory) (n : Native) (row : NativeRow) → MemoryFits w r → native_row w r n ≡ Some row →
     IsRow w (native_result n) row
 
 -- ---- on the operand stack
@@ -72,7 +72,7 @@ IsBack back result = ⊥
 
 -- A native method takes its operands, and leaves what it gives back on what lies below them.
 abbrev pub NativesGoOn : Type 0
-NativesGoOn = (w : World) (r : State) (n : Native) (takes : List ValueKind) (act : Function takes Answer) (back : Option VType)
-    (ts rest : List VType) (xs : List Slot) (effect : Effect) → IsTypedState w r → native_row w r n ≡ Some (native takes act) →
+NativesGoOn = (w : World) (r : Memory) (n : Native) (takes : List ValueKind) (act : Function takes Answer) (back : Option VType)
+    (ts rest : List VType) (xs : List Slot) (effect : Effect) → MemoryFits w r → native_row w r n ≡ Some (native takes act) →
     types_popped takes ts ≡ Ok rest → AreOf ts xs → IsBack back (native_result n) →
     native_acted (native takes act) xs ≡ Some effect → IsKept w (given_back back rest) effect

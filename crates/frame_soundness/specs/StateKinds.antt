@@ -14,7 +14,7 @@ use Rattle.verify_types.specs.ClassTypes.{type_of_kind}
 use Rattle.state_model.specs.Objects.{Object, instance, text}
 use Rattle.ref_model.specs.Kinds.{value_kind, kind_of_elements}
 use Rattle.ref_model.specs.Members.{is_static_field, instance_fields}
-use Rattle.ref_model.specs.State.{State}
+use Rattle.ref_model.specs.Memory.{Memory}
 
 -- a value is of the kind
 abbrev pub IsOfKind : ValueKind → Value → Type 0
@@ -46,9 +46,9 @@ ObjectFits w (text units) = Unit {0}
 abbrev pub static_kinds : World → List ValueKind
 static_kinds w = map kind_of_field (filter is_static_field w.fields)
 
--- ---- the state
+-- ---- all values
 
-pub record StateFits (w : World) (r : State) : Type 0 where
+pub record MemoryFits (w : World) (r : Memory) : Type 0 where
   pub heap : (o : ℕ) (x : Object) → slice_get r.heap o ≡ Some x → ObjectFits w x
   pub statics : AllZip IsOfKind (static_kinds w) r.statics
 

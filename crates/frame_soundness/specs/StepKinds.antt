@@ -1,4 +1,4 @@
--- What an instruction that is an event does to frames that keep to the typing, and to a state whose values have their kinds.
+-- What an instruction that is an event does to frames that keep to the typing, and to a memory whose values have their kinds.
 use Rattle.std.specs.Prelude.{◌≡◌, ℕ, List, ◌∷◌, Some}
 use Rattle.instruction_rows.specs.declared.value.Slot.{Slot}
 use Rattle.instruction_rows.specs.Rows.{Event, event, get_static, put_static, get_field, put_field, new}
@@ -7,13 +7,12 @@ use Rattle.link_model.specs.World.{World}
 use Rattle.verify_types.specs.Effects.{row_of}
 use Rattle.verify_types.specs.Typing.{AreTyped}
 use Rattle.state_model.specs.Frames.{Frame}
-use Rattle.ref_model.specs.State.{State}
+use Rattle.ref_model.specs.Memory.{Memory}
 use Rattle.ref_model.specs.Effects.{Effect, done, invokes, throws, throws_object}
 use Rattle.ref_model.specs.Frames.{behind}
 use Rattle.ref_model.specs.Step.{event_effect}
 use Rattle.frame_soundness.specs.Typed.{Typed}
-use Rattle.frame_soundness.specs.StateKinds.{HasFieldKinds}
-use Rattle.frame_soundness.specs.TypedStates.{IsTypedState}
+use Rattle.frame_soundness.specs.StateKinds.{HasFieldKinds, MemoryFits}
 use Rattle.frame_soundness.specs.EventLaws.{IsStaticResolution, IsInstanceResolution, OfReceiver, got_object, put_object, IsObjectResolution, HasDimensions}
 
 -- ---- what linking gives
@@ -23,8 +22,8 @@ pub record IsLinkedWorld (w : World) : Type 0 where
   pub fields : HasFieldKinds w
   pub arrays : HasDimensions w
 
--- of the constant of an event, with this operand stack in this state
-abbrev pub IsEventResolution : World → Resolution → Event → State → List Slot → Type 0
+-- of the constant of an event, with this operand stack in this memory
+abbrev pub IsEventResolution : World → Resolution → Event → Memory → List Slot → Type 0
 IsEventResolution w resolution (get_static index) r stack = IsStaticResolution w resolution
 IsEventResolution w resolution (put_static index) r stack = IsStaticResolution w resolution
 IsEventResolution w resolution (get_field index) r stack = OfReceiver w r (got_object stack) (IsInstanceResolution w resolution)
@@ -35,11 +34,11 @@ IsEventResolution w resolution e r stack = Unit {0}
 -- ---- what an event leaves
 
 -- it is done: the frame goes on after it
-pub record GoesOnBehind (w : World) (f : Frame) (below : List Frame) (next : ℕ) (q : State) (stack : List Slot) : Type 0 where
+pub record GoesOnBehind (w : World) (f : Frame) (below : List Frame) (next : ℕ) (q : Memory) (stack : List Slot) : Type 0 where
   pub frame : Frame
   pub is : behind f next stack ≡ Some frame
   pub typed : Typed w (frame ∷ below)
-  pub state : IsTypedState w q
+  pub values : MemoryFits w q
 
 -- an exception changes nothing, and no event invokes
 abbrev pub IsResult : World → Frame → List Frame → ℕ → Effect → Type 0
@@ -48,9 +47,9 @@ IsResult w f below next (invokes g stack) = ⊥
 IsResult w f below next (throws e) = Unit {0}
 IsResult w f below next (throws_object o) = Unit {0}
 
--- An event of a frame that keeps to the typing leaves one that does, and a state whose values have their kinds.
+-- An event of a frame that keeps to the typing leaves one that does, and a memory whose values have their kinds.
 abbrev pub EventsGoOn : Type 0
-EventsGoOn = (w : World) (f : Frame) (below : List Frame) (e : Event) (r : State) (effect : Effect) → IsLinkedWorld w → IsTypedState w r →
+EventsGoOn = (w : World) (f : Frame) (below : List Frame) (e : Event) (r : Memory) (effect : Effect) → IsLinkedWorld w → MemoryFits w r →
     (t : Typed w (f ∷ below)) → row_of t.0.at.place.instruction ≡ event e →
     IsEventResolution w t.0.at.place.instruction.resolution e r f.stack → event_effect w t.0.at.place.instruction.resolution e r f.stack ≡ Some effect →
     IsResult w f below t.0.at.place.instruction.instr.next effect

@@ -9,7 +9,7 @@ use Rattle.link_model.specs.World.{World}
 use Rattle.state_model.specs.Frames.{Frame}
 use Rattle.ref_model.specs.State.{JavaThread, State}
 use Rattle.frame_soundness.specs.Typed.{Typed, Thrown}
-use Rattle.frame_soundness.specs.StateKinds.{StateFits}
+use Rattle.frame_soundness.specs.StateKinds.{MemoryFits}
 
 -- ---- one thread
 
@@ -30,5 +30,5 @@ IsTypedThread w x = AreOfStatus w x.frames x.thread.status
 -- ---- all threads, and the values
 
 pub record IsTypedState (w : World) (r : State) : Type 0 where
-  pub values : StateFits w r
+  pub values : MemoryFits w r.memory
   pub threads : (t : ℕ) (x : JavaThread) → slice_get r.threads t ≡ Some x → IsTypedThread w x

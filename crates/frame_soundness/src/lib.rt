@@ -33,7 +33,7 @@ pub fn exceptions_go_on()
     ensures raises { RaisesKeep }
 {}
 
-/// Fields keep kinds: what is got of a field has the kind of its type, and what is put keeps the state's values of their kinds (JVMS 6.5,
+/// Fields keep kinds: what is got of a field has the kind of its type, and what is put keeps the memory's values of their kinds (JVMS 6.5,
 /// 2.11.1).
 pub fn fields_keep_kinds()
     ensures static_gets { StaticGetsKeep }
@@ -42,7 +42,7 @@ pub fn fields_keep_kinds()
     ensures puts { FieldPutsKeep }
 {}
 
-/// Arrays keep kinds: what is loaded has the kind of the elements, and what is stored keeps the state's values of their kinds (JVMS 6.5,
+/// Arrays keep kinds: what is loaded has the kind of the elements, and what is stored keeps the memory's values of their kinds (JVMS 6.5,
 /// 2.11.1).
 pub fn arrays_keep_kinds()
     ensures loads { ArrayLoadsKeep }
@@ -60,7 +60,7 @@ pub fn objects_keep_kinds()
     ensures arrays_of_arrays { NewArraysOfArraysKeep }
 {}
 
-/// Native methods keep kinds: each leaves the state's values of their kinds, and gives back a value of its descriptor's kind, or none (the
+/// Native methods keep kinds: each leaves the memory's values of their kinds, and gives back a value of its descriptor's kind, or none (the
 /// API of `Object`, `String`, `StringBuilder`, `PrintStream` and `System`). What it takes are the kinds of a table, and each type of a
 /// descriptor but float and double has a kind.
 pub fn natives_keep_kinds()
@@ -77,14 +77,14 @@ pub fn callees_begin()
     ensures wait { CallersWait }
 {}
 
-/// An instruction on fields, arrays or objects that is done leaves frames that keep to the typing, and a state whose values have the kinds
+/// An instruction on fields, arrays or objects that is done leaves frames that keep to the typing, and a memory whose values have the kinds
 /// of their fields and elements; where it throws, nothing else changes (JVMS 6.5, 4.10.1.6).
 pub fn events_go_on()
     ensures { EventsGoOn }
 {}
 
 /// A method of an object that was selected, and a static one, is entered: a native one is done, and the frame goes on; one with code begins,
-/// and the frame waits below it. All frames keep to the typing, and the state's values to their kinds (JVMS 2.6.1, 5.4.6, 6.5).
+/// and the frame waits below it. All frames keep to the typing, and the memory's values to their kinds (JVMS 2.6.1, 5.4.6, 6.5).
 pub fn methods_are_entered()
     ensures of_objects { MethodsAreEntered }
     ensures of_classes { StaticsAreEntered }

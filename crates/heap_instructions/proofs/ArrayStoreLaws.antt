@@ -10,7 +10,7 @@ use Rattle.instruction_rows.specs.declared.value.Value.{Value}
 use Rattle.instruction_rows.specs.Kinds.{value, kind_of_element}
 use Rattle.instruction_rows.specs.SlotEffect.{popped}
 use Rattle.link_model.specs.World.{World}
-use Rattle.ref_model.specs.State.{State}
+use Rattle.ref_model.specs.Memory.{Memory}
 use Rattle.ref_model.specs.Heap.{Array, with_value}
 use Rattle.ref_model.specs.Kinds.{kept_in}
 use Rattle.ref_model.specs.declared.exception.Exception.TheVariants as exceptions
@@ -21,10 +21,10 @@ use Rattle.heap_instructions.specs.Operands.{IsPopped}
 use Rattle.items.proofs.Binds.{bind_is}
 
 -- what a store does with the array and the place
-abbrev pub store_at : World → State → Value → List Slot → ℕ → Array → ℕ → Option Effect
+abbrev pub store_at : World → Memory → Value → List Slot → ℕ → Array → ℕ → Option Effect
 store_at w r v lowest o a place = may_hold w r a v >>= λ held. held_or_thrown held (with_value r o place (kept_in a.type v)) lowest
 
-pub array_stored_is : (w : World) (element : Element) (r : State) (stack : List Slot) (k : ValueKind) (v : Value) (index : ℤ) (reference : Option ℕ) (depth : ℕ)
+pub array_stored_is : (w : World) (element : Element) (r : Memory) (stack : List Slot) (k : ValueKind) (v : Value) (index : ℤ) (reference : Option ℕ) (depth : ℕ)
     (effect : Option Effect) → k ≡ kind_of_element element → depth ≡ width k → IsPopped k v 0 stack →
     popped kinds.Int (drop depth stack) ≡ Some (index, drop (depth + 1) stack) →
     popped kinds.Reference (drop (depth + 1) stack) ≡ Some (reference, drop (depth + 1 + 1) stack) →
@@ -42,16 +42,16 @@ array_stored_is w element r stack k v index reference depth effect e d top int o
     bind_is (popped kinds.Int (drop depth stack)) (middle v) (index, drop (depth + 1) stack) effect int
     (bind_is (popped kinds.Reference (drop (depth + 1) stack)) (last v (index, drop (depth + 1) stack)) (reference, drop (depth + 1 + 1) stack) effect object h)))
 
-pub stored_in : (w : World) (r next : State) (v kept : Value) (lowest : List Slot) (o : ℕ) (a : Array) (place : ℕ) → may_hold w r a v ≡ Some true →
+pub stored_in : (w : World) (r next : Memory) (v kept : Value) (lowest : List Slot) (o : ℕ) (a : Array) (place : ℕ) → may_hold w r a v ≡ Some true →
     kept ≡ kept_in a.type v → with_value r o place kept ≡ Some next → store_at w r v lowest o a place ≡ Some (done next lowest)
 stored_in w r next v kept lowest o a place may is set =
     ap (λ x. x >>= λ held. held_or_thrown held (with_value r o place (kept_in a.type v)) lowest) may
     ∙ ap (λ u. with_value r o place u >>= λ q. Some (done q lowest)) (sym is) ∙ ap (λ x. x >>= λ q. Some (done q lowest)) set
 
-pub not_stored : (w : World) (r : State) (v : Value) (lowest : List Slot) (o : ℕ) (a : Array) (place : ℕ) → may_hold w r a v ≡ Some false →
+pub not_stored : (w : World) (r : Memory) (v : Value) (lowest : List Slot) (o : ℕ) (a : Array) (place : ℕ) → may_hold w r a v ≡ Some false →
     store_at w r v lowest o a place ≡ Some (throws exceptions.ArrayStoreException)
 not_stored w r v lowest o a place may = ap (λ x. x >>= λ held. held_or_thrown held (with_value r o place (kept_in a.type v)) lowest) may
 
-pub no_store : (w : World) (r : State) (v : Value) (lowest : List Slot) (o : ℕ) (a : Array) (place : ℕ) → may_hold w r a v ≡ None →
+pub no_store : (w : World) (r : Memory) (v : Value) (lowest : List Slot) (o : ℕ) (a : Array) (place : ℕ) → may_hold w r a v ≡ None →
     store_at w r v lowest o a place ≡ None
 no_store w r v lowest o a place may = ap (λ x. x >>= λ held. held_or_thrown held (with_value r o place (kept_in a.type v)) lowest) may

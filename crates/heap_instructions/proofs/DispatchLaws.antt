@@ -1,4 +1,4 @@
--- What an instruction did is what its row says, where its parts of the state are among others.
+-- What an instruction did is what its row says, where its parts of the memory are among others.
 use Rattle.std.proofs.Common.{◌≡◌, List, [], ◌∷◌, sym, subst}
 use Rattle.std.specs.Prelude.{false, refl, Result, Ok, Err, IfOk}
 use Rattle.opcodes.specs.declared.op.Primitive.{Primitive}
@@ -26,7 +26,7 @@ kept_same (outcomes.Throws e) x = refl
 kept_same (outcomes.ThrowsObject o) x = refl
 kept_same outcomes.Undefined x = refl
 
--- of the state the heap alone
+-- of the memory the heap alone
 pub heap_run : (w : World) (resolution : Resolution) (r : Row) (e : Event) (heap next_heap : Heap) (statics : List Value) (m next : Continuation) (o : Outcome) →
     r ≡ event e → Acts (event_effect w resolution e) (with_heap heap) m (with_heap next_heap) next o → KeptUnlessDone o m next → KeptUnlessDone o heap next_heap →
     ChangesOperands m next → IsRun w resolution r heap next_heap statics statics m next o

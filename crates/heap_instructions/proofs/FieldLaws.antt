@@ -10,7 +10,7 @@ use Rattle.instruction_rows.specs.SlotEffect.{popped}
 use Rattle.link_model.specs.declared.members.FieldInfo.{FieldInfo}
 use Rattle.link_model.specs.declared.sites.Resolution.{Resolution}
 use Rattle.link_model.specs.World.{World}
-use Rattle.ref_model.specs.State.{State}
+use Rattle.ref_model.specs.Memory.{Memory}
 use Rattle.ref_model.specs.Heap.{with_value}
 use Rattle.ref_model.specs.Members.{field_place}
 use Rattle.ref_model.specs.Fetch.{field_of}
@@ -18,7 +18,7 @@ use Rattle.ref_model.specs.Effects.{Effect, done, on_instance}
 use Rattle.ref_model.specs.Fields.{stored, field_put}
 
 -- putfield, where its field, its value and its reference are known
-pub field_put_is : (w : World) (resolution : Resolution) (r : State) (stack : List Slot) (n : ℕ) (f : FieldInfo) (v : Value) (reference : Option ℕ) (d depth : ℕ)
+pub field_put_is : (w : World) (resolution : Resolution) (r : Memory) (stack : List Slot) (n : ℕ) (f : FieldInfo) (v : Value) (reference : Option ℕ) (d depth : ℕ)
     (effect : Option Effect) → Some n ≡ field_of resolution.site → Some f ≡ slice_get w.fields n → depth ≡ d →
     stored f stack ≡ Some (v, drop d stack) → popped kinds.Reference (drop depth stack) ≡ Some (reference, drop (depth + 1) stack) →
     on_instance w resolution r reference (λ o class. field_place w n >>= λ place. with_value r o place v >>= λ q. Some (done q (drop (depth + 1) stack))) ≡ effect →

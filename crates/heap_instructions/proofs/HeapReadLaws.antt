@@ -7,7 +7,7 @@ use Rattle.instruction_rows.specs.Contents.{with_item}
 use Rattle.state_model.specs.Objects.{Object, instance, text}
 use Rattle.heap_objs.specs.Heap.{Heap, values_in}
 use Rattle.heap_objs.specs.Heap as objects
-use Rattle.ref_model.specs.State.{State}
+use Rattle.ref_model.specs.Memory.{Memory}
 use Rattle.ref_model.specs.Heap.{object_with, with_value}
 use Rattle.heap_instructions.specs.Outcomes.{with_heap}
 
@@ -24,7 +24,7 @@ pub item_set : (place : ℕ) (v : Value) (values : List Value) → place < lengt
 item_set place v values h =
     ap (λ b. if b then Some (slice_set values place v) else None) (lt-ltb place (length values) h)
 
-pub object_set : (r : State) (h : Heap) (o place : ℕ) (v : Value) (x : Option Object) → slice_get h.objects o ≡ x → place < length (values_in x) →
+pub object_set : (r : Memory) (h : Heap) (o place : ℕ) (v : Value) (x : Option Object) → slice_get h.objects o ≡ x → place < length (values_in x) →
     (x >>= object_with (with_heap h r) o place v) ≡ Some (with_heap (record h { objects = objects.with_value o place v h.objects }) r)
 object_set r h o place v None e lt = absurd (omega (arith, lt))
 object_set r h o place v (Some (text units)) e lt = absurd (omega (arith, lt))
@@ -32,7 +32,7 @@ object_set r h o place v (Some (instance class values)) e lt =
     ap (λ items. items >>= λ others. Some (record (with_heap h r) { heap = slice_set h.objects o (instance class others) })) (item_set place v values lt)
     ∙ ap (λ heap. Some (record (with_heap h r) { heap = heap })) (set_is h.objects o place v class values e)
 
-pub value_set_is : (r : State) (h new : Heap) (o place : ℕ) (v : Value) → place < length (objects.values_at h.objects o) →
+pub value_set_is : (r : Memory) (h new : Heap) (o place : ℕ) (v : Value) → place < length (objects.values_at h.objects o) →
     new ≡ record h { objects = objects.with_value o place v h.objects } → with_value (with_heap h r) o place v ≡ Some (with_heap new r)
 value_set_is r h new o place v lt e =
     object_set r h o place v (slice_get h.objects o) refl lt ∙ ap (λ (g : Heap). Some (with_heap g r)) (sym e)

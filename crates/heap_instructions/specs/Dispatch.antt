@@ -9,7 +9,7 @@ use Rattle.heap_objs.specs.Heap.{Heap}
 use Rattle.link_model.specs.declared.sites.Resolution.{Resolution}
 use Rattle.link_model.specs.World.{World}
 use Rattle.state_model.specs.Frames.{Frame}
-use Rattle.ref_model.specs.State.{State}
+use Rattle.ref_model.specs.Memory.{Memory}
 use Rattle.ref_model.specs.Effects.{Effect}
 use Rattle.ref_model.specs.Step.{division_effect, event_effect}
 use Rattle.heap_instructions.specs.declared.outcome.Outcome.{Outcome}
@@ -20,7 +20,7 @@ use Rattle.heap_instructions.specs.Outcomes.{Acts, IsEffect, KeptUnlessDone, wit
 abbrev pub frame_with : List Slot → Frame
 frame_with stack = record { method = 0; pc = 0; locals = []; stack = stack; room = 0 }
 
-abbrev pub row_effect : World → Resolution → Row → State → List Slot → Option Effect
+abbrev pub row_effect : World → Resolution → Row → Memory → List Slot → Option Effect
 row_effect w resolution (event e) r stack = event_effect w resolution e r stack
 row_effect w resolution (local act) r stack = division_effect act (frame_with stack)
 row_effect w resolution row r stack = None
@@ -42,9 +42,9 @@ pub record IsHeapRun (w : World) (resolution : Resolution) (row : Row) (heap nex
 
 -- A division had this outcome: where its function has no result for the divisor 0, that is of its effect.
 abbrev pub DividesInts : Continuation → Outcome → Type 0
-DividesInts m outcome = (q : State) (f : ℤ → ℤ → Option ℤ) → ((a : ℤ) → f (pos 0) a ≡ None) →
+DividesInts m outcome = (q : Memory) (f : ℤ → ℤ → Option ℤ) → ((a : ℤ) → f (pos 0) a ≡ None) →
     IsEffect outcome (division_effect (int (kinds.Int ∷ kinds.Int ∷ []) f) (frame_with (operands m))) q (operands m)
 
 abbrev pub DividesLongs : Continuation → Outcome → Type 0
-DividesLongs m outcome = (q : State) (f : ℤ → ℤ → Option ℤ) → ((a : ℤ) → f (pos 0) a ≡ None) →
+DividesLongs m outcome = (q : Memory) (f : ℤ → ℤ → Option ℤ) → ((a : ℤ) → f (pos 0) a ≡ None) →
     IsEffect outcome (division_effect (long (kinds.Long ∷ kinds.Long ∷ []) f) (frame_with (operands m))) q (operands m)

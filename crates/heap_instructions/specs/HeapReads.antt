@@ -9,7 +9,7 @@ use Rattle.state_model.specs.Objects.{Object}
 use Rattle.heap_objs.specs.Heap as objects
 use Rattle.heap_objs.specs.Heap.{Heap}
 use Rattle.ref_model.specs.Heap.{Array, array_of, class_of, values_of, with_value}
-use Rattle.ref_model.specs.State.{State}
+use Rattle.ref_model.specs.Memory.{Memory}
 use Rattle.ref_model.specs.Members.{field_place}
 use Rattle.ref_model.specs.Effects.{Effect, throws, on_instance}
 use Rattle.ref_model.specs.declared.exception.Exception.{Exception}
@@ -46,8 +46,8 @@ IsPut place v old new false = (with_item place v old ≡ None) × (new ≡ old)
 
 -- The same of the values of an object.
 abbrev pub IsValueSet : ℕ → ℕ → Value → Heap → Heap → Bool → Type 0
-IsValueSet o place v old new true = (r : State) → with_value (with_heap old r) o place v ≡ Some (with_heap new r)
-IsValueSet o place v old new false = ((r : State) → with_value (with_heap old r) o place v ≡ None) × (new ≡ old)
+IsValueSet o place v old new true = (r : Memory) → with_value (with_heap old r) o place v ≡ Some (with_heap new r)
+IsValueSet o place v old new false = ((r : Memory) → with_value (with_heap old r) o place v ≡ None) × (new ≡ old)
 
 -- Where the object of a field instruction and the place of its field are known, the instruction does with them what it does; otherwise it
 -- throws this exception.
@@ -56,7 +56,7 @@ TargetGives act effect (Ok t) = effect ≡ act t.object t.place
 TargetGives act effect (Err e) = effect ≡ Some (throws e)
 
 abbrev pub IsTarget : World → Resolution → Heap → ℕ → Option ℕ → Option (Result FieldTarget Exception) → Type 0
-IsTarget w resolution heap n reference found = (r : State) (act : ℕ → ℕ → Option Effect) → IfSome found
+IsTarget w resolution heap n reference found = (r : Memory) (act : ℕ → ℕ → Option Effect) → IfSome found
     (TargetGives act (on_instance w resolution (with_heap heap r) reference (λ o class. field_place w n >>= λ place. act o place)))
 
 -- Where the array of a load or a store and the place of its element are known, the instruction does with them what it does; otherwise it
@@ -66,14 +66,14 @@ ElementGives heap act effect (Ok t) = effect ≡ act t.object (array_seen (objec
 ElementGives heap act effect (Err e) = effect ≡ Some (throws e)
 
 abbrev pub IsElementTarget : World → Element → Heap → Option ℕ → ℤ → Result ElementTarget Exception → Type 0
-IsElementTarget w element heap reference index target = (r : State) (act : ℕ → Array → ℕ → Option Effect) →
+IsElementTarget w element heap reference index target = (r : Memory) (act : ℕ → Array → ℕ → Option Effect) →
     ElementGives heap act (on_array_of w (with_heap heap r) element reference (λ o a. on_place (place_in index a) (act o a))) target
 
 -- whether a value may be stored into an array
 abbrev pub IsHolding : World → Heap → ArrayType → Value → Option Bool → Type 0
-IsHolding w heap kind v found = (r : State) (a : Array) → a.type ≡ kind → may_hold w (with_heap heap r) a v ≡ found
+IsHolding w heap kind v found = (r : Memory) (a : Array) → a.type ≡ kind → may_hold w (with_heap heap r) a v ≡ found
 
 -- What making an object gave: its number and the heap with it, or that it has no room, and nothing has changed.
-abbrev pub IsMade : (State → Option (State × ℕ)) → Heap → Heap → Option ℕ → Type 0
-IsMade make old new (Some o) = (r : State) → make (with_heap old r) ≡ Some (with_heap new r, o)
-IsMade make old new None = ((r : State) → make (with_heap old r) ≡ None) × (new ≡ old)
+abbrev pub IsMade : (Memory → Option (Memory × ℕ)) → Heap → Heap → Option ℕ → Type 0
+IsMade make old new (Some o) = (r : Memory) → make (with_heap old r) ≡ Some (with_heap new r, o)
+IsMade make old new None = ((r : Memory) → make (with_heap old r) ≡ None) × (new ≡ old)

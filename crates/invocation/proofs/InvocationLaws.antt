@@ -11,7 +11,7 @@ use Rattle.link_model.specs.declared.members.MethodCode.{MethodCode}
 use Rattle.link_model.specs.World.{World}
 use Rattle.link_model.specs.Decoded.{code_at}
 use Rattle.lib_table.specs.declared.native.Native.{Native}
-use Rattle.ref_model.specs.State.{State}
+use Rattle.ref_model.specs.Memory.{Memory}
 use Rattle.ref_model.specs.Effects.{Effect, invokes, late_failure, throws}
 use Rattle.ref_model.specs.Fetch.{Named, method_of, named_method}
 use Rattle.ref_model.specs.Kinds.{argument_slots}
@@ -36,13 +36,13 @@ pub named_is : (w : World) (resolution : Resolution) (n : ℕ) (m : MethodInfo) 
 named_is w resolution n m site method =
     bind_is (method_of resolution.site) _ n _ (sym site) (bind_is (slice_get w.methods n) _ m _ (sym method) refl)
 
-pub invoked_by : (w : World) (resolution : Resolution) (invocation : Invocation) (r : State) (depth : ℕ) (stack : List Slot) (n : ℕ) (m : MethodInfo) →
+pub invoked_by : (w : World) (resolution : Resolution) (invocation : Invocation) (r : Memory) (depth : ℕ) (stack : List Slot) (n : ℕ) (m : MethodInfo) →
     Some n ≡ method_of resolution.site → Some m ≡ slice_get w.methods n →
     invoked w resolution invocation r depth stack ≡ called w resolution invocation (record { number = n; method = m }) r depth stack
 invoked_by w resolution invocation r depth stack n m site method =
     ap (λ (x : Option Named). x >>= λ named. called w resolution invocation named r depth stack) (named_is w resolution n m site method)
 
-pub static_is : (w : World) (resolution : Resolution) (r : State) (depth : ℕ) (stack : List Slot) (n slots : ℕ) (m : MethodInfo) →
+pub static_is : (w : World) (resolution : Resolution) (r : Memory) (depth : ℕ) (stack : List Slot) (n slots : ℕ) (m : MethodInfo) →
     Some n ≡ method_of resolution.site → Some m ≡ slice_get w.methods n → slots ≡ argument_slots m.signature →
     invoked w resolution static r depth stack ≡ numbered_effect w r depth n slots stack
 static_is w resolution r depth stack n slots m site method is =
@@ -50,26 +50,26 @@ static_is w resolution r depth stack n slots m site method is =
     invoked_by w resolution static r depth stack n m site method ∙ ap (λ s. entered w r depth named s stack) (sym is)
     ∙ ap (λ (x : Option MethodInfo). (x >>= λ y. Some (record { number = n; method = y })) >>= λ y. entered w r depth y slots stack) method
 
-pub virtual_is : (w : World) (resolution : Resolution) (r : State) (depth : ℕ) (stack : List Slot) (n slots : ℕ) (m : MethodInfo) →
+pub virtual_is : (w : World) (resolution : Resolution) (r : Memory) (depth : ℕ) (stack : List Slot) (n slots : ℕ) (m : MethodInfo) →
     Some n ≡ method_of resolution.site → Some m ≡ slice_get w.methods n → slots ≡ argument_slots m.signature →
     invoked w resolution virtual r depth stack ≡ virtual_effect w resolution n slots r depth stack
 virtual_is w resolution r depth stack n slots m site method is =
     invoked_by w resolution virtual r depth stack n m site method ∙ ap (λ s. virtual_effect w resolution n s r depth stack) (sym is)
 
-pub interface_is : (w : World) (resolution : Resolution) (count : ℕ) (r : State) (depth : ℕ) (stack : List Slot) (n slots : ℕ) (m : MethodInfo) →
+pub interface_is : (w : World) (resolution : Resolution) (count : ℕ) (r : Memory) (depth : ℕ) (stack : List Slot) (n slots : ℕ) (m : MethodInfo) →
     Some n ≡ method_of resolution.site → Some m ≡ slice_get w.methods n → slots ≡ argument_slots m.signature →
     invoked w resolution (interface count) r depth stack ≡ virtual_effect w resolution n slots r depth stack
 interface_is w resolution count r depth stack n slots m site method is =
     invoked_by w resolution (interface count) r depth stack n m site method ∙ ap (λ s. virtual_effect w resolution n s r depth stack) (sym is)
 
-pub special_is : (w : World) (resolution : Resolution) (r : State) (depth : ℕ) (stack : List Slot) (n slots : ℕ) (m : MethodInfo) →
+pub special_is : (w : World) (resolution : Resolution) (r : Memory) (depth : ℕ) (stack : List Slot) (n slots : ℕ) (m : MethodInfo) →
     Some n ≡ method_of resolution.site → Some m ≡ slice_get w.methods n → slots ≡ argument_slots m.signature →
     invoked w resolution special r depth stack ≡ special_effect w resolution n slots r depth stack
 special_is w resolution r depth stack n slots m site method is =
     invoked_by w resolution special r depth stack n m site method ∙ ap (λ s. special_effect w resolution n s r depth stack) (sym is)
 
 -- a method with code begins
-pub coded_is : (w : World) (r : State) (depth : ℕ) (stack : List Slot) (n slots : ℕ) (m : MethodInfo) (code : MethodCode) →
+pub coded_is : (w : World) (r : Memory) (depth : ℕ) (stack : List Slot) (n slots : ℕ) (m : MethodInfo) (code : MethodCode) →
     slice_get w.methods n ≡ Some m → native_at w n ≡ None → code_at w n ≡ Some code → (is_synchronized m || is_hold w m) ≡ false →
     numbered_effect w r depth n slots stack ≡ begins depth (record { method = n; slots = slots; locals = code.max_locals; operands = code.max_stack }) stack
 coded_is w r depth stack n slots m code method native has plain =
@@ -97,7 +97,7 @@ pub if_ok_mapped : {A E : Type 0} (x : Result A E) (P Q : A → Type 0) → ((a 
 if_ok_mapped (Ok a) P Q f h = f a h
 if_ok_mapped (Err e) P Q f h = tt
 
-pub gives_along : (w : World) (r : State) (depth : ℕ) (stack : List Slot) (effect other : Option Effect) (target : Target) → effect ≡ other →
+pub gives_along : (w : World) (r : Memory) (depth : ℕ) (stack : List Slot) (effect other : Option Effect) (target : Target) → effect ≡ other →
     Gives w r depth stack other target → Gives w r depth stack effect target
 gives_along w r depth stack effect other target e h =
     let P : Option Effect → Type 0 = λ x. Gives w r depth stack x target in subst P (sym e) h

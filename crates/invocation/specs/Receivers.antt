@@ -9,7 +9,7 @@ use Rattle.link_model.specs.declared.sites.Resolution.{Resolution}
 use Rattle.link_model.specs.World.{World}
 use Rattle.heap_objs.specs.Heap.{Heap}
 use Rattle.ref_model.specs.declared.exception.Exception.{Exception}
-use Rattle.ref_model.specs.State.{State}
+use Rattle.ref_model.specs.Memory.{Memory}
 use Rattle.ref_model.specs.Classes.{is_sub}
 use Rattle.ref_model.specs.Effects.{Effect, late_failure, throws, on_instance}
 use Rattle.heap_instructions.specs.Operands.{operands}
@@ -27,10 +27,10 @@ ReceiverGives w act effect (Ok receiver) = effect ≡ tested w receiver act
 ReceiverGives w act effect (Err e) = effect ≡ Some (throws e)
 
 -- what is done with the class of a receiver, which lies below so many slots
-abbrev pub on_receiver : World → Resolution → ℕ → State → List Slot → (ℕ → Option Effect) → Option Effect
+abbrev pub on_receiver : World → Resolution → ℕ → Memory → List Slot → (ℕ → Option Effect) → Option Effect
 on_receiver w resolution slots r stack act =
     popped kinds.Reference (drop slots stack) >>= λ x. on_instance w resolution r x.0 (λ o class. act class)
 
 abbrev pub IsReceiver : World → Resolution → ℕ → Heap → Continuation → Option (Result Receiver Exception) → Type 0
-IsReceiver w resolution slots heap m found = (r : State) (act : ℕ → Option Effect) → IfSome found
+IsReceiver w resolution slots heap m found = (r : Memory) (act : ℕ → Option Effect) → IfSome found
     (ReceiverGives w act (on_receiver w resolution slots (with_heap heap r) (operands m) act))

@@ -13,7 +13,7 @@ use Rattle.link_model.specs.Decoded.{code_at}
 use Rattle.link_model.specs.World.{World}
 use Rattle.heap_objs.specs.Heap.{Heap}
 use Rattle.continuation.specs.Continuation.{Continuation}
-use Rattle.ref_model.specs.State.{State}
+use Rattle.ref_model.specs.Memory.{Memory}
 use Rattle.state_model.specs.Frames.{Frame}
 use Rattle.ref_model.specs.declared.exception.Exception.TheVariants as exceptions
 use Rattle.ref_model.specs.Effects.{Effect, invokes, throws}
@@ -33,7 +33,7 @@ use Rattle.invocation.specs.declared.target.Target.{Target}
 use Rattle.invocation.specs.declared.target.Target.TheVariants as targets
 
 -- what a native method does
-abbrev pub native_effect : World → State → Native → List Slot → Option Effect
+abbrev pub native_effect : World → Memory → Native → List Slot → Option Effect
 native_effect w r native stack = native_row w r native >>= λ row. native_acted row stack
 
 -- the frame of a method that begins, with these slots in its first local variables, and all others unset (JVMS 2.6.1)
@@ -66,18 +66,18 @@ IfCode (targets.Code callee) holds = holds callee
 IfCode target holds = Unit {0}
 
 -- Unless it is undefined, a target is that of this effect.
-abbrev pub Gives : World → State → ℕ → List Slot → Option Effect → Target → Type 0
+abbrev pub Gives : World → Memory → ℕ → List Slot → Option Effect → Target → Type 0
 Gives w r depth stack effect (targets.Native native) = effect ≡ native_effect w r native stack
 Gives w r depth stack effect (targets.Code callee) = effect ≡ begins depth callee stack
 Gives w r depth stack effect (targets.Throws e) = effect ≡ Some (throws e)
 Gives w r depth stack effect targets.Undefined = Unit {0}
 
 -- the method with a number runs, and takes so many slots
-abbrev pub numbered_effect : World → State → ℕ → ℕ → ℕ → List Slot → Option Effect
+abbrev pub numbered_effect : World → Memory → ℕ → ℕ → ℕ → List Slot → Option Effect
 numbered_effect w r depth n slots stack = method_numbered w n >>= λ m. entered w r depth m slots stack
 
 abbrev pub IsNumbered : World → ℕ → ℕ → Target → Type 0
-IsNumbered w n slots target = (r : State) (depth : ℕ) (stack : List Slot) → Gives w r depth stack (numbered_effect w r depth n slots stack) target
+IsNumbered w n slots target = (r : Memory) (depth : ℕ) (stack : List Slot) → Gives w r depth stack (numbered_effect w r depth n slots stack) target
 
 -- A method with code that begins as a local instruction where an invokestatic names it, and takes so many slots.
 pub record IsLocalCallee (w : World) (n slots : ℕ) (c : Callee) : Type 0 where
@@ -102,49 +102,49 @@ pub record IsStaticCallee (w : World) (resolution : Resolution) (c : Callee) : T
   pub plain : takes_double callee.method.signature ≡ false
 
 -- that which is selected for a receiver of this class runs
-abbrev pub selected_effect : World → State → ℕ → ℕ → ℕ → ℕ → List Slot → Option Effect
+abbrev pub selected_effect : World → Memory → ℕ → ℕ → ℕ → ℕ → List Slot → Option Effect
 selected_effect w r depth class n slots stack =
     choice_of w class n >>= λ choice. chosen w choice (λ k. numbered_effect w r depth k slots stack)
 
 abbrev pub IsSelected : World → ℕ → ℕ → ℕ → Target → Type 0
-IsSelected w class n slots target = (r : State) (depth : ℕ) (stack : List Slot) → Gives w r depth stack (selected_effect w r depth class n slots stack) target
+IsSelected w class n slots target = (r : Memory) (depth : ℕ) (stack : List Slot) → Gives w r depth stack (selected_effect w r depth class n slots stack) target
 
 -- that which is selected for this receiver runs, where it is an instance of the class that the instruction names
-abbrev pub received_effect : World → State → ℕ → Receiver → ℕ → ℕ → List Slot → Option Effect
+abbrev pub received_effect : World → Memory → ℕ → Receiver → ℕ → ℕ → List Slot → Option Effect
 received_effect w r depth receiver n slots stack =
     tested w receiver (λ class. selected_effect w r depth class n slots stack)
 
 abbrev pub IsReceived : World → Receiver → ℕ → ℕ → Target → Type 0
-IsReceived w receiver n slots target = (r : State) (depth : ℕ) (stack : List Slot) →
+IsReceived w receiver n slots target = (r : Memory) (depth : ℕ) (stack : List Slot) →
     Gives w r depth stack (received_effect w r depth receiver n slots stack) target
 
 -- invokevirtual or invokeinterface, and invokespecial, of a method that takes so many slots without its receiver
-abbrev pub virtual_effect : World → Resolution → ℕ → ℕ → State → ℕ → List Slot → Option Effect
+abbrev pub virtual_effect : World → Resolution → ℕ → ℕ → Memory → ℕ → List Slot → Option Effect
 virtual_effect w resolution n slots r depth stack =
     on_receiver w resolution slots r stack (λ class. selected_effect w r depth class n (suc slots) stack)
 
 abbrev pub IsVirtual : World → Resolution → ℕ → ℕ → Heap → Continuation → Target → Type 0
-IsVirtual w resolution n slots heap m target = (r : State) (depth : ℕ) →
+IsVirtual w resolution n slots heap m target = (r : Memory) (depth : ℕ) →
     Gives w (with_heap heap r) depth (operands m) (virtual_effect w resolution n slots (with_heap heap r) depth (operands m)) target
 
-abbrev pub special_effect : World → Resolution → ℕ → ℕ → State → ℕ → List Slot → Option Effect
+abbrev pub special_effect : World → Resolution → ℕ → ℕ → Memory → ℕ → List Slot → Option Effect
 special_effect w resolution n slots r depth stack =
     on_receiver w resolution slots r stack (λ class. unless_failed resolution.failure (numbered_effect w r depth n (suc slots) stack))
 
 -- what invokespecial selected when the program was linked
 abbrev pub IsLinkedTarget : World → Option SelectionFailure → ℕ → ℕ → Target → Type 0
-IsLinkedTarget w failure n slots target = (r : State) (depth : ℕ) (stack : List Slot) →
+IsLinkedTarget w failure n slots target = (r : Memory) (depth : ℕ) (stack : List Slot) →
     Gives w r depth stack (unless_failed failure (numbered_effect w r depth n slots stack)) target
 
 abbrev pub IsSpecial : World → Resolution → ℕ → ℕ → Heap → Continuation → Target → Type 0
-IsSpecial w resolution n slots heap m target = (r : State) (depth : ℕ) →
+IsSpecial w resolution n slots heap m target = (r : Memory) (depth : ℕ) →
     Gives w (with_heap heap r) depth (operands m) (special_effect w resolution n slots (with_heap heap r) depth (operands m)) target
 
 -- what an invocation does
-abbrev pub row_invoked : World → Resolution → Row → State → ℕ → List Slot → Option Effect
+abbrev pub row_invoked : World → Resolution → Row → Memory → ℕ → List Slot → Option Effect
 row_invoked w resolution (invoke invocation index) r depth stack = invoked w resolution invocation r depth stack
 row_invoked w resolution row r depth stack = None
 
 abbrev pub IsInvoked : World → Resolution → Row → Heap → Continuation → Target → Type 0
-IsInvoked w resolution row heap m target = (r : State) (depth : ℕ) →
+IsInvoked w resolution row heap m target = (r : Memory) (depth : ℕ) →
     Gives w (with_heap heap r) depth (operands m) (row_invoked w resolution row (with_heap heap r) depth (operands m)) target

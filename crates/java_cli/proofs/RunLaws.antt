@@ -38,7 +38,7 @@ IsOwnEnding (endings.Exited status) = Unit {0}
 IsOwnEnding told = ⊥
 
 own_ending : (r : State) (e : Ending) → ending r ≡ Some e → IsOwnEnding e
-own_ending r e is = by_exit r.exited is
+own_ending r e is = by_exit r.memory.exited is
   where
     same : (a b : Ending) → IsOwnEnding a → Some a ≡ Some b → IsOwnEnding b
     same a b own is = subst IsOwnEnding (let e : a ≡ b = cc in e) own

@@ -78,10 +78,10 @@ pub record Ran (c : Command) (known : Option Files) (before after : Option (List
   pub grouped : AreGrouped program (java r.history.items)
   pub few : length r.history.items ≤ most_entries program
   pub complete : IsComplete program state
-  pub out : Appends before (take r.out_written state.out) after
-  pub out_taken : IsOutTaken r.why r.out_written (length state.out)
-  pub err : Errs state.err
-  pub err_taken : IsErrTaken r.why r.err_written (length state.err)
+  pub out : Appends before (take r.out_written state.memory.out) after
+  pub out_taken : IsOutTaken r.why r.out_written (length state.memory.out)
+  pub err : Errs state.memory.err
+  pub err_taken : IsErrTaken r.why r.err_written (length state.memory.err)
 
 -- Nothing was run: the history is empty, and neither sink took any output of a program.
 pub record IsIdle (before after : Option (List ℕ)) (r : Report) : Type 0 where

@@ -3,19 +3,16 @@ use Rattle.std.proofs.Common.{◌≡◌, List, refl}
 use Rattle.link_rules.specs.Program.{Program}
 use Rattle.link_rules.specs.Faults.{Links}
 use Rattle.instruction_rows.specs.declared.value.Slot.{Slot}
-use Rattle.instruction_rows.specs.Rows.{Event, Invocation, Row, local, constant, wide_constant, returns, invoke, event, refused, virtual, special, static, interface, dynamic, get_static, put_static, get_field, put_field, new, new_array, new_array_of, new_arrays, array_length, array_load, array_store, check_cast, instance_of, throw, monitor_enter, monitor_exit}
+use Rattle.instruction_rows.specs.Rows.{Event, Row, local, constant, wide_constant, returns, invoke, event, refused, get_static, put_static, get_field, put_field, new, new_array, new_array_of, new_arrays, array_length, array_load, array_store, check_cast, instance_of, throw, monitor_enter, monitor_exit}
 use Rattle.link_model.specs.declared.sites.Resolution.{Resolution}
 use Rattle.link_model.specs.Infos.{methods_of}
 use Rattle.link_model.specs.World.{World}
 use Rattle.link_model.specs.Worlds.{world_of}
-use Rattle.verify_types.specs.Environment.{Instruction}
 use Rattle.verify_types.specs.Effects.{row_of}
-use Rattle.state_model.specs.Frames.{Frame}
-use Rattle.ref_model.specs.Fetch.{fetched}
-use Rattle.ref_model.specs.State.{State}
+use Rattle.ref_model.specs.Memory.{Memory}
 use Rattle.frame_soundness.specs.StepKinds.{IsEventResolution}
 use Rattle.step_soundness.specs.MethodKinds.{HasFitNatives}
-use Rattle.step_soundness.specs.Resolutions.{IsFrameResolution, IsRowResolution}
+use Rattle.step_soundness.specs.Resolutions.{IsRowResolution}
 use Rattle.step_soundness.proofs.Signatures.{invocations_fit}
 use Rattle.link_soundness.specs.Settled.{IsSettled}
 use Rattle.link_soundness.specs.Names.{AreNamed}
@@ -23,7 +20,7 @@ use Rattle.link_soundness.proofs.Named.{IsNamed, instruction_named}
 
 -- ---- events
 
-event_named : (w : World) (resolution : Resolution) (e : Event) (r : State) (stack : List Slot) → IsNamed w resolution (event e) → IsEventResolution w resolution e r stack
+event_named : (w : World) (resolution : Resolution) (e : Event) (r : Memory) (stack : List Slot) → IsNamed w resolution (event e) → IsEventResolution w resolution e r stack
 event_named w resolution (get_static index) r stack named = named
 event_named w resolution (put_static index) r stack named = named
 event_named w resolution (get_field index) r stack named = λ o class at is. named class
@@ -43,7 +40,7 @@ event_named w resolution monitor_exit r stack named = tt
 
 -- ---- all
 
-row_named : (w : World) (resolution : Resolution) (row : Row) (r : State) (stack : List Slot) → w.methods ≡ methods_of w.program → HasFitNatives w
+row_named : (w : World) (resolution : Resolution) (row : Row) (r : Memory) (stack : List Slot) → w.methods ≡ methods_of w.program → HasFitNatives w
     → IsNamed w resolution row → IsRowResolution w resolution row r stack
 row_named w resolution (local l) r stack methods natives named = tt
 row_named w resolution (constant index) r stack methods natives named = tt

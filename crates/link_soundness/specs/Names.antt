@@ -4,14 +4,14 @@ use Rattle.link_rules.specs.Faults.{Links}
 use Rattle.link_model.specs.World.{World}
 use Rattle.link_model.specs.Worlds.{world_of}
 use Rattle.state_model.specs.Frames.{Frame}
-use Rattle.ref_model.specs.State.{State}
+use Rattle.ref_model.specs.Memory.{Memory}
 use Rattle.step_soundness.specs.MethodKinds.{HasFitNatives}
 use Rattle.step_soundness.specs.Resolutions.{IsFrameResolution}
 use Rattle.link_soundness.specs.Settled.{IsSettled}
 
--- each instruction names what a step asks for, in each state
+-- each instruction names what a step asks for, in each memory
 abbrev pub AreNamed : World → Type 0
-AreNamed w = (r : State) (f : Frame) → IsFrameResolution w r f
+AreNamed w = (r : Memory) (f : Frame) → IsFrameResolution w r f
 
 -- of a program that links, whose native methods fit their descriptors
 abbrev pub LinkedCodeIsNamed : Type 0

@@ -7,7 +7,7 @@ mod settled;
 
 pub use settled::is_settled;
 
-/// The instructions of a program that links name what their steps ask for, in each state (JVMS 5.4.3, 5.4.6, 6.5).
+/// The instructions of a program that links name what their steps ask for, in each memory (JVMS 5.4.3, 5.4.6, 6.5).
 pub fn linked_code_is_named()
     ensures { LinkedCodeIsNamed }
 {}

@@ -12,6 +12,7 @@ use Rattle.link_model.specs.World.{World}
 use Rattle.link_model.specs.Decoded.{code_at}
 use Rattle.verify_types.specs.Environment.{Instruction}
 use Rattle.state_model.specs.Frames.{Frame}
+use Rattle.ref_model.specs.Memory.{Memory}
 use Rattle.ref_model.specs.State.{State, with_frames}
 use Rattle.ref_model.specs.Fetch.{fetched, Named, named_method}
 use Rattle.ref_model.specs.Frames.{callee, caller}
@@ -39,7 +40,7 @@ use Rattle.ref_model.specs.LocalRows.{row, local_act, has_local_call, static_cal
 use Rattle.ref_model.specs.Step.{after_effect, row_or_event}
 use Rattle.invocation.specs.Targets.{row_invoked, begins, IsInvoked}
 use Rattle.machine.specs.declared.parts.Parts.{Parts}
-use Rattle.machine.specs.States.{state_of, IsRunStep}
+use Rattle.machine.specs.States.{memory_of, state_of, IsRunStep}
 use Rattle.machine.specs.Concluding.{Concludes, EffectSteps, Leads, Steps}
 use Rattle.machine.proofs.StepLaws.{effect_step, event_is_run}
 use Rattle.machine.proofs.EventLaws.{concluded, frames_kept}
@@ -65,7 +66,7 @@ taken : {A : Type 0} (b : Bool) (o : Option A) (x : A) → (if b then o else Non
 taken true o x e = (refl, e)
 taken false o x e = absurd cc
 
-entered_so : (w : World) (r : State) (m : Named) (f : Frame) (below fs : List Frame) → static_called w m f below ≡ Some fs
+entered_so : (w : World) (r : Memory) (m : Named) (f : Frame) (below fs : List Frame) → static_called w m f below ≡ Some fs
     → (g : Frame) × (fs ≡ g ∷ caller f (argument_slots m.method.signature) ∷ below) × (native_entered w r (suc (length below)) m (native_at w m.number) (argument_slots m.method.signature) f.stack ≡ Some (invokes g (drop (argument_slots m.method.signature) f.stack)))
 entered_so w r m f below fs e =
     let slots = argument_slots m.method.signature in
@@ -89,18 +90,18 @@ entered_so w r m f below fs e =
 
 -- what an invocation leads to, where it is a local instruction
 row_agrees : (w : World) (i : Instruction) (invocation : Invocation) (index : ℕ) (r : State) (t : ℕ) (f : Frame) (below fs : List Frame) (x : Effect) → local_act w i (invoke invocation index) f below ≡ Some fs
-    → invoked w i.resolution invocation r (suc (length below)) f.stack ≡ Some x → after_effect w r t i.instr.next f below x ≡ Some (with_frames r t fs)
+    → invoked w i.resolution invocation r.memory (suc (length below)) f.stack ≡ Some x → after_effect w r t i.instr.next f below x ≡ Some (with_frames r t fs)
 row_agrees w i virtual index r t f below fs x made effect = absurd cc
 row_agrees w i special index r t f below fs x made effect = absurd cc
 row_agrees w i (interface count) index r t f below fs x made effect = absurd cc
 row_agrees w i dynamic index r t f below fs x made effect = absurd cc
 row_agrees w i static index r t f below fs x made effect =
     let m = some_is (named_method w i.resolution) (λ m. static_called w m f below) fs made in
-    let so = entered_so w r m.0 f below fs m.2 in
+    let so = entered_so w r.memory m.0 f below fs m.2 in
     let slots = argument_slots m.0.method.signature in
     let begins : Option Effect = Some (invokes so.0 (drop slots f.stack)) in
-    let called : invoked w i.resolution static r (suc (length below)) f.stack ≡ begins =
-    bind_is (named_method w i.resolution) (λ n. native_entered w r (suc (length below)) n (native_at w n.number) (argument_slots n.method.signature) f.stack) m.0 begins m.1 so.2 in
+    let called : invoked w i.resolution static r.memory (suc (length below)) f.stack ≡ begins =
+    bind_is (named_method w i.resolution) (λ n. native_entered w r.memory (suc (length below)) n (native_at w n.number) (argument_slots n.method.signature) f.stack) m.0 begins m.1 so.2 in
     let same : invokes so.0 (drop slots f.stack) ≡ x = let e = sym called ∙ effect in cc in
     let after : Option State = Some (with_frames r t fs) in
     ap (after_effect w r t i.instr.next f below) (sym same) ∙ ap (λ (gs : List Frame). Some (with_frames r t gs)) (sym so.1)
@@ -108,7 +109,7 @@ row_agrees w i static index r t f below fs x made effect =
 -- ---- the step of an invocation
 
 invocation_run : (w : World) (i : Instruction) (invocation : Invocation) (index : ℕ) (a b : Parts) (f : Frame) (below after : List Frame) → fetched w f ≡ Some i → row_of i.instr.op ≡ invoke invocation index
-    → Leads w a b f below after i.instr.next (invoked w i.resolution invocation (state_of a (f ∷ below)) (suc (length below)) f.stack) → IsRunStep w (state_of a (f ∷ below)) (f ∷ below) (state_of b after)
+    → Leads w a b f below after i.instr.next (invoked w i.resolution invocation (memory_of a) (suc (length below)) f.stack) → IsRunStep w (state_of a (f ∷ below)) (f ∷ below) (state_of b after)
 invocation_run w i invocation index a b f below after at is x = by (row w (f ∷ below)) refl
   where
     r : State
@@ -123,10 +124,10 @@ invocation_run w i invocation index a b f below after at is x = by (row w (f ∷
         ap (row_or_event w r 0 (f ∷ below)) e ∙ sym (row_agrees w i invocation index r 0 f below fs x.effect_is (sym by_row ∙ e) x.is) ∙ x.leads
 
 pub invoked_stepped : (w : World) (i : Instruction) (a b : Parts) (f : Frame) (below after : List Frame) → fetched w f ≡ Some i
-    → Leads w a b f below after i.instr.next (row_invoked w i.resolution (row_of i.instr.op) (state_of a (f ∷ below)) (suc (length below)) f.stack) → IsRunStep w (state_of a (f ∷ below)) (f ∷ below) (state_of b after)
+    → Leads w a b f below after i.instr.next (row_invoked w i.resolution (row_of i.instr.op) (memory_of a) (suc (length below)) f.stack) → IsRunStep w (state_of a (f ∷ below)) (f ∷ below) (state_of b after)
 invoked_stepped w i a b f below after at x = by (row_of i.instr.op) refl x
   where
-    by : (act : Row) → row_of i.instr.op ≡ act → Leads w a b f below after i.instr.next (row_invoked w i.resolution act (state_of a (f ∷ below)) (suc (length below)) f.stack) → IsRunStep w (state_of a (f ∷ below)) (f ∷ below) (state_of b after)
+    by : (act : Row) → row_of i.instr.op ≡ act → Leads w a b f below after i.instr.next (row_invoked w i.resolution act (memory_of a) (suc (length below)) f.stack) → IsRunStep w (state_of a (f ∷ below)) (f ∷ below) (state_of b after)
     by (invoke invocation index) is x = invocation_run w i invocation index a b f below after at is x
     by (local act) is x = absurd (let e = x.is in cc)
     by (constant index) is x = absurd (let e = x.is in cc)
@@ -165,26 +166,26 @@ pub native_leads : (w : World) (a b : Parts) (s : NativeState) (native : Native)
     → KeptUnlessDone o m new → StaysIfThrown o a.natives s → ChangesOperands m new → length (top_stack new.stack.frames) ≤ top_room new.stack.frames → Concludes w next o (record a { natives = s }) new.stack.frames b after
     → EffectSteps w next (λ r depth stack. native_effect w native r stack) a m.stack.frames b after
 native_leads w a b s native next m new after o acts kept stays only held ends f below top =
-    concluded w a (record a { natives = s }) b f below new.stack.frames after (operands new) next o (native_effect w native (state_of a (f ∷ below)) f.stack)
-    (subst (λ (fs : List Frame). IsEffect o (native_effect w native (state_of a (f ∷ below)) (top_stack fs)) (state_of (record a { natives = s }) (f ∷ below)) (operands new)) top (acts (state_of a (f ∷ below))))
-    (subst (λ (n : ℕ). length (operands new) ≤ n) (ap top_room frames) held) frames (state_kept o stays ends) (frames_kept m new (f ∷ below) o top kept) ends
+    concluded w a (record a { natives = s }) b f below new.stack.frames after (operands new) next o (native_effect w native (memory_of a) f.stack) (λ fs. refl)
+    (subst (λ (fs : List Frame). IsEffect o (native_effect w native (memory_of a) (top_stack fs)) (memory_of (record a { natives = s })) (operands new)) top (acts (memory_of a)))
+    (subst (λ (n : ℕ). length (operands new) ≤ n) (ap top_room frames) held) frames (memory_kept o stays ends) (frames_kept m new (f ∷ below) o top kept) ends
   where
     frames : new.stack.frames ≡ with_stack (operands new) (f ∷ below)
     frames = only.frames ∙ ap (with_stack (operands new)) top
 
-    state_kept : (o : Outcome) → StaysIfThrown o a.natives s → Concludes w next o (record a { natives = s }) new.stack.frames b after → KeptUnlessDone o (state_of a (f ∷ below)) (state_of (record a { natives = s }) (f ∷ below))
-    state_kept Done x y = tt
-    state_kept (Throws e) x y = ap (λ (t : NativeState). state_of (record a { natives = t }) (f ∷ below)) x
-    state_kept (ThrowsObject n) x y = ap (λ (t : NativeState). state_of (record a { natives = t }) (f ∷ below)) x
-    state_kept Undefined x y = absurd y
+    memory_kept : (o : Outcome) → StaysIfThrown o a.natives s → Concludes w next o (record a { natives = s }) new.stack.frames b after → KeptUnlessDone o (memory_of a) (memory_of (record a { natives = s }))
+    memory_kept Done x y = tt
+    memory_kept (Throws e) x y = ap (λ (t : NativeState). memory_of (record a { natives = t })) x
+    memory_kept (ThrowsObject n) x y = ap (λ (t : NativeState). memory_of (record a { natives = t })) x
+    memory_kept Undefined x y = absurd y
 
 -- ---- the step by what the invocation comes to
 
-gives_stepped : (w : World) (i : Instruction) (a b : Parts) (m : Continuation) (after : List Frame) (other : State → ℕ → List Slot → Option Effect)
-    → ((r : State) (depth : ℕ) → row_invoked w i.resolution (row_of i.instr.op) (with_heap a.natives.heap r) depth (operands m) ≡ other (with_heap a.natives.heap r) depth (operands m))
+gives_stepped : (w : World) (i : Instruction) (a b : Parts) (m : Continuation) (after : List Frame) (other : Memory → ℕ → List Slot → Option Effect)
+    → ((r : Memory) (depth : ℕ) → row_invoked w i.resolution (row_of i.instr.op) (with_heap a.natives.heap r) depth (operands m) ≡ other (with_heap a.natives.heap r) depth (operands m))
     → EffectSteps w i.instr.next other a m.stack.frames b after → Steps w i a m.stack.frames b after
 gives_stepped w i a b m after other given effects f below top at =
-    let r : State = state_of a (f ∷ below) in
+    let r : Memory = memory_of a in
     let same : row_invoked w i.resolution (row_of i.instr.op) r (suc (length below)) f.stack ≡ other r (suc (length below)) f.stack =
     subst (λ (fs : List Frame). row_invoked w i.resolution (row_of i.instr.op) r (suc (length below)) (top_stack fs) ≡ other r (suc (length below)) (top_stack fs)) top (given r (suc (length below))) in
     let step = invoked_stepped w i a b f below after at (leads_too w a b f below after i.instr.next _ _ same (effects f below top)) in

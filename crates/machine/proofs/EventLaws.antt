@@ -18,7 +18,8 @@ use Rattle.instruction_rows.specs.declared.value.Value.{Value}
 use Rattle.heap_objs.specs.Heap.{Heap}
 use Rattle.continuation.specs.Continuation.{Continuation}
 use Rattle.frames.specs.Frames.{at_pc, with_stack, top_stack, top_room}
-use Rattle.ref_model.specs.State.{State, with_frames}
+use Rattle.ref_model.specs.Memory.{Memory}
+use Rattle.ref_model.specs.State.{State, with_memory, with_frames}
 use Rattle.ref_model.specs.Fetch.{fetched}
 use Rattle.ref_model.specs.Frames.{behind, contents, moved}
 use Rattle.ref_model.specs.LocalRows.{local_act}
@@ -32,7 +33,7 @@ use Rattle.heap_instructions.specs.Outcomes.{IsEffect, KeptUnlessDone, with_heap
 use Rattle.heap_instructions.specs.Operands.{operands}
 use Rattle.heap_instructions.specs.Dispatch as events
 use Rattle.machine.specs.declared.parts.Parts.{Parts}
-use Rattle.machine.specs.States.{state_of, IsRunStep}
+use Rattle.machine.specs.States.{memory_of, state_of, IsRunStep}
 use Rattle.machine.specs.Concluding.{Concludes, EndsOtherwise, Leads, Steps}
 use Rattle.machine.proofs.StepLaws.{effect_step, event_is_run, no_row}
 
@@ -53,26 +54,36 @@ goes_on f next stack held = by (nat_le (length stack) f.room) (le-leb (length st
     by true e = refl
     by false e = absurd cc
 
+-- these parts have the same thread, whatever its frames are
+abbrev pub HasSameThread : Parts → Parts → Type 0
+HasSameThread a mid = (frames : List Frame) → with_memory (state_of a frames) (memory_of mid) ≡ state_of mid frames
+
+-- the same memory too
+same_state : (a mid : Parts) (frames : List Frame) → HasSameThread a mid → memory_of mid ≡ memory_of a → state_of a frames ≡ state_of mid frames
+same_state a mid frames thread same = ap (with_memory (state_of a frames)) (sym same) ∙ thread frames
+
 -- An outcome, with the parts and frames that it left, and what was concluded from it.
 pub concluded : (w : World) (a mid b : Parts) (f : Frame) (below left after : List Frame) (stack : List Slot) (next : ℕ) (o : Outcome) (effect : Option Effect)
-    → IsEffect o effect (state_of mid (f ∷ below)) stack → length stack ≤ f.room → left ≡ with_stack stack (f ∷ below)
-    → KeptUnlessDone o (state_of a (f ∷ below)) (state_of mid (f ∷ below)) → KeptUnlessDone o (f ∷ below) left → Concludes w next o mid left b after → Leads w a b f below after next effect
-concluded w a mid b f below left after stack next Done effect is held frames kept same ends =
+    → HasSameThread a mid → IsEffect o effect (memory_of mid) stack → length stack ≤ f.room → left ≡ with_stack stack (f ∷ below)
+    → KeptUnlessDone o (memory_of a) (memory_of mid) → KeptUnlessDone o (f ∷ below) left → Concludes w next o mid left b after → Leads w a b f below after next effect
+concluded w a mid b f below left after stack next Done effect thread is held frames kept same ends =
     let g : Frame = record f { pc = next; stack = stack } in
     let q : Option State = Some (state_of mid (g ∷ below)) in
-    let goes : after_effect w (state_of a (f ∷ below)) 0 next f below (done (state_of mid (f ∷ below)) stack) ≡ q =
-    bind_is (behind f next stack) (λ x. Some (with_frames (state_of mid (f ∷ below)) 0 (x ∷ below))) g q (goes_on f next stack held) refl in
+    let r : State = with_memory (state_of a (f ∷ below)) (memory_of mid) in
+    let goes : after_effect w (state_of a (f ∷ below)) 0 next f below (done (memory_of mid) stack) ≡ q =
+    bind_is (behind f next stack) (λ x. Some (with_frames r 0 (x ∷ below))) g q (goes_on f next stack held)
+    (ap (λ (s : State). Some (with_frames s 0 (g ∷ below))) (thread (f ∷ below))) in
     let top : after ≡ g ∷ below = ends.1 ∙ ap (at_pc next) frames in
-    record { effect_is = done (state_of mid (f ∷ below)) stack; is = is; leads = goes ∙ ap (λ (fs : List Frame). Some (state_of mid fs)) (sym top) ∙ ap (λ (p : Parts). Some (state_of p after)) (sym ends.0) }
-concluded w a mid b f below left after stack next (Throws e) effect is held frames kept same ends =
+    record { effect_is = done (memory_of mid) stack; is = is; leads = goes ∙ ap (λ (fs : List Frame). Some (state_of mid fs)) (sym top) ∙ ap (λ (p : Parts). Some (state_of p after)) (sym ends.0) }
+concluded w a mid b f below left after stack next (Throws e) effect thread is held frames kept same ends =
     let before : raised w (state_of a (f ∷ below)) 0 e ≡ raised w (state_of mid left) 0 e =
-    ap (λ (r : State). raised w r 0 e) (sym kept) ∙ ap (λ (fs : List Frame). raised w (state_of mid fs) 0 e) (sym same) in
+    ap (λ (r : State). raised w r 0 e) (same_state a mid (f ∷ below) thread kept) ∙ ap (λ (fs : List Frame). raised w (state_of mid fs) 0 e) (sym same) in
     record { effect_is = throws e; is = is; leads = before ∙ ends.0 ∙ ap (λ (fs : List Frame). Some (state_of b fs)) (sym ends.1) }
-concluded w a mid b f below left after stack next (ThrowsObject n) effect is held frames kept same ends =
+concluded w a mid b f below left after stack next (ThrowsObject n) effect thread is held frames kept same ends =
     let before : throwing (state_of a (f ∷ below)) 0 n ≡ throwing (state_of mid left) 0 n =
-    ap (λ (r : State). throwing r 0 n) (sym kept) ∙ ap (λ (fs : List Frame). throwing (state_of mid fs) 0 n) (sym same) in
+    ap (λ (r : State). throwing r 0 n) (same_state a mid (f ∷ below) thread kept) ∙ ap (λ (fs : List Frame). throwing (state_of mid fs) 0 n) (sym same) in
     record { effect_is = throws_object n; is = is; leads = ap Some (before ∙ ends.0 ∙ ap (state_of b) (sym ends.1)) }
-concluded w a mid b f below left after stack next Undefined effect is held frames kept same ends = absurd ends
+concluded w a mid b f below left after stack next Undefined effect thread is held frames kept same ends = absurd ends
 
 -- ---- the instructions on fields, arrays and objects, and divisions by 0
 
@@ -97,11 +108,11 @@ division_stepped w i act a b f below after at row x =
     (effect_step w i (local act) (state_of a (f ∷ below)) (state_of b after) 0 f below x.effect_is at row tt effect x.leads)
 
 pub event_stepped : (w : World) (i : Instruction) (a mid b : Parts) (f : Frame) (below left after : List Frame) (stack : List Slot) (o : Outcome) → fetched w f ≡ Some i
-    → IsEffect o (events.row_effect w i.resolution (row_of i.instr.op) (state_of a (f ∷ below)) f.stack) (state_of mid (f ∷ below)) stack → length stack ≤ f.room → left ≡ with_stack stack (f ∷ below)
-    → KeptUnlessDone o (state_of a (f ∷ below)) (state_of mid (f ∷ below)) → KeptUnlessDone o (f ∷ below) left → Concludes w i.instr.next o mid left b after → IsRunStep w (state_of a (f ∷ below)) (f ∷ below) (state_of b after)
-event_stepped w i a mid b f below left after stack o at is held frames kept same ends = by (row_of i.instr.op) refl (concluded w a mid b f below left after stack i.instr.next o _ is held frames kept same ends)
+    → HasSameThread a mid → IsEffect o (events.row_effect w i.resolution (row_of i.instr.op) (memory_of a) f.stack) (memory_of mid) stack → length stack ≤ f.room → left ≡ with_stack stack (f ∷ below)
+    → KeptUnlessDone o (memory_of a) (memory_of mid) → KeptUnlessDone o (f ∷ below) left → Concludes w i.instr.next o mid left b after → IsRunStep w (state_of a (f ∷ below)) (f ∷ below) (state_of b after)
+event_stepped w i a mid b f below left after stack o at thread is held frames kept same ends = by (row_of i.instr.op) refl (concluded w a mid b f below left after stack i.instr.next o _ thread is held frames kept same ends)
   where
-    by : (act : Row) → row_of i.instr.op ≡ act → Leads w a b f below after i.instr.next (events.row_effect w i.resolution act (state_of a (f ∷ below)) f.stack) → IsRunStep w (state_of a (f ∷ below)) (f ∷ below) (state_of b after)
+    by : (act : Row) → row_of i.instr.op ≡ act → Leads w a b f below after i.instr.next (events.row_effect w i.resolution act (memory_of a) f.stack) → IsRunStep w (state_of a (f ∷ below)) (f ∷ below) (state_of b after)
     by (event e) row x =
         event_is_run w (state_of a (f ∷ below)) (state_of b after) 0 (f ∷ below) (no_row w i (event e) f below at row refl)
         (effect_step w i (event e) (state_of a (f ∷ below)) (state_of b after) 0 f below x.effect_is at row tt x.is x.leads)
@@ -118,19 +129,19 @@ event_stepped w i a mid b f below left after stack o at is held frames kept same
 abbrev pub with_values : Parts → Heap → List Value → Parts
 with_values a h statics = record a { natives = record a.natives { heap = h }; statics = with_items a.statics statics }
 
--- the state with them
-pub valued : (a : Parts) (h : Heap) (statics : List Value) (frames : List Frame) → length statics ≡ a.statics.len → state_of (with_values a h statics) frames ≡ with_heap h (with_statics statics (state_of a frames))
-valued a h statics frames size = ap (λ (s : List Value). with_heap h (with_statics s (state_of a frames))) (with_items_is a.statics statics size)
+-- the memory with them
+pub valued : (a : Parts) (h : Heap) (statics : List Value) → length statics ≡ a.statics.len → memory_of (with_values a h statics) ≡ with_heap h (with_statics statics (memory_of a))
+valued a h statics size = ap (λ (s : List Value). with_heap h (with_statics s (memory_of a))) (with_items_is a.statics statics size)
 
--- the state stays, where they are the old ones
-values_kept : (a : Parts) (h : Heap) (statics : List Value) (frames : List Frame) (o : Outcome) → length statics ≡ a.statics.len → KeptUnlessDone o a.natives.heap h → KeptUnlessDone o a.statics.items statics
-    → KeptUnlessDone o (state_of a frames) (state_of (with_values a h statics) frames)
-values_kept a h statics frames o size heap values = by o heap values
+-- the memory stays, where they are the old ones
+values_kept : (a : Parts) (h : Heap) (statics : List Value) (o : Outcome) → length statics ≡ a.statics.len → KeptUnlessDone o a.natives.heap h → KeptUnlessDone o a.statics.items statics
+    → KeptUnlessDone o (memory_of a) (memory_of (with_values a h statics))
+values_kept a h statics o size heap values = by o heap values
   where
-    same : h ≡ a.natives.heap → statics ≡ a.statics.items → state_of (with_values a h statics) frames ≡ state_of a frames
-    same x y = valued a h statics frames size ∙ ap (λ (g : Heap). with_heap g (with_statics statics (state_of a frames))) x ∙ ap (λ (s : List Value). with_statics s (state_of a frames)) y
+    same : h ≡ a.natives.heap → statics ≡ a.statics.items → memory_of (with_values a h statics) ≡ memory_of a
+    same x y = valued a h statics size ∙ ap (λ (g : Heap). with_heap g (with_statics statics (memory_of a))) x ∙ ap (λ (s : List Value). with_statics s (memory_of a)) y
 
-    by : (o : Outcome) → KeptUnlessDone o a.natives.heap h → KeptUnlessDone o a.statics.items statics → KeptUnlessDone o (state_of a frames) (state_of (with_values a h statics) frames)
+    by : (o : Outcome) → KeptUnlessDone o a.natives.heap h → KeptUnlessDone o a.statics.items statics → KeptUnlessDone o (memory_of a) (memory_of (with_values a h statics))
     by Done x y = tt
     by (Throws e) x y = same x y
     by (ThrowsObject n) x y = same x y
@@ -155,13 +166,13 @@ pub event_done : (w : World) (i : Instruction) (a b : Parts) (h : Heap) (given s
 event_done w i a b h given statics m next after o size same ran held ends f below top at =
     let frames : next.stack.frames ≡ with_stack (operands next) (f ∷ below) = ran.only.frames ∙ ap (with_stack (operands next)) top in
     let room : top_room next.stack.frames ≡ f.room = ap top_room frames in
-    let left = valued a h statics (f ∷ below) size in
-    let effect = subst (λ (q : State). IsEffect o (events.row_effect w i.resolution (row_of i.instr.op) (with_heap a.natives.heap (with_statics given (state_of a (f ∷ below)))) (operands m)) q (operands next)) (sym left) (ran.effect (state_of a (f ∷ below))) in
-    let first : events.row_effect w i.resolution (row_of i.instr.op) (with_heap a.natives.heap (with_statics given (state_of a (f ∷ below)))) (operands m) ≡ events.row_effect w i.resolution (row_of i.instr.op) (state_of a (f ∷ below)) f.stack =
-    ap (λ (s : List Value). events.row_effect w i.resolution (row_of i.instr.op) (with_statics s (state_of a (f ∷ below))) (operands m)) same ∙ ap (λ (fs : List Frame). events.row_effect w i.resolution (row_of i.instr.op) (state_of a (f ∷ below)) (top_stack fs)) top in
+    let left = valued a h statics size in
+    let effect = subst (λ (q : Memory). IsEffect o (events.row_effect w i.resolution (row_of i.instr.op) (with_heap a.natives.heap (with_statics given (memory_of a))) (operands m)) q (operands next)) (sym left) (ran.effect (memory_of a)) in
+    let first : events.row_effect w i.resolution (row_of i.instr.op) (with_heap a.natives.heap (with_statics given (memory_of a))) (operands m) ≡ events.row_effect w i.resolution (row_of i.instr.op) (memory_of a) f.stack =
+    ap (λ (s : List Value). events.row_effect w i.resolution (row_of i.instr.op) (with_statics s (memory_of a)) (operands m)) same ∙ ap (λ (fs : List Frame). events.row_effect w i.resolution (row_of i.instr.op) (memory_of a) (top_stack fs)) top in
     let kept_statics = subst (λ (s : List Value). KeptUnlessDone o s statics) same ran.kept_statics in
     let step : IsRunStep w (state_of a (f ∷ below)) (f ∷ below) (state_of b after) =
-    event_stepped w i a (with_values a h statics) b f below next.stack.frames after (operands next) o at
-    (subst (λ (x : Option Effect). IsEffect o x (state_of (with_values a h statics) (f ∷ below)) (operands next)) first effect)
-    (subst (λ (n : ℕ). length (operands next) ≤ n) room held) frames (values_kept a h statics (f ∷ below) o size ran.kept_heap kept_statics) (frames_kept m next (f ∷ below) o top ran.kept) ends in
+    event_stepped w i a (with_values a h statics) b f below next.stack.frames after (operands next) o at (λ fs. refl)
+    (subst (λ (x : Option Effect). IsEffect o x (memory_of (with_values a h statics)) (operands next)) first effect)
+    (subst (λ (n : ℕ). length (operands next) ≤ n) room held) frames (values_kept a h statics o size ran.kept_heap kept_statics) (frames_kept m next (f ∷ below) o top ran.kept) ends in
     subst (λ (fs : List Frame). IsRunStep w (state_of a fs) fs (state_of b after)) (sym top) step

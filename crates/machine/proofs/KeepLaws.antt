@@ -7,6 +7,7 @@ use Rattle.link_model.specs.World.{World}
 use Rattle.verify_types.specs.Environment.{Instruction}
 use Rattle.state_model.specs.Frames.{Frame}
 use Rattle.ref_model.specs.Setting.{Setting}
+use Rattle.ref_model.specs.Memory.{Memory}
 use Rattle.ref_model.specs.State.{State}
 use Rattle.ref_model.specs.Ending.{ending}
 use Rattle.ref_model.specs.Entries.{are_grouped_steps, frames_at, running_frames}
@@ -26,7 +27,7 @@ use Rattle.machine.specs.Concluding.{Steps}
 use Rattle.machine.specs.declared.parts.Parts.{Parts}
 use Rattle.machine.specs.Ready.{IsReady}
 use Rattle.machine.specs.Returning.{ThrowingSteps}
-use Rattle.machine.specs.States.{main_thread, state_of, IsStep, IsRunStep}
+use Rattle.machine.specs.States.{memory_of, main_thread, state_of, IsStep, IsRunStep}
 use Rattle.machine.specs.Steps.{Advances, IsTypedStep}
 use Rattle.machine.specs.LocalRuns.{IsLocalRun, IsLongRun}
 use Rattle.machine.proofs.LocalLaws.{ends_may, most_may, run_grouped}
@@ -62,7 +63,7 @@ top_of f g below others e = cc
 -- ---- a step of a thread that runs
 
 run_names : (w : World) (a : Parts) (f : Frame) (below : List Frame) → IsReady w → a.status ≡ Live Run → IsStepResolution w (state_of a (f ∷ below)) 0
-run_names w a f below ready running = record { top = λ g others e. ready.named (state_of a (f ∷ below)) g }
+run_names w a f below ready running = record { top = λ g others e. ready.named (memory_of a) g }
 
 run_goes : (w : World) (a b : Parts) (frames after : List Frame) → a.status ≡ Live Run → ending (state_of a frames) ≡ None → IsRunStep w (state_of a frames) frames (state_of b after) → IsStep w (state_of a frames) (state_of b after)
 run_goes w a b frames after running goes made = λ p same.

@@ -15,6 +15,7 @@ use Rattle.ref_model.specs.declared.ending.Ending.TheVariants.{Limit}
 use Rattle.ref_model.specs.declared.ending.Which.TheVariants.{Events}
 use Rattle.ref_model.specs.declared.limits.Limits.{Limits}
 use Rattle.ref_model.specs.Setting.{Setting}
+use Rattle.ref_model.specs.Memory.{Memory}
 use Rattle.ref_model.specs.State.{State}
 use Rattle.ref_model.specs.Ending.{ending}
 use Rattle.ref_model.specs.Entries.{are_grouped_from}
@@ -49,29 +50,14 @@ still_few h e events room = let longer = one_longer h e in omega arith
 
 pub is_state : (a : Parts) (frames : List Frame) (q : State) → AreParts a frames q → state_of a frames ≡ q
 is_state a frames q x = λ i. record {
-  heap = x.heap i;
-  room = x.room i;
-  statics = x.statics i;
+  memory = x.memory i;
   threads = x.threads i;
   now = x.now i;
-  out = x.out i;
-  err = x.err i;
   main_threw = x.main_threw i;
-  exited = x.exited i;
 }
 
 pub own_parts : (a : Parts) (frames : List Frame) → AreParts a frames (state_of a frames)
-own_parts a frames = record {
-  heap = refl;
-  room = refl;
-  statics = refl;
-  threads = refl;
-  now = refl;
-  out = refl;
-  err = refl;
-  main_threw = refl;
-  exited = refl;
-}
+own_parts a frames = record { memory = refl; threads = refl; now = refl; main_threw = refl }
 
 pub here : (p : Setting) (a : Parts) (frames : List Frame) (s : Kept) (h : List Entry) (u : Bool) → (x : IsConsistent p a frames s h u) → u ≡ false → state_of a frames ≡ x.legal.state
 here p a frames s h u x works = is_state a frames x.legal.state (x.parts works)
@@ -165,11 +151,11 @@ ending_is p a frames s h u n x works =
 
 pub output_is : (p : Setting) (a : Parts) (frames : List Frame) (s : Kept) (h : List Entry) (u : Bool) (n : ℕ) → IsConsistent p a frames s h u → u ≡ false
     → a.natives.out.items ≡ output (record { setting = p; history = h; spare = n; given_up = u })
-output_is p a frames s h u n x works = sym (ap (λ o. option_map_or (λ (q : State). q.out) o []) (after_is p a frames s h u x works))
+output_is p a frames s h u n x works = sym (ap (λ o. option_map_or (λ (q : State). q.memory.out) o []) (after_is p a frames s h u x works))
 
 pub errors_is : (p : Setting) (a : Parts) (frames : List Frame) (s : Kept) (h : List Entry) (u : Bool) (n : ℕ) → IsConsistent p a frames s h u → u ≡ false
     → a.natives.err.items ≡ errors (record { setting = p; history = h; spare = n; given_up = u })
-errors_is p a frames s h u n x works = sym (ap (λ o. option_map_or (λ (q : State). q.err) o []) (after_is p a frames s h u x works))
+errors_is p a frames s h u n x works = sym (ap (λ o. option_map_or (λ (q : State). q.memory.err) o []) (after_is p a frames s h u x works))
 
 -- ---- where it goes on, and where it has ended
 
@@ -237,8 +223,8 @@ is_run p a frames s h u n told x works ended =
       state = q;
       runs = x.legal.runs;
       ended = is;
-      prints = sym (x.parts works).out;
-      tells = sym (x.parts works).err;
+      prints = sym (ap (λ (m : Memory). m.out) (x.parts works).memory);
+      tells = sym (ap (λ (m : Memory). m.err) (x.parts works).memory);
       entries = x.legal.entries;
       grouped = x.legal.grouped;
       few = x.legal.few;

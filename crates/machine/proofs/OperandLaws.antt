@@ -18,7 +18,7 @@ use Rattle.state_model.specs.Frames.{Frame}
 use Rattle.frames.specs.Frames.{top_method, top_pc, top_stack}
 use Rattle.continuation.specs.Continuation.{Continuation}
 use Rattle.heap_objs.specs.Heap.{Heap}
-use Rattle.ref_model.specs.State.{State}
+use Rattle.ref_model.specs.Memory.{Memory}
 use Rattle.ref_model.specs.Calls.{choice_of}
 use Rattle.ref_model.specs.Classes.{is_sub}
 use Rattle.ref_model.specs.Fetch.{fetched, Named, named_method}
@@ -40,7 +40,7 @@ use Rattle.machine.specs.declared.parts.Parts.{Parts}
 use Rattle.machine.specs.LocalRuns.{returned_kind}
 use Rattle.machine.specs.Operands.{FindsNatives}
 use Rattle.machine.specs.Ready.{IsReady}
-use Rattle.machine.specs.States.{state_of}
+use Rattle.machine.specs.States.{memory_of}
 use Rattle.machine.proofs.LocalLaws.{kind_row}
 
 inside : (i j : Instruction) → ◌≡◌ {A = Option Instruction} (Some i) (Some j) → i ≡ j
@@ -77,16 +77,13 @@ record Stands (w : World) (m : Continuation) : Type 0 where
 abbrev instruction : (w : World) (m : Continuation) → Stands w m → Instruction
 instruction w m h = h.typed.0.at.place.instruction
 
-abbrev state : (w : World) (m : Continuation) → Parts → Stands w m → State
-state w m a h = state_of a (h.f ∷ h.below)
-
 on_top : (w : World) (m : Continuation) (h : Stands w m) (n : Native) → FindsArguments w n h.f.stack → FindsArguments w n (operands m)
 on_top w m h n x = subst (λ (fs : List Frame). FindsArguments w n (top_stack fs)) (sym h.top) x
 
 -- one that runs on the receiver at hand
 received : (w : World) (m : Continuation) (a : Parts) (h : Stands w m) (invocation : Invocation) (index k : ℕ) (named : Named) (r : Receiver) (n : Native) → IsReady w →
     row_of (instruction w m h).instr.op ≡ invoke invocation index → takes_receiver invocation ≡ true → named_method w (instruction w m h).resolution ≡ Some named →
-    OfReceiver w (state w m a h) (receiver named.method.signature h.f.stack) (IsSelected w (instruction w m h).resolution invocation named) →
+    OfReceiver w (memory_of a) (receiver named.method.signature h.f.stack) (IsSelected w (instruction w m h).resolution invocation named) →
     HasReceiver w (instruction w m h).resolution (argument_slots named.method.signature) a.natives.heap m r → is_sub w r.class r.named ≡ true →
     method_run w invocation named r.class ≡ Some k → IsNative w k n → FindsArguments w n (operands m)
 received w m a h invocation index k named r n ready row takes is names has instance run native =
@@ -102,7 +99,7 @@ received w m a h invocation index k named r n ready row takes is names has insta
 -- one that is selected
 selected : (w : World) (m : Continuation) (a : Parts) (h : Stands w m) (invocation : Invocation) (index : ℕ) (named : Named) (n : Native) → IsReady w →
     row_of (instruction w m h).instr.op ≡ invoke invocation index → takes_receiver invocation ≡ true → named_method w (instruction w m h).resolution ≡ Some named →
-    OfReceiver w (state w m a h) (receiver named.method.signature h.f.stack) (IsSelected w (instruction w m h).resolution invocation named) →
+    OfReceiver w (memory_of a) (receiver named.method.signature h.f.stack) (IsSelected w (instruction w m h).resolution invocation named) →
     ((class : ℕ) → method_run w invocation named class ≡ (choice_of w class named.number >>= chosen_method w)) →
     IsVirtualNative w (instruction w m h).resolution named.number (argument_slots named.method.signature) a.natives.heap m n → FindsArguments w n (operands m)
 selected w m a h invocation index named n ready row takes is names runs x =
@@ -111,7 +108,7 @@ selected w m a h invocation index named n ready row takes is names runs x =
     (runs x.receiver.class ∙ bind_is (choice_of w x.receiver.class named.number) (chosen_method w) _ _ s.choice refl) s.is
 
 invoked : (w : World) (m : Continuation) (a : Parts) (h : Stands w m) (invocation : Invocation) (index : ℕ) (n : Native) → IsReady w →
-    row_of (instruction w m h).instr.op ≡ invoke invocation index → IsRowResolution w (instruction w m h).resolution (invoke invocation index) (state w m a h) h.f.stack →
+    row_of (instruction w m h).instr.op ≡ invoke invocation index → IsRowResolution w (instruction w m h).resolution (invoke invocation index) (memory_of a) h.f.stack →
     InvokesNative w (instruction w m h).resolution invocation a.natives.heap m n → FindsArguments w n (operands m)
 invoked w m a h virtual index n ready row names x = selected w m a h virtual index x.named n ready row refl x.is (names x.named x.is) (λ class. refl) x.runs
 invoked w m a h (interface count) index n ready row names x =
@@ -134,8 +131,8 @@ natives_there : (w : World) (m : Continuation) (a : Parts) (h : Stands w m) → 
 natives_there w m a h ready = λ n x.
     let i = instruction w m h in
     let by = invocation_of w i.resolution (row_of i.instr.op) a.natives.heap m n x in
-    let names = ready.named (state w m a h) h.f i (fetched_is w h.f h.typed.0.at) in
-    invoked w m a h by.0 by.1 n ready by.2 (subst (λ (r : Row). IsRowResolution w i.resolution r (state w m a h) h.f.stack) by.2 names) by.3
+    let names = ready.named (memory_of a) h.f i (fetched_is w h.f h.typed.0.at) in
+    invoked w m a h by.0 by.1 n ready by.2 (subst (λ (r : Row). IsRowResolution w i.resolution r (memory_of a) h.f.stack) by.2 names) by.3
 
 pub natives_found : (w : World) (a : Parts) (m : Continuation) (frames : List Frame) (i : Instruction) → m.stack.frames ≡ frames → IsReady w → Typed w frames →
     instruction_at w (top_method frames) (top_pc frames) ≡ Some i → FindsNatives w i.resolution (row_of i.instr.op) a.natives.heap m

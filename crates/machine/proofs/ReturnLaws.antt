@@ -7,6 +7,7 @@ use Rattle.vthread_state.specs.declared.thread.Status.{Status}
 use Rattle.link_model.specs.World.{World}
 use Rattle.verify_types.specs.Environment.{Handler}
 use Rattle.state_model.specs.Frames.{Frame}
+use Rattle.ref_model.specs.Memory.{Memory}
 use Rattle.ref_model.specs.State.{State}
 use Rattle.ref_model.specs.Heap.{class_at}
 use Rattle.ref_model.specs.Throwing.{handler_of, uncaught, handled}
@@ -47,4 +48,4 @@ uncaught_steps w a b o class (f ∷ below) after named none root ends =
     let left : handled w r 0 o class f below (handler_of w class f) ≡ made =
     ap (handled w r 0 o class f below) (mapped_none (handler_of w class f) none)
     ∙ ap (λ (x : Bool). if x then uncaught w r 0 class else Some (state_of a below)) root ∙ ends (f ∷ below) in
-    bind_is (class_at w r o) (λ c. handled w r 0 o c f below (handler_of w c f)) class made (sym named) left
+    bind_is (class_at w r.memory o) (λ c. handled w r 0 o c f below (handler_of w c f)) class made (sym named) left

@@ -11,7 +11,7 @@ use Rattle.link_model.specs.World.{World}
 use Rattle.link_model.specs.Decoded.{code_at}
 use Rattle.verify_types.specs.Environment.{Instruction}
 use Rattle.state_model.specs.Frames.{Frame}
-use Rattle.ref_model.specs.State.{State}
+use Rattle.ref_model.specs.Memory.{Memory}
 use Rattle.ref_model.specs.Effects.{Effect, invokes, throws}
 use Rattle.ref_model.specs.declared.exception.Exception.TheVariants as exceptions
 use Rattle.ref_model.specs.Entries.{is_static_call}
@@ -109,23 +109,13 @@ called_row w i index c f g below rest x made =
 
 -- ---- the instruction
 
--- a state in which nothing is, since what linking gives an invokestatic holds in each
-no_state : State
-no_state = record {
-  heap = [];
-  room = 0;
-  statics = [];
-  threads = [];
-  now = 0;
-  out = [];
-  err = [];
-  main_threw = false;
-  exited = None;
-}
+-- a memory in which nothing is, since what linking gives an invokestatic holds in each
+no_memory : Memory
+no_memory = record { heap = []; room = 0; statics = []; out = []; err = []; exited = None }
 
 pub names_static : (w : World) (f : Frame) → IsReady w → NamesStatic w f
 names_static w f ready i index m at known named =
-    (subst (λ (r : Row). IsRowResolution w i.resolution r no_state f.stack) known (ready.named no_state f i at) m named).flag
+    (subst (λ (r : Row). IsRowResolution w i.resolution r no_memory f.stack) known (ready.named no_memory f i at) m named).flag
 
 -- the method was begun
 pub into_made : (w : World) (m new : Continuation) (x : Fetched) (c : Callee) → IsReady w → Typed w m.stack.frames → IsTopAt w m.stack.frames x → is_static_call (row_of x.instr.now.op) ≡ true

@@ -18,14 +18,14 @@ IsEffective (returns kind) = ⊥
 IsEffective r = Unit {0}
 
 effect_row : (w : World) (i : Instruction) (act : Row) (r q : State) (t : ℕ) (f : Frame) (below : List Frame) (x : Effect) → IsEffective act
-    → row_effect w i act r (suc (length below)) f ≡ Some x → after_effect w r t i.instr.next f below x ≡ Some q → row_event w i act r t f below ≡ Some q
+    → row_effect w i act r.memory (suc (length below)) f ≡ Some x → after_effect w r t i.instr.next f below x ≡ Some q → row_event w i act r t f below ≡ Some q
 effect_row w i (returns kind) r q t f below x is effect after = absurd is
 effect_row w i act r q t f below x is effect after =
-    bind_is (row_effect w i act r (suc (length below)) f) (after_effect w r t i.instr.next f below) x (Some q) effect after
+    bind_is (row_effect w i act r.memory (suc (length below)) f) (after_effect w r t i.instr.next f below) x (Some q) effect after
 
 -- the step of an instruction by its effect
 pub effect_step : (w : World) (i : Instruction) (act : Row) (r q : State) (t : ℕ) (f : Frame) (below : List Frame) (x : Effect) → fetched w f ≡ Some i → row_of i.instr.op ≡ act → IsEffective act
-    → row_effect w i act r (suc (length below)) f ≡ Some x → after_effect w r t i.instr.next f below x ≡ Some q → event_step w r t (f ∷ below) ≡ Some q
+    → row_effect w i act r.memory (suc (length below)) f ≡ Some x → after_effect w r t i.instr.next f below x ≡ Some q → event_step w r t (f ∷ below) ≡ Some q
 effect_step w i act r q t f below x at is effective effect after =
     let made : Option State = Some q in
     bind_is (fetched w f) (λ j. row_event w j (row_of j.instr.op) r t f below) i made at

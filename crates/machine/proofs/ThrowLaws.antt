@@ -9,13 +9,14 @@ use Rattle.vthread_state.specs.declared.phase.Phase.TheVariants.{Throwing}
 use Rattle.vthread_state.specs.declared.thread.Status.TheVariants.{Live}
 use Rattle.state_model.specs.Frames.{Frame}
 use Rattle.ref_model.specs.declared.exception.Exception.{Exception}
+use Rattle.ref_model.specs.Memory.{Memory}
 use Rattle.ref_model.specs.State.{State}
 use Rattle.ref_model.specs.Heap.{with_instance}
 use Rattle.ref_model.specs.Members.{new_values}
 use Rattle.ref_model.specs.Throwing.{exception_name, raised, throwing_new}
 use Rattle.heap_instructions.specs.HeapReads.{IsMade}
 use Rattle.machine.specs.declared.parts.Parts.{Parts}
-use Rattle.machine.specs.States.{state_of}
+use Rattle.machine.specs.States.{memory_of, state_of}
 
 -- what holds on success leads to another fact
 pub on_ok : {A E : Type 0} {X Y : Type 0} (r : Result A E) → OnOk r X → (X → Y) → OnOk r Y
@@ -32,14 +33,14 @@ abbrev pub thrown : Parts → Heap → ℕ → Parts
 thrown a h o = record a { natives = record a.natives { heap = h }; status = Live (Throwing o) }
 
 pub raised_is : (w : World) (a : Parts) (h : Heap) (e : Exception) (class : ℕ) (values : List Value) (found : Option ℕ) (frames : List Frame) → name_number w (exception_name e) ≡ Some class → values ≡ new_values w class
-    → IsMade (λ (r : State). with_instance r class values) a.natives.heap h found → raised w (state_of a frames) 0 e ≡ Some (state_of (thrown a h (unwrap_or found 0)) frames)
+    → IsMade (λ (r : Memory). with_instance r class values) a.natives.heap h found → raised w (state_of a frames) 0 e ≡ Some (state_of (thrown a h (unwrap_or found 0)) frames)
 raised_is w a h e class values found frames named same made =
     let r : State = state_of a frames in
     let after : Option State = Some (state_of (thrown a h (unwrap_or found 0)) frames) in
-    bind_is (name_number w (exception_name e)) (λ c. Some (throwing_new r 0 (with_instance r c (new_values w c)))) class after named
-    (ap (λ (v : List Value). Some (throwing_new r 0 (with_instance r class v))) (sym same) ∙ by found made)
+    bind_is (name_number w (exception_name e)) (λ c. Some (throwing_new r 0 (with_instance r.memory c (new_values w c)))) class after named
+    (ap (λ (v : List Value). Some (throwing_new r 0 (with_instance r.memory class v))) (sym same) ∙ by found made)
   where
-    by : (found : Option ℕ) → IsMade (λ (r : State). with_instance r class values) a.natives.heap h found
-        → Some (throwing_new (state_of a frames) 0 (with_instance (state_of a frames) class values)) ≡ Some (state_of (thrown a h (unwrap_or found 0)) frames)
-    by (Some o) made = ap (λ x. Some (throwing_new (state_of a frames) 0 x)) (made (state_of a frames))
-    by None made = ap (λ x. Some (throwing_new (state_of a frames) 0 x)) (made.0 (state_of a frames)) ∙ ap (λ (g : Heap). Some (state_of (thrown a g 0) frames)) (sym made.1)
+    by : (found : Option ℕ) → IsMade (λ (r : Memory). with_instance r class values) a.natives.heap h found
+        → Some (throwing_new (state_of a frames) 0 (with_instance (memory_of a) class values)) ≡ Some (state_of (thrown a h (unwrap_or found 0)) frames)
+    by (Some o) made = ap (λ x. Some (throwing_new (state_of a frames) 0 x)) (made (memory_of a))
+    by None made = ap (λ x. Some (throwing_new (state_of a frames) 0 x)) (made.0 (memory_of a)) ∙ ap (λ (g : Heap). Some (state_of (thrown a g 0) frames)) (sym made.1)

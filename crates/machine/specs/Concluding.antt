@@ -5,6 +5,7 @@ use Rattle.link_model.specs.World.{World}
 use Rattle.state_model.specs.Frames.{Frame}
 use Rattle.verify_types.specs.Environment.{Instruction}
 use Rattle.instruction_rows.specs.declared.value.Slot.{Slot}
+use Rattle.ref_model.specs.Memory.{Memory}
 use Rattle.ref_model.specs.State.{State}
 use Rattle.ref_model.specs.Fetch.{fetched}
 use Rattle.ref_model.specs.Effects.{Effect}
@@ -13,7 +14,7 @@ use Rattle.ref_model.specs.Throwing.{raised, throwing}
 use Rattle.heap_instructions.specs.declared.outcome.Outcome.{Outcome}
 use Rattle.heap_instructions.specs.declared.outcome.Outcome.TheVariants.{Done, Throws, ThrowsObject, Undefined}
 use Rattle.machine.specs.declared.parts.Parts.{Parts}
-use Rattle.machine.specs.States.{state_of, IsRunStep}
+use Rattle.machine.specs.States.{memory_of, state_of, IsRunStep}
 
 -- Where it is done, the frame goes on at the next instruction; an exception changes no frame.
 abbrev pub Concludes : World → ℕ → Outcome → Parts → List Frame → Parts → List Frame → Type 0
@@ -35,11 +36,11 @@ pub record Leads (w : World) (a b : Parts) (f : Frame) (below after : List Frame
   pub is : effect ≡ Some effect_is
   pub leads : after_effect w (state_of a (f ∷ below)) 0 next f below effect_is ≡ Some (state_of b after)
 
--- What is done by the top frame, as a function of the state, of the number of frames and of its operand stack, has an effect, which leads
+-- What is done by the top frame, as a function of the memory, of the number of frames and of its operand stack, has an effect, which leads
 -- from these parts and frames to those.
-abbrev pub EffectSteps : World → ℕ → (State → ℕ → List Slot → Option Effect) → Parts → List Frame → Parts → List Frame → Type 0
+abbrev pub EffectSteps : World → ℕ → (Memory → ℕ → List Slot → Option Effect) → Parts → List Frame → Parts → List Frame → Type 0
 EffectSteps w next act a frames b after = (f : Frame) (below : List Frame) → frames ≡ f ∷ below →
-    Leads w a b f below after next (act (state_of a (f ∷ below)) (suc (length below)) f.stack)
+    Leads w a b f below after next (act (memory_of a) (suc (length below)) f.stack)
 
 -- The instruction at the top frame's pc, where it is this one, leads from these parts and frames to those.
 abbrev pub Steps : World → Instruction → Parts → List Frame → Parts → List Frame → Type 0

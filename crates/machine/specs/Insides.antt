@@ -11,19 +11,14 @@ use Rattle.machine.specs.declared.parts.Parts.{Parts}
 use Rattle.machine.specs.declared.machine_state.Machine.TheInside.{Inside}
 use Rattle.machine.specs.Machines.{IsLegal, Known}
 use Rattle.machine.specs.Ready.{IsReady}
-use Rattle.machine.specs.States.{main_thread}
+use Rattle.machine.specs.States.{memory_of, main_thread}
 
 -- These parts and frames are those of a state of the reference machine.
 pub record AreParts (a : Parts) (frames : List Frame) (q : State) : Type 0 where
-  pub heap : a.natives.heap.objects ≡ q.heap
-  pub room : a.natives.heap.cells - a.natives.heap.used ≡ q.room
-  pub statics : a.statics.items ≡ q.statics
+  pub memory : memory_of a ≡ q.memory
   pub threads : main_thread a.status frames ∷ [] ≡ q.threads
   pub now : 0 ≡ q.now
-  pub out : a.natives.out.items ≡ q.out
-  pub err : a.natives.err.items ≡ q.err
   pub main_threw : a.main_threw ≡ q.main_threw
-  pub exited : a.natives.exited ≡ q.exited
 
 -- The history is one of the reference machine, and the parts and frames are those of the state that it gives, unless the machine gave up.
 pub record IsConsistent (p : Setting) (a : Parts) (frames : List Frame) (cache : Kept) (history : List Entry) (given_up : Bool) : Type 0 where

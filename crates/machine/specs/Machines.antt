@@ -49,10 +49,10 @@ entries_to_limit m = m.setting.limits.events - length m.history
 
 -- what the program wrote to its two streams
 abbrev pub output : Known → List ℕ
-output m = option_map_or (λ (q : State). q.out) (state_after m) []
+output m = option_map_or (λ (q : State). q.memory.out) (state_after m) []
 
 abbrev pub errors : Known → List ℕ
-errors m = option_map_or (λ (q : State). q.err) (state_after m) []
+errors m = option_map_or (λ (q : State). q.memory.err) (state_after m) []
 
 -- ---- what holds of the history
 

@@ -59,8 +59,8 @@ pub record IsRun (p : Setting) (history : List Entry) (out err : List ℕ) (told
   pub state : State
   pub runs : run p (java history) ≡ Some state
   pub ended : IsEndingOf p (length history) (ending state) told
-  pub prints : state.out ≡ out
-  pub tells : state.err ≡ err
+  pub prints : state.memory.out ≡ out
+  pub tells : state.memory.err ≡ err
   pub entries : AllByRecursion IsMainEntry history
   pub grouped : AreGrouped p (java history)
   pub few : length history ≤ most_entries p

@@ -5,6 +5,7 @@ use Rattle.vthread_state.specs.declared.thread.ThreadKind.TheVariants.{Platform}
 use Rattle.link_model.specs.World.{World}
 use Rattle.state_model.specs.Frames.{Frame}
 use Rattle.ref_model.specs.Setting.{Setting}
+use Rattle.ref_model.specs.Memory.{Memory}
 use Rattle.ref_model.specs.State.{JavaThread, State}
 use Rattle.ref_model.specs.Opening as opening
 use Rattle.ref_model.specs.LocalRows.{row}
@@ -18,17 +19,23 @@ main_thread status frames = record {
   frames = frames;
 }
 
-abbrev pub state_of : Parts → List Frame → State
-state_of a frames = record {
+-- the parts that instructions on objects and native methods read and write
+abbrev pub memory_of : Parts → Memory
+memory_of a = record {
   heap = a.natives.heap.objects;
   room = a.natives.heap.cells - a.natives.heap.used;
   statics = a.statics.items;
-  threads = main_thread a.status frames ∷ [];
-  now = 0;
   out = a.natives.out.items;
   err = a.natives.err.items;
-  main_threw = a.main_threw;
   exited = a.natives.exited;
+}
+
+abbrev pub state_of : Parts → List Frame → State
+state_of a frames = record {
+  memory = memory_of a;
+  threads = main_thread a.status frames ∷ [];
+  now = 0;
+  main_threw = a.main_threw;
 }
 
 -- ---- one step

@@ -9,7 +9,7 @@ use Rattle.instruction_rows.specs.Kinds.{Of, Function}
 use Rattle.instruction_rows.specs.SlotEffect.{applied, popped}
 use Rattle.lib_table.specs.declared.native.Native.{Native}
 use Rattle.link_model.specs.World.{World}
-use Rattle.ref_model.specs.State.{State}
+use Rattle.ref_model.specs.Memory.{Memory}
 use Rattle.ref_model.specs.Effects.{Effect}
 use Rattle.ref_model.specs.NativeRows as rows
 use Rattle.ref_model.specs.NativeRows.{NativeRow, native, native_acted, answered, row_kinds}
@@ -20,7 +20,7 @@ use Rattle.native_methods.specs.Arguments.{answer_to, answer_to_two, kinds_of, n
 use Rattle.native_methods.specs.NativeStates.{Answers, AnswersOn, IsAnswer, IsAnswerEffect, with_natives}
 use Rattle.native_methods.specs.declared.state.NativeState.{NativeState}
 use Rattle.items.specs.declared.no_memory.NoMemory.{NoMemory}
-use Rattle.native_methods.proofs.AnswerLaws.{any_state}
+use Rattle.native_methods.proofs.AnswerLaws.{any_memory}
 use Rattle.native_methods.specs.declared.arguments.Arguments.{Arguments}
 use Rattle.native_methods.specs.declared.answer.Answer.{Answer}
 use Rattle.native_methods.specs.declared.answer.Answer.TheVariants as answers
@@ -34,7 +34,7 @@ row_found (Some (native takes act)) ks stack e x =
     subst (λ js. HasOperands js 0 stack) is (x takes act refl)
 
 pub arguments_found : (w : World) (n : Native) (a : Arguments) (stack : List Slot) → Some (kinds_of a) ≡ native_takes n → FindsArguments w n stack → HasOperands (kinds_of a) 0 stack
-arguments_found w n a stack e x = row_found (native_row w any_state n) (kinds_of a) stack (rows_take w any_state n ∙ sym e) (x any_state)
+arguments_found w n a stack e x = row_found (native_row w any_memory n) (kinds_of a) stack (rows_take w any_memory n ∙ sym e) (x any_memory)
 
 -- what a row does on a stack, if there is a row
 abbrev on : Option NativeRow → List Slot → Option Effect
@@ -72,7 +72,7 @@ argument_is kinds.Reference x (Some (native (kinds.Reference ∷ ks) act)) stack
 -- ---- from an answer to an effect
 
 -- where an answer makes an effect of the same kind, whatever it is
-by_answer : (answer : Answer) (defined : Option rows.Answer) (effect : Option Effect) (q : State) (rest : List Slot) →
+by_answer : (answer : Answer) (defined : Option rows.Answer) (effect : Option Effect) (q : Memory) (rest : List Slot) →
     ((a : rows.Answer) → defined ≡ Some a → effect ≡ Some (answered rest a)) → IsAnswer answer defined q → IsAnswerEffect answer effect q rest
 by_answer answers.Returns defined effect q rest is h = is _ h
 by_answer (answers.Gives v) defined effect q rest is h = is _ h
@@ -80,14 +80,14 @@ by_answer (answers.Throws e) defined effect q rest is h = is _ h
 by_answer answers.Undefined defined effect q rest is h = tt
 
 -- A native method that takes one operand, and one that takes two, the second a reference.
-pub one_answered : (answer : Answer) (w : World) (r q : State) (n : Native) (k : ValueKind) (x : Of k) (stack rest : List Slot) →
+pub one_answered : (answer : Answer) (w : World) (r q : Memory) (n : Native) (k : ValueKind) (x : Of k) (stack rest : List Slot) →
     popped k stack ≡ Some (x, rest) → IsAnswer answer (answer_to w r n k x) q → IsAnswerEffect answer (native_effect w n r stack) q rest
 one_answered answer w r q n k x stack rest p h =
     let row = native_row w r n in
     by_answer answer (answer_to w r n k x) (native_effect w n r stack) q rest
     (λ a e. argument_is k x row stack rest (answered rest a) p (answered_is (with_argument k x row) rest a e)) h
 
-pub two_answered : (answer : Answer) (w : World) (r q : State) (n : Native) (k : ValueKind) (x : Of k) (this : Of kinds.Reference)
+pub two_answered : (answer : Answer) (w : World) (r q : Memory) (n : Native) (k : ValueKind) (x : Of k) (this : Of kinds.Reference)
     (stack middle rest : List Slot) → popped k stack ≡ Some (x, middle) → popped kinds.Reference middle ≡ Some (this, rest) →
     IsAnswer answer (answer_to_two w r n k x this) q → IsAnswerEffect answer (native_effect w n r stack) q rest
 two_answered answer w r q n k x this stack middle rest p p2 h =

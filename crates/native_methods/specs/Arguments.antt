@@ -7,7 +7,7 @@ use Rattle.instruction_rows.specs.declared.value.Slot.{Slot}
 use Rattle.instruction_rows.specs.Kinds.{Of}
 use Rattle.lib_table.specs.declared.native.Native.{Native}
 use Rattle.link_model.specs.World.{World}
-use Rattle.ref_model.specs.State.{State}
+use Rattle.ref_model.specs.Memory.{Memory}
 use Rattle.ref_model.specs.Effects.{Effect}
 use Rattle.ref_model.specs.NativeRows.{Answer, NativeRow, native, native_acted}
 use Rattle.ref_model.specs.Natives.{native_row}
@@ -52,12 +52,12 @@ abbrev pub to_two : (k : ValueKind) → Of k → Of kinds.Reference → Option N
 to_two k x this row = row_answer (with_argument kinds.Reference this (with_argument k x row))
 
 -- what a native method answers to them
-abbrev pub answer_to : World → State → Native → (k : ValueKind) → Of k → Option Answer
+abbrev pub answer_to : World → Memory → Native → (k : ValueKind) → Of k → Option Answer
 answer_to w r n k x = to_one k x (native_row w r n)
 
-abbrev pub answer_to_two : World → State → Native → (k : ValueKind) → Of k → Of kinds.Reference → Option Answer
+abbrev pub answer_to_two : World → Memory → Native → (k : ValueKind) → Of k → Of kinds.Reference → Option Answer
 answer_to_two w r n k x this = to_two k x this (native_row w r n)
 
 -- what a native method does
-abbrev pub native_effect : World → Native → State → List Slot → Option Effect
+abbrev pub native_effect : World → Native → Memory → List Slot → Option Effect
 native_effect w n r stack = native_row w r n >>= λ row. native_acted row stack

@@ -1,4 +1,4 @@
--- The parts of a state that native methods read and write, and what an answer says of them.
+-- The parts of a memory that native methods read and write, and what an answer says of them.
 use Rattle.std.specs.Prelude.{ℕ, ◌≡◌, Bool, true, false, List, [], Option, Some, None, drop, slice_get}
 use Rattle.items.specs.Options.{◌>>=◌}
 use Rattle.instruction_rows.specs.declared.value.Slot.{Slot}
@@ -7,7 +7,7 @@ use Rattle.instruction_rows.specs.declared.value.Value.TheVariants as values
 use Rattle.continuation.specs.Continuation.{Continuation}
 use Rattle.lib_table.specs.declared.native.Native.{Native}
 use Rattle.link_model.specs.World.{World}
-use Rattle.ref_model.specs.State.{State}
+use Rattle.ref_model.specs.Memory.{Memory}
 use Rattle.ref_model.specs.Effects.{Effect, done, gives, throws}
 use Rattle.ref_model.specs.Heap.{units_of, values_of, with_value}
 use Rattle.ref_model.specs.NativeRows as rows
@@ -22,27 +22,27 @@ use Rattle.native_methods.specs.declared.state.NativeState.{NativeState}
 use Rattle.native_methods.specs.declared.answer.Answer.{Answer}
 use Rattle.native_methods.specs.declared.answer.Answer.TheVariants as answers
 
--- ---- a state with these parts
+-- ---- a memory with these parts
 
 -- without the heap
-abbrev pub beside_heap : NativeState → State → State
+abbrev pub beside_heap : NativeState → Memory → Memory
 beside_heap s r = record r { out = s.out.items; err = s.err.items; exited = s.exited }
 
-abbrev pub with_natives : NativeState → State → State
+abbrev pub with_natives : NativeState → Memory → Memory
 with_natives s r = with_heap s.heap (beside_heap s r)
 
 -- ---- answers
 
--- Unless it is undefined, an answer is this one of the definitions, where the state is this one afterwards.
-abbrev pub IsAnswer : Answer → Option rows.Answer → State → Type 0
+-- Unless it is undefined, an answer is this one of the definitions, where the memory is this one afterwards.
+abbrev pub IsAnswer : Answer → Option rows.Answer → Memory → Type 0
 IsAnswer answers.Returns defined q = defined ≡ Some (rows.returns q)
 IsAnswer (answers.Gives v) defined q = defined ≡ Some (rows.returns_value q v)
 IsAnswer (answers.Throws e) defined q = defined ≡ Some (rows.fails e)
 IsAnswer answers.Undefined defined q = Unit {0}
 
--- A native method that has its arguments, with what it answers as a function of the state, answered this.
-abbrev pub Answers : (State → Option rows.Answer) → NativeState → NativeState → Answer → Type 0
-Answers act old new answer = (r : State) → IsAnswer answer (act (with_natives old r)) (with_natives new r)
+-- A native method that has its arguments, with what it answers as a function of the memory, answered this.
+abbrev pub Answers : (Memory → Option rows.Answer) → NativeState → NativeState → Answer → Type 0
+Answers act old new answer = (r : Memory) → IsAnswer answer (act (with_natives old r)) (with_natives new r)
 
 -- a value is the old one, where an exception was thrown
 abbrev pub KeptIfThrown : {A : Type 0} → Answer → A → A → Type 0
@@ -55,8 +55,8 @@ StaysIfThrown (outcomes.Throws e) old new = new ≡ old
 StaysIfThrown (outcomes.ThrowsObject o) old new = new ≡ old
 StaysIfThrown outcome old new = Unit {0}
 
--- Unless it is undefined, an answer is that of this effect, where the state is this one afterwards, and this is left of the operand stack.
-abbrev pub IsAnswerEffect : Answer → Option Effect → State → List Slot → Type 0
+-- Unless it is undefined, an answer is that of this effect, where the memory is this one afterwards, and this is left of the operand stack.
+abbrev pub IsAnswerEffect : Answer → Option Effect → Memory → List Slot → Type 0
 IsAnswerEffect answers.Returns effect q rest = effect ≡ Some (done q rest)
 IsAnswerEffect (answers.Gives v) effect q rest = effect ≡ Some (gives q v rest)
 IsAnswerEffect (answers.Throws e) effect q rest = effect ≡ Some (throws e)
@@ -64,24 +64,24 @@ IsAnswerEffect answers.Undefined effect q rest = Unit {0}
 
 -- With its arguments on top of the operand stack, a native method answered this; the answer replaces this number of slots.
 abbrev pub AnswersOn : World → Native → List Slot → ℕ → NativeState → NativeState → Answer → Type 0
-AnswersOn w n stack count old new answer = (r : State) →
+AnswersOn w n stack count old new answer = (r : Memory) →
     IsAnswerEffect answer (native_effect w n (with_natives old r) stack) (with_natives new r) (drop count stack)
 
 -- The outcome is that of each effect of the answer, which replaces this number of operands.
 abbrev pub IsAnswered : ℕ → Answer → Continuation → Continuation → Outcome → Type 0
-IsAnswered count answer old new outcome = (q : State) (effect : Option Effect) →
+IsAnswered count answer old new outcome = (q : Memory) (effect : Option Effect) →
     IsAnswerEffect answer effect q (drop count (operands old)) → IsEffect outcome effect q (operands new)
 
 -- ---- making and setting
 
--- What making an object gave: its number and the state with it, or that it has no room, and nothing has changed.
-abbrev pub IsMade : (State → Option (State × ℕ)) → NativeState → NativeState → Option ℕ → Type 0
-IsMade make old new (Some o) = (r : State) → make (with_natives old r) ≡ Some (with_natives new r, o)
-IsMade make old new None = ((r : State) → make (with_natives old r) ≡ None) × (new ≡ old)
+-- What making an object gave: its number and the memory with it, or that it has no room, and nothing has changed.
+abbrev pub IsMade : (Memory → Option (Memory × ℕ)) → NativeState → NativeState → Option ℕ → Type 0
+IsMade make old new (Some o) = (r : Memory) → make (with_natives old r) ≡ Some (with_natives new r, o)
+IsMade make old new None = ((r : Memory) → make (with_natives old r) ≡ None) × (new ≡ old)
 
 -- An object has this value at a place now, if it has such a place.
 abbrev pub IsSet : ℕ → ℕ → Value → NativeState → NativeState → Bool → Type 0
-IsSet o place v old new true = (r : State) → with_value (with_natives old r) o place v ≡ Some (with_natives new r)
+IsSet o place v old new true = (r : Memory) → with_value (with_natives old r) o place v ≡ Some (with_natives new r)
 IsSet o place v old new false = Unit {0}
 
 -- ---- texts

@@ -3,11 +3,11 @@ use Rattle.std.proofs.Common.{◌≡◌, refl}
 use Rattle.lib_table.specs.declared.native.Native.{Native}
 use Rattle.lib_table.specs.declared.native.Native.TheVariants as natives
 use Rattle.link_model.specs.World.{World}
-use Rattle.ref_model.specs.State.{State}
+use Rattle.ref_model.specs.Memory.{Memory}
 use Rattle.ref_model.specs.NativeRows.{row_kinds}
 use Rattle.ref_model.specs.Natives.{native_row, native_takes}
 
-pub rows_take : (w : World) (r : State) (n : Native) → row_kinds (native_row w r n) ≡ native_takes n
+pub rows_take : (w : World) (r : Memory) (n : Native) → row_kinds (native_row w r n) ≡ native_takes n
 rows_take w r natives.ObjectInit = refl
 rows_take w r natives.ObjectEquals = refl
 rows_take w r natives.ObjectHashCode = refl

@@ -13,7 +13,7 @@ use Rattle.ref_model.specs.declared.exception.Exception.{Exception}
 use Rattle.ref_model.specs.declared.exception.Exception.TheVariants as exceptions
 use Rattle.ref_model.specs.Classes.{is_sub, class_name}
 use Rattle.ref_model.specs.Members.{instance_fields, field_place, static_place, new_values}
-use Rattle.ref_model.specs.State.{State}
+use Rattle.ref_model.specs.Memory.{Memory}
 use Rattle.ref_model.specs.Heap.{cells_of_values, cells_of_units}
 use Rattle.ref_model.specs.Effects.{Effect, done, throws, throws_object}
 use Rattle.ref_model.specs.Fields.{static_put, field_gotten, field_put}
@@ -90,9 +90,9 @@ shared_is_first = refl
 values_at_first : new_values world 7 ≡ Int (pos 0) ∷ Long (pos 0) ∷ []
 values_at_first = refl
 
--- ---- a state: 0 is an A, 1 an array of two ints, 2 an array of one Object, 3 a String, 4 an array of one String, 5 a byte[] of one
+-- ---- a memory: 0 is an A, 1 an array of two ints, 2 an array of one Object, 3 a String, 4 an array of one String, 5 a byte[] of one
 
-abbrev ready : State
+abbrev ready : Memory
 ready = record {
   heap =
       instance 7 (Int (pos 1) ∷ Long (pos 2) ∷ [])
@@ -104,11 +104,8 @@ ready = record {
       ∷ [];
   room = 10;
   statics = Int (pos 0) ∷ [];
-  threads = [];
-  now = 0;
   out = [];
   err = [];
-  main_threw = false;
   exited = None;
 }
 

@@ -58,7 +58,7 @@ divided_without_room = refl
 dropped : After (of_main 0 10) 4 Done []
 dropped = refl
 
-told : option_map (λ (r : State). r.err) (alone (of_main 0 10) 4)
+told : option_map (λ (r : State). r.memory.err) (alone (of_main 0 10) 4)
     ≡ Some (codes "Exception in thread \"main\" java.lang.ArithmeticException" ++ 10 ∷ [])
 unfolding encode_utf8
 told = refl

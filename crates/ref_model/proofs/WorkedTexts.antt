@@ -1,5 +1,5 @@
 -- Texts and native methods at single values, beside the API of java.lang.String, StringBuilder and Object.
-use Rattle.std.proofs.Common.{◌≡◌, ℕ, ℤ, pos, negsuc, false, List, [], ◌∷◌, Some, None, refl}
+use Rattle.std.proofs.Common.{◌≡◌, ℕ, ℤ, pos, negsuc, List, [], ◌∷◌, Some, None, refl}
 use Rattle.std.specs.Char.{encode_utf8}
 use Rattle.std.specs.Int.{int_wrap}
 use Rattle.std.specs.Fmt.{digits}
@@ -11,7 +11,7 @@ use Rattle.instruction_rows.specs.declared.value.Slot.TheVariants.{One}
 use Rattle.state_model.specs.Objects.{instance, text}
 use Rattle.ref_model.specs.declared.exception.Exception.{Exception}
 use Rattle.ref_model.specs.declared.exception.Exception.TheVariants as exceptions
-use Rattle.ref_model.specs.State.{State}
+use Rattle.ref_model.specs.Memory.{Memory}
 use Rattle.ref_model.specs.Texts.{text_bytes, text_hash, decimal_text, hex_text}
 use Rattle.ref_model.specs.Effects.{done, throws}
 use Rattle.ref_model.specs.NativeRows.{NativeRow, native_acted}
@@ -65,18 +65,15 @@ hash_wraps : text_hash (codes "polygenelubricants") ≡ negsuc 2147483647
 unfolding int_wrap
 hash_wraps = refl
 
--- ---- natives, in a state with a builder of no text, the Strings "ab" and "", and room for two cells
+-- ---- natives, in a memory with a builder of no text, the Strings "ab" and "", and room for two cells
 
-abbrev ready : State
+abbrev ready : Memory
 ready = record {
   heap = instance 7 (Null ∷ []) ∷ text (codes "ab") ∷ text [] ∷ [];
   room = 2;
   statics = [];
-  threads = [];
-  now = 0;
   out = [];
   err = [];
-  main_threw = false;
   exited = None;
 }
 
@@ -87,10 +84,10 @@ abbrev ref : ℕ → Slot
 ref o = One (Ref o)
 
 -- what a native gives, and leaves everything as it is
-abbrev Gives : (State → NativeRow) → List Slot → Value → Type 0
+abbrev Gives : (Memory → NativeRow) → List Slot → Value → Type 0
 Gives row stack v = native_acted (row ready) stack ≡ Some (done ready (One v ∷ []))
 
-abbrev Throws : (State → NativeRow) → List Slot → Exception → Type 0
+abbrev Throws : (Memory → NativeRow) → List Slot → Exception → Type 0
 Throws row stack e = native_acted (row ready) stack ≡ Some (throws e)
 
 two_units : Gives string_length (ref 1 ∷ []) (Int (pos 2))

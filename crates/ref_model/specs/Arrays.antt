@@ -18,7 +18,7 @@ use Rattle.state_model.specs.Objects.{Object, instance}
 use Rattle.ref_model.specs.declared.exception.Exception.TheVariants as exceptions
 use Rattle.ref_model.specs.Classes.{element_of, array_class, is_element}
 use Rattle.ref_model.specs.Kinds.{zero_of_kind, kind_of_elements, kept_in}
-use Rattle.ref_model.specs.State.{State}
+use Rattle.ref_model.specs.Memory.{Memory}
 use Rattle.ref_model.specs.Heap.{Array, array_at, class_at, with_value, with_objects, cells_of_values}
 use Rattle.ref_model.specs.Fetch.{class_of}
 use Rattle.ref_model.specs.Effects.{Effect, done, gives, gives_new, throws, not_null}
@@ -30,11 +30,11 @@ abbrev pub on_found : Option Array → (Array → Option Effect) → Option Effe
 on_found None act = Some (throws exceptions.VerifyError)
 on_found (Some a) act = act a
 
-abbrev pub on_array : World → State → Option ℕ → (ℕ → Array → Option Effect) → Option Effect
+abbrev pub on_array : World → Memory → Option ℕ → (ℕ → Array → Option Effect) → Option Effect
 on_array w r reference act = not_null reference (λ o. on_found (array_at w r o) (act o))
 
 -- the same of an array with such elements; baload and bastore serve boolean too
-abbrev pub on_array_of : World → State → Element → Option ℕ → (ℕ → Array → Option Effect) → Option Effect
+abbrev pub on_array_of : World → Memory → Element → Option ℕ → (ℕ → Array → Option Effect) → Option Effect
 on_array_of w r element reference act = on_array w r reference (λ o a.
     if serves element (types.Named a.type.dimensions a.type.base) then act o a else Some (throws exceptions.VerifyError))
 
@@ -50,13 +50,13 @@ on_place (Some place) act = act place
 -- ---- lengths and elements
 
 -- arraylength
-abbrev pub length_gotten : World → State → List Slot → Option Effect
+abbrev pub length_gotten : World → Memory → List Slot → Option Effect
 length_gotten w r stack =
     popped kinds.Reference stack >>= λ x.
     on_array w r x.0 (λ o a. Some (gives r (values.Int (pos (length a.values))) x.1))
 
 -- iaload, laload, aaload, baload, caload, saload
-abbrev pub array_loaded : World → Element → State → List Slot → Option Effect
+abbrev pub array_loaded : World → Element → Memory → List Slot → Option Effect
 array_loaded w element r stack = do
   x ← popped kinds.Int stack
   y ← popped kinds.Reference x.1
@@ -64,17 +64,17 @@ array_loaded w element r stack = do
       slice_get a.values place >>= λ v. Some (gives r v y.1)))
 
 -- whether a value may be an element: of an object its class decides (JVMS 6.5: aastore)
-abbrev pub may_hold : World → State → Array → Value → Option Bool
+abbrev pub may_hold : World → Memory → Array → Value → Option Bool
 may_hold w r a (values.Ref o) = class_at w r o >>= λ class. Some (is_element w class a.type)
 may_hold w r a v = Some true
 
--- the state with the value stored, or ArrayStoreException
-abbrev pub held_or_thrown : Bool → Option State → List Slot → Option Effect
+-- the memory with the value stored, or ArrayStoreException
+abbrev pub held_or_thrown : Bool → Option Memory → List Slot → Option Effect
 held_or_thrown false after rest = Some (throws exceptions.ArrayStoreException)
 held_or_thrown true after rest = after >>= λ q. Some (done q rest)
 
 -- iastore, lastore, aastore, bastore, castore, sastore
-abbrev pub array_stored : World → Element → State → List Slot → Option Effect
+abbrev pub array_stored : World → Element → Memory → List Slot → Option Effect
 array_stored w element r stack = do
   x ← popped (kind_of_element element) stack
   y ← popped kinds.Int x.1
@@ -90,7 +90,7 @@ abbrev pub element_zero : World → ℕ → Option Value
 element_zero w class = array_type w class >>= λ t. Some (zero_of_kind (kind_of_elements t))
 
 -- so many elements of a new array; the room is tested before
-abbrev pub with_array : State → ℕ → ℕ → Value → Option (State × ℕ)
+abbrev pub with_array : Memory → ℕ → ℕ → Value → Option (Memory × ℕ)
 with_array r class n v = with_objects r (cells_of_values n) (instance class (replicate n v) ∷ [])
 
 -- a negative length throws NegativeArraySizeException
@@ -99,7 +99,7 @@ not_negative true made = Some (throws exceptions.NegativeArraySizeException)
 not_negative false made = made
 
 -- newarray, anewarray: the class is that of the array
-abbrev pub array_made : World → Resolution → State → List Slot → Option Effect
+abbrev pub array_made : World → Resolution → Memory → List Slot → Option Effect
 array_made w resolution r stack = do
   class ← class_of resolution.site
   x ← popped kinds.Int stack
@@ -147,13 +147,13 @@ ints_popped (suc n) stack =
     popped kinds.Int stack >>= λ x. ints_popped n x.1 >>= λ y. Some (y.0 ++ x.0 ∷ [], y.1)
 
 -- all are tested for room at once
-abbrev pub with_arrays : World → State → ℕ → List ℕ → Option (Option (State × ℕ))
+abbrev pub with_arrays : World → Memory → ℕ → List ℕ → Option (Option (Memory × ℕ))
 with_arrays w r class lengths =
     if nat_le (cells_of_lengths lengths) r.room
     then (arrays_from w lengths (length r.heap) class >>= λ objects. Some (with_objects r (cells_of_lengths lengths) objects))
     else Some None
 
-abbrev pub arrays_made : World → ℕ → Resolution → State → List Slot → Option Effect
+abbrev pub arrays_made : World → ℕ → Resolution → Memory → List Slot → Option Effect
 arrays_made w dimensions resolution r stack = do
   class ← class_of resolution.site
   x ← ints_popped dimensions stack

@@ -20,7 +20,7 @@ use Rattle.link_model.specs.Decoded.{code_at}
 use Rattle.ref_model.specs.declared.exception.Exception.TheVariants as exceptions
 use Rattle.ref_model.specs.Kinds.{argument_slots}
 use Rattle.ref_model.specs.Members.{native_at, is_synchronized, is_hold}
-use Rattle.ref_model.specs.State.{State}
+use Rattle.ref_model.specs.Memory.{Memory}
 use Rattle.ref_model.specs.Fetch.{Named, named_method}
 use Rattle.ref_model.specs.Frames.{callee}
 use Rattle.ref_model.specs.LocalRows.{most_frames}
@@ -44,12 +44,12 @@ code_entered w depth m None slots stack = Some (throws exceptions.AbstractMethod
 code_entered w depth m (Some code) slots stack = method_entered w depth m code slots stack
 
 -- a native method runs without a frame
-abbrev pub native_entered : World → State → ℕ → Named → Option Native → ℕ → List Slot → Option Effect
+abbrev pub native_entered : World → Memory → ℕ → Named → Option Native → ℕ → List Slot → Option Effect
 native_entered w r depth m None slots stack = code_entered w depth m (code_at w m.number) slots stack
 native_entered w r depth m (Some native) slots stack = native_row w r native >>= λ row. native_acted row stack
 
 -- the method takes so many slots
-abbrev pub entered : World → State → ℕ → Named → ℕ → List Slot → Option Effect
+abbrev pub entered : World → Memory → ℕ → Named → ℕ → List Slot → Option Effect
 entered w r depth m slots stack = native_entered w r depth m (native_at w m.number) slots stack
 
 -- ---- selection (JVMS 5.4.6)
@@ -79,7 +79,7 @@ abbrev pub method_numbered : World → ℕ → Option Named
 method_numbered w n = slice_get w.methods n >>= λ m. Some (record { number = n; method = m })
 
 -- a method of an object, which lies below the arguments
-abbrev pub instance_called : World → Resolution → Invocation → Named → State → ℕ → List Slot → Option Effect
+abbrev pub instance_called : World → Resolution → Invocation → Named → Memory → ℕ → List Slot → Option Effect
 instance_called w resolution invocation m r depth stack =
     let slots = argument_slots m.method.signature in
     popped kinds.Reference (drop slots stack) >>= λ x.
@@ -87,13 +87,13 @@ instance_called w resolution invocation m r depth stack =
     method_numbered w n >>= λ chosen. entered w r depth chosen (suc slots) stack))
 
 -- a method of a class
-abbrev pub class_called : World → Named → State → ℕ → List Slot → Option Effect
+abbrev pub class_called : World → Named → Memory → ℕ → List Slot → Option Effect
 class_called w m r depth stack = entered w r depth m (argument_slots m.method.signature) stack
 
-abbrev pub called : World → Resolution → Invocation → Named → State → ℕ → List Slot → Option Effect
+abbrev pub called : World → Resolution → Invocation → Named → Memory → ℕ → List Slot → Option Effect
 called w resolution static m r depth stack = class_called w m r depth stack
 called w resolution dynamic m r depth stack = None
 called w resolution invocation m r depth stack = instance_called w resolution invocation m r depth stack
 
-abbrev pub invoked : World → Resolution → Invocation → State → ℕ → List Slot → Option Effect
+abbrev pub invoked : World → Resolution → Invocation → Memory → ℕ → List Slot → Option Effect
 invoked w resolution invocation r depth stack = named_method w resolution >>= λ m. called w resolution invocation m r depth stack

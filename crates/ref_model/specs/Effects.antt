@@ -12,12 +12,12 @@ use Rattle.state_model.specs.Frames.{Frame}
 use Rattle.ref_model.specs.declared.exception.Exception.{Exception}
 use Rattle.ref_model.specs.declared.exception.Exception.TheVariants as exceptions
 use Rattle.ref_model.specs.Classes.{is_array, is_sub}
-use Rattle.ref_model.specs.State.{State}
+use Rattle.ref_model.specs.Memory.{Memory}
 use Rattle.ref_model.specs.Heap.{class_at}
 
 pub data Effect : Type 0 where
-  -- it is done: the state, and the operand stack with which the frame goes on after it
-  done : State → List Slot → Effect
+  -- it is done: the memory, and the operand stack with which the frame goes on after it
+  done : Memory → List Slot → Effect
   -- it invokes a method, whose frame this is, and the frame stays at it with this operand stack
   invokes : Frame → List Slot → Effect
   -- it throws a new exception, and nothing else changes
@@ -26,11 +26,11 @@ pub data Effect : Type 0 where
   throws_object : ℕ → Effect
 
 -- it is done, and pushes a value on what is left of the operand stack
-abbrev pub gives : State → Value → List Slot → Effect
+abbrev pub gives : Memory → Value → List Slot → Effect
 gives r v rest = done r (pushed v rest)
 
 -- the new object is pushed, where there was room for it
-abbrev pub gives_new : Option (State × ℕ) → List Slot → Effect
+abbrev pub gives_new : Option (Memory × ℕ) → List Slot → Effect
 gives_new None rest = throws exceptions.OutOfMemoryError
 gives_new (Some x) rest = gives x.0 (values.Ref x.1) rest
 
@@ -48,7 +48,7 @@ late_failure w class =
     if is_array w class || is_interface w.program class then exceptions.IncompatibleClassChangeError else exceptions.VerifyError
 
 -- the object of a field or method instruction, which is an instance of the class that the instruction's constant names
-abbrev pub on_instance : World → Resolution → State → Option ℕ → (ℕ → ℕ → Option Effect) → Option Effect
+abbrev pub on_instance : World → Resolution → Memory → Option ℕ → (ℕ → ℕ → Option Effect) → Option Effect
 on_instance w resolution r reference act = not_null reference (λ o.
     class_at w r o >>= λ class.
     resolution.class >>= λ named.

@@ -28,4 +28,4 @@ exit_or (Some status) other = Some (Exited status)
 
 -- how the program has ended, if it has
 abbrev pub ending : State → Option Ending
-ending r = exit_or r.exited (threads_ending r)
+ending r = exit_or r.memory.exited (threads_ending r)

@@ -12,7 +12,7 @@ use Rattle.link_model.specs.declared.sites.Resolution.{Resolution}
 use Rattle.link_model.specs.World.{World}
 use Rattle.ref_model.specs.Kinds.{value_kind, kept}
 use Rattle.ref_model.specs.Members.{field_place, static_place}
-use Rattle.ref_model.specs.State.{State}
+use Rattle.ref_model.specs.Memory.{Memory}
 use Rattle.ref_model.specs.Heap.{values_at, with_value}
 use Rattle.ref_model.specs.Fetch.{field_of}
 use Rattle.ref_model.specs.Effects.{Effect, done, gives, on_instance}
@@ -23,11 +23,11 @@ stored f stack = popped (value_kind f.kind) stack >>= λ x. Some (kept f.kind (v
 
 -- ---- static fields
 
-abbrev pub static_gotten : World → Resolution → State → List Slot → Option Effect
+abbrev pub static_gotten : World → Resolution → Memory → List Slot → Option Effect
 static_gotten w resolution r stack =
     field_of resolution.site >>= λ n. slice_get r.statics (static_place w n) >>= λ v. Some (gives r v stack)
 
-abbrev pub static_put : World → Resolution → State → List Slot → Option Effect
+abbrev pub static_put : World → Resolution → Memory → List Slot → Option Effect
 static_put w resolution r stack = do
   n ← field_of resolution.site
   f ← slice_get w.fields n
@@ -37,7 +37,7 @@ static_put w resolution r stack = do
 
 -- ---- fields of an object
 
-abbrev pub field_gotten : World → Resolution → State → List Slot → Option Effect
+abbrev pub field_gotten : World → Resolution → Memory → List Slot → Option Effect
 field_gotten w resolution r stack = do
   n ← field_of resolution.site
   x ← popped kinds.Reference stack
@@ -47,7 +47,7 @@ field_gotten w resolution r stack = do
     v ← slice_get fields place
     Some (gives r v x.1))
 
-abbrev pub field_put : World → Resolution → State → List Slot → Option Effect
+abbrev pub field_put : World → Resolution → Memory → List Slot → Option Effect
 field_put w resolution r stack = do
   n ← field_of resolution.site
   f ← slice_get w.fields n

@@ -2,6 +2,7 @@ pub mod Setting
 pub mod Classes
 pub mod Kinds
 pub mod Members
+pub mod Memory
 pub mod State
 pub mod Heap
 pub mod Fetch

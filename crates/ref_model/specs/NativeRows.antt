@@ -9,14 +9,14 @@ use Rattle.instruction_rows.specs.Kinds.{Function}
 use Rattle.instruction_rows.specs.SlotEffect.{applied}
 use Rattle.ref_model.specs.declared.exception.Exception.{Exception}
 use Rattle.ref_model.specs.declared.exception.Exception.TheVariants as exceptions
-use Rattle.ref_model.specs.State.{State}
+use Rattle.ref_model.specs.Memory.{Memory}
 use Rattle.ref_model.specs.Heap.{units_at, with_text}
 use Rattle.ref_model.specs.Effects.{Effect, done, gives, throws}
 
 pub data Answer : Type 0 where
-  -- it returns, in this state, without a result or with one
-  returns : State → Answer
-  returns_value : State → Value → Answer
+  -- it returns, in this memory, without a result or with one
+  returns : Memory → Answer
+  returns_value : Memory → Value → Answer
   -- it throws, and nothing else changes
   fails : Exception → Answer
 
@@ -41,11 +41,11 @@ native_acted (native takes act) stack = applied Answer takes act stack >>= λ x.
 -- ---- what natives share
 
 -- a new String
-abbrev pub new_text : Option (State × ℕ) → Answer
+abbrev pub new_text : Option (Memory × ℕ) → Answer
 new_text None = fails exceptions.OutOfMemoryError
 new_text (Some x) = returns_value x.0 (values.Ref x.1)
 
-abbrev pub gives_text : State → List ℕ → Answer
+abbrev pub gives_text : Memory → List ℕ → Answer
 gives_text r units = new_text (with_text r units)
 
 -- What was found of a String. Where there is another object, it is as with the late check of an instruction. (own: a typed program has a
@@ -55,12 +55,12 @@ on_units None act = fails exceptions.VerifyError
 on_units (Some units) act = act units
 
 -- the units of a String, which isn't null
-abbrev pub on_text : State → Option ℕ → (List ℕ → Answer) → Answer
+abbrev pub on_text : Memory → Option ℕ → (List ℕ → Answer) → Answer
 on_text r None act = fails exceptions.NullPointerException
 on_text r (Some o) act = on_units (units_at r o) act
 
 -- the units of a String, where null stands for this text
-abbrev pub on_text_or : List ℕ → State → Option ℕ → (List ℕ → Answer) → Answer
+abbrev pub on_text_or : List ℕ → Memory → Option ℕ → (List ℕ → Answer) → Answer
 on_text_or otherwise r None act = act otherwise
 on_text_or otherwise r (Some o) act = on_units (units_at r o) act
 

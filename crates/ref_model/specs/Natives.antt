@@ -6,14 +6,14 @@ use Rattle.opcodes.specs.declared.op.ValueKind.TheVariants as kinds
 use Rattle.lib_table.specs.declared.native.Native.{Native}
 use Rattle.lib_table.specs.declared.native.Native.TheVariants as natives
 use Rattle.link_model.specs.World.{World}
-use Rattle.ref_model.specs.State.{State}
+use Rattle.ref_model.specs.Memory.{Memory}
 use Rattle.ref_model.specs.NativeRows.{NativeRow}
 use Rattle.ref_model.specs.ObjectNatives.{object_init, object_equals, object_hash_code, object_to_string}
 use Rattle.ref_model.specs.StringNatives.{string_length, string_char_at, string_is_empty, string_equals, string_hash_code, string_concat, string_to_string, string_of_int, string_of_long, string_of_char, string_of_boolean}
 use Rattle.ref_model.specs.BuilderNatives.{builder_init, append_int, append_long, append_char, append_boolean, append_string, builder_length, builder_to_string}
 use Rattle.ref_model.specs.Printing.{println_nothing, println_int, println_long, println_char, println_boolean, println_string, print_int, print_long, print_char, print_boolean, print_string, exit}
 
-abbrev pub native_row : World → State → Native → Option NativeRow
+abbrev pub native_row : World → Memory → Native → Option NativeRow
 -- java.lang.Object
 native_row w r natives.ObjectInit = Some (object_init r)
 native_row w r natives.ObjectEquals = Some (object_equals r)

@@ -201,13 +201,15 @@ opening p = do
   heap ← opening_heap p.world
   frames ← opening_frames p
   Some (record {
-    heap = heap;
-    room = p.limits.heap_cells;
-    statics = opening_statics p.world.program;
+    memory = record {
+      heap = heap;
+      room = p.limits.heap_cells;
+      statics = opening_statics p.world.program;
+      out = [];
+      err = [];
+      exited = None;
+    };
     threads = opening_thread frames ∷ [];
     now = 0;
-    out = [];
-    err = [];
     main_threw = false;
-    exited = None;
   })

@@ -14,7 +14,7 @@ use Rattle.link_model.specs.declared.members.FieldInfo.{FieldInfo}
 use Rattle.link_model.specs.declared.sites.Resolution.{Resolution}
 use Rattle.link_model.specs.World.{World}
 use Rattle.ref_model.specs.Kinds.{value_kind}
-use Rattle.ref_model.specs.State.{State}
+use Rattle.ref_model.specs.Memory.{Memory}
 use Rattle.ref_model.specs.Fetch.{Named, field_of, named_method}
 use Rattle.ref_model.specs.NativeRows.{Answer, native}
 use Rattle.ref_model.specs.Natives.{native_row}
@@ -98,5 +98,5 @@ FindsOperands w resolution r stack = HasOperands (row_takes w resolution r) 0 st
 
 -- the arguments of a native method, and its receiver
 abbrev pub FindsArguments : World → Native → List Slot → Type 0
-FindsArguments w n stack = (r : State) (takes : List ValueKind) (act : Function takes Answer) → native_row w r n ≡ Some (native takes act) →
+FindsArguments w n stack = (r : Memory) (takes : List ValueKind) (act : Function takes Answer) → native_row w r n ≡ Some (native takes act) →
     HasOperands takes 0 stack

@@ -1,11 +1,10 @@
--- The state of the reference machine (JVMS 2.5): heap, static fields, threads with their whole stacks, time and output.
-use Rattle.std.specs.Prelude.{ℕ, ℤ, Bool, List, Option, slice_get, slice_set}
+-- The state of the reference machine (JVMS 2.5): the memory, threads with their whole stacks, and time.
+use Rattle.std.specs.Prelude.{ℕ, Bool, List, slice_get, slice_set}
 use Rattle.std.specs.Option.{option_map_or}
 use Rattle.vthread_state.specs.declared.thread.Status.{Status}
 use Rattle.vthread_state.specs.declared.thread.Thread.{Thread}
-use Rattle.instruction_rows.specs.declared.value.Value.{Value}
 use Rattle.state_model.specs.Frames.{Frame}
-use Rattle.state_model.specs.Objects.{Object}
+use Rattle.ref_model.specs.Memory.{Memory}
 
 -- A thread as the table of threads has it, with its frames, the top first (JVMS 2.5.2). The bottom frame and each frame of a class
 -- initializer are root frames.
@@ -14,22 +13,17 @@ pub record JavaThread : Type 0 where
   pub frames : List Frame
 
 pub record State : Type 0 where
-  -- the objects by number, in the order in which they were made
-  pub heap : List Object
-  -- the cells that objects may still take
-  pub room : ℕ
-  -- the values of the static fields, in the order of all fields
-  pub statics : List Value
+  -- what the threads share
+  pub memory : Memory
   pub threads : List JavaThread
   -- the time in nanoseconds
   pub now : ℕ
-  -- what the program wrote to its two streams
-  pub out : List ℕ
-  pub err : List ℕ
   -- whether an exception that nothing caught ended the main thread
   pub main_threw : Bool
-  -- the status with which the program called System.exit
-  pub exited : Option ℤ
+
+-- the memory is this one, and all else stays
+abbrev pub with_memory : State → Memory → State
+with_memory r memory = record r { memory = memory }
 
 -- a thread is changed, and all else stays
 abbrev pub with_thread : State → ℕ → (JavaThread → JavaThread) → State

@@ -16,7 +16,8 @@ use Rattle.verify_types.specs.Environment.{Instruction}
 use Rattle.state_model.specs.Frames.{Frame}
 use Rattle.ref_model.specs.declared.exception.Exception.TheVariants as exceptions
 use Rattle.ref_model.specs.Setting.{Setting}
-use Rattle.ref_model.specs.State.{JavaThread, State, with_frames}
+use Rattle.ref_model.specs.Memory.{Memory}
+use Rattle.ref_model.specs.State.{JavaThread, State, with_memory, with_frames}
 use Rattle.ref_model.specs.Fetch.{fetched}
 use Rattle.ref_model.specs.Frames.{contents, behind, is_root}
 use Rattle.ref_model.specs.LocalRows.{row}
@@ -30,7 +31,7 @@ use Rattle.ref_model.specs.Ending.{ending}
 
 -- ---- events: instructions that aren't local. Monitors have no row yet, and linking refuses what enters one.
 
-abbrev pub event_effect : World → Resolution → Event → State → List Slot → Option Effect
+abbrev pub event_effect : World → Resolution → Event → Memory → List Slot → Option Effect
 event_effect w resolution (get_static index) r stack = static_gotten w resolution r stack
 event_effect w resolution (put_static index) r stack = static_put w resolution r stack
 event_effect w resolution (get_field index) r stack = field_gotten w resolution r stack
@@ -53,7 +54,7 @@ abbrev pub division_effect : LocalRow → Frame → Option Effect
 division_effect act f = if divides_by_zero act (contents f) then Some (throws exceptions.ArithmeticException) else None
 
 -- what the instruction does in a thread of so many frames
-abbrev pub row_effect : World → Instruction → Row → State → ℕ → Frame → Option Effect
+abbrev pub row_effect : World → Instruction → Row → Memory → ℕ → Frame → Option Effect
 row_effect w i (local act) r depth f = division_effect act f
 row_effect w i (constant index) r depth f = None
 row_effect w i (wide_constant index) r depth f = None
@@ -65,7 +66,8 @@ row_effect w i refused r depth f = None
 -- ---- what an effect makes of the state and of the thread's frames
 
 abbrev pub after_effect : World → State → ℕ → ℕ → Frame → List Frame → Effect → Option State
-after_effect w r t next f below (done q stack) = behind f next stack >>= λ g. Some (with_frames q t (g ∷ below))
+after_effect w r t next f below (done memory stack) =
+    behind f next stack >>= λ g. Some (with_frames (with_memory r memory) t (g ∷ below))
 after_effect w r t next f below (invokes g stack) = Some (with_frames r t (g ∷ record f { stack = stack } ∷ below))
 after_effect w r t next f below (throws e) = raised w r t e
 after_effect w r t next f below (throws_object o) = Some (throwing r t o)
@@ -81,7 +83,7 @@ root_returned w r t f below = if is_root w f below then Some (root_left r t belo
 abbrev pub row_event : World → Instruction → Row → State → ℕ → Frame → List Frame → Option State
 row_event w i (returns kind) r t f below = root_returned w r t f below
 row_event w i act r t f below =
-    row_effect w i act r (length (f ∷ below)) f >>= after_effect w r t i.instr.next f below
+    row_effect w i act r.memory (length (f ∷ below)) f >>= after_effect w r t i.instr.next f below
 
 -- the event at the top frame's pc
 abbrev pub event_step : World → State → ℕ → List Frame → Option State

@@ -15,7 +15,8 @@ use Rattle.ref_model.specs.declared.exception.Exception.{Exception}
 use Rattle.ref_model.specs.declared.exception.Exception.TheVariants as exceptions
 use Rattle.ref_model.specs.Classes.{is_sub, class_name}
 use Rattle.ref_model.specs.Members.{new_values}
-use Rattle.ref_model.specs.State.{State, with_thread, with_frames, with_status}
+use Rattle.ref_model.specs.Memory.{Memory}
+use Rattle.ref_model.specs.State.{State, with_memory, with_thread, with_frames, with_status}
 use Rattle.ref_model.specs.Heap.{class_at, units_at, with_instance}
 use Rattle.ref_model.specs.Texts.{text_bytes}
 use Rattle.ref_model.specs.Fetch.{handlers_of}
@@ -45,14 +46,14 @@ out_of_memory = 0
 abbrev pub throwing : State → ℕ → ℕ → State
 throwing r t o = with_status r t (Live (Throwing o))
 
-abbrev pub throwing_new : State → ℕ → Option (State × ℕ) → State
+abbrev pub throwing_new : State → ℕ → Option (Memory × ℕ) → State
 throwing_new r t None = throwing r t out_of_memory
-throwing_new r t (Some x) = throwing x.0 t x.1
+throwing_new r t (Some x) = throwing (with_memory r x.0) t x.1
 
 -- a new object without a message, or the OutOfMemoryError of the start where there is no room for it
 abbrev pub raised : World → State → ℕ → Exception → Option State
 raised w r t e =
-    name_number w (exception_name e) >>= λ class. Some (throwing_new r t (with_instance r class (new_values w class)))
+    name_number w (exception_name e) >>= λ class. Some (throwing_new r t (with_instance r.memory class (new_values w class)))
 
 -- ---- handlers
 
@@ -80,9 +81,9 @@ finished r t = with_thread r t (λ thread. record { thread = record thread.threa
 abbrev pub uncaught : World → State → ℕ → ℕ → Option State
 uncaught w r t class =
     slice_get r.threads t >>= λ thread.
-    units_at r thread.thread.name >>= λ name.
+    units_at r.memory thread.thread.name >>= λ name.
     Some (finished (record r {
-      err = r.err ++ text_bytes (uncaught_line name (class_name w class));
+      memory = record r.memory { err = r.memory.err ++ text_bytes (uncaught_line name (class_name w class)) };
       main_threw = r.main_threw || t == 0;
     }) t)
 
@@ -100,4 +101,4 @@ handled w r t o class f below (Some h) =
 abbrev pub throwing_step : World → State → ℕ → ℕ → List Frame → Option State
 throwing_step w r t o [] = None
 throwing_step w r t o (f ∷ below) =
-    class_at w r o >>= λ class. handled w r t o class f below (handler_of w class f)
+    class_at w r.memory o >>= λ class. handled w r t o class f below (handler_of w class f)

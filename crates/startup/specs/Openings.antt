@@ -17,15 +17,10 @@ setting w main limits = record { world = w; main = main; limits = limits }
 -- One thread runs, nothing is written yet, and no time has passed.
 abbrev pub first_state : List Object → ℕ → List Value → List Frame → State
 first_state heap room statics frames = record {
-  heap = heap;
-  room = room;
-  statics = statics;
+  memory = record { heap = heap; room = room; statics = statics; out = []; err = []; exited = None };
   threads = opening_thread frames ∷ [];
   now = 0;
-  out = [];
-  err = [];
   main_threw = false;
-  exited = None;
 }
 
 abbrev pub opened_state : Opened → State

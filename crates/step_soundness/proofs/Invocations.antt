@@ -18,12 +18,12 @@ use Rattle.verify_types.specs.Typing.{AreTyped}
 use Rattle.state_model.specs.Frames.{Frame}
 use Rattle.ref_model.specs.declared.exception.Exception.TheVariants.{AbstractMethodError, IncompatibleClassChangeError}
 use Rattle.ref_model.specs.Kinds.{argument_slots}
-use Rattle.ref_model.specs.State.{State}
+use Rattle.ref_model.specs.Memory.{Memory}
 use Rattle.ref_model.specs.Fetch.{Named, named_method}
 use Rattle.ref_model.specs.Effects.{Effect, throws, on_instance}
 use Rattle.ref_model.specs.Calls.{entered, chosen, selected, unless_failed, method_numbered, instance_called, called, invoked}
 use Rattle.frame_soundness.specs.Typed.{Typed}
-use Rattle.frame_soundness.specs.TypedStates.{IsTypedState}
+use Rattle.frame_soundness.specs.StateKinds.{MemoryFits}
 use Rattle.frame_soundness.specs.CallLaws.{takes_receiver}
 use Rattle.frame_soundness.specs.EventLaws.{OfReceiver}
 use Rattle.frame_soundness.specs.EnterLaws.{IsCallResult}
@@ -81,8 +81,8 @@ selected_runs w f below next failure dynamic m class act effect runs e = absurd 
 
 -- ---- a method of an object
 
-instance_goes : (w : World) (f : Frame) (below : List Frame) (invocation : Invocation) (index depth : ℕ) (m : Named) (r : State)
-    (effect : Effect) → AreTyped w → IsTypedState w r → (t : Typed w (f ∷ below))
+instance_goes : (w : World) (f : Frame) (below : List Frame) (invocation : Invocation) (index depth : ℕ) (m : Named) (r : Memory)
+    (effect : Effect) → AreTyped w → MemoryFits w r → (t : Typed w (f ∷ below))
     → row_of t.0.at.place.instruction ≡ invoke invocation index → takes_receiver invocation ≡ true
     → named_method w t.0.at.place.instruction.resolution ≡ Some m
     → OfReceiver w r (receiver m.method.signature f.stack) (IsSelected w t.0.at.place.instruction.resolution invocation m)
@@ -107,8 +107,8 @@ instance_goes w f below invocation index depth m r effect typed fits t known tak
 
 -- ---- each invocation
 
-called_goes : (w : World) (f : Frame) (below : List Frame) (invocation : Invocation) (index depth : ℕ) (m : Named) (r : State)
-    (effect : Effect) → AreTyped w → IsTypedState w r → (t : Typed w (f ∷ below))
+called_goes : (w : World) (f : Frame) (below : List Frame) (invocation : Invocation) (index depth : ℕ) (m : Named) (r : Memory)
+    (effect : Effect) → AreTyped w → MemoryFits w r → (t : Typed w (f ∷ below))
     → row_of t.0.at.place.instruction ≡ invoke invocation index → named_method w t.0.at.place.instruction.resolution ≡ Some m
     → IsInvocation w t.0.at.place.instruction.resolution invocation m r f.stack
     → called w t.0.at.place.instruction.resolution invocation m r depth f.stack ≡ Some effect
@@ -123,8 +123,8 @@ called_goes w f below special index depth m r effect typed fits t known named li
 called_goes w f below (interface count) index depth m r effect typed fits t known named lies e =
     instance_goes w f below (interface count) index depth m r effect typed fits t known refl named lies e
 
-pub invocations_go_on : (w : World) (f : Frame) (below : List Frame) (invocation : Invocation) (index depth : ℕ) (r : State) (effect : Effect)
-    → AreTyped w → IsTypedState w r → (t : Typed w (f ∷ below)) → row_of t.0.at.place.instruction ≡ invoke invocation index
+pub invocations_go_on : (w : World) (f : Frame) (below : List Frame) (invocation : Invocation) (index depth : ℕ) (r : Memory) (effect : Effect)
+    → AreTyped w → MemoryFits w r → (t : Typed w (f ∷ below)) → row_of t.0.at.place.instruction ≡ invoke invocation index
     → IsRowResolution w t.0.at.place.instruction.resolution (invoke invocation index) r f.stack
     → invoked w t.0.at.place.instruction.resolution invocation r depth f.stack ≡ Some effect
     → IsCallResult w f below t.0.at.place.instruction.instr.next effect

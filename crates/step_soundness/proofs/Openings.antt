@@ -245,15 +245,17 @@ one_thread w frames (suc t) x good e = absurd cc
 
 abbrev opened : Setting → List Object → List Frame → State
 opened p heap frames = record {
-  heap = heap;
-  room = p.limits.heap_cells;
-  statics = opening_statics p.world.program;
+  memory = record {
+    heap = heap;
+    room = p.limits.heap_cells;
+    statics = opening_statics p.world.program;
+    out = [];
+    err = [];
+    exited = None;
+  };
   threads = opening_thread frames ∷ [];
   now = 0;
-  out = [];
-  err = [];
   main_threw = false;
-  exited = None;
 }
 
 pub opening_is_typed : (p : Setting) (r : State) → IsLinkedWorld p.world → IsOpening p → opening p ≡ Some r → IsTypedState p.world r

@@ -1,13 +1,12 @@
 -- The method that runs has the signature of the one that is named.
 use Rattle.std.proofs.Common.{◌≡◌, inl, inr, ℕ, ◌+◌, ◌-◌, Bool, true, false, List, [], ◌∷◌, Option, Some, None, refl, ap, sym, subst, ◌∙◌, arith}
-use Rattle.std.specs.Prelude.{codes, not, slice_get, if◌then◌else◌}
+use Rattle.std.specs.Prelude.{not, slice_get, if◌then◌else◌}
 use Rattle.std.specs.Option.{option_map_or}
 use Rattle.items.specs.Options.{◌>>=◌}
 use Rattle.items.proofs.Binds.{some_is}
 use Rattle.class_model.specs.declared.access_flags.TheConstants.{ACC_STATIC}
 use Rattle.class_model.specs.declared.class_file.ClassFile.{ClassFile}
 use Rattle.class_model.specs.declared.member.Member.{Member}
-use Rattle.class_grammar.specs.Text.{same_text}
 use Rattle.descriptors.specs.Meaning.{signature_of}
 use Rattle.lib_table.specs.declared.native.Native.{Native}
 use Rattle.opcodes.specs.declared.op.ValueKind.{ValueKind}
@@ -27,7 +26,7 @@ use Rattle.link_model.specs.World.{World}
 use Rattle.link_model.specs.Methods.{selecting_class, method_place, choice_of}
 use Rattle.verify_types.proofs.ListLaws.{and_true}
 use Rattle.ref_model.specs.Members.{native_at}
-use Rattle.ref_model.specs.State.{State}
+use Rattle.ref_model.specs.Memory.{Memory}
 use Rattle.ref_model.specs.Fetch.{Named, method_of, named_method}
 use Rattle.ref_model.specs.Calls.{method_numbered}
 use Rattle.frame_soundness.specs.EventLaws.{OfReceiver}
@@ -206,7 +205,7 @@ numbered_at w n m e =
     let x = some_is (slice_get w.methods n) (λ x. Some (record { number = n; method = x })) m e in
     subst (λ (y : Named). slice_get w.methods y.number ≡ Some y.method) (same_named (record { number = n; method = x.0 }) m x.2) x.1
 
-selected_fits : (w : World) (resolution : Resolution) (invocation : Invocation) (m : Named) (r : State) (stack : List Slot)
+selected_fits : (w : World) (resolution : Resolution) (invocation : Invocation) (m : Named) (r : Memory) (stack : List Slot)
     → w.methods ≡ methods_of w.program → HasFitNatives w → named_method w resolution ≡ Some m → has_flag ACC_STATIC m.method.flags ≡ false
     → OfReceiver w r (receiver m.method.signature stack) (IsSelected w resolution invocation m)
 selected_fits w resolution invocation m r stack methods fit named flag = λ o class at_hand of_class.
@@ -214,7 +213,7 @@ selected_fits w resolution invocation m r stack methods fit named flag = λ o cl
     object_fits w m chosen fit (numbered_at w n chosen numbered)
     (run_is w invocation m chosen class n methods (named_at w resolution m named) runs numbered) flag)
 
-invocation_fits : (w : World) (resolution : Resolution) (invocation : Invocation) (m : Named) (r : State) (stack : List Slot)
+invocation_fits : (w : World) (resolution : Resolution) (invocation : Invocation) (m : Named) (r : Memory) (stack : List Slot)
     → w.methods ≡ methods_of w.program → HasFitNatives w → named_method w resolution ≡ Some m → IsKindOf invocation m.method
     → IsInvocation w resolution invocation m r stack
 invocation_fits w resolution static m r stack methods fit named is =
@@ -227,7 +226,7 @@ invocation_fits w resolution special m r stack methods fit named is =
 invocation_fits w resolution (interface count) m r stack methods fit named is =
     selected_fits w resolution (interface count) m r stack methods fit named is
 
-pub invocations_fit : (w : World) (resolution : Resolution) (invocation : Invocation) (index : ℕ) (r : State) (stack : List Slot)
+pub invocations_fit : (w : World) (resolution : Resolution) (invocation : Invocation) (index : ℕ) (r : Memory) (stack : List Slot)
     → w.methods ≡ methods_of w.program → HasFitNatives w
     → ((m : Named) → named_method w resolution ≡ Some m → IsKindOf invocation m.method) → IsRowResolution w resolution (invoke invocation index) r stack
 invocations_fit w resolution invocation index r stack methods fit kind = λ m named.

@@ -16,7 +16,8 @@ use Rattle.verify_types.specs.Effects.{row_of}
 use Rattle.state_model.specs.Frames.{Frame}
 use Rattle.ref_model.specs.declared.exception.Exception.TheVariants.{ArithmeticException}
 use Rattle.ref_model.specs.Setting.{Setting}
-use Rattle.ref_model.specs.State.{JavaThread, State, with_frames, with_status}
+use Rattle.ref_model.specs.Memory.{Memory}
+use Rattle.ref_model.specs.State.{JavaThread, State, with_memory, with_frames, with_status}
 use Rattle.ref_model.specs.Heap.{class_at, units_at}
 use Rattle.ref_model.specs.Classes.{class_name}
 use Rattle.ref_model.specs.Texts.{text_bytes}
@@ -38,7 +39,7 @@ use Rattle.frame_soundness.proofs.FetchLaws.{fetched_is}
 use Rattle.frame_soundness.proofs.KeepLaws.{row_keeps}
 use Rattle.frame_soundness.proofs.Exceptions.{thrown, left, handled}
 use Rattle.frame_soundness.proofs.Raises.{raises_keep}
-use Rattle.frame_soundness.proofs.ThreadLaws.{thread_set, frames_keep, thrown_keep, throwing_keeps, finished_keeps}
+use Rattle.frame_soundness.proofs.ThreadLaws.{memory_keeps, thread_set, frames_keep, thrown_keep, throwing_keeps, finished_keeps}
 use Rattle.frame_soundness.proofs.EventProofs.{events_go_on}
 use Rattle.step_soundness.specs.Resolutions.{IsRowResolution, IsFrameResolution, IsStepResolution}
 use Rattle.step_soundness.proofs.Invocations.{invocations_go_on}
@@ -72,10 +73,12 @@ of_frames r t status frames Holds h holds =
 effect_keeps : (w : World) (r q : State) (t next : ℕ) (status : Status) (f : Frame) (below : List Frame) (effect : Effect) → IsTypedState w r
     → Has r t status (f ∷ below) → Typed w (f ∷ below) → IsCallResult w f below next effect
     → after_effect w r t next f below effect ≡ Some q → IsTypedState w q
-effect_keeps w r q t next status f below (done s stack) typed h top goes e =
-    let made : after_effect w r t next f below (done s stack) ≡ Some (with_frames s t (goes.frame ∷ below)) =
-    bind_is (behind f next stack) (λ g. Some (with_frames s t (g ∷ below))) goes.frame (Some (with_frames s t (goes.frame ∷ below))) goes.is refl in
-    known_state w (with_frames s t (goes.frame ∷ below)) q (sym made ∙ e) (frames_keep w s t (goes.frame ∷ below) goes.state goes.typed)
+effect_keeps w r q t next status f below (done memory stack) typed h top goes e =
+    let s = with_memory r memory in
+    let after = with_frames s t (goes.frame ∷ below) in
+    let made : after_effect w r t next f below (done memory stack) ≡ Some after =
+    bind_is (behind f next stack) (λ g. Some (with_frames s t (g ∷ below))) goes.frame (Some after) goes.is refl in
+    known_state w after q (sym made ∙ e) (frames_keep w s t (goes.frame ∷ below) (memory_keeps w r memory typed goes.values) goes.typed)
 effect_keeps w r q t next status f below (invokes g stack) typed h top goes e =
     known_state w (with_frames r t (g ∷ record f { stack = stack } ∷ below)) q e
     (frames_keep w r t (g ∷ record f { stack = stack } ∷ below) typed goes)
@@ -120,7 +123,7 @@ root_keeps w r q t f below typed top false root e = absurd cc
 
 row_event_keeps : (w : World) (r q : State) (t : ℕ) (status : Status) (f : Frame) (below : List Frame) → IsLinkedWorld w → IsTypedState w r
     → Has r t status (f ∷ below) → (top : Typed w (f ∷ below)) → (act : Row) → row_of top.0.at.place.instruction ≡ act
-    → IsRowResolution w top.0.at.place.instruction.resolution act r f.stack
+    → IsRowResolution w top.0.at.place.instruction.resolution act r.memory f.stack
     → row_event w top.0.at.place.instruction act r t f below ≡ Some q → IsTypedState w q
 row_event_keeps w r q t status f below linked typed h top (returns kind) known lies e =
     root_keeps w r q t f below typed top (is_root w f below) refl e
@@ -133,30 +136,30 @@ row_event_keeps w r q t status f below linked typed h top (constant index) known
 row_event_keeps w r q t status f below linked typed h top (wide_constant index) known lies e = absurd cc
 row_event_keeps w r q t status f below linked typed h top (invoke invocation index) known lies e =
     let i = top.0.at.place.instruction in
-    let x = some_is (row_effect w i (invoke invocation index) r (length (f ∷ below)) f) (after_effect w r t i.instr.next f below) q e in
+    let x = some_is (row_effect w i (invoke invocation index) r.memory (length (f ∷ below)) f) (after_effect w r t i.instr.next f below) q e in
     effect_keeps w r q t i.instr.next status f below x.0 typed h top
-    (invocations_go_on w f below invocation index (length (f ∷ below)) r x.0 linked.typed typed top known lies x.1) x.2
+    (invocations_go_on w f below invocation index (length (f ∷ below)) r.memory x.0 linked.typed typed.values top known lies x.1) x.2
 row_event_keeps w r q t status f below linked typed h top (event ev) known lies e =
     let i = top.0.at.place.instruction in
-    let x = some_is (event_effect w i.resolution ev r f.stack) (after_effect w r t i.instr.next f below) q e in
+    let x = some_is (event_effect w i.resolution ev r.memory f.stack) (after_effect w r t i.instr.next f below) q e in
     effect_keeps w r q t i.instr.next status f below x.0 typed h top
-    (as_call w f below i.instr.next x.0 (events_go_on w f below ev r x.0 linked typed top known lies x.1)) x.2
+    (as_call w f below i.instr.next x.0 (events_go_on w f below ev r.memory x.0 linked typed.values top known lies x.1)) x.2
 row_event_keeps w r q t status f below linked typed h top refused known lies e = absurd cc
 
 -- ---- a thread that runs
 
 -- what the step asks of a local instruction
-names_static : (w : World) (r : State) (f : Frame) → IsFrameResolution w r f → NamesStatic w f
+names_static : (w : World) (r : Memory) (f : Frame) → IsFrameResolution w r f → NamesStatic w f
 names_static w r f lies i index m at known named =
     let here : IsRowResolution w i.resolution (invoke static index) r f.stack = subst (λ (x : Row). IsRowResolution w i.resolution x r f.stack) known (lies i at) in
     (here m named).flag
 
 run_keeps : (w : World) (r q : State) (t : ℕ) (status : Status) (f : Frame) (below : List Frame) → IsLinkedWorld w → IsTypedState w r
-    → Has r t status (f ∷ below) → Typed w (f ∷ below) → IsFrameResolution w r f → (after : Option (List Frame)) → row w (f ∷ below) ≡ after
+    → Has r t status (f ∷ below) → Typed w (f ∷ below) → IsFrameResolution w r.memory f → (after : Option (List Frame)) → row w (f ∷ below) ≡ after
     → row_or_event w r t (f ∷ below) after ≡ Some q → IsTypedState w q
 run_keeps w r q t status f below linked typed h top lies (Some after) moves e =
     known_state w (with_frames r t after) q e
-    (frames_keep w r t after typed (row_keeps w f below after linked.typed (names_static w r f lies) top moves))
+    (frames_keep w r t after typed (row_keeps w f below after linked.typed (names_static w r.memory f lies) top moves))
 run_keeps w r q t status f below linked typed h top lies None moves e =
     let i = top.0.at.place.instruction in
     let found = fetched_is w f top.0.at in
@@ -175,16 +178,16 @@ left_keeps : (w : World) (r q : State) (t o class : ℕ) (f : Frame) (below : Li
     → Has r t (Live (Throwing o)) (f ∷ below) → Thrown w (f ∷ below) → (b : Bool) → is_root w f below ≡ b
     → (if b then uncaught w r t class else Some (with_frames r t below)) ≡ Some q → IsTypedState w q
 left_keeps w r q t o class f below typed h top true root e =
-    let thread = some_is (slice_get r.threads t) (λ thread. units_at r thread.thread.name >>= λ name. Some (finished (record r {
-      err = r.err ++ text_bytes (uncaught_line name (class_name w class));
+    let thread = some_is (slice_get r.threads t) (λ thread. units_at r.memory thread.thread.name >>= λ name. Some (finished (record r {
+      memory = record r.memory { err = r.memory.err ++ text_bytes (uncaught_line name (class_name w class)) };
       main_threw = r.main_threw || t == 0;
     }) t)) q e in
-    let name = some_is (units_at r thread.0.thread.name) (λ name. Some (finished (record r {
-      err = r.err ++ text_bytes (uncaught_line name (class_name w class));
+    let name = some_is (units_at r.memory thread.0.thread.name) (λ name. Some (finished (record r {
+      memory = record r.memory { err = r.memory.err ++ text_bytes (uncaught_line name (class_name w class)) };
       main_threw = r.main_threw || t == 0;
     }) t)) q thread.2 in
     let told : State = record r {
-      err = r.err ++ text_bytes (uncaught_line name.0 (class_name w class));
+      memory = record r.memory { err = r.memory.err ++ text_bytes (uncaught_line name.0 (class_name w class)) };
       main_threw = r.main_threw || t == 0;
     } in
     known_state w (finished told t) q name.2 (finished_keeps w told t
@@ -226,7 +229,7 @@ throwing_goes : (w : World) (r q : State) (t o : ℕ) (frames : List Frame) → 
     → Has r t (Live (Throwing o)) frames → Thrown w frames → throwing_step w r t o frames ≡ Some q → IsTypedState w q
 throwing_goes w r q t o [] linked typed h top e = absurd top
 throwing_goes w r q t o (f ∷ below) linked typed h top e =
-    let class = some_is (class_at w r o) (λ class. handled_state w r t o class f below (handler_of w class f)) q e in
+    let class = some_is (class_at w r.memory o) (λ class. handled_state w r t o class f below (handler_of w class f)) q e in
     handled_keeps w r q t o class.0 f below linked typed h top (handler_of w class.0 f) refl class.2
 
 -- ---- a step

@@ -12,7 +12,7 @@ use Rattle.link_model.specs.declared.sites.Resolution.{Resolution}
 use Rattle.link_model.specs.Infos.{methods_of}
 use Rattle.link_model.specs.World.{World}
 use Rattle.ref_model.specs.Members.{native_at}
-use Rattle.ref_model.specs.State.{State}
+use Rattle.ref_model.specs.Memory.{Memory}
 use Rattle.ref_model.specs.Fetch.{Named, named_method}
 use Rattle.frame_soundness.specs.NativeKinds.{FitsNative}
 use Rattle.step_soundness.specs.Resolutions.{IsRowResolution}
@@ -30,6 +30,6 @@ IsKindOf invocation m = has_flag ACC_STATIC m.flags ≡ false
 
 -- An invocation of a linked world names what a step asks for, whatever the receiver is (JVMS 5.4.5, 5.4.6).
 abbrev pub InvocationsFit : Type 0
-InvocationsFit = (w : World) (resolution : Resolution) (invocation : Invocation) (index : ℕ) (r : State) (stack : List Slot) →
+InvocationsFit = (w : World) (resolution : Resolution) (invocation : Invocation) (index : ℕ) (r : Memory) (stack : List Slot) →
     w.methods ≡ methods_of w.program → HasFitNatives w →
     ((m : Named) → named_method w resolution ≡ Some m → IsKindOf invocation m.method) → IsRowResolution w resolution (invoke invocation index) r stack

@@ -18,6 +18,7 @@ use Rattle.verify_types.specs.Effects.{row_of}
 use Rattle.state_model.specs.Frames.{Frame}
 use Rattle.ref_model.specs.Classes.{is_sub}
 use Rattle.ref_model.specs.Kinds.{argument_slots}
+use Rattle.ref_model.specs.Memory.{Memory}
 use Rattle.ref_model.specs.State.{State}
 use Rattle.ref_model.specs.Fetch.{fetched, Named, named_method}
 use Rattle.ref_model.specs.Calls.{method_numbered}
@@ -53,23 +54,23 @@ IsSelected w resolution invocation m class = (named n : ℕ) (chosen : Named) �
 -- ---- one instruction
 
 -- the method that an invocation names: a static one, or one for whose receiver at hand a method is selected
-abbrev pub IsInvocation : World → Resolution → Invocation → Named → State → List Slot → Type 0
+abbrev pub IsInvocation : World → Resolution → Invocation → Named → Memory → List Slot → Type 0
 IsInvocation w resolution static m r stack = IsOfClass w m
 IsInvocation w resolution dynamic m r stack = Unit {0}
 IsInvocation w resolution invocation m r stack = OfReceiver w r (receiver m.method.signature stack) (IsSelected w resolution invocation m)
 
 -- Only events and invocations ask for something.
-abbrev pub IsRowResolution : World → Resolution → Row → State → List Slot → Type 0
+abbrev pub IsRowResolution : World → Resolution → Row → Memory → List Slot → Type 0
 IsRowResolution w resolution (invoke invocation index) r stack =
     (m : Named) → named_method w resolution ≡ Some m → IsInvocation w resolution invocation m r stack
 IsRowResolution w resolution (event e) r stack = IsEventResolution w resolution e r stack
 IsRowResolution w resolution row r stack = Unit {0}
 
 -- of the instruction at a frame's pc
-abbrev pub IsFrameResolution : World → State → Frame → Type 0
+abbrev pub IsFrameResolution : World → Memory → Frame → Type 0
 IsFrameResolution w r f = (i : Instruction) → fetched w f ≡ Some i → IsRowResolution w i.resolution (row_of i) r f.stack
 
 -- ---- one step of thread t, which asks for something only where its next step is an instruction
 
 pub record IsStepResolution (w : World) (r : State) (t : ℕ) : Type 0 where
-  pub top : (f : Frame) (below : List Frame) → frames_at r t ≡ Some (f ∷ below) → IsFrameResolution w r f
+  pub top : (f : Frame) (below : List Frame) → frames_at r t ≡ Some (f ∷ below) → IsFrameResolution w r.memory f

@@ -8,6 +8,7 @@ use Rattle.verify_types.specs.Effects.{row_of}
 use Rattle.verify_types.specs.Typing.{AreTyped}
 use Rattle.state_model.specs.Frames.{Frame}
 use Rattle.ref_model.specs.Setting.{Setting}
+use Rattle.ref_model.specs.Memory.{Memory}
 use Rattle.ref_model.specs.State.{State, with_frames}
 use Rattle.ref_model.specs.Fetch.{Named, named_method}
 use Rattle.ref_model.specs.Effects.{Effect}
@@ -15,6 +16,7 @@ use Rattle.ref_model.specs.Calls.{method_numbered, invoked}
 use Rattle.ref_model.specs.Entries.{frames_at}
 use Rattle.ref_model.specs.Step.{step}
 use Rattle.frame_soundness.specs.Typed.{Typed}
+use Rattle.frame_soundness.specs.StateKinds.{MemoryFits}
 use Rattle.frame_soundness.specs.TypedStates.{IsTypedState}
 use Rattle.frame_soundness.specs.StepKinds.{IsLinkedWorld}
 use Rattle.frame_soundness.specs.EnterLaws.{IsOfObjects, IsCallResult}
@@ -35,8 +37,8 @@ FramesKeep = (w : World) (r : State) (t : ℕ) (frames : List Frame) → IsTyped
 
 -- An invocation that isn't local: a native method is done, one with code begins, or something is thrown.
 abbrev pub InvocationsGoOn : Type 0
-InvocationsGoOn = (w : World) (f : Frame) (below : List Frame) (invocation : Invocation) (index depth : ℕ) (r : State) (effect : Effect) →
-    AreTyped w → IsTypedState w r → (t : Typed w (f ∷ below)) → row_of t.0.at.place.instruction ≡ invoke invocation index →
+InvocationsGoOn = (w : World) (f : Frame) (below : List Frame) (invocation : Invocation) (index depth : ℕ) (r : Memory) (effect : Effect) →
+    AreTyped w → MemoryFits w r → (t : Typed w (f ∷ below)) → row_of t.0.at.place.instruction ≡ invoke invocation index →
     IsRowResolution w t.0.at.place.instruction.resolution (invoke invocation index) r f.stack →
     invoked w t.0.at.place.instruction.resolution invocation r depth f.stack ≡ Some effect →
     IsCallResult w f below t.0.at.place.instruction.instr.next effect

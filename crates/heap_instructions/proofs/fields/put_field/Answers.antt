@@ -2,7 +2,7 @@ use Rattle.std.proofs.Common.{ℕ, ◌+◌, Option, drop, sym, subst, ap, ◌∙
 use Rattle.std.specs.Prelude.{Some, Result}
 use Rattle.items.specs.Options.{◌>>=◌}
 use Rattle.ref_model.specs.declared.exception.Exception.{Exception}
-use Rattle.ref_model.specs.State.{State}
+use Rattle.ref_model.specs.Memory.{Memory}
 use Rattle.ref_model.specs.Effects.{Effect, done, throws, on_instance}
 use Rattle.ref_model.specs.Heap.{with_value}
 use Rattle.ref_model.specs.Members.{field_place}
@@ -47,5 +47,5 @@ returns-else-not-set_value-clause-effect g c = λ r.
     field_put_is w c.args.resolution.now q stack n field v reference (width (value_kind field.kind)) depth (Some (done after (operands c.drop_operands.new.mounted)))
     c.in-Some.ensures c.in-Some-field.ensures (c.width-width.ensures.width ∙ ap width c.value_kind.ensures) c.stored-value.ensures.stored c.reference_operand-reference.ensures.read
     (subst T c.in-Ok.is (c.in-Some-field_target.ensures r act)
-    ∙ ap (λ (x : Option State). x >>= λ s. Some (done s (drop (depth + 1) stack))) (c.if-not-set_value.ensures r)
+    ∙ ap (λ (x : Option Memory). x >>= λ s. Some (done s (drop (depth + 1) stack))) (c.if-not-set_value.ensures r)
     ∙ ap (λ rest. Some (done after rest)) (sym c.drop_operands.ensures.operands))
