@@ -3,7 +3,13 @@ package special;
 /** Calls of `super.m()`, of which some select no method once K and L are compiled again, with a method m each. */
 class Main {
     static String called(Caller a) {
-        try { return "" + a.t(); } catch (IncompatibleClassChangeError e) { return e.getClass().getName(); }
+        try {
+            return "" + a.t();
+        } catch (AbstractMethodError e) {
+            return "AbstractMethodError";
+        } catch (IncompatibleClassChangeError e) {
+            return "IncompatibleClassChangeError";
+        }
     }
 
     public static void main(String[] args) {

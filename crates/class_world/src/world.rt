@@ -171,12 +171,7 @@ impl World {
 
     /// What invokevirtual or invokeinterface of a method selects on an object of a class or an array class (JVMS 5.4.6). This goes up the
     /// superclasses. `None`: there is no method of this number.
-    pub fn select(
-        &self,
-        alloc: Global,
-        class: u32,
-        method: u32,
-    ) -> Result<Option<Choice>, NoMemory>
+    pub fn select(&self, alloc: Global, class: u32, method: u32) -> Result<Option<Choice>, NoMemory>
         ensures { IfOk result (λ choice.
             choice ≡ methods.choice_of (world_of self.now) class method) }
     {

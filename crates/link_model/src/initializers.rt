@@ -28,9 +28,7 @@ fn is_of_initializer(signature: &Signature) -> bool
 pub fn is_initializer(method: &MethodInfo) -> bool
     ensures { result ≡ spec.is_initializer method.now }
 {
-    method.is_static()
-        && is_same(&method.name, b"<clinit>")
-        && is_of_initializer(&method.signature)
+    method.is_static() && is_same(&method.name, b"<clinit>") && is_of_initializer(&method.signature)
 }
 
 /// Whether a method holds a monitor while it runs (JVMS 2.11.10). Of the flags of a class initializer only that of static means something

@@ -58,7 +58,5 @@ pub fn same_primitive(a: Base, b: Base) -> bool
 pub fn class_below<L: Lookups>(w: &L, a: u32, b: u32) -> bool
     ensures { result ≡ spec.class_below (L.world w.now) a b }
 {
-    a == b
-        || w.is_below(a, b)
-        || (w.class_count() <= a as usize && is_number(w.object(), b))
+    a == b || w.is_below(a, b) || (w.class_count() <= a as usize && is_number(w.object(), b))
 }

@@ -15,7 +15,11 @@ use std::alloc::Global;
 fn static_place(field: &FieldInfo, before: u32) -> Option<u32>
     ensures { result ≡ spec.if_static field.now before }
 {
-    if field.is_static() { Some(before) } else { None }
+    if field.is_static() {
+        Some(before)
+    } else {
+        None
+    }
 }
 
 // How many static fields come before the next field. Numbers from 2^32 on count as memory run out.

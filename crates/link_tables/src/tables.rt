@@ -309,7 +309,10 @@ impl Tables {
     pub fn main_of(&self, name: &[u16]) -> Option<u32>
         ensures { result ≡ main_of self.now name.now }
     {
-        main_among(&self.member_tables.methods, self.hierarchy().classes().class_named(name)?)
+        main_among(
+            &self.member_tables.methods,
+            self.hierarchy().classes().class_named(name)?,
+        )
     }
 
     /// The numbers of the fields of an object of a class, those of the superclass first, in constant time.
