@@ -1,0 +1,6 @@
+pub mod StageLaws
+pub mod StepLaws
+pub mod ThrowLaws
+pub mod EventLaws
+pub mod CallLaws
+pub mod ReturnLaws

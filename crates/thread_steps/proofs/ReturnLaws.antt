@@ -1,0 +1,207 @@
+-- Returns, and exceptions on their way, as steps.
+use Rattle.std.proofs.Common.{◌≡◌, ◌<◌, ℕ, true, false, Bool, List, [], ◌∷◌, ◌++◌, length, drop, Option, Some, None, refl, ap, sym, subst, arith, ◌∙◌}
+use Rattle.std.specs.Prelude.{◌==◌, ◌||◌, if◌then◌else◌, slice_get}
+use Rattle.std.specs.Global.{Vec}
+use Rattle.std.specs.Option.{option_map}
+use Rattle.items.specs.Options.{◌>>=◌}
+use Rattle.items.proofs.Binds.{bind_is, some_is}
+use Rattle.opcodes.specs.declared.op.ValueKind.{ValueKind}
+use Rattle.instruction_rows.specs.declared.value.Slot.{Slot}
+use Rattle.instruction_rows.specs.Rows.{Row, local, constant, wide_constant, returns, invoke, event, refused}
+use Rattle.instruction_rows.specs.Table.{row as row_of}
+use Rattle.vthread_state.specs.declared.phase.Phase.TheVariants.{Run}
+use Rattle.vthread_state.specs.declared.thread.Status.{Status}
+use Rattle.vthread_state.specs.declared.thread.Status.TheVariants.{Live, Done}
+use Rattle.link_model.specs.declared.sites.Resolution.{Resolution}
+use Rattle.link_model.specs.World.{World}
+use Rattle.verify_types.specs.Environment.{Handler, Instruction}
+use Rattle.state_model.specs.Frames.{Frame}
+use Rattle.state_model.specs.Objects.{text}
+use Rattle.ref_model.specs.Classes.{class_name}
+use Rattle.ref_model.specs.Fetch.{fetched}
+use Rattle.ref_model.specs.Frames.{returned}
+use Rattle.ref_model.specs.Heap.{class_at, units_at, units_of}
+use Rattle.ref_model.specs.LocalRows.{row, local_act}
+use Rattle.ref_model.specs.Memory.{Memory}
+use Rattle.ref_model.specs.Operands.{FindsOperands, HasOperands}
+use Rattle.ref_model.specs.State.{State, with_frames, with_status}
+use Rattle.ref_model.specs.Step.{event_step, root_left, row_event, row_or_event}
+use Rattle.ref_model.specs.Texts.{text_bytes}
+use Rattle.ref_model.specs.Throwing.{at_handler, finished, handler_of, handled, throwing_step, uncaught, uncaught_line}
+use Rattle.continuation.specs.Continuation.{Continuation}
+use Rattle.heap_instructions.specs.HeapReads.{class_number}
+use Rattle.invocation.specs.FrameSteps.{IsHandled, IsUnhandled, returned_kinds, top_at_handler, top_handler, top_is_root, top_returned}
+use Rattle.thread_steps.specs.declared.parts.Parts.{Parts}
+use Rattle.thread_steps.specs.States.{Stage, IsRunStep, memory_of, own_thread, state_of}
+use Rattle.thread_steps.specs.Returning.{EndsUncaught, IsThread, LeavesRoot, ReturnSteps, ThrowingSteps, returned_kind, status_left}
+use Rattle.thread_steps.proofs.StageLaws.{own_at, own_finished, own_frames, own_status}
+use Rattle.thread_steps.proofs.StepLaws.{event_is_run, no_row}
+
+-- ---- what a return takes
+
+-- the row of a return, by what it gives back
+pub kind_row : (act : Row) (kind : Option ValueKind) → returned_kind act ≡ Some kind → act ≡ returns kind
+kind_row (returns k) kind e = let same : k ≡ kind = cc in ap returns same
+kind_row (local r) kind e = absurd cc
+kind_row (constant index) kind e = absurd cc
+kind_row (wide_constant index) kind e = absurd cc
+kind_row (invoke invocation index) kind e = absurd cc
+kind_row (event e) kind is = absurd cc
+kind_row refused kind e = absurd cc
+
+pub value_taken : (w : World) (resolution : Resolution) (r : Row) (kind : Option ValueKind) (stack : List Slot) → returned_kind r ≡ Some kind → FindsOperands w resolution r stack →
+    HasOperands (returned_kinds kind) 0 stack
+value_taken w resolution r kind stack is x = by kind (subst (λ (s : Row). FindsOperands w resolution s stack) (kind_row r kind is) x)
+  where
+    by : (k : Option ValueKind) → FindsOperands w resolution (returns k) stack → HasOperands (returned_kinds k) 0 stack
+    by None y = tt
+    by (Some k) y = y
+
+-- ---- a return to the caller
+
+pub returned_steps : (w : World) (a : Parts) (kind : Option ValueKind) (frames after : List Frame) → top_returned w kind frames ≡ Some after → ReturnSteps w kind a frames a after
+returned_steps w a kind frames after left stage f below i top at is =
+    subst (λ (fs : List Frame). IsRunStep w stage.number (state_of stage a fs) fs (state_of stage a after)) (sym top) step
+  where
+    made : row w (f ∷ below) ≡ Some after
+    made = bind_is (fetched w f) (λ j. local_act w j (row_of j.instr.op) f below) i (Some after) at
+        (ap (λ (act : Row). local_act w i act f below) is ∙ subst (λ (fs : List Frame). top_returned w kind fs ≡ Some after) top left)
+
+    step : IsRunStep w stage.number (state_of stage a (f ∷ below)) (f ∷ below) (state_of stage a after)
+    step = ap (row_or_event w (state_of stage a (f ∷ below)) stage.number (f ∷ below)) made ∙ ap (λ (q : State). Some q) (own_frames stage a (f ∷ below) after)
+
+-- ---- a return from a root frame
+
+pub root_is_left : (a : Parts) (frames after : List Frame) (status : Status) → after ≡ drop 1 frames
+    → status ≡ status_left (length after) a.status → LeavesRoot a frames (record a { status = status }) after
+root_is_left a frames after status left is stage f below top =
+    let rest : after ≡ below = left ∙ ap (drop 1) top in
+    by below rest (is ∙ ap (λ (fs : List Frame). status_left (length fs) a.status) rest)
+  where
+    by : (others : List Frame) → after ≡ others → status ≡ status_left (length others) a.status
+        → root_left (state_of stage a (f ∷ below)) stage.number others ≡ state_of stage (record a { status = status }) after
+    by [] rest done = own_finished stage a (f ∷ below) ∙ λ i. state_of stage (record a { status = sym done i }) (sym rest i)
+    by (g ∷ others) rest goes = own_frames stage a (f ∷ below) (g ∷ others) ∙ λ i. state_of stage (record a { status = sym goes i }) (sym rest i)
+
+pub root_steps : (w : World) (a b : Parts) (kind : Option ValueKind) (frames after : List Frame) → top_is_root w frames ≡ true → LeavesRoot a frames b after → ReturnSteps w kind a frames b after
+root_steps w a b kind frames after root left stage f below i top at is =
+    subst (λ (fs : List Frame). IsRunStep w stage.number (state_of stage a fs) fs (state_of stage b after)) (sym top)
+    (event_is_run w r q stage.number (f ∷ below) (no_row w i (returns kind) f below at is (ap (λ (x : Bool). if x then None else returned w kind f below) here)) step)
+  where
+    r : State
+    r = state_of stage a (f ∷ below)
+
+    q : State
+    q = state_of stage b after
+
+    here : top_is_root w (f ∷ below) ≡ true
+    here = subst (λ (fs : List Frame). top_is_root w fs ≡ true) top root
+
+    step : event_step w r stage.number (f ∷ below) ≡ Some q
+    step = bind_is (fetched w f) (λ j. row_event w j (row_of j.instr.op) r stage.number f below) i (Some q) at
+        (ap (λ (act : Row). row_event w i act r stage.number f below) is ∙ ap (λ (x : Bool). if x then Some (root_left r stage.number below) else None) here
+        ∙ ap (λ (s : State). Some s) (left stage f below top))
+
+-- ---- an exception on its way
+
+-- what the phase makes of the top frame, by the class of the object
+handled_so : (w : World) (stage : Stage) (a : Parts) (o class : ℕ) (f : Frame) (below : List Frame) (handler : Option Handler) (q : State) → Some class ≡ class_number w a.natives.heap.objects o
+    → handler_of w class f ≡ handler → handled w (state_of stage a (f ∷ below)) stage.number o class f below handler ≡ Some q
+    → (class_at w (memory_of a) o >>= λ c. handled w (state_of stage a (f ∷ below)) stage.number o c f below (handler_of w c f)) ≡ Some q
+handled_so w stage a o class f below handler q named found made =
+    bind_is (class_at w (memory_of a) o) (λ c. handled w (state_of stage a (f ∷ below)) stage.number o c f below (handler_of w c f)) class (Some q) (sym named)
+    (ap (handled w (state_of stage a (f ∷ below)) stage.number o class f below) found ∙ made)
+
+mapped_none : (o : Option Handler) → option_map (λ (h : Handler). h.row.handler) o ≡ None → o ≡ None
+mapped_none None e = refl
+mapped_none (Some h) e = absurd cc
+
+-- The top frame has a handler.
+pub handled_steps : (w : World) (a : Parts) (t name o class : ℕ) (m n : Continuation) → Some class ≡ class_number w a.natives.heap.objects o → IsHandled w class o m n
+    → ThrowingSteps w t name o a m.stack.frames (record a { status = Live Run }) n.stack.frames
+handled_steps w a t name o class m n named x stage is = by m.stack.frames x.is x.frames
+  where
+    b : Parts
+    b = record a { status = Live Run }
+
+    at : (f : Frame) (below : List Frame) (handler : Option Handler) → handler_of w class f ≡ handler → option_map (λ (h : Handler). h.row.handler) handler ≡ Some x.handler
+        → top_at_handler x.handler o (f ∷ below) ≡ Some n.stack.frames → throwing_step w (state_of stage a (f ∷ below)) stage.number o (f ∷ below) ≡ Some (state_of stage b n.stack.frames)
+    at f below None found none goes = absurd cc
+    at f below (Some h) found some goes =
+        let r : State = state_of stage a (f ∷ below) in
+        let same : h.row.handler ≡ x.handler = cc in
+        let g = some_is (at_handler f x.handler o) (λ g. Some (g ∷ below)) n.stack.frames goes in
+        let last : g.0 ∷ below ≡ n.stack.frames = let e = g.2 in cc in
+        let moves : with_frames (with_status r stage.number (Live Run)) stage.number (g.0 ∷ below) ≡ state_of stage b n.stack.frames =
+        ap (λ (s : State). with_frames s stage.number (g.0 ∷ below)) (own_status stage a (f ∷ below) (Live Run)) ∙ own_frames stage b (f ∷ below) (g.0 ∷ below) ∙ ap (state_of stage b) last in
+        handled_so w stage a o class f below (Some h) (state_of stage b n.stack.frames) named found
+        (ap (λ k. at_handler f k o >>= λ d. Some (with_frames (with_status r stage.number (Live Run)) stage.number (d ∷ below))) same
+        ∙ bind_is (at_handler f x.handler o) (λ d. Some (with_frames (with_status r stage.number (Live Run)) stage.number (d ∷ below))) g.0 (Some (state_of stage b n.stack.frames)) g.1
+        (ap (λ (s : State). Some s) moves))
+
+    by : (frames : List Frame) → top_handler w class frames ≡ Some x.handler → top_at_handler x.handler o frames ≡ Some n.stack.frames
+        → throwing_step w (state_of stage a frames) stage.number o frames ≡ Some (state_of stage b n.stack.frames)
+    by [] found goes = absurd cc
+    by (f ∷ below) found goes = at f below (handler_of w class f) refl found goes
+
+-- It has none, and is left.
+pub left_steps : (w : World) (a : Parts) (t name o class : ℕ) (m n : Continuation) → Some class ≡ class_number w a.natives.heap.objects o → 0 < length m.stack.frames → IsUnhandled w class m n
+    → ThrowingSteps w t name o a m.stack.frames a n.stack.frames
+left_steps w a t name o class m n named some x stage is = by m.stack.frames some x.none x.inner x.frames
+  where
+    by : (frames : List Frame) → 0 < length frames → top_handler w class frames ≡ None → top_is_root w frames ≡ false → n.stack.frames ≡ drop 1 frames
+        → throwing_step w (state_of stage a frames) stage.number o frames ≡ Some (state_of stage a n.stack.frames)
+    by [] some none inner left = absurd (omega arith)
+    by (f ∷ below) some none inner left =
+        let r : State = state_of stage a (f ∷ below) in
+        handled_so w stage a o class f below None (state_of stage a n.stack.frames) named (mapped_none (handler_of w class f) none)
+        (ap (λ (b : Bool). if b then uncaught w r stage.number class else Some (with_frames r stage.number below)) inner
+        ∙ ap (λ (s : State). Some s) (own_frames stage a (f ∷ below) below ∙ ap (state_of stage a) (sym left)))
+
+-- A root frame whose method doesn't catch an object of this class ends the thread.
+pub uncaught_steps : (w : World) (a b : Parts) (t name o class : ℕ) (frames after : List Frame)
+    → Some class ≡ class_number w a.natives.heap.objects o
+    → top_handler w class frames ≡ None → top_is_root w frames ≡ true → EndsUncaught w t name class a b after → ThrowingSteps w t name o a frames b after
+uncaught_steps w a b t name o class [] after named none root ends stage is = absurd cc
+uncaught_steps w a b t name o class (f ∷ below) after named none root ends stage is =
+    let r : State = state_of stage a (f ∷ below) in
+    handled_so w stage a o class f below None (state_of stage b after) named (mapped_none (handler_of w class f) none)
+    (ap (λ (x : Bool). if x then uncaught w r stage.number class else Some (with_frames r stage.number below)) root ∙ ends stage (f ∷ below) is)
+
+-- ---- the end of a thread whose exception nothing caught
+
+-- the parts with this error output, of a thread that is done
+abbrev pub ended : Parts → ℕ → Vec ℕ → Parts
+ended a t err = record a { natives = record a.natives { err = err }; status = Done; main_threw = a.main_threw || t == 0 }
+
+pub ends_uncaught : (w : World) (a : Parts) (t name class : ℕ) (units : List ℕ) (err : Vec ℕ) → slice_get a.natives.heap.objects name ≡ Some (text units)
+    → err.items ≡ a.natives.err.items ++ text_bytes (uncaught_line units (class_name w class)) → EndsUncaught w t name class a (ended a t err) []
+ends_uncaught w a t name class units err there written stage frames is =
+    bind_is (slice_get r.threads n) (λ x. units_at r.memory x.thread.name >>= λ u. Some (finished (told u) n)) (own_thread stage a frames) made (own_at stage a frames)
+    (bind_is (units_at r.memory stage.thread.thread.name) (λ u. Some (finished (told u) n)) units made named
+    (ap (λ (s : State). Some (finished s n)) same ∙ ap (λ (s : State). Some s) (own_finished stage b frames)))
+  where
+    r : State
+    r = state_of stage a frames
+
+    n : ℕ
+    n = stage.number
+
+    made : Option State
+    made = Some (state_of stage (ended a t err) [])
+
+    -- the parts before the thread is done
+    b : Parts
+    b = record a { natives = record a.natives { err = err }; main_threw = a.main_threw || t == 0 }
+
+    -- the state with the line
+    told : List ℕ → State
+    told u = record r { memory = record r.memory { err = r.memory.err ++ text_bytes (uncaught_line u (class_name w class)) }; main_threw = r.main_threw || n == 0 }
+
+    named : units_at r.memory stage.thread.thread.name ≡ Some units
+    named = ap (units_at r.memory) is.named ∙ bind_is (slice_get a.natives.heap.objects name) units_of (text units) (Some units) there refl
+
+    same : told units ≡ state_of stage b frames
+    same =
+        ap (λ (es : List ℕ). record r { memory = record r.memory { err = es }; main_threw = a.main_threw || n == 0 }) (sym written)
+        ∙ ap (λ (k : ℕ). record r { memory = record r.memory { err = err.items }; main_threw = a.main_threw || k == 0 }) is.number

@@ -1,0 +1,56 @@
+-- What the outcome of an instruction makes of the thread that had it. Whatever is said of steps holds on each stage.
+use Rattle.std.specs.Prelude.{◌≡◌, ℕ, suc, List, ◌∷◌, Option, Some, length}
+use Rattle.frames.specs.Frames.{at_pc}
+use Rattle.link_model.specs.World.{World}
+use Rattle.state_model.specs.Frames.{Frame}
+use Rattle.verify_types.specs.Environment.{Instruction}
+use Rattle.instruction_rows.specs.declared.value.Slot.{Slot}
+use Rattle.ref_model.specs.Memory.{Memory}
+use Rattle.ref_model.specs.declared.exception.Exception.{Exception}
+use Rattle.ref_model.specs.Fetch.{fetched}
+use Rattle.ref_model.specs.Effects.{Effect}
+use Rattle.ref_model.specs.Step.{after_effect}
+use Rattle.ref_model.specs.Throwing.{raised, throwing}
+use Rattle.heap_instructions.specs.declared.outcome.Outcome.{Outcome}
+use Rattle.heap_instructions.specs.declared.outcome.Outcome.TheVariants.{Done, Throws, ThrowsObject, Undefined}
+use Rattle.thread_steps.specs.declared.parts.Parts.{Parts}
+use Rattle.thread_steps.specs.States.{Stage, memory_of, state_of, IsRunStep}
+
+-- The machine throws an exception in the thread, whatever its frames are.
+abbrev pub Raises : World → Exception → Parts → Parts → Type 0
+Raises w e a b = (stage : Stage) (frames : List Frame) →
+    raised w (state_of stage a frames) stage.number e ≡ Some (state_of stage b frames)
+
+-- the same of an object that there is already
+abbrev pub ThrowsAgain : ℕ → Parts → Parts → Type 0
+ThrowsAgain o a b = (stage : Stage) (frames : List Frame) →
+    throwing (state_of stage a frames) stage.number o ≡ state_of stage b frames
+
+-- what an outcome that isn't done makes of the thread; it changes no frame
+abbrev pub EndsOtherwise : World → Outcome → Parts → Parts → Type 0
+EndsOtherwise w Done a b = ⊥
+EndsOtherwise w (Throws e) a b = Raises w e a b
+EndsOtherwise w (ThrowsObject o) a b = ThrowsAgain o a b
+EndsOtherwise w Undefined a b = ⊥
+
+-- Where it is done, the frame goes on at the next instruction; an exception changes no frame.
+abbrev pub Concludes : World → ℕ → Outcome → Parts → List Frame → Parts → List Frame → Type 0
+Concludes w next Done a frames b after = (b ≡ a) × (after ≡ at_pc next frames)
+Concludes w next outcome a frames b after = EndsOtherwise w outcome a b × (after ≡ frames)
+
+-- an effect, and what it leads to
+pub record Leads (w : World) (stage : Stage) (a b : Parts) (f : Frame) (below after : List Frame) (next : ℕ) (effect : Option Effect) : Type 0 where
+  pub effect_is : Effect
+  pub is : effect ≡ Some effect_is
+  pub leads : after_effect w (state_of stage a (f ∷ below)) stage.number next f below effect_is ≡ Some (state_of stage b after)
+
+-- What is done by the top frame, as a function of the memory, of the number of frames and of its operand stack, has an effect, which leads
+-- from these parts and frames to those.
+abbrev pub EffectSteps : World → ℕ → (Memory → ℕ → List Slot → Option Effect) → Parts → List Frame → Parts → List Frame → Type 0
+EffectSteps w next act a frames b after = (stage : Stage) (f : Frame) (below : List Frame) → frames ≡ f ∷ below →
+    Leads w stage a b f below after next (act (memory_of a) (suc (length below)) f.stack)
+
+-- The instruction at the top frame's pc, where it is this one, leads from these parts and frames to those.
+abbrev pub Steps : World → Instruction → Parts → List Frame → Parts → List Frame → Type 0
+Steps w i a frames b after = (stage : Stage) (f : Frame) (below : List Frame) → frames ≡ f ∷ below → fetched w f ≡ Some i →
+    IsRunStep w stage.number (state_of stage a frames) frames (state_of stage b after)

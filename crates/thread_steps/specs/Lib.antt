@@ -1,0 +1,4 @@
+pub mod States
+pub mod Concluding
+pub mod Operands
+pub mod Returning

@@ -1,0 +1,106 @@
+//! Invocations and returns, as steps of a thread.
+
+ghost use Rattle.std.specs.Prelude.{◌<◌, ◌≤◌, ℕ, length, OnOk};
+ghost use Rattle.instruction_rows.specs.Table.{row};
+ghost use Rattle.ref_model.specs.Operands.{FindsArguments, FindsOperands};
+ghost use Rattle.heap_instructions.specs.Operands.{operands};
+ghost use Rattle.native_methods.specs.Arguments.{native_effect};
+ghost use Rattle.invocation.specs.InvocationCache.{AreSelected};
+ghost use Rattle.invocation.specs.Targets.{begins};
+ghost use Rattle.thread_steps.specs.Concluding.{EffectSteps, Steps};
+ghost use Rattle.thread_steps.specs.Operands.{FindsNatives};
+
+use crate::concluding::{conclude, raise};
+use crate::parts::Parts;
+use crate::world::MachineWorld;
+use continuation::Mounted;
+use invocation::{Callee, Entered, InvocationCache, Target, enter, invoke};
+use items::NoMemory;
+use lib_table::Native;
+use link_model::Resolution;
+use native_methods::run_native;
+use opcodes::Instr;
+use std::alloc::Global;
+
+// A native method runs in one step, and the frame goes on at the next instruction.
+#[inline(never)]
+fn native_step<W: MachineWorld>(
+    alloc: Global,
+    world: &W,
+    parts: &mut Parts,
+    mounted: &mut Mounted,
+    next: u32,
+    native: Native,
+) -> Result<(), NoMemory>
+    requires frame { 0 < length mounted.old.stack.frames }
+    requires arguments { FindsArguments (W.world world.now) native (operands mounted.old) }
+    ensures { OnOk result (EffectSteps (W.world world.now) next
+        (λ r depth stack. native_effect (W.world world.now) native r stack)
+        parts.old mounted.old.stack.frames parts.new mounted.new.stack.frames) }
+{
+    mounted.operands_fit();
+    let outcome = run_native(alloc, world, native, &mut parts.natives, mounted)?;
+    mounted.operands_fit();
+    conclude(world, parts, mounted, next, outcome)
+}
+
+// A method with code begins, or there are too many frames.
+#[inline(always)]
+fn code_step<W: MachineWorld>(
+    world: &W,
+    parts: &mut Parts,
+    mounted: &mut Mounted,
+    callee: Callee,
+) -> Result<(), NoMemory>
+    requires frame { 0 < length mounted.old.stack.frames }
+    requires given { callee.slots ≤ length (operands mounted.old) }
+    ensures { OnOk result ((next : ℕ) → EffectSteps (W.world world.now) next
+        (λ r depth stack. begins depth callee stack)
+        parts.old mounted.old.stack.frames parts.new mounted.new.stack.frames) }
+{
+    match enter(callee, mounted)? {
+        Entered::Begun => Ok(()),
+        Entered::Throws(exception) => raise(world, parts, exception),
+        Entered::Undefined => Err(NoMemory),
+    }
+}
+
+/// The step of a thread whose top frame is at an invocation.
+#[inline(always)]
+pub(crate) fn invocation_step<W: MachineWorld>(
+    alloc: Global,
+    world: &W,
+    cache: &mut InvocationCache,
+    parts: &mut Parts,
+    mounted: &mut Mounted,
+    instr: &Instr,
+    resolution: &Resolution,
+) -> Result<(), NoMemory>
+    requires frame { 0 < length mounted.old.stack.frames }
+    requires operands { FindsOperands (W.world world.now) resolution.now (row instr.now.op)
+        (operands mounted.old) }
+    requires natives { FindsNatives (W.world world.now) resolution.now (row instr.now.op)
+        parts.old.natives.heap mounted.old }
+    requires selected { AreSelected (W.world world.now) cache.old }
+    ensures steps { OnOk result (Steps (W.world world.now)
+        (record { instr = instr.now; resolution = resolution.now })
+        parts.old mounted.old.stack.frames parts.new mounted.new.stack.frames) }
+    ensures cache { AreSelected (W.world world.now) cache.new }
+{
+    mounted.operands_fit();
+    let target = invoke(
+        alloc,
+        world,
+        cache,
+        &instr.op,
+        resolution,
+        &parts.natives.heap,
+        mounted,
+    )?;
+    match target {
+        Target::Native(native) => native_step(alloc, world, parts, mounted, instr.next, native),
+        Target::Code(callee) => code_step(world, parts, mounted, callee),
+        Target::Throws(exception) => raise(world, parts, exception),
+        Target::Undefined => Err(NoMemory),
+    }
+}

@@ -1,0 +1,70 @@
+//! What the outcome of an instruction makes of the thread that had it.
+
+ghost use Rattle.std.specs.Prelude.{OnOk};
+ghost use Rattle.thread_steps.specs.Concluding.{Concludes, EndsOtherwise, Raises};
+
+use crate::parts::Parts;
+use crate::world::MachineWorld;
+use continuation::Mounted;
+use heap_instructions::{Outcome, make_object};
+use items::NoMemory;
+use link_model::OUT_OF_MEMORY;
+use ref_model::Exception;
+use vthread_state::{Phase, Status};
+
+/// Throws a new exception of the machine: an object without a message, or the OutOfMemoryError of the start if there is no room for it.
+#[inline(never)]
+pub(crate) fn raise<W: MachineWorld>(
+    world: &W,
+    parts: &mut Parts,
+    exception: Exception,
+) -> Result<(), NoMemory>
+    ensures { OnOk result (Raises (W.world world.now) exception parts.old parts.new) }
+{
+    let Some(class) = world.exception_class(exception) else {
+        return Err(NoMemory);
+    };
+    let made = make_object(&mut parts.natives.heap, class, world.new_values(class))?;
+    parts.status = Status::Live(Phase::Throwing(made.unwrap_or(OUT_OF_MEMORY)));
+    Ok(())
+}
+
+// What an outcome makes of the thread that had it, where it isn't done.
+#[inline(never)]
+fn conclude_otherwise<W: MachineWorld>(
+    world: &W,
+    parts: &mut Parts,
+    outcome: Outcome,
+) -> Result<(), NoMemory>
+    ensures { OnOk result (EndsOtherwise (W.world world.now) outcome parts.old parts.new) }
+{
+    match outcome {
+        Outcome::Throws(exception) => raise(world, parts, exception),
+        Outcome::ThrowsObject(o) => {
+            parts.status = Status::Live(Phase::Throwing(o));
+            Ok(())
+        }
+        Outcome::Done | Outcome::Undefined => Err(NoMemory),
+    }
+}
+
+/// What an outcome makes of the thread that had it, whose next instruction is at a pc.
+#[inline(always)]
+pub(crate) fn conclude<W: MachineWorld>(
+    world: &W,
+    parts: &mut Parts,
+    mounted: &mut Mounted,
+    next: u32,
+    outcome: Outcome,
+) -> Result<(), NoMemory>
+    ensures { OnOk result (Concludes (W.world world.now) next outcome
+        parts.old mounted.old.stack.frames parts.new mounted.new.stack.frames) }
+{
+    match outcome {
+        Outcome::Done => {
+            mounted.set_pc(next);
+            Ok(())
+        }
+        other => conclude_otherwise(world, parts, other),
+    }
+}

@@ -1,0 +1,133 @@
+//! The instructions on fields, arrays and objects, and divisions by 0, as steps of a thread.
+
+ghost use Rattle.std.specs.Prelude.{◌<◌, length, OnOk};
+ghost use Rattle.instruction_rows.specs.Table.{row};
+ghost use Rattle.ref_model.specs.Operands.{FindsOperands};
+ghost use Rattle.heap_instructions.specs.Operands.{operands};
+ghost use Rattle.thread_steps.specs.Concluding.{Steps};
+
+use crate::concluding::conclude;
+use crate::parts::Parts;
+use crate::world::MachineWorld;
+use continuation::Mounted;
+use heap_instructions::{run_event, run_field, run_plain};
+use items::NoMemory;
+use link_model::Resolution;
+use opcodes::{Instr, Op};
+use std::alloc::Global;
+
+// The step of a thread whose top frame is at an instruction on a field.
+#[inline(never)]
+fn field_step<W: MachineWorld>(
+    world: &W,
+    parts: &mut Parts,
+    mounted: &mut Mounted,
+    instr: &Instr,
+    resolution: &Resolution,
+) -> Result<(), NoMemory>
+    requires frame { 0 < length mounted.old.stack.frames }
+    requires operands { FindsOperands (W.world world.now) resolution.now (row instr.now.op)
+        (operands mounted.old) }
+    ensures { OnOk result (Steps (W.world world.now)
+        (record { instr = instr.now; resolution = resolution.now }) parts.old mounted.old.stack.frames
+        parts.new mounted.new.stack.frames) }
+{
+    mounted.operands_fit();
+    let outcome = run_field(
+        world,
+        &instr.op,
+        resolution,
+        &mut parts.natives.heap,
+        parts.statics.as_mut_slice(),
+        mounted,
+    );
+    mounted.operands_fit();
+    conclude(world, parts, mounted, instr.next, outcome)
+}
+
+// The step of a thread whose top frame is at one without operands in the code: on an element of an array, an exception, a division by 0.
+#[inline(never)]
+fn plain_step<W: MachineWorld>(
+    world: &W,
+    parts: &mut Parts,
+    mounted: &mut Mounted,
+    instr: &Instr,
+    resolution: &Resolution,
+) -> Result<(), NoMemory>
+    requires frame { 0 < length mounted.old.stack.frames }
+    requires operands { FindsOperands (W.world world.now) resolution.now (row instr.now.op)
+        (operands mounted.old) }
+    ensures { OnOk result (Steps (W.world world.now)
+        (record { instr = instr.now; resolution = resolution.now }) parts.old mounted.old.stack.frames
+        parts.new mounted.new.stack.frames) }
+{
+    mounted.operands_fit();
+    let outcome = run_plain(
+        world,
+        &instr.op,
+        resolution,
+        &mut parts.natives.heap,
+        parts.statics.as_mut_slice(),
+        mounted,
+    );
+    mounted.operands_fit();
+    conclude(world, parts, mounted, instr.next, outcome)
+}
+
+// The step of a thread whose top frame is at another one.
+#[inline(never)]
+fn other_step<W: MachineWorld>(
+    alloc: Global,
+    world: &W,
+    parts: &mut Parts,
+    mounted: &mut Mounted,
+    instr: &Instr,
+    resolution: &Resolution,
+) -> Result<(), NoMemory>
+    requires frame { 0 < length mounted.old.stack.frames }
+    requires operands { FindsOperands (W.world world.now) resolution.now (row instr.now.op)
+        (operands mounted.old) }
+    ensures { OnOk result (Steps (W.world world.now)
+        (record { instr = instr.now; resolution = resolution.now }) parts.old mounted.old.stack.frames
+        parts.new mounted.new.stack.frames) }
+{
+    mounted.operands_fit();
+    let outcome = run_event(
+        alloc,
+        world,
+        &instr.op,
+        resolution,
+        &mut parts.natives.heap,
+        parts.statics.as_mut_slice(),
+        mounted,
+    )?;
+    mounted.operands_fit();
+    conclude(world, parts, mounted, instr.next, outcome)
+}
+
+/// The step of a thread whose top frame is at such an instruction. Instructions on fields and those without operands in the code have
+/// functions of their own, since they are short and frequent.
+#[inline(always)]
+pub(crate) fn event_step<W: MachineWorld>(
+    alloc: Global,
+    world: &W,
+    parts: &mut Parts,
+    mounted: &mut Mounted,
+    instr: &Instr,
+    resolution: &Resolution,
+) -> Result<(), NoMemory>
+    requires frame { 0 < length mounted.old.stack.frames }
+    requires operands { FindsOperands (W.world world.now) resolution.now (row instr.now.op)
+        (operands mounted.old) }
+    ensures { OnOk result (Steps (W.world world.now)
+        (record { instr = instr.now; resolution = resolution.now }) parts.old mounted.old.stack.frames
+        parts.new mounted.new.stack.frames) }
+{
+    match instr.op {
+        Op::GetStatic(_) | Op::PutStatic(_) | Op::GetField(_) | Op::PutField(_) => {
+            field_step(world, parts, mounted, instr, resolution)
+        }
+        Op::Simple(_) => plain_step(world, parts, mounted, instr, resolution),
+        _ => other_step(alloc, world, parts, mounted, instr, resolution),
+    }
+}

@@ -1,0 +1,57 @@
+//! The step of a thread that runs, by the instruction at hand.
+
+ghost use Rattle.std.specs.Prelude.{◌<◌, length, OnOk};
+ghost use Rattle.instruction_rows.specs.Table.{row};
+ghost use Rattle.ref_model.specs.Operands.{FindsOperands};
+ghost use Rattle.heap_instructions.specs.Operands.{operands};
+ghost use Rattle.invocation.specs.InvocationCache.{AreSelected};
+ghost use Rattle.thread_steps.specs.Concluding.{Steps};
+ghost use Rattle.thread_steps.specs.Operands.{FindsNatives};
+
+use crate::calls::invocation_step;
+use crate::events::event_step;
+use crate::parts::Parts;
+use crate::returns::{return_at, return_step};
+use crate::world::MachineWorld;
+use continuation::Mounted;
+use invocation::InvocationCache;
+use items::NoMemory;
+use link_model::Resolution;
+use opcodes::{Instr, Op};
+use std::alloc::Global;
+
+/// The step of a thread whose top frame is at this instruction, which isn't one that stays in its frame.
+#[inline(always)]
+pub fn instruction_step<W: MachineWorld>(
+    alloc: Global,
+    world: &W,
+    cache: &mut InvocationCache,
+    parts: &mut Parts,
+    mounted: &mut Mounted,
+    instr: &Instr,
+    resolution: &Resolution,
+) -> Result<(), NoMemory>
+    requires frame { 0 < length mounted.old.stack.frames }
+    requires operands { FindsOperands (W.world world.now) resolution.now (row instr.now.op)
+        (operands mounted.old) }
+    requires natives { FindsNatives (W.world world.now) resolution.now (row instr.now.op)
+        parts.old.natives.heap mounted.old }
+    requires selected { AreSelected (W.world world.now) cache.old }
+    ensures steps { OnOk result (Steps (W.world world.now)
+        (record { instr = instr.now; resolution = resolution.now })
+        parts.old mounted.old.stack.frames parts.new mounted.new.stack.frames) }
+    ensures cache { AreSelected (W.world world.now) cache.new }
+{
+    if let Some(returns) = return_at(&instr.op) {
+        return return_step(world, parts, mounted, returns.kind);
+    }
+    match instr.op {
+        Op::InvokeVirtual(_)
+        | Op::InvokeSpecial(_)
+        | Op::InvokeStatic(_)
+        | Op::InvokeInterface(_, _) => {
+            invocation_step(alloc, world, cache, parts, mounted, instr, resolution)
+        }
+        _ => event_step(alloc, world, parts, mounted, instr, resolution),
+    }
+}
