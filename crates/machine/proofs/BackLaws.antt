@@ -18,8 +18,10 @@ use Rattle.interp_local.specs.Runs.{stays_on}
 use Rattle.invocation.specs.FrameSteps.{top_is_root, top_returned}
 use Rattle.interp_local.specs.declared.fetched.Fetched.{Fetched}
 use Rattle.interp_local.specs.Fetched.{IsTopAt, instruction_of}
-use Rattle.machine.specs.LocalRuns.{GoesOver, IsLongRun, returned_kind}
-use Rattle.machine.proofs.LocalLaws.{kind_row, not_back, root_ends, rows_join, row_behind}
+use Rattle.thread_steps.specs.Returning.{returned_kind}
+use Rattle.thread_steps.proofs.ReturnLaws.{kind_row}
+use Rattle.machine.specs.LocalRuns.{GoesOver, IsLongRun}
+use Rattle.machine.proofs.LocalLaws.{not_back, root_ends, rows_join, row_behind}
 
 inside : {A : Type 0} (a b : A) → ◌≡◌ {A = Option A} (Some a) (Some b) → a ≡ b
 inside a b e = cc

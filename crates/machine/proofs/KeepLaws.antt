@@ -12,6 +12,7 @@ use Rattle.ref_model.specs.State.{State}
 use Rattle.ref_model.specs.Ending.{ending}
 use Rattle.ref_model.specs.Entries.{are_grouped_steps, frames_at, running_frames}
 use Rattle.ref_model.specs.Fetch.{fetched}
+use Rattle.ref_model.specs.Opening.{main_name}
 use Rattle.ref_model.specs.LocalRows.{row, rows}
 use Rattle.ref_model.specs.Step.{step, row_or_event}
 use Rattle.ref_model.specs.Throwing.{throwing_step}
@@ -23,18 +24,23 @@ use Rattle.step_soundness.specs.Resolutions.{IsStepResolution}
 use Rattle.step_soundness.proofs.Steps.{step_keeps, running_is_typed}
 use Rattle.frames.specs.Frames.{top_method, top_pc}
 use Rattle.interp_local.specs.Fetched.{instruction_at}
-use Rattle.machine.specs.Concluding.{Steps}
-use Rattle.machine.specs.declared.parts.Parts.{Parts}
+use Rattle.thread_steps.specs.Concluding.{Steps}
+use Rattle.thread_steps.specs.declared.parts.Parts.{Parts}
 use Rattle.machine.specs.Ready.{IsReady}
-use Rattle.machine.specs.Returning.{ThrowingSteps}
-use Rattle.machine.specs.States.{memory_of, main_thread, state_of, IsStep, IsRunStep}
+use Rattle.thread_steps.specs.Returning.{ThrowingSteps}
+use Rattle.thread_steps.specs.States.{Stage, IsRunStep, memory_of}
+use Rattle.machine.specs.States.{main_thread, state_of, IsStep}
 use Rattle.machine.specs.Steps.{Advances, IsTypedStep}
 use Rattle.machine.specs.LocalRuns.{IsLocalRun, IsLongRun}
 use Rattle.machine.proofs.LocalLaws.{ends_may, most_may, run_grouped}
 use Rattle.machine.proofs.StaticLaws.{names_static}
 use Rattle.machine.proofs.RunLaws.{run_is_step, throwing_is_step}
 
--- ---- the frames of the main thread
+-- ---- the main thread
+
+-- the state with these parts and frames, and its one thread
+abbrev main_stage : Parts → List Frame → Stage
+main_stage a frames = record { state = state_of a frames; number = 0; thread = main_thread a.status frames; there = refl }
 
 running_at : (a : Parts) (frames : List Frame) → a.status ≡ Live Run → frames_at (state_of a frames) 0 ≡ Some frames
 running_at a frames running = ap (running_frames frames) running
@@ -65,13 +71,13 @@ top_of f g below others e = cc
 run_names : (w : World) (a : Parts) (f : Frame) (below : List Frame) → IsReady w → a.status ≡ Live Run → IsStepResolution w (state_of a (f ∷ below)) 0
 run_names w a f below ready running = record { top = λ g others e. ready.named (memory_of a) g }
 
-run_goes : (w : World) (a b : Parts) (frames after : List Frame) → a.status ≡ Live Run → ending (state_of a frames) ≡ None → IsRunStep w (state_of a frames) frames (state_of b after) → IsStep w (state_of a frames) (state_of b after)
+run_goes : (w : World) (a b : Parts) (frames after : List Frame) → a.status ≡ Live Run → ending (state_of a frames) ≡ None → IsRunStep w 0 (state_of a frames) frames (state_of b after) → IsStep w (state_of a frames) (state_of b after)
 run_goes w a b frames after running goes made = λ p same.
     run_is_step p (state_of a frames) (state_of b after) 0 (main_thread a.status frames) refl running goes
-    (subst (λ (v : World). IsRunStep v (state_of a frames) frames (state_of b after)) (sym same) made)
+    (subst (λ (v : World). IsRunStep v 0 (state_of a frames) frames (state_of b after)) (sym same) made)
 
 pub run_kept : (w : World) (a b : Parts) (f : Frame) (below after : List Frame) (i : Instruction) → IsReady w → IsTypedState w (state_of a (f ∷ below)) → a.status ≡ Live Run → ending (state_of a (f ∷ below)) ≡ None
-    → fetched w f ≡ Some i → IsRunStep w (state_of a (f ∷ below)) (f ∷ below) (state_of b after) → IsTypedStep w (state_of a (f ∷ below)) (state_of b after)
+    → fetched w f ≡ Some i → IsRunStep w 0 (state_of a (f ∷ below)) (f ∷ below) (state_of b after) → IsTypedStep w (state_of a (f ∷ below)) (state_of b after)
 run_kept w a b f below after i ready typed running goes at made =
     kept w (state_of a (f ∷ below)) (state_of b after) ready typed (run_names w a f below ready running) (run_goes w a b (f ∷ below) after running goes made)
 
@@ -79,7 +85,7 @@ run_kept w a b f below after i ready typed running goes at made =
 pub frames_kept : (w : World) (a b : Parts) (frames after : List Frame) (i : Instruction) → 0 < length frames → IsReady w → IsTypedState w (state_of a frames) → a.status ≡ Live Run → ending (state_of a frames) ≡ None
     → instruction_at w (top_method frames) (top_pc frames) ≡ Some i → Steps w i a frames b after → IsTypedStep w (state_of a frames) (state_of b after)
 frames_kept w a b [] after i some ready typed running goes at steps = absurd (omega arith)
-frames_kept w a b (f ∷ below) after i some ready typed running goes at steps = run_kept w a b f below after i ready typed running goes at (steps f below refl at)
+frames_kept w a b (f ∷ below) after i some ready typed running goes at steps = run_kept w a b f below after i ready typed running goes at (steps (main_stage a (f ∷ below)) f below refl at)
 
 -- a local instruction
 pub local_kept : (w : World) (a : Parts) (frames after : List Frame) → IsTypedState w (state_of a frames) → a.status ≡ Live Run → ending (state_of a frames) ≡ None → row w frames ≡ Some after → Typed w after
@@ -96,11 +102,12 @@ throw_names w a o frames throws = record { top = λ g others e. absurd (none (sy
     none e = cc
 
 pub throw_kept : (w : World) (a b : Parts) (o : ℕ) (frames after : List Frame) → IsReady w → IsTypedState w (state_of a frames) → a.status ≡ Live (Throwing o) → ending (state_of a frames) ≡ None
-    → ThrowingSteps w o a frames b after → IsTypedStep w (state_of a frames) (state_of b after)
+    → ThrowingSteps w 0 main_name o a frames b after → IsTypedStep w (state_of a frames) (state_of b after)
 throw_kept w a b o frames after ready typed throws goes made =
+    let step : throwing_step w (state_of a frames) 0 o frames ≡ Some (state_of b after) = made (main_stage a frames) (record { number = refl; named = refl }) in
     kept w (state_of a frames) (state_of b after) ready typed (throw_names w a o frames throws) (λ p same.
     throwing_is_step p (state_of a frames) (state_of b after) 0 o (main_thread a.status frames) refl throws goes
-    (subst (λ (v : World). throwing_step v (state_of a frames) 0 o frames ≡ Some (state_of b after)) (sym same) made))
+    (subst (λ (v : World). throwing_step v (state_of a frames) 0 o frames ≡ Some (state_of b after)) (sym same) step))
 
 -- ---- entries
 

@@ -24,7 +24,7 @@ use Rattle.ref_model.specs.Run.{run, replay, first_outcome}
 use Rattle.startup.specs.Openings as openings
 use Rattle.frame_soundness.specs.TypedStates.{IsTypedState}
 use Rattle.invocation.specs.InvocationCache.{AreSelected, Kept}
-use Rattle.machine.specs.declared.parts.Parts.{Parts}
+use Rattle.thread_steps.specs.declared.parts.Parts.{Parts}
 use Rattle.machine.specs.Insides.{AreParts, IsConsistent}
 use Rattle.machine.specs.Machines.{HasGrown, IsLegal, Known, ending_within, errors, output, run_ending, state_after}
 use Rattle.machine.specs.Ready.{IsReady}

@@ -5,11 +5,6 @@ pub mod BackLaws
 pub mod StaticLaws
 pub mod GroupLaws
 pub mod AloneLaws
-pub mod StepLaws
-pub mod EventLaws
-pub mod ThrowLaws
-pub mod CallLaws
-pub mod ReturnLaws
 pub mod KeepLaws
 pub mod HistoryLaws
 pub mod KeptLaws

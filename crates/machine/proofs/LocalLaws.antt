@@ -20,7 +20,8 @@ use Rattle.ref_model.specs.LocalRows.{row, rows, local_act}
 use Rattle.ref_model.specs.Entries.{frames_at, ends_behind, are_grouped_steps, is_grouped, is_static_call, may_be_last, most_local_steps, stands_at_static_call}
 use Rattle.interp_local.specs.FrameRows.{stays, stays_by}
 use Rattle.interp_local.specs.Runs.{stays_on}
-use Rattle.machine.specs.LocalRuns.{ends_run, returned_kind, IsLocalRun}
+use Rattle.thread_steps.specs.Returning.{returned_kind}
+use Rattle.machine.specs.LocalRuns.{ends_run, IsLocalRun}
 
 -- ---- rows after rows
 
@@ -128,16 +129,6 @@ pub root_ends : (w : World) (f : Frame) (below : List Frame) (i : Instruction) (
 root_ends w f below i kind at is root =
     fetched_row w f below i (returns kind) at is
     (ap (λ (b : Bool). if b then None else returned w kind f below) root)
-
--- the row of a return, by what it gives back
-pub kind_row : (act : Row) (kind : Option ValueKind) → returned_kind act ≡ Some kind → act ≡ returns kind
-kind_row (returns k) kind e = let same : k ≡ kind = cc in ap returns same
-kind_row (local r) kind e = absurd cc
-kind_row (constant index) kind e = absurd cc
-kind_row (wide_constant index) kind e = absurd cc
-kind_row (invoke invocation index) kind e = absurd cc
-kind_row (event e) kind is = absurd cc
-kind_row refused kind e = absurd cc
 
 -- ---- an entry of such a run and one more step
 

@@ -1,13 +1,12 @@
 -- What the instruction at hand takes is there, since frames keep to the typing.
-use Rattle.std.proofs.Common.{◌≡◌, ℕ, true, List, [], ◌∷◌, drop, Option, Some, None, refl, ap, sym, ◌∙◌, subst}
+use Rattle.std.proofs.Common.{◌≡◌, ℕ, true, List, [], ◌∷◌, drop, Option, Some, refl, ap, sym, ◌∙◌, subst}
 use Rattle.items.specs.Options.{◌>>=◌}
 use Rattle.items.proofs.Binds.{bind_is}
 use Rattle.lib_table.specs.declared.native.Native.{Native}
-use Rattle.opcodes.specs.declared.op.ValueKind.{ValueKind}
 use Rattle.opcodes.specs.declared.op.ValueKind.TheVariants as kinds
 use Rattle.instruction_rows.specs.declared.value.Slot.{Slot}
 use Rattle.instruction_rows.specs.Kinds.{Of}
-use Rattle.instruction_rows.specs.Rows.{Row, Invocation, returns, invoke, virtual, special, static, interface, dynamic}
+use Rattle.instruction_rows.specs.Rows.{Row, Invocation, invoke, virtual, special, static, interface, dynamic}
 use Rattle.instruction_rows.specs.SlotEffect.{popped}
 use Rattle.instruction_rows.specs.Table.{row as row_of}
 use Rattle.link_model.specs.declared.members.MethodInfo.{MethodInfo}
@@ -23,7 +22,7 @@ use Rattle.ref_model.specs.Calls.{choice_of}
 use Rattle.ref_model.specs.Classes.{is_sub}
 use Rattle.ref_model.specs.Fetch.{fetched, Named, named_method}
 use Rattle.ref_model.specs.Kinds.{argument_slots}
-use Rattle.ref_model.specs.Operands.{FindsArguments, FindsOperands, HasOperands}
+use Rattle.ref_model.specs.Operands.{FindsArguments, FindsOperands}
 use Rattle.frame_soundness.specs.Typed.{Typed}
 use Rattle.frame_soundness.specs.CallLaws.{takes_receiver}
 use Rattle.frame_soundness.specs.EnterLaws.{IsChosen}
@@ -34,14 +33,11 @@ use Rattle.step_soundness.specs.Resolutions.{IsRowResolution, IsSelected, chosen
 use Rattle.interp_local.specs.Fetched.{instruction_at}
 use Rattle.heap_instructions.specs.Operands.{operands}
 use Rattle.invocation.specs.declared.receivers.Receiver.{Receiver}
-use Rattle.invocation.specs.FrameSteps.{returned_kinds}
 use Rattle.invocation.specs.Natives.{HasReceiver, InvokesNative, IsNative, IsNativeInvoked, IsVirtualNative}
-use Rattle.machine.specs.declared.parts.Parts.{Parts}
-use Rattle.machine.specs.LocalRuns.{returned_kind}
-use Rattle.machine.specs.Operands.{FindsNatives}
+use Rattle.thread_steps.specs.declared.parts.Parts.{Parts}
+use Rattle.thread_steps.specs.Operands.{FindsNatives}
+use Rattle.thread_steps.specs.States.{memory_of}
 use Rattle.machine.specs.Ready.{IsReady}
-use Rattle.machine.specs.States.{memory_of}
-use Rattle.machine.proofs.LocalLaws.{kind_row}
 
 inside : (i j : Instruction) → ◌≡◌ {A = Option Instruction} (Some i) (Some j) → i ≡ j
 inside i j e = cc
@@ -55,15 +51,6 @@ pub operands_found : (w : World) (frames : List Frame) (i : Instruction) → IsR
 operands_found w [] i ready typed at = absurd typed
 operands_found w (f ∷ below) i ready typed at =
     subst (λ (j : Instruction). FindsOperands w j.resolution (row_of j.instr.op) f.stack) (placed_is w f below typed i at) (operands_are_there w f below ready.linked typed)
-
--- what a return takes
-pub value_taken : (w : World) (resolution : Resolution) (r : Row) (kind : Option ValueKind) (stack : List Slot) → returned_kind r ≡ Some kind → FindsOperands w resolution r stack →
-    HasOperands (returned_kinds kind) 0 stack
-value_taken w resolution r kind stack is x = by kind (subst (λ (s : Row). FindsOperands w resolution s stack) (kind_row r kind is) x)
-  where
-    by : (k : Option ValueKind) → FindsOperands w resolution (returns k) stack → HasOperands (returned_kinds k) 0 stack
-    by None y = tt
-    by (Some k) y = y
 
 -- ---- native methods
 

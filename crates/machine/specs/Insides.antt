@@ -7,11 +7,12 @@ use Rattle.ref_model.specs.State.{State}
 use Rattle.startup.specs.Openings.{setting}
 use Rattle.frame_soundness.specs.TypedStates.{IsTypedState}
 use Rattle.invocation.specs.InvocationCache.{AreSelected, Kept}
-use Rattle.machine.specs.declared.parts.Parts.{Parts}
+use Rattle.thread_steps.specs.declared.parts.Parts.{Parts}
 use Rattle.machine.specs.declared.machine_state.Machine.TheInside.{Inside}
 use Rattle.machine.specs.Machines.{IsLegal, Known}
 use Rattle.machine.specs.Ready.{IsReady}
-use Rattle.machine.specs.States.{memory_of, main_thread}
+use Rattle.thread_steps.specs.States.{memory_of}
+use Rattle.machine.specs.States.{main_thread}
 
 -- These parts and frames are those of a state of the reference machine.
 pub record AreParts (a : Parts) (frames : List Frame) (q : State) : Type 0 where

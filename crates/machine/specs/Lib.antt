@@ -4,7 +4,4 @@ pub mod Insides
 pub mod Steps
 pub mod LocalRuns
 pub mod States
-pub mod Concluding
-pub mod Operands
-pub mod Returning
 pub mod Ready

@@ -1,17 +1,10 @@
 -- Runs of local instructions of a thread, in its top frame and in those to which it returns.
-use Rattle.std.specs.Prelude.{◌≡◌, ℕ, suc, ◌≤◌, Bool, true, false, not, List, Option, Some, None, is_some, ◌||◌}
-use Rattle.opcodes.specs.declared.op.ValueKind.{ValueKind}
-use Rattle.instruction_rows.specs.Rows.{Row, returns}
+use Rattle.std.specs.Prelude.{◌≡◌, ℕ, suc, ◌≤◌, Bool, true, false, not, List, Some, is_some, ◌||◌}
 use Rattle.link_model.specs.World.{World}
 use Rattle.state_model.specs.Frames.{Frame}
 use Rattle.ref_model.specs.LocalRows.{row, rows}
 use Rattle.ref_model.specs.Entries.{may_be_last, most_local_steps, stands_at_static_call}
 use Rattle.frame_soundness.specs.Typed.{Typed}
-
--- the kind of what a return gives back, where the row is that of a return
-abbrev pub returned_kind : Row → Option (Option ValueKind)
-returned_kind (returns kind) = Some kind
-returned_kind r = None
 
 -- A run of local instructions ends with these frames: the next instruction isn't local, or it is an invokestatic.
 abbrev pub ends_run : World → List Frame → Bool

@@ -13,7 +13,6 @@ ghost use Rattle.machine.specs.Steps.{Advances, IsMade};
 
 use crate::last_steps::{fetched_step, unwinding_step};
 use crate::local::{MOST_STEPS, run_local};
-use crate::parts::Parts;
 use continuation::Mounted;
 use history::{Entry, What};
 use invocation::InvocationCache;
@@ -21,6 +20,7 @@ use items::NoMemory;
 use jvm_edges::Gate;
 use runtime_program::ReadyProgram;
 use std::alloc::Global;
+use thread_steps::Parts;
 use vthread_state::{Phase, Status};
 
 // The local instructions of a thread that runs, and one more step. The answer is how many local ones there were.

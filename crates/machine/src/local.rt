@@ -1,23 +1,23 @@
 //! Runs of local instructions: those of the top frame, and of the frames to which it returns.
 
 ghost use Rattle.std.specs.Prelude.{◌≡◌, ◌≤◌, Some, false, true, IfNone, IfOk, IfSome, IsTrue};
-ghost use Rattle.std.specs.Option.{option_map};
-ghost use Rattle.instruction_rows.specs.Table.{row as row_of, simple_row};
+ghost use Rattle.instruction_rows.specs.Table.{row as row_of};
 ghost use Rattle.interp_local.specs.Runs.{stays_on};
 ghost use Rattle.interp_local.specs.Fetched.{IsTopAt};
 ghost use Rattle.ref_model.specs.Entries as entries;
 ghost use Rattle.ref_model.specs.LocalRows.{row, rows};
 ghost use Rattle.frame_soundness.specs.Typed.{Typed};
 ghost use Rattle.invocation.specs.InvocationCache.{AreSelected};
-ghost use Rattle.machine.specs.LocalRuns.{GoesOver, IsLongRun, returned_kind};
+ghost use Rattle.machine.specs.LocalRuns.{GoesOver, IsLongRun};
 ghost use Rattle.machine.specs.Ready.{IsReady};
 
 use continuation::Mounted;
 use interp_local::{Fetched, TopRun, run_and_fetch};
 use invocation::{Entered, InvocationCache, Left, enter, leave, static_callee};
 use items::NoMemory;
-use opcodes::{Op, Simple, ValueKind};
+use opcodes::Op;
 use runtime_program::ReadyProgram;
+use thread_steps::return_at;
 
 /// How many steps an entry has at most.
 pub(crate) const MOST_STEPS: u32 = 10_001;
@@ -27,34 +27,6 @@ pub(crate) const MOST_STEPS: u32 = 10_001;
 pub(crate) struct LocalRun<'a> {
     pub(crate) steps: u32,
     pub(crate) next: Fetched<'a>,
-}
-
-/// A return, with the kind of what it gives back.
-#[derive(Clone, Copy)]
-pub(crate) struct Return {
-    pub(crate) kind: Option<ValueKind>,
-}
-
-#[inline(always)]
-fn simple_return(simple: &Simple) -> Option<Return>
-    ensures { option_map (λ r. r.kind) result ≡ returned_kind (simple_row simple.now) }
-{
-    match simple {
-        Simple::Return => Some(Return { kind: None }),
-        Simple::ReturnValue(kind) => Some(Return { kind: Some(*kind) }),
-        _ => None,
-    }
-}
-
-/// The return that an instruction is. `None`: it is none.
-#[inline(always)]
-pub(crate) fn return_at(op: &Op) -> Option<Return>
-    ensures { option_map (λ r. r.kind) result ≡ returned_kind (row_of op.now) }
-{
-    match op {
-        Op::Simple(simple) => simple_return(simple),
-        _ => None,
-    }
 }
 
 // Executes instructions that stay in the top frame, at most `most`.

@@ -10,9 +10,9 @@ ghost use Rattle.machine.specs.Ready.{IsReady};
 ghost use Rattle.machine.specs.Runs.{IsRun};
 ghost use Rattle.machine.specs.States.{state_of};
 
+use crate::endings::ending_of;
 use crate::entries::make_entry;
 use crate::execution::Execution;
-use crate::parts::{Parts, ending_of};
 use continuation::Mounted;
 use heap_objs::Heap;
 use history::Entry;
@@ -29,6 +29,7 @@ use startup_checks::{fields_have_kinds, natives_fit};
 use std::alloc::Global;
 use std::marker::Model;
 use step_soundness::linked_worlds_open;
+use thread_steps::Parts;
 use vthread_state::{Phase, Status};
 
 /// A program that runs, as thread 0 on carrier 0, with the history of its run. Contracts see what it was given and the history. The type's

@@ -1,4 +1,4 @@
-//! What invocations, returns, exceptions on their way and native methods ask.
+//! What invocations, returns, exceptions on their way, native methods and the steps of threads ask.
 
 use crate::program::ReadyProgram;
 use invocation::CallWorld;
@@ -7,7 +7,9 @@ use lib_table::Native;
 use link_model::{MethodCode, MethodInfo};
 use link_rules::{Choice, MemberPlace};
 use native_methods::NativeWorld;
+use ref_model::Exception;
 use std::alloc::Global;
+use thread_steps::MachineWorld;
 
 impl CallWorld for ReadyProgram {
     #[inline(always)]
@@ -54,5 +56,16 @@ impl CallWorld for ReadyProgram {
 impl NativeWorld for ReadyProgram {
     fn name(&self, class: u32) -> &[u16] {
         self.tables().name(class)
+    }
+}
+
+impl MachineWorld for ReadyProgram {
+    #[inline(always)]
+    fn exception_class(&self, exception: Exception) -> Option<u32> {
+        ReadyProgram::exception_class(self, exception)
+    }
+
+    fn class_name(&self, alloc: Global, class: u32) -> Result<Vec<u16>, NoMemory> {
+        ReadyProgram::class_name(self, alloc, class)
     }
 }

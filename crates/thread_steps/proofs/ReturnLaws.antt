@@ -14,7 +14,7 @@ use Rattle.vthread_state.specs.declared.thread.Status.{Status}
 use Rattle.vthread_state.specs.declared.thread.Status.TheVariants.{Live, Done}
 use Rattle.link_model.specs.declared.sites.Resolution.{Resolution}
 use Rattle.link_model.specs.World.{World}
-use Rattle.verify_types.specs.Environment.{Handler, Instruction}
+use Rattle.verify_types.specs.Environment.{Handler}
 use Rattle.state_model.specs.Frames.{Frame}
 use Rattle.state_model.specs.Objects.{text}
 use Rattle.ref_model.specs.Classes.{class_name}
@@ -22,7 +22,6 @@ use Rattle.ref_model.specs.Fetch.{fetched}
 use Rattle.ref_model.specs.Frames.{returned}
 use Rattle.ref_model.specs.Heap.{class_at, units_at, units_of}
 use Rattle.ref_model.specs.LocalRows.{row, local_act}
-use Rattle.ref_model.specs.Memory.{Memory}
 use Rattle.ref_model.specs.Operands.{FindsOperands, HasOperands}
 use Rattle.ref_model.specs.State.{State, with_frames, with_status}
 use Rattle.ref_model.specs.Step.{event_step, root_left, row_event, row_or_event}
@@ -33,7 +32,7 @@ use Rattle.heap_instructions.specs.HeapReads.{class_number}
 use Rattle.invocation.specs.FrameSteps.{IsHandled, IsUnhandled, returned_kinds, top_at_handler, top_handler, top_is_root, top_returned}
 use Rattle.thread_steps.specs.declared.parts.Parts.{Parts}
 use Rattle.thread_steps.specs.States.{Stage, IsRunStep, memory_of, own_thread, state_of}
-use Rattle.thread_steps.specs.Returning.{EndsUncaught, IsThread, LeavesRoot, ReturnSteps, ThrowingSteps, returned_kind, status_left}
+use Rattle.thread_steps.specs.Returning.{EndsUncaught, LeavesRoot, ReturnSteps, ThrowingSteps, returned_kind, status_left}
 use Rattle.thread_steps.proofs.StageLaws.{own_at, own_finished, own_frames, own_status}
 use Rattle.thread_steps.proofs.StepLaws.{event_is_run, no_row}
 

@@ -7,7 +7,6 @@ use Rattle.heap_objs.specs.Heap.{Heap}
 use Rattle.link_model.specs.World.{World, name_number}
 use Rattle.vthread_state.specs.declared.phase.Phase.TheVariants.{Throwing}
 use Rattle.vthread_state.specs.declared.thread.Status.TheVariants.{Live}
-use Rattle.state_model.specs.Frames.{Frame}
 use Rattle.ref_model.specs.declared.exception.Exception.{Exception}
 use Rattle.ref_model.specs.Memory.{Memory}
 use Rattle.ref_model.specs.State.{State}

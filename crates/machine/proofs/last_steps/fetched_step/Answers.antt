@@ -1,6 +1,6 @@
 use Rattle.std.proofs.Common.{refl}
 use Rattle.interp_local.specs.Fetched.{instruction_of}
-use Rattle.machine.proofs.ThrowLaws.{on_ok}
+use Rattle.thread_steps.proofs.ThrowLaws.{on_ok}
 use Rattle.machine.proofs.KeepLaws.{frames_kept, main_is_typed}
 use Rattle.machine.proofs.OperandLaws.{natives_found, operands_found}
 use Rattle.machine.proofs.last_steps.fetched_step.Goals as goal

@@ -1,4 +1,4 @@
-use Rattle.machine.proofs.ThrowLaws.{on_ok}
+use Rattle.thread_steps.proofs.ThrowLaws.{on_ok}
 use Rattle.machine.proofs.KeepLaws.{throw_kept}
 use Rattle.machine.proofs.last_steps.unwinding_step.Goals as goal
 

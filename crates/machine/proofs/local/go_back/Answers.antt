@@ -3,7 +3,8 @@ use Rattle.instruction_rows.specs.Table.{row as row_of}
 use Rattle.interp_local.specs.Fetched.{instruction_of}
 use Rattle.heap_instructions.specs.Operands.{operands}
 use Rattle.machine.proofs.BackLaws.{back_made}
-use Rattle.machine.proofs.OperandLaws.{operands_found, value_taken}
+use Rattle.thread_steps.proofs.ReturnLaws.{value_taken}
+use Rattle.machine.proofs.OperandLaws.{operands_found}
 use Rattle.machine.proofs.local.go_back.Goals as goal
 
 pub returns-in-Returned : goal.returns-in-Returned

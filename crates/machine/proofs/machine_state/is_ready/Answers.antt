@@ -5,7 +5,7 @@ use Rattle.step_soundness.specs.MethodKinds.{HasFitNatives}
 use Rattle.link_soundness.specs.Names.{AreNamed}
 use Rattle.link_soundness.specs.Settled.{IsSettled}
 use Rattle.machine.specs.Ready.{IsReady}
-use Rattle.machine.proofs.ThrowLaws.{if_ok}
+use Rattle.thread_steps.proofs.ThrowLaws.{if_ok}
 use Rattle.machine.proofs.machine_state.is_ready.Goals as goal
 
 pub returns : goal.returns

@@ -1,4 +1,4 @@
-use Rattle.std.proofs.Common.{List, ap, subst}
+use Rattle.std.proofs.Common.{subst}
 use Rattle.continuation.specs.Continuation.{Continuation}
 use Rattle.thread_steps.specs.Returning.{LeavesRoot}
 use Rattle.thread_steps.proofs.ReturnLaws.{returned_steps, root_steps}

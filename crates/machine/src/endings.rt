@@ -1,25 +1,13 @@
-//! The state of a program that runs, but for the frames of its thread.
+//! How a program has ended, by the parts of its state.
 
 ghost use Rattle.std.specs.Prelude.{◌≡◌, List};
 ghost use Rattle.state_model.specs.Frames.{Frame};
 ghost use Rattle.ref_model.specs.Ending.{ending, threads_ending};
 ghost use Rattle.machine.specs.States.{state_of};
 
-use instruction_rows::Value;
-use native_methods::NativeState;
 use ref_model::Ending;
+use thread_steps::Parts;
 use vthread_state::Status;
-
-/// The heap, the output and the static fields of a program, and how far its thread is.
-#[derive(Drop)]
-pub struct Parts {
-    pub natives: NativeState,
-    /// The values of the static fields, in the order of all fields.
-    pub statics: Vec<Value>,
-    pub status: Status,
-    /// Whether an exception that nothing caught ended the main thread.
-    pub main_threw: bool,
-}
 
 // How the program ends by its thread alone.
 #[inline(always)]

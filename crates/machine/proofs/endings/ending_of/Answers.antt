@@ -1,7 +1,7 @@
 use Rattle.std.proofs.Common.{ℤ, Option, ap, sym, ◌∙◌}
 use Rattle.ref_model.specs.Ending.{exit_or, threads_ending}
 use Rattle.machine.specs.States.{state_of}
-use Rattle.machine.proofs.parts.ending_of.Goals as goal
+use Rattle.machine.proofs.endings.ending_of.Goals as goal
 
 pub returns-in-None : goal.returns-in-None
 returns-in-None c frames =
