@@ -34,54 +34,32 @@ pub record Look : Type 0 where
 abbrev pub is_live : Spot → Bool
 is_live absent = false
 is_live unstarted = false
-is_live in_no_list = true
-is_live (in_wait_list o) = true
-is_live (in_entry_list o) = true
 is_live done = false
+is_live spot = true
 
 abbrev pub is_done : Spot → Bool
-is_done absent = false
-is_done unstarted = false
-is_done in_no_list = false
-is_done (in_wait_list o) = false
-is_done (in_entry_list o) = false
 is_done done = true
+is_done spot = false
 
 -- in the entry list of this monitor
 abbrev pub is_entering : ℕ → Spot → Bool
-is_entering o absent = false
-is_entering o unstarted = false
-is_entering o in_no_list = false
-is_entering o (in_wait_list p) = false
 is_entering o (in_entry_list p) = p == o
-is_entering o done = false
+is_entering o spot = false
 
 -- in the wait list of this monitor
 abbrev pub is_waiting : ℕ → Spot → Bool
-is_waiting o absent = false
-is_waiting o unstarted = false
-is_waiting o in_no_list = false
 is_waiting o (in_wait_list p) = p == o
-is_waiting o (in_entry_list p) = false
-is_waiting o done = false
+is_waiting o spot = false
 
 -- in the entry list of some monitor
 abbrev pub is_in_line : Spot → Bool
-is_in_line absent = false
-is_in_line unstarted = false
-is_in_line in_no_list = false
-is_in_line (in_wait_list o) = false
 is_in_line (in_entry_list o) = true
-is_in_line done = false
+is_in_line spot = false
 
 -- in the wait list of some monitor
 abbrev pub is_in_wait_list : Spot → Bool
-is_in_wait_list absent = false
-is_in_wait_list unstarted = false
-is_in_wait_list in_no_list = false
 is_in_wait_list (in_wait_list o) = true
-is_in_wait_list (in_entry_list o) = false
-is_in_wait_list done = false
+is_in_wait_list spot = false
 
 -- What any look keeps to.
 pub record IsLook (l : Look) : Type 0 where
