@@ -1,9 +1,9 @@
 -- Going up from a class to its superclasses (JVMS 5.3.5).
-use Rattle.std.proofs.Common.{◌≡◌, ℕ, zero, suc, ◌+◌, ◌<◌, Bool, true, false, List, [], ◌∷◌, ◌++◌, length, Option, Some, None, refl, ap, sym, subst, ◌∙◌, arith}
+use Rattle.std.proofs.Common.{◌≡◌, ℕ, zero, suc, ◌<◌, true, List, [], ◌∷◌, ◌++◌, Option, Some, None, refl, ap, sym, subst, ◌∙◌, arith}
 use Rattle.std.specs.Prelude.{option_and_then}
 use Rattle.std.specs.Option.{option_map_or}
 use Rattle.link_rules.specs.Hierarchy.{climb}
-use Rattle.link_soundness.specs.Settled.{ends}
+use Rattle.link_soundness.proofs.Settled.{ends}
 
 -- the class that is so many superclasses up
 abbrev pub up : (ℕ → Option ℕ) → ℕ → ℕ → Option ℕ
@@ -46,7 +46,7 @@ up_holds P parent closed (suc k) c d h is = by (parent c) refl is (λ x holds be
 
 -- ---- the superclasses end
 
-ends_above : (parent : ℕ → Option ℕ) (n c d : ℕ) → ends parent (suc n) c ≡ true → parent c ≡ Some d → ends parent n d ≡ true
+pub ends_above : (parent : ℕ → Option ℕ) (n c d : ℕ) → ends parent (suc n) c ≡ true → parent c ≡ Some d → ends parent n d ≡ true
 ends_above parent n c d e above = sym (ap (λ o. option_map_or (ends parent n) o true) above) ∙ e
 
 climb_more : (parent : ℕ → Option ℕ) (n c : ℕ) → ends parent n c ≡ true → climb parent (suc n) c ≡ climb parent n c

@@ -1,13 +1,12 @@
 -- The code of a method of a linked world is that of a member of a class, and what its constants mean has the same number.
-use Rattle.std.proofs.Common.{◌≡◌, ◌⊎◌, inl, inr, ℕ, zero, suc, ◌+◌, List, [], ◌∷◌, length, Option, Some, None, refl, ap, sym, ◌∙◌, arith}
-use Rattle.std.specs.Prelude.{get_or, map, slice_get}
+use Rattle.std.proofs.Common.{◌≡◌, ◌⊎◌, inl, inr, ℕ, suc, ◌+◌, List, [], ◌∷◌, length, Option, Some, None, refl, ap, sym, ◌∙◌}
+use Rattle.std.specs.Prelude.{get_or, slice_get}
 use Rattle.std.specs.List.{flat_map, enumerate_from}
 use Rattle.std.specs.Option.{option_and_then, option_map_or}
 use Rattle.std.proofs.lemmas.List.{length-map}
 use Rattle.std.proofs.lemmas.Option.{get_or_from_slice_get}
 use Rattle.class_model.specs.declared.class_file.ClassFile.{ClassFile}
 use Rattle.class_model.specs.declared.member.Member.{Member}
-use Rattle.opcodes.specs.declared.op.Instr.{Instr}
 use Rattle.link_rules.specs.Program.{Program}
 use Rattle.link_model.specs.declared.members.MethodCode.{MethodCode}
 use Rattle.link_model.specs.declared.sites.Resolution.{Resolution}

@@ -2,13 +2,13 @@
 use Rattle.std.proofs.Common.{◌≡◌, ◌⊎◌, inl, inr, ℕ, zero, suc, ◌+◌, ◌<◌, ◌≤◌, Bool, true, false, not, List, [], ◌∷◌, ◌++◌, length, reverse, Option, Some, None, refl, ap, sym, subst, ◌∙◌, arith}
 use Rattle.std.specs.Prelude.{option_and_then, position, slice_get, nat_le, nat_lt, unwrap_or, codes, ◌-◌, ◌==◌, ◌&&◌, ◌||◌, if◌then◌else◌}
 use Rattle.std.specs.Option.{option_map, option_map_or}
-use Rattle.std.specs.List.{flat_map, enumerate_from}
+use Rattle.std.specs.List.{flat_map}
 use Rattle.std.proofs.lemmas.Bool.{eqb-true}
 use Rattle.std.proofs.lemmas.Bool.Decides.{nat_tests}
 use Rattle.std.proofs.lemmas.List.{reverse-append}
 use Rattle.std.proofs.lemmas.List.Concat.{flat_map-append}
 use Rattle.std.proofs.lemmas.Option.{slice_get_within}
-use Rattle.items.specs.First.{AllNone, Each, first_in}
+use Rattle.items.specs.First.{AllNone}
 use Rattle.items.specs.Options.{◌>>=◌}
 use Rattle.items.proofs.FirstLaws.{passed}
 use Rattle.class_model.specs.declared.class_file.ClassFile.{ClassFile}
@@ -18,7 +18,7 @@ use Rattle.link_resolution.proofs.HierarchyLaws.{superclasses_here}
 use Rattle.stack_maps.specs.declared.types.Base.TheVariants as bases
 use Rattle.link_rules.specs.declared.place.MemberPlace.{MemberPlace}
 use Rattle.link_rules.specs.declared.why.LinkWhy.TheVariants.{WrongKind}
-use Rattle.link_rules.specs.Program.{Program, class_at, class_named, is_array_name, is_interface}
+use Rattle.link_rules.specs.Program.{Program, class_named, is_array_name, is_interface}
 use Rattle.link_rules.specs.Faults.{Links, field_faults_at}
 use Rattle.link_rules.specs.Hierarchy.{directs, edges, is_among, is_below, parent_of, superclasses, supers, visit}
 use Rattle.link_rules.specs.Instructions.{field_faults, is_field_kind, resolved_field}
@@ -28,9 +28,9 @@ use Rattle.descriptors.specs.Meaning.{kind_of}
 use Rattle.link_model.specs.declared.members.FieldInfo.{FieldInfo}
 use Rattle.link_model.specs.declared.sites.ArrayType.{ArrayType}
 use Rattle.link_model.specs.declared.sites.Site.TheVariants as sites
-use Rattle.link_model.specs.Fields.{field_place, instance_fields, is_static_field, own_fields}
+use Rattle.link_model.specs.Fields.{field_place, instance_fields, own_fields}
 use Rattle.link_model.specs.Infos.{field_info}
-use Rattle.link_model.specs.Numbering.{array_number, class_number, number_of}
+use Rattle.link_model.specs.Numbering.{array_number, number_of}
 use Rattle.link_model.specs.Sites.{member_of, named_field}
 use Rattle.link_model.specs.Subtypes.{base_below, class_below, is_above_arrays, is_array_super, is_named, is_object, is_sub, type_below, type_of}
 use Rattle.link_model.specs.World.{World, array_type, class_count, name_number}
@@ -41,7 +41,7 @@ use Rattle.frame_soundness.specs.EventLaws.{HasDimensions, IsInstanceResolution}
 use Rattle.step_soundness.proofs.LinkedWorlds.{dimensions_are_there}
 use Rattle.step_soundness.proofs.MethodNumbers.{left_at, none_before}
 use Rattle.step_soundness.proofs.Selections.{position_found}
-use Rattle.link_soundness.specs.Settled.{IsSettled, is_instance_field_of}
+use Rattle.link_soundness.proofs.Settled.{IsSettled, is_instance_field_of}
 use Rattle.link_soundness.proofs.Chains.{IsUp, suffix, up_holds, up_join}
 use Rattle.link_soundness.proofs.LinkedCode.{each_at}
 use Rattle.link_soundness.proofs.Numbers.{number_of_class}

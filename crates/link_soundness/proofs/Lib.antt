@@ -1,3 +1,4 @@
+pub mod Settled
 pub mod Tests
 pub mod CodeNumbers
 pub mod LinkedCode
@@ -5,7 +6,18 @@ pub mod Places
 pub mod Chains
 pub mod Supers
 pub mod Numbers
+pub mod Among
+pub mod Visited
+pub mod Acyclic
+pub mod FieldNumbers
+pub mod BuiltIns
+pub mod NativeTests
+pub mod Natives
+pub mod Bodies
+pub mod Begins
+pub mod Statics
+pub mod States
+pub mod OpeningClasses
 pub mod Instances
 pub mod Named
 pub mod Steps
-pub mod TestLaws

@@ -1,5 +1,5 @@
 -- In a program that links no rule is broken at any instruction.
-use Rattle.std.proofs.Common.{◌≡◌, ℕ, zero, suc, ◌+◌, List, [], ◌∷◌, ◌++◌, Option, Some, None, refl, ap, sym, subst, ◌∙◌}
+use Rattle.std.proofs.Common.{◌≡◌, ℕ, zero, suc, ◌+◌, List, [], ◌∷◌, ◌++◌, Option, Some, None, refl, subst}
 use Rattle.std.specs.Prelude.{slice_get, if◌then◌else◌}
 use Rattle.std.specs.Option.{option_map, option_or}
 use Rattle.std.specs.List.{flat_map, enumerate_from}
@@ -15,7 +15,6 @@ use Rattle.class_model.specs.declared.member.Member.{Member}
 use Rattle.opcodes.specs.declared.op.Instr.{Instr}
 use Rattle.link_rules.specs.Program.{Program}
 use Rattle.link_rules.specs.Faults.{Links, attribute_faults, class_faults_at, code_faults, decoded, fault_in, field_faults_at, instr_faults_in, interface_faults_at, link_faults, method_code_faults, method_faults_at, name_faults, numbered_faults, parent_faults, row_faults}
-use Rattle.link_rules.specs.Faults as faults
 use Rattle.link_rules.specs.declared.why.LinkWhy.TheVariants.{BadCode}
 use Rattle.link_model.specs.declared.members.MethodCode.{MethodCode}
 use Rattle.link_model.specs.Codes.{body_of, code_in, code_of, code_of_body}

@@ -1,10 +1,10 @@
 -- What an instruction at which no rule is broken names.
-use Rattle.std.proofs.Common.{◌≡◌, ℕ, ◌+◌, ◌-◌, ◌<◌, Bool, true, false, List, [], ◌∷◌, length, Option, Some, None, refl, ap, sym, subst, ◌∙◌, arith}
-use Rattle.std.specs.Prelude.{get_or, drop, find, map, not, nat_lt, slice_get, position, if◌then◌else◌, ◌==◌, ◌&&◌, ◌||◌}
+use Rattle.std.proofs.Common.{◌≡◌, ℕ, ◌+◌, ◌-◌, Bool, true, false, List, [], ◌∷◌, length, Option, Some, None, refl, ap, sym, subst, ◌∙◌}
+use Rattle.std.specs.Prelude.{get_or, map, not, slice_get, if◌then◌else◌, ◌==◌, ◌&&◌, ◌||◌}
 use Rattle.std.specs.Bool.{beq}
 use Rattle.std.specs.Option.{option_map, option_map_or}
 use Rattle.std.proofs.lemmas.Option.{slice_get_within}
-use Rattle.items.specs.First.{AllNone, Each, unless}
+use Rattle.items.specs.First.{AllNone, Each}
 use Rattle.items.specs.Options.{◌>>=◌}
 use Rattle.items.proofs.Binds.{some_is}
 use Rattle.items.proofs.FirstLaws.{passed}
@@ -31,19 +31,17 @@ use Rattle.link_rules.specs.Members.{Key, field_number, has_field, has_method, i
 use Rattle.link_rules.specs.Constants.{home_of, key_at, name_at}
 use Rattle.link_rules.specs.Instructions.{class_const_faults, class_faults, const_faults, field_const_faults, field_faults, instr_faults, interface_call, is_field_kind, is_instantiable, is_interface_name, is_method_kind, method_const_faults, method_faults, resolved_field, resolved_method, special_call, static_call, virtual_call}
 use Rattle.link_rules.specs.Selection.{select_special}
-use Rattle.instruction_rows.specs.Rows.{Invocation, Row, static, dynamic, get_static, put_static, get_field, put_field, new, event, invoke}
+use Rattle.instruction_rows.specs.Rows.{Row, get_static, put_static, get_field, put_field, new, event, invoke}
 use Rattle.instruction_rows.specs.Table.{new_array_row, row, simple_row}
 use Rattle.link_model.specs.declared.members.FieldInfo.{FieldInfo}
-use Rattle.link_model.specs.declared.members.MethodCode.{MethodCode}
 use Rattle.link_model.specs.declared.members.MethodInfo.{MethodInfo}
 use Rattle.link_model.specs.declared.sites.Resolution.{Resolution}
-use Rattle.link_model.specs.declared.sites.Site.{Site}
 use Rattle.link_model.specs.declared.sites.Site.TheVariants as sites
 use Rattle.link_model.specs.Decoded.{code_at}
 use Rattle.link_model.specs.Fields.{is_static_field}
 use Rattle.link_model.specs.Infos.{field_info, fields_of, method_info, methods_of}
 use Rattle.link_model.specs.Numbering.{array_number, class_number, number_of}
-use Rattle.link_model.specs.Sites.{Linking, class_resolution, field_resolution, field_site, instr_resolution, member_of, method_resolution, named_class, named_field, named_method as named_method_of, resolution_at, resolution_of, plain, call_of, chosen_place, special_choice}
+use Rattle.link_model.specs.Sites.{class_resolution, field_resolution, instr_resolution, member_of, method_resolution, named_class, named_field, named_method as named_method_of, resolution_at, resolution_of, plain, call_of, chosen_place, special_choice}
 use Rattle.link_model.specs.World.{World, array_type}
 use Rattle.link_model.specs.Worlds.{linking_of, world_of}
 use Rattle.descriptors.specs.Meaning.{kind_of}
@@ -51,11 +49,11 @@ use Rattle.verify_types.specs.Environment.{Instruction, with_resolutions}
 use Rattle.verify_types.specs.Effects.{row_of}
 use Rattle.verify_types.proofs.ListLaws.{and_true, each_found, not_true}
 use Rattle.state_model.specs.Frames.{Frame}
-use Rattle.ref_model.specs.Fetch.{Named, class_of, fetched, field_of, instruction_in, method_of, named_method}
+use Rattle.ref_model.specs.Fetch.{Named, fetched, field_of, instruction_in, named_method}
 use Rattle.frame_soundness.specs.EventLaws.{IsInstanceResolution, IsObjectResolution, IsStaticResolution}
 use Rattle.step_soundness.specs.MethodKinds.{IsKindOf}
 use Rattle.step_soundness.proofs.Selections.{position_found}
-use Rattle.link_soundness.specs.Settled.{IsSettled}
+use Rattle.link_soundness.proofs.Settled.{IsSettled}
 use Rattle.link_soundness.proofs.Instances.{instance_named}
 use Rattle.link_soundness.proofs.CodeNumbers.{member_of_code, resolutions_are, instructions_are}
 use Rattle.link_soundness.proofs.LinkedCode.{instructions_link}

@@ -1,12 +1,11 @@
 -- A class of a program has the number of its place among the names of the world.
-use Rattle.std.proofs.Common.{◌≡◌, ℕ, zero, suc, ◌+◌, Bool, true, false, cond, not, List, [], ◌∷◌, ◌++◌, length, Option, Some, None, nat_lt, refl, ap, sym, ◌∙◌, arith}
+use Rattle.std.proofs.Common.{◌≡◌, ℕ, suc, ◌+◌, Bool, true, false, cond, not, List, [], ◌∷◌, ◌++◌, length, Option, Some, None, nat_lt, refl, ap, sym, ◌∙◌, arith}
 use Rattle.std.specs.Prelude.{is_some, map, position, if◌then◌else◌}
 use Rattle.std.specs.Option.{option_map}
 use Rattle.std.specs.List.{fold, prefix_len}
 use Rattle.std.proofs.lemmas.Bool.Decides.{nat_tests}
 use Rattle.std.proofs.lemmas.List.{append-nil, append_assoc}
 use Rattle.class_grammar.specs.Text.{same_text}
-use Rattle.class_model.specs.declared.class_file.ClassFile.{ClassFile}
 use Rattle.descriptors.specs.declared.kind.ElementType.{ElementType}
 use Rattle.descriptors.specs.declared.kind.ElementType.TheVariants as elements
 use Rattle.descriptors.specs.declared.kind.Kind.{Kind}
@@ -40,7 +39,7 @@ position_step {A} test x xs = by (test x)
     by false = ap (λ (b : Bool). cond b (Some (1 + n)) None) (lower_suc n (length xs)) ∙ inner (nat_lt n (length xs))
 
 -- of the list that is made of the items, and of others after it
-position_front : {A B : Type 0} (g : A → B) (test : B → Bool) (xs : List A) (more : List B) (k : ℕ) → position (λ x. test (g x)) xs ≡ Some k
+pub position_front : {A B : Type 0} (g : A → B) (test : B → Bool) (xs : List A) (more : List B) (k : ℕ) → position (λ x. test (g x)) xs ≡ Some k
     → position test (map g xs ++ more) ≡ Some k
 position_front g test [] more k e = absurd cc
 position_front {A} {B} g test (x ∷ xs) more k e =

@@ -1,23 +1,23 @@
 -- A field or a method that is resolved is a member of a class, and what a world knows of its number is of that member (JVMS 5.4.3).
-use Rattle.std.proofs.Common.{◌≡◌, ◌⊎◌, inl, inr, ℕ, ◌+◌, Bool, true, false, not, List, [], ◌∷◌, Option, Some, None, refl, ap, sym, subst, ◌∙◌}
-use Rattle.std.specs.Prelude.{filter_map, option_and_then, slice_get, unwrap_or, ◌&&◌, if◌then◌else◌}
+use Rattle.std.proofs.Common.{◌≡◌, ℕ, ◌+◌, Bool, true, false, not, List, [], ◌∷◌, Option, Some, None, refl, ap, sym, subst, ◌∙◌}
+use Rattle.std.specs.Prelude.{option_and_then, slice_get, ◌&&◌, if◌then◌else◌}
 use Rattle.std.specs.Option.{option_map, option_map_or, option_or}
 use Rattle.items.specs.First.{Each, first_in}
 use Rattle.class_model.specs.declared.class_file.ClassFile.{ClassFile}
 use Rattle.class_model.specs.declared.member.Member.{Member}
 use Rattle.class_grammar.specs.Names.{object_class}
 use Rattle.link_rules.specs.declared.choice.Choice.{Choice}
-use Rattle.link_rules.specs.declared.choice.Choice.TheVariants.{Method, Abstract, Several}
+use Rattle.link_rules.specs.declared.choice.Choice.TheVariants.{Method, Abstract}
 use Rattle.link_rules.specs.declared.place.MemberPlace.{MemberPlace}
 use Rattle.link_rules.specs.Program.{Program, class_named, is_interface}
-use Rattle.link_rules.specs.Hierarchy.{supers, superclasses, parent_of}
-use Rattle.link_rules.specs.Members.{Key, declared_field, declared_method, field_in, field_number, has_field, has_key, has_method, index_of, is_abstract_method, is_open, is_private, is_public_instance, is_static, method_in, method_number, place}
-use Rattle.link_rules.specs.Resolution.{chosen, class_method, field_of, from_interfaces, if_open, inherited, interface_method, most_specific_bodies, object_method, open_method}
+use Rattle.link_rules.specs.Hierarchy.{supers, superclasses}
+use Rattle.link_rules.specs.Members.{Key, declared_field, declared_method, field_number, has_field, has_key, has_method, index_of, is_abstract_method, is_open, is_private, is_public_instance, is_static, method_number, place}
+use Rattle.link_rules.specs.Resolution.{chosen, class_method, field_of, from_interfaces, inherited, interface_method, most_specific_bodies, object_method, open_method}
 use Rattle.link_rules.specs.Selection.{by_body, instance_method, interface_choice, select_special, sole_body, special_declared, special_from, special_start}
 use Rattle.link_rules.specs.Instructions.{resolved_field, resolved_method}
 use Rattle.link_rules.specs.Constants.{home_of}
 use Rattle.link_model.specs.Infos.{field_info, fields_of, method_info, methods_of}
-use Rattle.verify_types.proofs.ListLaws.{and_true, not_true}
+use Rattle.verify_types.proofs.ListLaws.{not_true}
 use Rattle.step_soundness.proofs.MethodNumbers.{info_at, number_at}
 use Rattle.step_soundness.proofs.Selections.{HasKey, bodies_have, bodies_open, declared_has, each_found, first_found, interface_has, position_found}
 

@@ -14,9 +14,11 @@ use Rattle.frame_soundness.specs.StepKinds.{IsEventResolution}
 use Rattle.step_soundness.specs.MethodKinds.{HasFitNatives}
 use Rattle.step_soundness.specs.Resolutions.{IsRowResolution}
 use Rattle.step_soundness.proofs.Signatures.{invocations_fit}
-use Rattle.link_soundness.specs.Settled.{IsSettled}
+use Rattle.link_soundness.specs.Library.{HasLibrary}
 use Rattle.link_soundness.specs.Names.{AreNamed}
+use Rattle.link_soundness.proofs.BuiltIns.{settled}
 use Rattle.link_soundness.proofs.Named.{IsNamed, instruction_named}
+use Rattle.link_soundness.proofs.Natives.{fit_natives}
 
 -- ---- events
 
@@ -51,6 +53,6 @@ row_named w resolution (invoke invocation index) r stack methods natives named =
 row_named w resolution (event e) r stack methods natives named = event_named w resolution e r stack named
 row_named w resolution refused r stack methods natives named = tt
 
-pub linked_code_is_named : (p : Program) → Links p → IsSettled (world_of p) → HasFitNatives (world_of p) → AreNamed (world_of p)
-linked_code_is_named p links settled natives = λ r f i e.
-    row_named (world_of p) i.resolution (row_of i) r f.stack refl natives (instruction_named p f i links settled e)
+pub linked_code_is_named : (p : Program) → Links p → HasLibrary p → AreNamed (world_of p)
+linked_code_is_named p links has = λ r f i e.
+    row_named (world_of p) i.resolution (row_of i) r f.stack refl (fit_natives p links has) (instruction_named p f i links (settled p links has) e)

@@ -1,5 +1,5 @@
 -- What is above a class: its superclasses, and else interfaces and Object (JVMS 4.1, 5.3.5).
-use Rattle.std.proofs.Common.{◌≡◌, ◌⊎◌, inl, inr, ℕ, zero, suc, ◌+◌, ◌<◌, Bool, true, false, cond, List, [], ◌∷◌, ◌++◌, length, Option, Some, None, refl, ap, sym, subst, ◌∙◌, arith}
+use Rattle.std.proofs.Common.{◌≡◌, ◌⊎◌, inl, inr, ℕ, zero, suc, ◌+◌, ◌<◌, Bool, true, false, cond, List, [], ◌∷◌, ◌++◌, length, Option, Some, None, refl, ap, sym, subst, ◌∙◌}
 use Rattle.std.specs.Prelude.{filter_map, option_and_then, slice_get, unwrap_or, not, ◌&&◌, ◌||◌, ◌==◌}
 use Rattle.std.specs.Option.{option_map_or, option_or, option_to_list}
 use Rattle.std.specs.List.{cons_option, flat_map, enumerate_from, list_any}
@@ -12,13 +12,13 @@ use Rattle.class_grammar.specs.Names.{object_class}
 use Rattle.class_grammar.specs.Pool.{class_name_at}
 use Rattle.class_grammar.specs.Text.{same_text}
 use Rattle.link_rules.specs.declared.why.LinkWhy.TheVariants.{WrongKind}
-use Rattle.link_rules.specs.Program.{Program, class_named, is_array_name, is_interface, own_name, parent_name}
+use Rattle.link_rules.specs.Program.{Program, class_named, is_array_name, is_interface, own_name}
 use Rattle.link_rules.specs.Hierarchy.{class_in, directs, edges, interfaces_in, interfaces_of, is_among, is_below, parent_in, parent_of, supers, visit}
-use Rattle.link_rules.specs.Faults.{Links, class_faults_at, field_faults_at, interface_faults, interface_faults_at, is_parent_kind, method_code_faults, method_faults_at, name_faults, names_class, names_interface, parent_faults, parent_faults_of}
+use Rattle.link_rules.specs.Faults.{Links, class_faults_at, field_faults_at, interface_faults_at, is_parent_kind, method_code_faults, method_faults_at, name_faults, names_class, names_interface, parent_faults, parent_faults_of}
 use Rattle.verify_types.proofs.ListLaws.{and_true, each_flat, each_join, each_kept, each_split, not_true}
 use Rattle.step_soundness.proofs.MethodNumbers.{none_before}
 use Rattle.step_soundness.proofs.Selections.{position_found, text_same}
-use Rattle.link_soundness.proofs.Chains.{IsUp, up, up_holds, up_one}
+use Rattle.link_soundness.proofs.Chains.{IsUp, up_one}
 use Rattle.link_soundness.proofs.LinkedCode.{class_links}
 
 -- ---- the classes that are met
@@ -74,9 +74,11 @@ IsNone o = o ≡ None
 
 -- the rules of a class, part by part
 pub record Parts (p : Program) (c : ℕ) (f : ClassFile) : Type 0 where
+  pub name : AllNone (name_faults p c f)
   pub parent : AllNone (parent_faults p c f)
   pub interfaces : Each (λ i. AllNone (interface_faults_at p c f i)) f.interfaces
   pub fields : Each (λ x. AllNone (field_faults_at p c f x.0 x.1)) (enumerate_from 0 f.fields)
+  pub methods : Each (λ x. AllNone (method_faults_at p c f x.0 x.1)) (enumerate_from 0 f.methods)
 
 parts_of : (p : Program) (c : ℕ) (f : ClassFile) → AllNone (class_faults_at p c f) → Parts p c f
 parts_of p c f none =
@@ -91,9 +93,11 @@ parts_of p c f none =
     let d = each_split IsNone (named ++ parents ++ interfaces) fields b.0 in
     let e = each_split IsNone (named ++ parents) interfaces d.0 in
     record {
+      name = (each_split IsNone named parents e.0).0;
       parent = (each_split IsNone named parents e.0).1;
       interfaces = each_flat IsNone (interface_faults_at p c f) f.interfaces e.1;
       fields = each_flat IsNone (λ x. field_faults_at p c f x.0 x.1) (enumerate_from 0 f.fields) d.1;
+      methods = each_flat IsNone (λ x. method_faults_at p c f x.0 x.1) (enumerate_from 0 f.methods) b.1;
     }
 
 pub parts_at : (p : Program) (c : ℕ) (f : ClassFile) → Links p → slice_get p.classes c ≡ Some f → Parts p c f
@@ -111,12 +115,12 @@ named_inside p name d e =
     slice_get_within p.classes d h.item h.at
 
 -- the class at an index of a pool is the class of the name there
-record IsNamedClass (p : Program) (f : ClassFile) (index d : ℕ) : Type 0 where
+pub record IsNamedClass (p : Program) (f : ClassFile) (index d : ℕ) : Type 0 where
   pub name : List ℕ
   pub name_is : class_name_at f.pool index ≡ Some name
   pub is : class_named p name ≡ Some d
 
-class_in_is : (p : Program) (f : ClassFile) (index d : ℕ) → class_in p f index ≡ Some d → IsNamedClass p f index d
+pub class_in_is : (p : Program) (f : ClassFile) (index d : ℕ) → class_in p f index ≡ Some d → IsNamedClass p f index d
 class_in_is p f index d e = by (class_name_at f.pool index) refl e
   where
     by : (o : Option (List ℕ)) → class_name_at f.pool index ≡ o → option_and_then (class_named p) o ≡ Some d → IsNamedClass p f index d

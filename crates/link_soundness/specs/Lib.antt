@@ -1,2 +1,5 @@
-pub mod Settled
+pub mod Library
 pub mod Names
+pub mod Begins
+pub mod FirstValues
+pub mod OpeningClasses

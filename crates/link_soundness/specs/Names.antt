@@ -5,14 +5,18 @@ use Rattle.link_model.specs.World.{World}
 use Rattle.link_model.specs.Worlds.{world_of}
 use Rattle.state_model.specs.Frames.{Frame}
 use Rattle.ref_model.specs.Memory.{Memory}
-use Rattle.step_soundness.specs.MethodKinds.{HasFitNatives}
+use Rattle.frame_soundness.specs.StateKinds.{HasFieldKinds}
 use Rattle.step_soundness.specs.Resolutions.{IsFrameResolution}
-use Rattle.link_soundness.specs.Settled.{IsSettled}
+use Rattle.link_soundness.specs.Library.{HasLibrary}
 
 -- each instruction names what a step asks for, in each memory
 abbrev pub AreNamed : World → Type 0
 AreNamed w = (r : Memory) (f : Frame) → IsFrameResolution w r f
 
--- of a program that links, whose native methods fit their descriptors
+-- of a program that links, with the built-in classes
 abbrev pub LinkedCodeIsNamed : Type 0
-LinkedCodeIsNamed = (p : Program) → Links p → IsSettled (world_of p) → HasFitNatives (world_of p) → AreNamed (world_of p)
+LinkedCodeIsNamed = (p : Program) → Links p → HasLibrary p → AreNamed (world_of p)
+
+-- The values of each field have a kind: no field of a program that links is of float or double.
+abbrev pub LinkedFieldsHaveKinds : Type 0
+LinkedFieldsHaveKinds = (p : Program) → Links p → HasFieldKinds (world_of p)

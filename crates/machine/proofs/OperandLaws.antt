@@ -17,7 +17,6 @@ use Rattle.state_model.specs.Frames.{Frame}
 use Rattle.frames.specs.Frames.{top_method, top_pc, top_stack}
 use Rattle.continuation.specs.Continuation.{Continuation}
 use Rattle.heap_objs.specs.Heap.{Heap}
-use Rattle.ref_model.specs.Memory.{Memory}
 use Rattle.ref_model.specs.Calls.{choice_of}
 use Rattle.ref_model.specs.Classes.{is_sub}
 use Rattle.ref_model.specs.Fetch.{fetched, Named, named_method}

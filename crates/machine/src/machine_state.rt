@@ -4,6 +4,7 @@ ghost use Rattle.std.specs.Prelude.{◌≡◌, ◌≤◌, ◌+◌, ◌-◌, true
 ghost use Rattle.state_model.specs.Frames.{Frame};
 ghost use Rattle.ref_model.specs.Ending.{ending};
 ghost use Rattle.step_soundness.specs.OpeningLaws.{IsMain};
+ghost use Rattle.link_soundness.specs.Library.{HasLibrary};
 ghost use Rattle.startup.specs.Openings.{first_state, setting};
 ghost use Rattle.machine.specs.Machines.{HasGrown, IsLegal, at_first, ending_within, errors, output, run_ending};
 ghost use Rattle.machine.specs.Ready.{IsReady};
@@ -20,12 +21,11 @@ use instruction_rows::Value;
 use invocation::InvocationCache;
 use items::NoMemory;
 use jvm_edges::Gate;
-use link_soundness::{is_settled, linked_code_is_named};
+use link_soundness::{linked_code_is_named, linked_fields_have_kinds};
 use native_methods::NativeState;
 use ref_model::{Ending, Limits, Which};
 use runtime_program::ReadyProgram;
 use startup::open_typed;
-use startup_checks::{fields_have_kinds, natives_fit};
 use std::alloc::Global;
 use std::marker::Model;
 use step_soundness::linked_worlds_open;
@@ -58,20 +58,15 @@ impl<'p> Model for Machine<'p> {
     ghost invariant = { IsSound };
 }
 
-// Whether a program is as its steps ask.
-fn is_ready(alloc: Global, program: &ReadyProgram) -> Result<bool, NoMemory>
-    ensures { IfOk result (λ b. b ≡ true → IsReady program.now) }
+// That a program with the built-in classes is as its steps ask.
+fn is_ready(program: &ReadyProgram)
+    requires { HasLibrary program.now.program }
+    ensures { IsReady program.now }
 {
     program.is_linked();
     linked_worlds_open();
+    linked_fields_have_kinds();
     linked_code_is_named();
-    if !is_settled(program.world()) {
-        return Ok(false);
-    }
-    if !fields_have_kinds(program.world()) {
-        return Ok(false);
-    }
-    natives_fit(alloc, program)
 }
 
 // The parts of a program that begins.
@@ -124,12 +119,11 @@ impl<'p> Machine<'p> {
         main: u32,
         limits: Limits,
     ) -> Result<Self, NoMemory>
-        requires { IsMain program.now main }
+        requires library { HasLibrary program.now.program }
+        requires main { IsMain program.now main }
         ensures { IfOk result (λ m. m ≡ at_first (setting program.now main limits)) }
     {
-        if !is_ready(alloc, program)? {
-            return Err(NoMemory);
-        }
+        is_ready(program);
         let opened = open_typed(alloc, program, main, limits)?;
         let cache = InvocationCache::new(alloc)?;
         Ok(Machine {

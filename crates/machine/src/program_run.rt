@@ -3,6 +3,7 @@
 ghost use Rattle.std.specs.Prelude.{◌≡◌, ◌<◌, Some, false, IfNone, IfOk, IfSome, OnOk};
 ghost use Rattle.ref_model.specs.Setting.{Setting};
 ghost use Rattle.step_soundness.specs.OpeningLaws.{IsMain};
+ghost use Rattle.link_soundness.specs.Library.{HasLibrary};
 ghost use Rattle.machine.specs.Machines.{entries_to_limit, run_ending};
 ghost use Rattle.machine.specs.Runs.{IsRun};
 
@@ -61,7 +62,8 @@ fn run_ready<G: Gate>(
     limits: Limits,
     gate: &G,
 ) -> Result<Execution, NoMemory>
-    requires { IsMain program.now main }
+    requires library { HasLibrary program.now.program }
+    requires main { IsMain program.now main }
     ensures { IfOk result (λ x. (p : Setting) → p.world ≡ program.now → p.main ≡ main
         → p.limits ≡ limits → IsRun p x.history.items x.out.items x.err.items x.ending) }
 {
@@ -71,7 +73,7 @@ fn run_ready<G: Gate>(
 }
 
 /// Runs the main method with this number, as thread 0 on carrier 0, until the program ends or the history may have no more entries. Each
-/// entry is a run of local instructions, before which the gate is passed, and one more instruction.
+/// entry is a run of local instructions, before which the gate is passed, and one more instruction. The program has the built-in classes.
 pub fn run<G: Gate>(
     alloc: Global,
     checked: Checked<World>,
@@ -79,7 +81,8 @@ pub fn run<G: Gate>(
     limits: Limits,
     gate: &G,
 ) -> Result<Execution, NoMemory>
-    requires { IsMain checked main }
+    requires library { HasLibrary checked.program }
+    requires main { IsMain checked main }
     ensures { IfOk result (λ x. (p : Setting) → p.world ≡ checked → p.main ≡ main
         → p.limits ≡ limits → IsRun p x.history.items x.out.items x.err.items x.ending) }
 {

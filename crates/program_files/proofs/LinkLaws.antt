@@ -1,6 +1,6 @@
 -- From what linking and typing say of a program to what they say of class files.
 use Rattle.std.proofs.Common.{◌≡◌, ℕ, List, drop, Some, Result, Ok, Err, refl, ap, subst, ◌∙◌}
-use Rattle.std.specs.Prelude.{IfOk, IfErr}
+use Rattle.std.specs.Prelude.{All, IfOk, IfErr}
 use Rattle.std.proofs.Math.Seq.{drop-append_seam}
 use Rattle.class_model.specs.declared.class_file.ClassFile.{ClassFile}
 use Rattle.class_world.specs.declared.error.LinkError.{LinkError}
@@ -11,6 +11,8 @@ use Rattle.link_rules.specs.Faults.{Links, link_fault}
 use Rattle.link_model.specs.World.{World}
 use Rattle.link_model.specs.Worlds.{world_of}
 use Rattle.verify_types.specs.Faults.{IsWellTyped}
+use Rattle.lib_table.specs.Spelled.{IsSpelled}
+use Rattle.link_soundness.specs.Library.{HasLibrary}
 use Rattle.program_files.specs.declared.errors.AcceptError.{AcceptError}
 use Rattle.program_files.specs.declared.errors.AcceptError.TheVariants as accept
 use Rattle.program_files.specs.Errors.{unlinked}
@@ -39,6 +41,13 @@ world_is classes p (Err error) same found = tt
 pub program_in : (classes : List ClassFile) (p : Program) (r : Result World AcceptError) → p ≡ program_of classes → IfOk r (λ w. w ≡ world_of p) → IfOk r (λ w. w.program ≡ program_of classes)
 program_in classes p (Ok w) same found = ap (λ (v : World). v.program) found ∙ same
 program_in classes p (Err error) same found = tt
+
+-- it has the built-in classes
+pub has_library : (classes : List ClassFile) (r : Result World AcceptError) → All IsSpelled classes → IfOk r (λ w. w.program ≡ program_of classes)
+    → IfOk r (λ w. HasLibrary w.program)
+unfolding built_in
+has_library classes (Ok w) spelled found = record { files = classes; is = found; spelled = spelled }
+has_library classes (Err error) spelled found = tt
 
 -- a program that is refused, of the files
 pub not_typed : (classes : List ClassFile) (p : Program) (r : Result World AcceptError) → p ≡ program_of classes → Links p → IfErr r (NotTyped p) → IfErr r (NotAccepted classes)

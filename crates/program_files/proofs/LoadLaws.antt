@@ -1,6 +1,6 @@
 -- What was read of a file is its contents in the store.
 use Rattle.std.proofs.Common.{◌≡◌, ℕ, zero, suc, ◌+◌, get_or, add-one, String, string_bytes, ◌<◌, ◌≤◌, ◌⊎◌, inl, inr, List, [], ◌∷◌, ◌++◌, length, take, drop, Option, Some, None, Result, Ok, Err, refl, sym, ap, subst, ◌∙◌, arith}
-use Rattle.std.specs.Prelude.{IfOk, IfErr, IsErrAnd, IfSome, min}
+use Rattle.std.specs.Prelude.{All, IfOk, IfErr, IsErrAnd, IfSome, min}
 use Rattle.std.specs.Global.{Global}
 use Rattle.std.specs.List.{AllZip}
 use Rattle.std.proofs.lemmas.List.{length-take, take_all}
@@ -13,10 +13,11 @@ use Rattle.program_files.specs.declared.errors.LoadError.TheVariants.{Missing, T
 use Rattle.command_line.specs.Commands.{texts}
 use Rattle.program_files.specs.Limits.{most_bytes}
 use Rattle.program_files.specs.Errors.{load_answer, loaded_answer}
-use Rattle.program_files.specs.Contents.{Contents, HasContents, IsBad}
+use Rattle.program_files.specs.Contents.{Contents, HasContents, IsBad, IsClass}
 use Rattle.program_files.specs.LoadCauses.{IsRead, IsWrongFile, NotRead, IsStopped}
 use Rattle.program_files.specs.StoreFaults.{StoreFaults}
 use Rattle.class_grammar.specs.Grammar.{SpellsOnly}
+use Rattle.lib_table.specs.Spelled.{IsSpelled}
 
 abbrev no_file : Contents
 no_file = None
@@ -149,3 +150,23 @@ pub faults_is : {A : Type 0} (r : Result A LoadError) (error : LoadError) (befor
 faults_is (Ok x) error before since after is same faults = absurd is
 faults_is (Err e) error before since after is same faults =
     subst (λ (x : LoadError). StoreFaults (load_answer x) before after) (sym is) (subst (λ (n : ℕ). StoreFaults (load_answer error) n after) same faults)
+
+-- ---- what was read is a class file that has bytes
+
+spelled_of : (known : Option Files) (name : List ℕ) (f : ClassFile) → IsRead known name f → IsSpelled f
+spelled_of known name f read = by read.contents read.class
+  where
+    by : (contents : Contents) → IsClass contents f → IsSpelled f
+    by None class = absurd class
+    by (Some bytes) class = (bytes, class.1)
+
+all_more : {A : Type 0} (P : A → Type 0) (x : A) (xs : List A) → P x → All P xs → All P (x ∷ xs)
+all_more P x xs here rest zero d low = here
+all_more P x xs here rest (suc k) d low = let less : k < length xs = omega arith in rest k d less
+
+pub are_spelled : (known : Option Files) (names : List (List ℕ)) (classes : List ClassFile) → AllZip (IsRead known) names classes → All IsSpelled classes
+are_spelled known [] [] read = λ k d low. absurd (omega arith)
+are_spelled known [] (f ∷ classes) read = absurd read
+are_spelled known (name ∷ names) [] read = absurd read
+are_spelled known (name ∷ names) (f ∷ classes) read =
+    all_more IsSpelled f classes (spelled_of known name f read.0) (are_spelled known names classes read.1)

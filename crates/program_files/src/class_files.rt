@@ -1,10 +1,11 @@
 //! The files of a command, read as class files.
 
-ghost use Rattle.std.specs.Prelude.{◌≡◌, ◌⊎◌, ◌≤◌, ◌<◌, ◌^◌, Some, length, string_bytes, IfOk, IfErr, IfSome};
+ghost use Rattle.std.specs.Prelude.{◌≡◌, ◌⊎◌, ◌≤◌, ◌<◌, ◌^◌, All, Some, length, string_bytes, IfOk, IfErr, IfSome};
 ghost use Rattle.std.specs.List.{AllZip};
 ghost use Rattle.jvm_edges.specs.Causes.{Rose};
 ghost use Rattle.jvm_edges.specs.Files.{file_named};
 ghost use Rattle.class_grammar.specs.Grammar.{SpellsOnly};
+ghost use Rattle.lib_table.specs.Spelled.{IsSpelled};
 ghost use Rattle.command_line.specs.Commands.{texts};
 ghost use Rattle.program_files.specs.Limits.{most_files, most_bytes};
 ghost use Rattle.program_files.specs.Errors.{loaded_answer};
@@ -30,6 +31,7 @@ pub fn read_files<S: Store>(
     requires { length names.now ≤ most_files }
     ensures found { IfOk result (λ classes.
         AllZip (IsRead (S.files store.old)) (texts names.now) classes.items) }
+    ensures spelled { IfOk result (λ classes. All IsSpelled classes.items) }
     ensures stopped { IfErr result (IsStopped (S.files store.old)
         (Rose (S.faults store.old) (S.faults store.new)) (texts names.now)) }
     ensures faults { StoreFaults (loaded_answer result) (S.faults store.old) (S.faults store.new) }

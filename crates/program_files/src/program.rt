@@ -1,10 +1,12 @@
 //! From class files to the main method that runs.
 
-ghost use Rattle.std.specs.Prelude.{◌≡◌, List, IfOk, IfErr, IfSome};
+ghost use Rattle.std.specs.Prelude.{◌≡◌, All, List, IfOk, IfErr, IfSome};
 ghost use Rattle.class_model.specs.declared.class_file.ClassFile as class_files;
 ghost use Rattle.link_model.specs.MainMethod.{main_of as main_of_world};
 ghost use Rattle.link_model.specs.Worlds.{world_of};
 ghost use Rattle.step_soundness.specs.OpeningLaws.{IsMain};
+ghost use Rattle.lib_table.specs.Spelled.{IsSpelled};
+ghost use Rattle.link_soundness.specs.Library.{HasLibrary};
 ghost use Rattle.verify_types.specs.Faults.{IsWellTyped};
 ghost use Rattle.program_files.specs.Linking.{built_in, program_of, AreAccepted};
 ghost use Rattle.program_files.specs.Errors.{verify_fault};
@@ -29,9 +31,11 @@ use verify_types::VerifyFault;
 
 /// Links the classes of files with the built-in classes, and types their code (JVMS 5.3, 5.4, 4.10.1).
 pub fn accept_files(alloc: Global, files: Vec<ClassFile>) -> Result<Checked<World>, AcceptError>
+    requires { All IsSpelled files.items }
     ensures accepted { IfOk result (λ checked. AreAccepted files.items) }
     ensures world { IfOk result (λ checked. checked ≡ world_of_files files.items) }
     ensures program { IfOk result (λ checked. checked.program ≡ program_of files.items) }
+    ensures library { IfOk result (λ checked. HasLibrary checked.program) }
     ensures refused { IfErr result (NotAccepted files.items) }
 {
     let library = built_in_classes(alloc)?;

@@ -17,7 +17,6 @@ mod program;
 mod static_places;
 mod subtypes;
 mod tables;
-mod typing;
 
 pub use class_numbers::named;
 pub use field_values::zero_of;

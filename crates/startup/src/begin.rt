@@ -2,6 +2,9 @@
 
 ghost use Rattle.std.specs.Prelude.{◌≡◌, ◌+◌, [], length, IfOk};
 ghost use Rattle.ref_model.specs.Opening.{opening, opening_statics};
+ghost use Rattle.step_soundness.specs.OpeningLaws.{IsMain};
+ghost use Rattle.link_soundness.specs.Begins.{MayBegin};
+ghost use Rattle.link_soundness.specs.OpeningClasses.{HasOpeningClasses};
 ghost use Rattle.startup.specs.Openings.{opened_state, setting};
 
 use crate::first_frames::first_frames;
@@ -36,14 +39,16 @@ fn words_number(strings: &Names) -> Result<u32, NoMemory>
         .ok_or(NoMemory)
 }
 
-/// Begins a program whose main method has this number (JVMS 5.2, 5.5). A program that can't begin counts as memory run out: it lacks a
-/// built-in class, or main or a class initializer has no code.
+/// Begins a program whose main method has this number (JVMS 5.2, 5.5). A frame too many counts as memory run out.
 pub fn open(
     alloc: Global,
     program: &ReadyProgram,
     main: u32,
     limits: Limits,
 ) -> Result<Opened, NoMemory>
+    requires classes { HasOpeningClasses program.now }
+    requires begins { MayBegin program.now }
+    requires main { IsMain program.now main }
     // The definitions have an opening state, and it is this one.
     ensures state { IfOk result (λ o. opening (setting program.now main limits)
         ≡ Some (opened_state o)) }
@@ -53,9 +58,7 @@ pub fn open(
     ensures thread { IfOk result (λ o. o.mounted.thread ≡ 0) }
     ensures pinned { IfOk result (λ o. o.mounted.pinned ≡ []) }
 {
-    let Some(library) = library_in(alloc, program.tables())? else {
-        return Err(NoMemory);
-    };
+    let library = library_in(alloc, program.tables())?;
     let strings = program.tables().strings();
     let heap = first_heap(alloc, program, library, strings, limits.heap_cells)?;
     let statics = first_statics(alloc, program.tables(), strings)?;

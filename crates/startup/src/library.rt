@@ -1,7 +1,8 @@
 //! The classes of which the opening heap has objects.
 
-ghost use Rattle.std.specs.Prelude.{◌≡◌, IfOk};
+ghost use Rattle.std.specs.Prelude.{◌≡◌, Some, IfOk};
 ghost use Rattle.ref_model.specs.Opening.{words_class as class_of_words};
+ghost use Rattle.link_soundness.specs.OpeningClasses.{HasOpeningClasses};
 ghost use Rattle.startup.specs.FirstObjects as spec;
 
 use items::NoMemory;
@@ -49,14 +50,18 @@ fn library_of(
     })
 }
 
-/// These classes of a program. `None`: it lacks one of them.
-pub(crate) fn library_in(alloc: Global, program: &Tables) -> Result<Option<Library>, NoMemory>
-    ensures { IfOk result (λ l. l ≡ spec.library program.now) }
+/// These classes of a program.
+pub(crate) fn library_in(alloc: Global, program: &Tables) -> Result<Library, NoMemory>
+    requires { HasOpeningClasses program.now }
+    ensures { IfOk result (λ l. spec.library program.now ≡ Some l) }
 {
     let error = named(alloc, program, b"java/lang/OutOfMemoryError")?;
     let stream = named(alloc, program, b"java/io/PrintStream")?;
     let thread = named(alloc, program, b"java/lang/Thread")?;
     let state = named(alloc, program, b"java/lang/Thread$State")?;
     let words = words_class(program);
-    Ok(library_of(error, stream, thread, state, words))
+    match library_of(error, stream, thread, state, words) {
+        Some(library) => Ok(library),
+        None => unreachable!(),
+    }
 }

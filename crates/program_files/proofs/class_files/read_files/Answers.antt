@@ -2,7 +2,7 @@ use Rattle.std.proofs.Common.{◌∙◌, refl}
 use Rattle.jvm_edges.specs.Causes.{Rose}
 use Rattle.command_line.specs.Commands.{texts}
 use Rattle.program_files.specs.LoadCauses.{IsStopped}
-use Rattle.program_files.proofs.LoadLaws.{one_more_read, one_not_read, err_is, faults_is}
+use Rattle.program_files.proofs.LoadLaws.{are_spelled, one_more_read, one_not_read, err_is, faults_is}
 use Rattle.program_files.proofs.class_files.read_files.Goals as goal
 
 pub returns-in_err-read_class-clause-stopped : goal.returns-in_err-read_class-clause-stopped
@@ -29,6 +29,10 @@ returns-in_err-push-clause-stopped g c =
 
 pub returns-in_err-push-clause-faults : goal.returns-in_err-push-clause-faults
 returns-in_err-push-clause-faults g c = faults_is c.from_residual-in_err-push.result _ _ _ _ c.from_residual-in_err-push.ensures.1 refl tt
+
+pub returns-clause-spelled : goal.returns-clause-spelled
+returns-clause-spelled g c =
+    are_spelled (g.S.Store.files c.args.store.now) _ c.loop-index.classes.items c.loop-index.invariant.read
 
 pub loop-index-preserved : goal.loop-index-preserved
 loop-index-preserved g c = record {

@@ -25,12 +25,12 @@ returns-clause-statics c =
 pub returns-clause-state : goal.returns-clause-state
 returns-clause-state c =
     let w : World = c.args.program.now in
-    let l = c.in-Some.library in
+    let l = c.in_ok-library.library in
     let heap : Heap = c.in_ok-heap.heap in
     let strings : List (List ℕ) = c.strings-strings.result.now in
     let frames = c.in_ok-mounted.mounted.stack.frames in
     let statics = c.in_ok-statics.statics.items in
-    let has : library w ≡ Some l = ap library (sym c.tables.ensures) ∙ sym c.in_ok-library.ensures ∙ c.in-Some.is in
+    let has : library w ≡ Some l = ap library (sym c.tables.ensures) ∙ c.in_ok-library.ensures in
     let texts : strings ≡ strings_of w.program =
     c.strings-strings.ensures ∙ ap (λ (v : World). strings_of v.program) c.tables-2.ensures in
     let objects : heap.objects ≡ first_objects w l = ap (λ (h : Heap). h.objects) c.in_ok-heap.ensures in

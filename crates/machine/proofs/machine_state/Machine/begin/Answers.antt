@@ -10,6 +10,6 @@ invariant_of-result c =
     let w = c.args.program.now in
     let frames = c.in_ok-opened.opened.mounted.stack.frames in
     let same = sym (c.first_parts.ensures frames) in
-    begins (setting w c.args.main c.args.limits) c.first_parts.result frames c.in_ok-cache.cache c.new-2.result.items (c.in_ok-is_ready.ensures c.if-not-branch.false)
+    begins (setting w c.args.main c.args.limits) c.first_parts.result frames c.in_ok-cache.cache c.new-2.result.items c.is_ready.ensures
     (c.in_ok-opened.ensures.state ∙ ap (λ (r : State). Some r) same) (subst (λ (r : State). IsTypedState w r) same c.in_ok-opened.ensures.typed)
     (c.in_ok-cache.ensures w) c.new-2.ensures.items

@@ -1,4 +1,0 @@
-pub mod FieldLaws
-pub mod KindLaws
-pub mod StaticLaws
-pub mod NativeFits
