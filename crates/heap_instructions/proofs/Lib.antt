@@ -4,3 +4,4 @@ pub mod HeapReadLaws
 pub mod ArrayStoreLaws
 pub mod DispatchLaws
 pub mod ArrayMakingLaws
+pub mod DivisionLaws

@@ -1,5 +1,10 @@
 -- What the instruction of an opcode does, where it is one on fields, arrays or objects, or a division by 0.
-use Rattle.std.specs.Prelude.{ℤ, pos, ◌≡◌, [], ◌∷◌, List, Option, None}
+use Rattle.std.specs.Prelude.{ℕ, ℤ, Bool, true, false, [], ◌∷◌, List, Option, Some, None, if◌then◌else◌}
+use Rattle.jvm_words.specs.declared.operation.IntOp.{IntOp}
+use Rattle.jvm_words.specs.declared.operation.LongOp.{LongOp}
+use Rattle.jvm_words.specs.Words.{is_zero, int_result, long_result}
+use Rattle.opcodes.specs.declared.op.Op.{Op}
+use Rattle.opcodes.specs.declared.op.Op.TheVariants as ops
 use Rattle.opcodes.specs.declared.op.ValueKind.TheVariants as kinds
 use Rattle.instruction_rows.specs.declared.value.Slot.{Slot}
 use Rattle.instruction_rows.specs.declared.value.Value.{Value}
@@ -10,11 +15,12 @@ use Rattle.link_model.specs.declared.sites.Resolution.{Resolution}
 use Rattle.link_model.specs.World.{World}
 use Rattle.state_model.specs.Frames.{Frame}
 use Rattle.ref_model.specs.Memory.{Memory}
-use Rattle.ref_model.specs.Effects.{Effect}
+use Rattle.ref_model.specs.declared.exception.Exception.TheVariants as exceptions
+use Rattle.ref_model.specs.Effects.{Effect, throws}
 use Rattle.ref_model.specs.Step.{division_effect, event_effect}
 use Rattle.heap_instructions.specs.declared.outcome.Outcome.{Outcome}
 use Rattle.heap_instructions.specs.Operands.{operands, ChangesOperands}
-use Rattle.heap_instructions.specs.Outcomes.{Acts, IsEffect, KeptUnlessDone, with_heap, with_statics}
+use Rattle.heap_instructions.specs.Outcomes.{Acts, ActsAlone, IsEffect, KeptUnlessDone, with_heap, with_statics}
 
 -- a frame of which its operand stack alone is looked at
 abbrev pub frame_with : List Slot → Frame
@@ -40,11 +46,36 @@ pub record IsHeapRun (w : World) (resolution : Resolution) (row : Row) (heap nex
   pub kept_heap : KeptUnlessDone outcome heap next_heap
   pub only : ChangesOperands m next
 
--- A division had this outcome: where its function has no result for the divisor 0, that is of its effect.
-abbrev pub DividesInts : Continuation → Outcome → Type 0
-DividesInts m outcome = (q : Memory) (f : ℤ → ℤ → Option ℤ) → ((a : ℤ) → f (pos 0) a ≡ None) →
-    IsEffect outcome (division_effect (int (kinds.Int ∷ kinds.Int ∷ []) f) (frame_with (operands m))) q (operands m)
+-- ---- divisions
 
-abbrev pub DividesLongs : Continuation → Outcome → Type 0
-DividesLongs m outcome = (q : Memory) (f : ℤ → ℤ → Option ℤ) → ((a : ℤ) → f (pos 0) a ≡ None) →
-    IsEffect outcome (division_effect (long (kinds.Long ∷ kinds.Long ∷ []) f) (frame_with (operands m))) q (operands m)
+-- a division whose divisor is 0, or isn't
+abbrev pub by_zero : Bool → Option Effect
+by_zero is = if is then Some (throws exceptions.ArithmeticException) else None
+
+-- A division by this divisor had this outcome, whatever the frame is.
+abbrev pub IsDivided : ℤ → Outcome → Type 0
+IsDivided divisor outcome = (room : ℕ) (q : Memory) (stack : List Slot) → IsEffect room outcome (by_zero (is_zero divisor)) q stack
+
+-- An operation on ints, or on longs, had this outcome.
+abbrev pub DividesInts : IntOp → Continuation → Outcome → Type 0
+DividesInts op m outcome =
+    ActsAlone (λ stack. division_effect (int (kinds.Int ∷ kinds.Int ∷ []) (λ b a. int_result op a b)) (frame_with stack)) m outcome
+
+abbrev pub DividesLongs : LongOp → Continuation → Outcome → Type 0
+DividesLongs op m outcome =
+    ActsAlone (λ stack. division_effect (long (kinds.Long ∷ kinds.Long ∷ []) (λ b a. long_result op a b)) (frame_with stack)) m outcome
+
+-- ---- instructions that have functions of their own
+
+-- an instruction on a field
+abbrev pub is_on_field : Op → Bool
+is_on_field (ops.GetStatic index) = true
+is_on_field (ops.PutStatic index) = true
+is_on_field (ops.GetField index) = true
+is_on_field (ops.PutField index) = true
+is_on_field op = false
+
+-- an instruction without operands in the code
+abbrev pub is_plain : Op → Bool
+is_plain (ops.Simple simple) = true
+is_plain op = false

@@ -50,14 +50,15 @@ IsValueSet o place v old new true = (r : Memory) → with_value (with_heap old r
 IsValueSet o place v old new false = ((r : Memory) → with_value (with_heap old r) o place v ≡ None) × (new ≡ old)
 
 -- Where the object of a field instruction and the place of its field are known, the instruction does with them what it does; otherwise it
--- throws this exception.
-abbrev pub TargetGives : (ℕ → ℕ → Option Effect) → Option Effect → Result FieldTarget Exception → Type 0
-TargetGives act effect (Ok t) = effect ≡ act t.object t.place
-TargetGives act effect (Err e) = effect ≡ Some (throws e)
+-- throws this exception, or has no effect.
+abbrev pub TargetGives : (ℕ → ℕ → Option Effect) → Option Effect → Option (Result FieldTarget Exception) → Type 0
+TargetGives act effect (Some (Ok t)) = effect ≡ act t.object t.place
+TargetGives act effect (Some (Err e)) = effect ≡ Some (throws e)
+TargetGives act effect None = effect ≡ None
 
 abbrev pub IsTarget : World → Resolution → Heap → ℕ → Option ℕ → Option (Result FieldTarget Exception) → Type 0
-IsTarget w resolution heap n reference found = (r : Memory) (act : ℕ → ℕ → Option Effect) → IfSome found
-    (TargetGives act (on_instance w resolution (with_heap heap r) reference (λ o class. field_place w n >>= λ place. act o place)))
+IsTarget w resolution heap n reference found = (r : Memory) (act : ℕ → ℕ → Option Effect) →
+    TargetGives act (on_instance w resolution (with_heap heap r) reference (λ o class. field_place w n >>= λ place. act o place)) found
 
 -- Where the array of a load or a store and the place of its element are known, the instruction does with them what it does; otherwise it
 -- throws this exception.

@@ -16,6 +16,10 @@ use Rattle.continuation.specs.Continuation.{Continuation}
 abbrev pub operands : Continuation → List Slot
 operands m = top_stack m.stack.frames
 
+-- how many operands the top frame may have
+abbrev pub room_of : Continuation → ℕ
+room_of m = top_room m.stack.frames
+
 -- there is a top frame, with no more operands than it may have
 pub record HasTop (m : Continuation) : Type 0 where
   pub frame : 0 < length m.stack.frames

@@ -226,7 +226,8 @@ pub fn new_array<W: EventWorld>(
     }
 }
 
-/// multianewarray: the class is that of the outer array.
+/// multianewarray: the class is that of the outer array. Without dimensions, which no class file has, no array is made, and the reference
+/// that is pushed is to the next object.
 #[inline(never)]
 pub fn new_arrays<W: EventWorld>(
     alloc: Global,
@@ -248,7 +249,7 @@ pub fn new_arrays<W: EventWorld>(
     let Some(class) = class_of(resolution) else {
         return Ok(Outcome::Undefined);
     };
-    if dimensions == 0 {
+    if u32::from(mounted.operand_room()) + u32::from(dimensions) == 0 {
         return Ok(Outcome::Undefined);
     }
     let ints = ints_on_top(alloc, mounted, dimensions)?;

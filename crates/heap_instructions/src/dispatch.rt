@@ -1,9 +1,9 @@
 //! The instructions on fields, arrays and objects, and divisions by 0, by what they are (JVMS 6.5).
 
-ghost use Rattle.std.specs.Prelude.{◌≡◌, IfOk};
+ghost use Rattle.std.specs.Prelude.{◌≡◌, IfOk, true};
 ghost use Rattle.instruction_rows.specs.Table.{row, simple_row, new_array_row};
 ghost use Rattle.ref_model.specs.Operands.{FindsOperands};
-ghost use Rattle.heap_instructions.specs.Dispatch.{IsHeapRun, IsRun};
+ghost use Rattle.heap_instructions.specs.Dispatch.{IsHeapRun, IsRun, is_on_field, is_plain};
 ghost use Rattle.heap_instructions.specs.Operands.{HasTop, operands};
 
 use crate::arrays::{array_length, array_load, array_store, new_array, new_arrays};
@@ -16,7 +16,6 @@ use continuation::Mounted;
 use heap_objs::Heap;
 use instruction_rows::Value;
 use items::NoMemory;
-use jvm_words::{IntOp, LongOp};
 use link_model::Resolution;
 use link_rules::is_floating_primitive;
 use opcodes::{Op, Primitive, Simple};
@@ -43,15 +42,13 @@ fn run_simple<W: EventWorld>(
         Simple::ArrayStore(element) => array_store(world, element, heap, mounted),
         Simple::ArrayLength => array_length(world, heap, mounted),
         Simple::Throw => throw_object(mounted),
-        Simple::IntBinary(IntOp::Div) => divide_ints(mounted),
-        Simple::IntBinary(IntOp::Rem) => divide_ints(mounted),
-        Simple::LongBinary(LongOp::Div) => divide_longs(mounted),
-        Simple::LongBinary(LongOp::Rem) => divide_longs(mounted),
+        Simple::IntBinary(op) => divide_ints(op, mounted),
+        Simple::LongBinary(op) => divide_longs(op, mounted),
         _ => Outcome::Undefined,
     }
 }
 
-/// An instruction without operands in the code. Every other one is undefined.
+/// An instruction without operands in the code.
 #[inline(always)]
 pub fn run_plain<W: EventWorld>(
     world: &W,
@@ -61,6 +58,7 @@ pub fn run_plain<W: EventWorld>(
     statics: &mut [Value],
     mounted: &mut Mounted,
 ) -> Outcome
+    requires plain { is_plain op.now ≡ true }
     requires top { HasTop mounted.old }
     requires operands { FindsOperands (W.world world.now) resolution.now (row op.now)
         (operands mounted.old) }
@@ -69,11 +67,11 @@ pub fn run_plain<W: EventWorld>(
 {
     match op {
         Op::Simple(simple) => run_simple(world, *simple, resolution, heap, statics, mounted),
-        _ => Outcome::Undefined,
+        _ => unreachable!(),
     }
 }
 
-/// An instruction on a field: getstatic, putstatic, getfield or putfield. Every other one is undefined.
+/// An instruction on a field: getstatic, putstatic, getfield or putfield.
 #[inline(always)]
 pub fn run_field<W: EventWorld>(
     world: &W,
@@ -83,6 +81,7 @@ pub fn run_field<W: EventWorld>(
     statics: &mut [Value],
     mounted: &mut Mounted,
 ) -> Outcome
+    requires field { is_on_field op.now ≡ true }
     requires top { HasTop mounted.old }
     requires operands { FindsOperands (W.world world.now) resolution.now (row op.now)
         (operands mounted.old) }
@@ -94,7 +93,7 @@ pub fn run_field<W: EventWorld>(
         Op::PutStatic(_) => put_static(world, resolution, statics, mounted),
         Op::GetField(_) => get_field(world, resolution, heap, mounted),
         Op::PutField(_) => put_field(world, resolution, heap, mounted),
-        _ => Outcome::Undefined,
+        _ => unreachable!(),
     }
 }
 

@@ -1,8 +1,9 @@
 //! Objects and their classes (JVMS 6.5: new, checkcast, instanceof, athrow).
 
-ghost use Rattle.std.specs.Prelude.{◌≡◌, ◌∷◌, [], IfOk, OnErr};
+ghost use Rattle.std.specs.Prelude.{◌≡◌, ◌-◌, ◌∷◌, [], IfOk, OnErr, length, nat_le};
 ghost use Rattle.opcodes.specs.declared.op.ValueKind.TheVariants as kinds;
 ghost use Rattle.ref_model.specs.Fetch as fetch;
+ghost use Rattle.ref_model.specs.Heap.{cells_of_values};
 ghost use Rattle.ref_model.specs.Instances as spec;
 ghost use Rattle.ref_model.specs.Operands.{HasOperands};
 ghost use Rattle.heap_instructions.specs.Operands.{HasTop, ChangesOperands, operands};
@@ -95,7 +96,14 @@ pub fn throw_object(mounted: &Mounted) -> Outcome
     }
 }
 
-/// new: an object whose fields have their first values.
+// Whether one more object with these values has room in the heap.
+fn has_room(heap: &Heap, values: &[Value]) -> bool
+    ensures { result ≡ nat_le (cells_of_values (length values.now)) (heap.now.cells - heap.now.used) }
+{
+    1 + values.len() <= heap.room() as usize
+}
+
+/// new: an object whose fields have their first values. A full heap comes before a full operand stack.
 #[inline(always)]
 pub fn new_object<W: EventWorld>(
     world: &W,
@@ -115,10 +123,14 @@ pub fn new_object<W: EventWorld>(
     let Some(class) = class_of(resolution) else {
         return Ok(Outcome::Undefined);
     };
+    let values = world.new_values(class);
     if mounted.operand_room() == 0 {
-        return Ok(Outcome::Undefined);
+        if has_room(heap, values) {
+            return Ok(Outcome::Undefined);
+        }
+        return Ok(Outcome::Throws(Exception::OutOfMemoryError));
     }
-    match make_object(heap, class, world.new_values(class))? {
+    match make_object(heap, class, values)? {
         Some(o) => {
             push_value(mounted, Value::Ref(o));
             Ok(Outcome::Done)

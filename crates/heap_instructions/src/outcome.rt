@@ -9,7 +9,7 @@ pub enum Outcome {
     Throws(Exception),
     /// It throws this object, and nothing has changed.
     ThrowsObject(u32),
-    /// A look-up has nothing, the result has no room, or the instruction isn't one of this crate: nothing has changed. Well typed frames
-    /// never get here.
+    /// The definitions have no effect here, or its result has no room on the operand stack or is no int: nothing has changed. Well typed
+    /// frames never get here.
     Undefined,
 }

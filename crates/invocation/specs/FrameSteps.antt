@@ -1,5 +1,5 @@
 -- What calls, returns and exceptions on their way make of the frames of a thread.
-use Rattle.std.specs.Prelude.{ℕ, ◌≡◌, ◌-◌, ◌≤◌, Bool, true, false, List, [], ◌∷◌, Option, Some, None, IfSome, drop, length, if◌then◌else◌}
+use Rattle.std.specs.Prelude.{ℕ, ◌≡◌, ◌-◌, ◌<◌, ◌≤◌, Bool, true, false, List, [], ◌∷◌, Option, Some, None, drop, length, if◌then◌else◌}
 use Rattle.std.specs.Option.{option_map}
 use Rattle.items.specs.Options.{◌>>=◌}
 use Rattle.opcodes.specs.declared.op.ValueKind.{ValueKind}
@@ -38,7 +38,8 @@ abbrev pub IsEntered : Callee → Continuation → Continuation → Entered → 
 IsEntered c old new entering.Begun = HasBegun c old new
 IsEntered c old new (entering.Throws e) =
     (begins (length old.stack.frames) c (operands old) ≡ Some (throws e)) × (new.stack.frames ≡ old.stack.frames)
-IsEntered c old new entering.Undefined = new.stack.frames ≡ old.stack.frames
+IsEntered c old new entering.Undefined =
+    (begins (length old.stack.frames) c (operands old) ≡ None) × (new.stack.frames ≡ old.stack.frames)
 
 -- ---- a return
 
@@ -56,7 +57,7 @@ abbrev pub IsLeft : World → Option ValueKind → Continuation → Continuation
 IsLeft w kind old new leaving.Returned =
     (top_returned w kind old.stack.frames ≡ Some new.stack.frames) × (new.pinned ≡ without_pin (length old.stack.frames - 1) old.pinned)
 IsLeft w kind old new leaving.Root = (top_is_root w old.stack.frames ≡ true) × (new ≡ old)
-IsLeft w kind old new leaving.Undefined = Unit {0}
+IsLeft w kind old new leaving.Undefined = top_returned w kind old.stack.frames ≡ None
 
 -- the kinds of what a return takes
 abbrev pub returned_kinds : Option ValueKind → List ValueKind
@@ -69,22 +70,23 @@ pushed_back None stack = stack
 pushed_back (Some v) stack = pushed v stack
 
 abbrev pub IsBack : Option ValueKind → MethodInfo → List Slot → Option (Option Value) → Type 0
-IsBack kind m stack found = IfSome found (λ back. (under : List Slot) → stack_returned kind m stack under ≡ Some (pushed_back back under))
+IsBack kind m stack (Some back) = (under : List Slot) → stack_returned kind m stack under ≡ Some (pushed_back back under)
+IsBack kind m stack None = (under : List Slot) → stack_returned kind m stack under ≡ None
 
--- what comes back was pushed on the operands of the top frame, which have room for it
+-- what comes back was pushed on the operands of the top frame, if they have room for it
 abbrev pub HasPushed : Option Value → Continuation → Continuation → Bool → Type 0
 HasPushed back old new true =
     (new.stack.frames ≡ with_stack (pushed_back back (operands old)) old.stack.frames) × (length (pushed_back back (operands old)) ≤ top_room old.stack.frames)
-HasPushed back old new false = Unit {0}
+HasPushed back old new false = top_room old.stack.frames < length (pushed_back back (operands old))
 
--- the frames where the top one goes on after its call, with what comes back
+-- the frames where the top one goes on after its call, with what comes back; None where it has no room for that
 abbrev pub top_behind : World → Option Value → List Frame → Option (List Frame)
 top_behind w back [] = None
 top_behind w back (g ∷ rest) = returned_to w g (pushed_back back g.stack) >>= λ caller. Some (caller ∷ rest)
 
 abbrev pub IsBehind : World → Option Value → Continuation → Continuation → Bool → Type 0
 IsBehind w back old new true = top_behind w back old.stack.frames ≡ Some new.stack.frames
-IsBehind w back old new false = Unit {0}
+IsBehind w back old new false = top_behind w back old.stack.frames ≡ None
 
 -- ---- an exception on its way
 
@@ -100,7 +102,7 @@ top_handler w class (f ∷ below) = option_map (λ (h : Handler). h.row.handler)
 
 abbrev pub IsAtHandler : ℕ → ℕ → Continuation → Continuation → Bool → Type 0
 IsAtHandler handler o old new true = top_at_handler handler o old.stack.frames ≡ Some new.stack.frames
-IsAtHandler handler o old new false = Unit {0}
+IsAtHandler handler o old new false = top_at_handler handler o old.stack.frames ≡ None
 
 -- the top frame has a handler, and goes on there
 pub record IsHandled (w : World) (class o : ℕ) (old new : Continuation) : Type 0 where
@@ -122,8 +124,14 @@ pub record IsUncaught (w : World) (class : ℕ) (old new : Continuation) : Type 
   pub root : top_is_root w old.stack.frames ≡ true
   pub same : new ≡ old
 
+-- it has a handler, and can't go on there, since the object has no room on its operand stack
+pub record IsStuck (w : World) (class o : ℕ) (old : Continuation) : Type 0 where
+  pub handler : ℕ
+  pub is : top_handler w class old.stack.frames ≡ Some handler
+  pub none : top_at_handler handler o old.stack.frames ≡ None
+
 abbrev pub IsCaught : World → ℕ → ℕ → Continuation → Continuation → Caught → Type 0
 IsCaught w class o old new catching.Handled = IsHandled w class o old new
 IsCaught w class o old new catching.Left = IsUnhandled w class old new
 IsCaught w class o old new catching.Uncaught = IsUncaught w class old new
-IsCaught w class o old new catching.Undefined = Unit {0}
+IsCaught w class o old new catching.Undefined = IsStuck w class o old

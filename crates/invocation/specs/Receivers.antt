@@ -1,5 +1,5 @@
 -- The class of the receiver of an invocation.
-use Rattle.std.specs.Prelude.{ℕ, ◌≡◌, List, Option, Some, Result, Ok, Err, IfSome, drop, if◌then◌else◌}
+use Rattle.std.specs.Prelude.{ℕ, ◌≡◌, List, Option, Some, None, Result, Ok, Err, drop, if◌then◌else◌}
 use Rattle.items.specs.Options.{◌>>=◌}
 use Rattle.opcodes.specs.declared.op.ValueKind.TheVariants as kinds
 use Rattle.instruction_rows.specs.declared.value.Slot.{Slot}
@@ -21,10 +21,11 @@ abbrev pub tested : World → Receiver → (ℕ → Option Effect) → Option Ef
 tested w receiver act =
     if is_sub w receiver.class receiver.named then act receiver.class else Some (throws (late_failure w receiver.named))
 
--- Where the receiver is known, the invocation does what it does for it; otherwise it throws this exception.
-abbrev pub ReceiverGives : World → (ℕ → Option Effect) → Option Effect → Result Receiver Exception → Type 0
-ReceiverGives w act effect (Ok receiver) = effect ≡ tested w receiver act
-ReceiverGives w act effect (Err e) = effect ≡ Some (throws e)
+-- Where the receiver is known, the invocation does what it does for it; otherwise it throws this exception, or has no effect.
+abbrev pub ReceiverGives : World → (ℕ → Option Effect) → Option Effect → Option (Result Receiver Exception) → Type 0
+ReceiverGives w act effect (Some (Ok receiver)) = effect ≡ tested w receiver act
+ReceiverGives w act effect (Some (Err e)) = effect ≡ Some (throws e)
+ReceiverGives w act effect None = effect ≡ None
 
 -- what is done with the class of a receiver, which lies below so many slots
 abbrev pub on_receiver : World → Resolution → ℕ → Memory → List Slot → (ℕ → Option Effect) → Option Effect
@@ -32,5 +33,5 @@ on_receiver w resolution slots r stack act =
     popped kinds.Reference (drop slots stack) >>= λ x. on_instance w resolution r x.0 (λ o class. act class)
 
 abbrev pub IsReceiver : World → Resolution → ℕ → Heap → Continuation → Option (Result Receiver Exception) → Type 0
-IsReceiver w resolution slots heap m found = (r : Memory) (act : ℕ → Option Effect) → IfSome found
-    (ReceiverGives w act (on_receiver w resolution slots (with_heap heap r) (operands m) act))
+IsReceiver w resolution slots heap m found = (r : Memory) (act : ℕ → Option Effect) →
+    ReceiverGives w act (on_receiver w resolution slots (with_heap heap r) (operands m) act) found

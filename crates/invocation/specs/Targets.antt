@@ -65,12 +65,12 @@ abbrev pub IfCode : Target → (Callee → Type 0) → Type 0
 IfCode (targets.Code callee) holds = holds callee
 IfCode target holds = Unit {0}
 
--- Unless it is undefined, a target is that of this effect.
+-- A target is that of this effect; it is undefined only where there is none.
 abbrev pub Gives : World → Memory → ℕ → List Slot → Option Effect → Target → Type 0
 Gives w r depth stack effect (targets.Native native) = effect ≡ native_effect w r native stack
 Gives w r depth stack effect (targets.Code callee) = effect ≡ begins depth callee stack
 Gives w r depth stack effect (targets.Throws e) = effect ≡ Some (throws e)
-Gives w r depth stack effect targets.Undefined = Unit {0}
+Gives w r depth stack effect targets.Undefined = effect ≡ None
 
 -- the method with a number runs, and takes so many slots
 abbrev pub numbered_effect : World → Memory → ℕ → ℕ → ℕ → List Slot → Option Effect

@@ -17,7 +17,7 @@ pub enum Caught {
     Left,
     /// No handler catches it in a root frame, and nothing has changed.
     Uncaught,
-    /// The definitions have no such step.
+    /// The definitions have no such step: the object has no room on the operand stack.
     Undefined,
 }
 

@@ -19,8 +19,7 @@ pub enum Entered {
     Begun,
     /// It throws a new exception, and the frames are as before: there are 2,048.
     Throws(Exception),
-    /// The definitions have no effect here, and the frames are as before: its local variables are
-    /// fewer than the slots that it takes.
+    /// The definitions have no effect here, and the frames are as before: its local variables are fewer than the slots that it takes.
     Undefined,
 }
 
@@ -65,7 +64,10 @@ pub fn enter(callee: Callee, mounted: &mut Mounted) -> Result<Entered, NoMemory>
         operands,
     } = callee;
     if slots > locals {
-        return Ok(Entered::Undefined);
+        if mounted.depth() < MOST_FRAMES {
+            return Ok(Entered::Undefined);
+        }
+        return Ok(Entered::Throws(Exception::StackOverflowError));
     }
     match push_callee(mounted, method, u32::from(locals), operands, slots) {
         Ok(()) => Ok(Entered::Begun),

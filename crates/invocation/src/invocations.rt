@@ -1,7 +1,7 @@
 //! What invocations come to (JVMS 6.5: invokevirtual, invokespecial, invokestatic, invokeinterface). Tests come in this order: null, the
 //! class of the receiver, selection.
 
-ghost use Rattle.std.specs.Prelude.{◌≡◌, ◌≤◌, IfOk, IfSome, None, Some, length, slice_get, suc};
+ghost use Rattle.std.specs.Prelude.{◌≡◌, ◌≤◌, IfOk, IfSome, None, OnOk, Some, length, slice_get, suc};
 ghost use Rattle.opcodes.specs.declared.op.ValueKind.TheVariants as kinds;
 ghost use Rattle.instruction_rows.specs.Table.{row};
 ghost use Rattle.link_model.specs.Decoded.{code_at};
@@ -147,10 +147,7 @@ fn selected_anew<W: CallWorld>(
         return Ok(Target::Undefined);
     };
     match choice {
-        Choice::Method(place) => match world.method_number(place) {
-            Some(k) => Ok(numbered(world, k, slots)),
-            None => Ok(Target::Undefined),
-        },
+        Choice::Method(place) => Ok(numbered(world, world.method_number(place)?, slots)),
         Choice::Abstract => Ok(Target::Throws(Exception::AbstractMethodError)),
         Choice::Several => Ok(Target::Throws(Exception::IncompatibleClassChangeError)),
     }
@@ -292,6 +289,17 @@ fn invoke_special<W: CallWorld>(
     }
 }
 
+// There is no method with a number. An error: there is one that can't be kept, since no program that runs has such a method.
+#[inline(never)]
+fn find_none<W: CallWorld>(world: &W, n: u32) -> Result<(), NoMemory>
+    ensures { OnOk result (slice_get (W.world world.now).methods n ≡ None) }
+{
+    match world.method(n) {
+        Some(_) => Err(NoMemory),
+        None => Ok(()),
+    }
+}
+
 /// The method that an invokestatic begins as a local instruction. `None`: it isn't known to be one.
 #[inline(always)]
 pub fn static_callee<W: CallWorld>(
@@ -337,6 +345,7 @@ pub fn invoke<W: CallWorld>(
         return Ok(Target::Undefined);
     };
     let Some(method) = named(world, cache, n) else {
+        find_none(world, n)?;
         return Ok(Target::Undefined);
     };
     match op {

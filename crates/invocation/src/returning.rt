@@ -19,7 +19,7 @@ pub enum Left {
     Returned,
     /// It is from a root frame, and nothing has changed.
     Root,
-    /// A look-up has nothing, or what comes back has no room: nothing is said.
+    /// The definitions have no such return: a look-up has nothing, or what comes back has no room.
     Undefined,
 }
 

@@ -22,6 +22,6 @@ pub enum Target {
     Code(Callee),
     /// It throws a new exception.
     Throws(Exception),
-    /// A look-up has nothing, or this isn't begun here: nothing is said. Frames that keep to the typing never get there.
+    /// The definitions have no effect: a look-up has nothing, or this isn't begun. Frames that keep to the typing never get there.
     Undefined,
 }

@@ -1,6 +1,6 @@
 //! What invocations, returns and exceptions ask of a linked world.
 
-ghost use Rattle.std.specs.Prelude.{◌≡◌, IfOk, IfSome, false, slice_get};
+ghost use Rattle.std.specs.Prelude.{◌≡◌, IfOk, false, slice_get};
 ghost use Rattle.std.specs.Option.{option_copied, option_map, option_map_or};
 ghost use Rattle.link_rules.specs.Members as linked;
 ghost use Rattle.link_model.specs.Decoded.{code_at};
@@ -37,9 +37,9 @@ pub trait CallWorld: EventWorld {
         ensures { IfOk result (λ found.
             found ≡ calls.choice_of (Self.world self.now) class method) };
 
-    /// The number of a method that is declared at a place. `None`: there is no such method.
-    fn method_number(&self, place: MemberPlace) -> Option<u32>
-        ensures { IfSome result (λ n.
+    /// The number of a method that is declared at a place. An error: it isn't as small as numbers of methods are.
+    fn method_number(&self, place: MemberPlace) -> Result<u32, NoMemory>
+        ensures { IfOk result (λ n.
             n ≡ linked.method_number (Self.world self.now).program place) };
 
     /// Whether it is jvt.Native.hold, whose frame pins its thread.

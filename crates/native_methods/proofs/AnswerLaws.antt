@@ -42,5 +42,5 @@ stays count answers.Returns m n (outcomes.Throws f) old new h kept = absurd (let
 stays count answers.Returns m n (outcomes.ThrowsObject o) old new h kept = absurd (let e = h any_memory _ refl in cc)
 stays count (answers.Gives v) m n (outcomes.Throws f) old new h kept = absurd (let e = h any_memory _ refl in cc)
 stays count (answers.Gives v) m n (outcomes.ThrowsObject o) old new h kept = absurd (let e = h any_memory _ refl in cc)
-stays count answers.Undefined m n (outcomes.Throws f) old new h kept = absurd (let e = h any_memory None tt in cc)
-stays count answers.Undefined m n (outcomes.ThrowsObject o) old new h kept = absurd (let e = h any_memory None tt in cc)
+stays count answers.Undefined m n (outcomes.Throws f) old new h kept = absurd (let e = h any_memory None (λ room. refl) in cc)
+stays count answers.Undefined m n (outcomes.ThrowsObject o) old new h kept = absurd (let e = h any_memory None (λ room. refl) in cc)

@@ -17,10 +17,12 @@ use Rattle.ref_model.specs.Natives.{native_row, native_takes}
 use Rattle.ref_model.proofs.NativeLaws.{rows_take}
 use Rattle.ref_model.specs.Operands.{FindsArguments, HasOperands}
 use Rattle.native_methods.specs.Arguments.{answer_to, answer_to_two, kinds_of, native_effect, row_answer, with_argument}
-use Rattle.native_methods.specs.NativeStates.{Answers, AnswersOn, IsAnswer, IsAnswerEffect, with_natives}
+use Rattle.native_methods.specs.NativeStates.{Answers, AnswersOn, IsAnswer, IsAnswerEffect, LacksAnswer, with_natives}
 use Rattle.native_methods.specs.declared.state.NativeState.{NativeState}
 use Rattle.items.specs.declared.no_memory.NoMemory.{NoMemory}
+use Rattle.heap_instructions.specs.Outcomes.{LacksEffect}
 use Rattle.native_methods.proofs.AnswerLaws.{any_memory}
+use Rattle.native_methods.proofs.UndefinedLaws.{lacks_answered, row_takes_one, row_takes_two}
 use Rattle.native_methods.specs.declared.arguments.Arguments.{Arguments}
 use Rattle.native_methods.specs.declared.answer.Answer.{Answer}
 use Rattle.native_methods.specs.declared.answer.Answer.TheVariants as answers
@@ -72,40 +74,41 @@ argument_is kinds.Reference x (Some (native (kinds.Reference ∷ ks) act)) stack
 -- ---- from an answer to an effect
 
 -- where an answer makes an effect of the same kind, whatever it is
-by_answer : (answer : Answer) (defined : Option rows.Answer) (effect : Option Effect) (q : Memory) (rest : List Slot) →
+by_answer : (answer : Answer) (defined : Option rows.Answer) (effect : Option Effect) (q : Memory) (rest : List Slot) → (a : rows.Answer) × (defined ≡ Some a) →
     ((a : rows.Answer) → defined ≡ Some a → effect ≡ Some (answered rest a)) → IsAnswer answer defined q → IsAnswerEffect answer effect q rest
-by_answer answers.Returns defined effect q rest is h = is _ h
-by_answer (answers.Gives v) defined effect q rest is h = is _ h
-by_answer (answers.Throws e) defined effect q rest is h = is _ h
-by_answer answers.Undefined defined effect q rest is h = tt
+by_answer answers.Returns defined effect q rest some is h = is _ h
+by_answer (answers.Gives v) defined effect q rest some is h = is _ h
+by_answer (answers.Throws e) defined effect q rest some is h = is _ h
+by_answer answers.Undefined defined effect q rest some is h = λ room.
+    subst (LacksEffect room) (sym (is some.0 some.1)) (lacks_answered some.0 rest room (subst LacksAnswer some.1 h))
 
 -- A native method that takes one operand, and one that takes two, the second a reference.
 pub one_answered : (answer : Answer) (w : World) (r q : Memory) (n : Native) (k : ValueKind) (x : Of k) (stack rest : List Slot) →
-    popped k stack ≡ Some (x, rest) → IsAnswer answer (answer_to w r n k x) q → IsAnswerEffect answer (native_effect w n r stack) q rest
-one_answered answer w r q n k x stack rest p h =
+    native_takes n ≡ Some (k ∷ []) → popped k stack ≡ Some (x, rest) → IsAnswer answer (answer_to w r n k x) q → IsAnswerEffect answer (native_effect w n r stack) q rest
+one_answered answer w r q n k x stack rest takes p h =
     let row = native_row w r n in
-    by_answer answer (answer_to w r n k x) (native_effect w n r stack) q rest
+    by_answer answer (answer_to w r n k x) (native_effect w n r stack) q rest (row_takes_one w r n k x takes)
     (λ a e. argument_is k x row stack rest (answered rest a) p (answered_is (with_argument k x row) rest a e)) h
 
 pub two_answered : (answer : Answer) (w : World) (r q : Memory) (n : Native) (k : ValueKind) (x : Of k) (this : Of kinds.Reference)
-    (stack middle rest : List Slot) → popped k stack ≡ Some (x, middle) → popped kinds.Reference middle ≡ Some (this, rest) →
+    (stack middle rest : List Slot) → native_takes n ≡ Some (k ∷ kinds.Reference ∷ []) → popped k stack ≡ Some (x, middle) → popped kinds.Reference middle ≡ Some (this, rest) →
     IsAnswer answer (answer_to_two w r n k x this) q → IsAnswerEffect answer (native_effect w n r stack) q rest
-two_answered answer w r q n k x this stack middle rest p p2 h =
+two_answered answer w r q n k x this stack middle rest takes p p2 h =
     let row = native_row w r n in
-    by_answer answer (answer_to_two w r n k x this) (native_effect w n r stack) q rest
+    by_answer answer (answer_to_two w r n k x this) (native_effect w n r stack) q rest (row_takes_two w r n k x this takes)
     (λ a e. argument_is k x row stack middle (answered rest a) p
     (argument_is kinds.Reference this (with_argument k x row) middle rest (answered rest a) p2
     (answered_is (with_argument kinds.Reference this (with_argument k x row)) rest a e))) h
 
 -- The same, unless memory ran out.
 pub one_along : (w : World) (n : Native) (k : ValueKind) (x : Of k) (stack : List Slot) (count : ℕ) (old new : NativeState) (result : Result Answer NoMemory) →
-    popped k stack ≡ Some (x, drop count stack) → IfOk result (λ a. Answers (λ r. answer_to w r n k x) old new a) → IfOk result (AnswersOn w n stack count old new)
-one_along w n k x stack count old new (Err e) p h = tt
-one_along w n k x stack count old new (Ok a) p h = λ r. one_answered a w (with_natives old r) (with_natives new r) n k x stack (drop count stack) p (h r)
+    native_takes n ≡ Some (k ∷ []) → popped k stack ≡ Some (x, drop count stack) → IfOk result (λ a. Answers (λ r. answer_to w r n k x) old new a) → IfOk result (AnswersOn w n stack count old new)
+one_along w n k x stack count old new (Err e) takes p h = tt
+one_along w n k x stack count old new (Ok a) takes p h = λ r. one_answered a w (with_natives old r) (with_natives new r) n k x stack (drop count stack) takes p (h r)
 
 pub two_along : (w : World) (n : Native) (k : ValueKind) (x : Of k) (this : Of kinds.Reference) (stack : List Slot) (first count : ℕ) (old new : NativeState) (result : Result Answer NoMemory) →
-    popped k stack ≡ Some (x, drop first stack) → popped kinds.Reference (drop first stack) ≡ Some (this, drop count stack) →
+    native_takes n ≡ Some (k ∷ kinds.Reference ∷ []) → popped k stack ≡ Some (x, drop first stack) → popped kinds.Reference (drop first stack) ≡ Some (this, drop count stack) →
     IfOk result (λ a. Answers (λ r. answer_to_two w r n k x this) old new a) → IfOk result (AnswersOn w n stack count old new)
-two_along w n k x this stack first count old new (Err e) p q h = tt
-two_along w n k x this stack first count old new (Ok a) p q h = λ r.
-    two_answered a w (with_natives old r) (with_natives new r) n k x this stack (drop first stack) (drop count stack) p q (h r)
+two_along w n k x this stack first count old new (Err e) takes p q h = tt
+two_along w n k x this stack first count old new (Ok a) takes p q h = λ r.
+    two_answered a w (with_natives old r) (with_natives new r) n k x this stack (drop first stack) (drop count stack) takes p q (h r)

@@ -1,4 +1,5 @@
 pub mod AnswerLaws
+pub mod UndefinedLaws
 pub mod ArgumentLaws
 pub mod BuilderLaws
 pub mod LineLaws

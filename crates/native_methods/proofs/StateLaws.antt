@@ -22,4 +22,4 @@ made make old heap (Err e) h = tt
 pub set_in : (o place : ℕ) (v : Value) (old : NativeState) (heap : Heap) (done : Bool) → heaps.IsValueSet o place v old.heap heap done →
     IsSet o place v old (record old { heap = heap }) done
 set_in o place v old heap true h = λ r. h (beside_heap old r)
-set_in o place v old heap false h = tt
+set_in o place v old heap false h = (λ r. h.0 (beside_heap old r), ap (λ (x : Heap). record old { heap = x }) h.1)

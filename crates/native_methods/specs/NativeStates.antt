@@ -1,5 +1,5 @@
 -- The parts of a memory that native methods read and write, and what an answer says of them.
-use Rattle.std.specs.Prelude.{ℕ, ◌≡◌, Bool, true, false, List, [], Option, Some, None, drop, slice_get}
+use Rattle.std.specs.Prelude.{ℕ, pos, ◌≡◌, Bool, true, false, List, [], Option, Some, None, drop, nat_le, slice_get, if◌then◌else◌}
 use Rattle.items.specs.Options.{◌>>=◌}
 use Rattle.instruction_rows.specs.declared.value.Slot.{Slot}
 use Rattle.instruction_rows.specs.declared.value.Value.{Value}
@@ -13,8 +13,8 @@ use Rattle.ref_model.specs.Heap.{units_of, values_of, with_value}
 use Rattle.ref_model.specs.NativeRows as rows
 use Rattle.ref_model.specs.Printing.{line}
 use Rattle.state_model.specs.Objects.{Object}
-use Rattle.heap_instructions.specs.Operands.{operands}
-use Rattle.heap_instructions.specs.Outcomes.{IsEffect, with_heap}
+use Rattle.heap_instructions.specs.Operands.{operands, room_of}
+use Rattle.heap_instructions.specs.Outcomes.{IsEffect, LacksEffect, greatest_int, with_heap}
 use Rattle.heap_instructions.specs.declared.outcome.Outcome.{Outcome}
 use Rattle.heap_instructions.specs.declared.outcome.Outcome.TheVariants as outcomes
 use Rattle.native_methods.specs.Arguments.{native_effect}
@@ -33,12 +33,21 @@ with_natives s r = with_heap s.heap (beside_heap s r)
 
 -- ---- answers
 
--- Unless it is undefined, an answer is this one of the definitions, where the memory is this one afterwards.
+-- an answer, unless it gives a count that is greater than an int
+abbrev pub counted : Option rows.Answer → Option rows.Answer
+counted (Some (rows.returns_value r (values.Int (pos n)))) = if nat_le n greatest_int then Some (rows.returns_value r (values.Int (pos n))) else None
+counted defined = defined
+
+-- The definitions answer nothing here, or give a count that is greater than an int.
+abbrev pub LacksAnswer : Option rows.Answer → Type 0
+LacksAnswer defined = counted defined ≡ None
+
+-- An answer is this one of the definitions, where the memory is this one afterwards; it is undefined only where there is no such one.
 abbrev pub IsAnswer : Answer → Option rows.Answer → Memory → Type 0
 IsAnswer answers.Returns defined q = defined ≡ Some (rows.returns q)
 IsAnswer (answers.Gives v) defined q = defined ≡ Some (rows.returns_value q v)
 IsAnswer (answers.Throws e) defined q = defined ≡ Some (rows.fails e)
-IsAnswer answers.Undefined defined q = Unit {0}
+IsAnswer answers.Undefined defined q = LacksAnswer defined
 
 -- A native method that has its arguments, with what it answers as a function of the memory, answered this.
 abbrev pub Answers : (Memory → Option rows.Answer) → NativeState → NativeState → Answer → Type 0
@@ -55,12 +64,13 @@ StaysIfThrown (outcomes.Throws e) old new = new ≡ old
 StaysIfThrown (outcomes.ThrowsObject o) old new = new ≡ old
 StaysIfThrown outcome old new = Unit {0}
 
--- Unless it is undefined, an answer is that of this effect, where the memory is this one afterwards, and this is left of the operand stack.
+-- An answer is that of this effect, where the memory is this one afterwards, and this is left of the operand stack; it is undefined only
+-- where no frame has such an effect.
 abbrev pub IsAnswerEffect : Answer → Option Effect → Memory → List Slot → Type 0
 IsAnswerEffect answers.Returns effect q rest = effect ≡ Some (done q rest)
 IsAnswerEffect (answers.Gives v) effect q rest = effect ≡ Some (gives q v rest)
 IsAnswerEffect (answers.Throws e) effect q rest = effect ≡ Some (throws e)
-IsAnswerEffect answers.Undefined effect q rest = Unit {0}
+IsAnswerEffect answers.Undefined effect q rest = (room : ℕ) → LacksEffect room effect
 
 -- With its arguments on top of the operand stack, a native method answered this; the answer replaces this number of slots.
 abbrev pub AnswersOn : World → Native → List Slot → ℕ → NativeState → NativeState → Answer → Type 0
@@ -70,7 +80,7 @@ AnswersOn w n stack count old new answer = (r : Memory) →
 -- The outcome is that of each effect of the answer, which replaces this number of operands.
 abbrev pub IsAnswered : ℕ → Answer → Continuation → Continuation → Outcome → Type 0
 IsAnswered count answer old new outcome = (q : Memory) (effect : Option Effect) →
-    IsAnswerEffect answer effect q (drop count (operands old)) → IsEffect outcome effect q (operands new)
+    IsAnswerEffect answer effect q (drop count (operands old)) → IsEffect (room_of old) outcome effect q (operands new)
 
 -- ---- making and setting
 
@@ -79,10 +89,10 @@ abbrev pub IsMade : (Memory → Option (Memory × ℕ)) → NativeState → Nati
 IsMade make old new (Some o) = (r : Memory) → make (with_natives old r) ≡ Some (with_natives new r, o)
 IsMade make old new None = ((r : Memory) → make (with_natives old r) ≡ None) × (new ≡ old)
 
--- An object has this value at a place now, if it has such a place.
+-- An object has this value at a place now, or it has no such place, and nothing has changed.
 abbrev pub IsSet : ℕ → ℕ → Value → NativeState → NativeState → Bool → Type 0
 IsSet o place v old new true = (r : Memory) → with_value (with_natives old r) o place v ≡ Some (with_natives new r)
-IsSet o place v old new false = Unit {0}
+IsSet o place v old new false = ((r : Memory) → with_value (with_natives old r) o place v ≡ None) × (new ≡ old)
 
 -- ---- texts
 

@@ -17,7 +17,7 @@ pub(crate) enum Answer {
     Gives(Value),
     /// It throws a new exception, and nothing has changed.
     Throws(Exception),
-    /// The definitions answer nothing here, or what the machine can't hold: nothing is said.
+    /// The definitions answer nothing here, or give a count that is greater than an int.
     Undefined,
 }
 

@@ -76,7 +76,7 @@ pub(crate) fn append_string(
     append(alloc, state, this, units.as_slice())
 }
 
-/// length(). Of a text with more units than an int counts nothing is said.
+/// length(). It is undefined of a text with more units than an int counts.
 pub(crate) fn builder_length(state: &NativeState, this: Option<u32>) -> Answer
     ensures { Answers (λ r. to_one kinds.Reference this (Some (spec.builder_length r)))
         state.now state.now result }

@@ -1,6 +1,7 @@
 //! Native methods on a thread: the arguments are read, and the answer takes their place.
 
-ghost use Rattle.std.specs.Prelude.{◌≤◌, IfOk, length};
+ghost use Rattle.std.specs.Prelude.{◌≡◌, ◌≤◌, IfOk, Some, length};
+ghost use Rattle.ref_model.specs.Natives.{native_takes};
 ghost use Rattle.ref_model.specs.Operands.{FindsArguments, HasOperands};
 ghost use Rattle.heap_instructions.specs.Operands.{ChangesOperands, HasTop, operands};
 ghost use Rattle.heap_instructions.specs.Outcomes.{Acts, KeptUnlessDone};
@@ -30,7 +31,8 @@ fn answer_of<W: NativeWorld>(
     state: &mut NativeState,
     mounted: &Mounted,
 ) -> Result<Answer, NoMemory>
-    requires { HasOperands (spec.kinds_of arguments) 0 (operands mounted.now) }
+    requires takes { Some (spec.kinds_of arguments) ≡ native_takes native }
+    requires given { HasOperands (spec.kinds_of arguments) 0 (operands mounted.now) }
     ensures answer { IfOk result (AnswersOn (W.world world.now) native (operands mounted.now)
         (spec.slots_of arguments) state.old state.new) }
     ensures kept { IfOk result (λ a. KeptIfThrown a state.old state.new) }
@@ -67,7 +69,7 @@ fn answer_of<W: NativeWorld>(
     }
 }
 
-/// Does what a native method does in place of code. Of those of threads, monitors and the clock nothing is said.
+/// Does what a native method does in place of code. Those of threads, monitors and the clock have no effect yet, and are undefined.
 pub fn run_native<W: NativeWorld>(
     alloc: Global,
     world: &W,

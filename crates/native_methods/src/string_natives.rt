@@ -15,7 +15,7 @@ use items::NoMemory;
 use ref_model::Exception;
 use std::alloc::Global;
 
-/// length(). Of a String with more units than an int counts nothing is said.
+/// length(). It is undefined of a String with more units than an int counts.
 pub(crate) fn string_length(state: &NativeState, this: Option<u32>) -> Answer
     ensures { Answers (λ r. to_one kinds.Reference this (Some (spec.string_length r)))
         state.now state.now result }

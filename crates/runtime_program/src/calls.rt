@@ -31,8 +31,8 @@ impl CallWorld for ReadyProgram {
         ReadyProgram::choice(self, alloc, class, method)
     }
 
-    fn method_number(&self, place: MemberPlace) -> Option<u32> {
-        ReadyProgram::method_number(self, place).ok()
+    fn method_number(&self, place: MemberPlace) -> Result<u32, NoMemory> {
+        ReadyProgram::method_number(self, place)
     }
 
     fn is_hold(&self, method: &MethodInfo) -> bool {

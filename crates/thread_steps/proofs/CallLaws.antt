@@ -166,7 +166,7 @@ pub native_leads : (w : World) (a b : Parts) (s : NativeState) (native : Native)
     → EffectSteps w next (λ r depth stack. native_effect w native r stack) a m.stack.frames b after
 native_leads w a b s native next m new after o acts kept stays only held ends stage f below top =
     concluded w stage a (record a { natives = s }) b f below new.stack.frames after (operands new) next o (native_effect w native (memory_of a) f.stack) (λ x fs. refl)
-    (subst (λ (fs : List Frame). IsEffect o (native_effect w native (memory_of a) (top_stack fs)) (memory_of (record a { natives = s })) (operands new)) top (acts (memory_of a)))
+    (subst (λ (fs : List Frame). IsEffect (top_room fs) o (native_effect w native (memory_of a) (top_stack fs)) (memory_of (record a { natives = s })) (operands new)) top (acts (memory_of a)))
     (subst (λ (n : ℕ). length (operands new) ≤ n) (ap top_room frames) held) frames (memory_kept o stays ends) (frames_kept m new (f ∷ below) o top kept) ends
   where
     frames : new.stack.frames ≡ with_stack (operands new) (f ∷ below)

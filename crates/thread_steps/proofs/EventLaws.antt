@@ -65,7 +65,7 @@ same_state stage a mid frames thread same = ap (with_memory (state_of stage a fr
 
 -- An outcome, with the parts and frames that it left, and what was concluded from it.
 pub concluded : (w : World) (stage : Stage) (a mid b : Parts) (f : Frame) (below left after : List Frame) (stack : List Slot) (next : ℕ) (o : Outcome) (effect : Option Effect)
-    → HasSameThread a mid → IsEffect o effect (memory_of mid) stack → length stack ≤ f.room → left ≡ with_stack stack (f ∷ below)
+    → HasSameThread a mid → IsEffect f.room o effect (memory_of mid) stack → length stack ≤ f.room → left ≡ with_stack stack (f ∷ below)
     → KeptUnlessDone o (memory_of a) (memory_of mid) → KeptUnlessDone o (f ∷ below) left → Concludes w next o mid left b after → Leads w stage a b f below after next effect
 concluded w stage a mid b f below left after stack next Done effect thread is held frames kept same ends =
     let t = stage.number in
@@ -116,7 +116,7 @@ division_stepped w i act stage a b f below after at row x =
     (effect_step w i (local act) (state_of stage a (f ∷ below)) (state_of stage b after) stage.number f below x.effect_is at row tt effect x.leads)
 
 pub event_stepped : (w : World) (i : Instruction) (stage : Stage) (a mid b : Parts) (f : Frame) (below left after : List Frame) (stack : List Slot) (o : Outcome) → fetched w f ≡ Some i
-    → HasSameThread a mid → IsEffect o (events.row_effect w i.resolution (row_of i.instr.op) (memory_of a) f.stack) (memory_of mid) stack → length stack ≤ f.room → left ≡ with_stack stack (f ∷ below)
+    → HasSameThread a mid → IsEffect f.room o (events.row_effect w i.resolution (row_of i.instr.op) (memory_of a) f.stack) (memory_of mid) stack → length stack ≤ f.room → left ≡ with_stack stack (f ∷ below)
     → KeptUnlessDone o (memory_of a) (memory_of mid) → KeptUnlessDone o (f ∷ below) left → Concludes w i.instr.next o mid left b after → IsRunStep w stage.number (state_of stage a (f ∷ below)) (f ∷ below) (state_of stage b after)
 event_stepped w i stage a mid b f below left after stack o at thread is held frames kept same ends = by (row_of i.instr.op) refl (concluded w stage a mid b f below left after stack i.instr.next o _ thread is held frames kept same ends)
   where
@@ -175,12 +175,13 @@ event_done w i a b h given statics m next after o size same ran held ends stage 
     let frames : next.stack.frames ≡ with_stack (operands next) (f ∷ below) = ran.only.frames ∙ ap (with_stack (operands next)) top in
     let room : top_room next.stack.frames ≡ f.room = ap top_room frames in
     let left = valued a h statics size in
-    let effect = subst (λ (q : Memory). IsEffect o (events.row_effect w i.resolution (row_of i.instr.op) (with_heap a.natives.heap (with_statics given (memory_of a))) (operands m)) q (operands next)) (sym left) (ran.effect (memory_of a)) in
+    let effect = subst (λ (q : Memory). IsEffect (top_room m.stack.frames) o (events.row_effect w i.resolution (row_of i.instr.op) (with_heap a.natives.heap (with_statics given (memory_of a))) (operands m)) q (operands next)) (sym left) (ran.effect (memory_of a)) in
     let first : events.row_effect w i.resolution (row_of i.instr.op) (with_heap a.natives.heap (with_statics given (memory_of a))) (operands m) ≡ events.row_effect w i.resolution (row_of i.instr.op) (memory_of a) f.stack =
     ap (λ (s : List Value). events.row_effect w i.resolution (row_of i.instr.op) (with_statics s (memory_of a)) (operands m)) same ∙ ap (λ (fs : List Frame). events.row_effect w i.resolution (row_of i.instr.op) (memory_of a) (top_stack fs)) top in
     let kept_statics = subst (λ (s : List Value). KeptUnlessDone o s statics) same ran.kept_statics in
     let step : IsRunStep w stage.number (state_of stage a (f ∷ below)) (f ∷ below) (state_of stage b after) =
     event_stepped w i stage a (with_values a h statics) b f below next.stack.frames after (operands next) o at (λ x fs. refl)
-    (subst (λ (x : Option Effect). IsEffect o x (memory_of (with_values a h statics)) (operands next)) first effect)
+    (subst (λ (n : ℕ). IsEffect n o (events.row_effect w i.resolution (row_of i.instr.op) (memory_of a) f.stack) (memory_of (with_values a h statics)) (operands next)) (ap top_room top)
+    (subst (λ (x : Option Effect). IsEffect (top_room m.stack.frames) o x (memory_of (with_values a h statics)) (operands next)) first effect))
     (subst (λ (n : ℕ). length (operands next) ≤ n) room held) frames (values_kept a h statics o size ran.kept_heap kept_statics) (frames_kept m next (f ∷ below) o top ran.kept) ends in
     subst (λ (fs : List Frame). IsRunStep w stage.number (state_of stage a fs) fs (state_of stage b after)) (sym top) step

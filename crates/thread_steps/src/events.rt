@@ -1,8 +1,9 @@
 //! The instructions on fields, arrays and objects, and divisions by 0, as steps of a thread.
 
-ghost use Rattle.std.specs.Prelude.{◌<◌, length, OnOk};
+ghost use Rattle.std.specs.Prelude.{◌<◌, ◌≡◌, length, true, OnOk};
 ghost use Rattle.instruction_rows.specs.Table.{row};
 ghost use Rattle.ref_model.specs.Operands.{FindsOperands};
+ghost use Rattle.heap_instructions.specs.Dispatch.{is_on_field, is_plain};
 ghost use Rattle.heap_instructions.specs.Operands.{operands};
 ghost use Rattle.thread_steps.specs.Concluding.{Steps};
 
@@ -25,6 +26,7 @@ fn field_step<W: MachineWorld>(
     instr: &Instr,
     resolution: &Resolution,
 ) -> Result<(), NoMemory>
+    requires field { is_on_field instr.now.op ≡ true }
     requires frame { 0 < length mounted.old.stack.frames }
     requires operands { FindsOperands (W.world world.now) resolution.now (row instr.now.op)
         (operands mounted.old) }
@@ -54,6 +56,7 @@ fn plain_step<W: MachineWorld>(
     instr: &Instr,
     resolution: &Resolution,
 ) -> Result<(), NoMemory>
+    requires plain { is_plain instr.now.op ≡ true }
     requires frame { 0 < length mounted.old.stack.frames }
     requires operands { FindsOperands (W.world world.now) resolution.now (row instr.now.op)
         (operands mounted.old) }

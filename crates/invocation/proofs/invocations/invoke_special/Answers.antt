@@ -19,7 +19,7 @@ returns-then-is_sub-clause-target g c = λ r depth.
     let stack = operands c.args.mounted.now in
     let act : ℕ → Option Effect = λ class. unless_failed c.args.resolution.now.failure (numbered_effect w q depth m.number (suc m.slots) stack) in
     let effect = special_effect w c.args.resolution.now m.number m.slots q depth stack in
-    let T : Result Receiver Exception → Type 0 = ReceiverGives w act effect in
+    let T : Result Receiver Exception → Type 0 = λ x. ReceiverGives w act effect (Some x) in
     gives_along w q depth stack effect (act c.in-Ok.receiver.class) c.linked_target.result
     (subst T c.in-Ok.is (c.in-Some.ensures.receiver r act) ∙ tested_instance w c.in-Ok.receiver act (sym c.is_sub.ensures ∙ c.if-is_sub.true))
     (c.linked_target.ensures.target w c.requires.named q depth stack)
@@ -31,7 +31,7 @@ returns-else-is_sub-clause-target g c = λ r depth.
     let q = with_heap c.args.heap.now r in
     let stack = operands c.args.mounted.now in
     let act : ℕ → Option Effect = λ class. unless_failed c.args.resolution.now.failure (numbered_effect w q depth m.number (suc m.slots) stack) in
-    let T : Result Receiver Exception → Type 0 = ReceiverGives w act (special_effect w c.args.resolution.now m.number m.slots q depth stack) in
+    let T : Result Receiver Exception → Type 0 = λ x. ReceiverGives w act (special_effect w c.args.resolution.now m.number m.slots q depth stack) (Some x) in
     subst T c.in-Ok.is (c.in-Some.ensures.receiver r act) ∙ tested_other w c.in-Ok.receiver act (sym c.is_sub.ensures ∙ c.if-is_sub.false)
     ∙ ap (λ e. Some (throws e)) (sym c.late_failure.ensures)
 
@@ -42,5 +42,5 @@ returns-in-Err-clause-target g c = λ r depth.
     let q = with_heap c.args.heap.now r in
     let stack = operands c.args.mounted.now in
     let act : ℕ → Option Effect = λ class. unless_failed c.args.resolution.now.failure (numbered_effect w q depth m.number (suc m.slots) stack) in
-    let T : Result Receiver Exception → Type 0 = ReceiverGives w act (special_effect w c.args.resolution.now m.number m.slots q depth stack) in
+    let T : Result Receiver Exception → Type 0 = λ x. ReceiverGives w act (special_effect w c.args.resolution.now m.number m.slots q depth stack) (Some x) in
     subst T c.in-Err.is (c.in-Some.ensures.receiver r act)

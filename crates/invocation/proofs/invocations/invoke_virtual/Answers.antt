@@ -1,4 +1,4 @@
-use Rattle.std.proofs.Common.{ℕ, suc, ◌≡◌, ◌+◌, Option, subst, ap, ◌∙◌, arith}
+use Rattle.std.proofs.Common.{ℕ, suc, ◌≡◌, ◌+◌, Option, Some, subst, ap, ◌∙◌, arith}
 use Rattle.std.specs.Prelude.{Result}
 use Rattle.ref_model.specs.declared.exception.Exception.{Exception}
 use Rattle.ref_model.specs.Effects.{Effect}
@@ -21,7 +21,7 @@ returns-in-Ok-clause-target g c =
     let stack = operands c.args.mounted.now in
     let effect = virtual_effect w c.args.resolution.now c.args.method.number c.args.method.slots q depth stack in
     let act : ℕ → Option Effect = λ class. selected_effect w q depth class c.args.method.number (suc c.args.method.slots) stack in
-    let T : Result Receiver Exception → Type 0 = ReceiverGives w act effect in
+    let T : Result Receiver Exception → Type 0 = λ x. ReceiverGives w act effect (Some x) in
     let slots : ℕ → Option Effect = λ s. received_effect w q depth receiver c.args.method.number s stack in
     gives_along w q depth stack effect (slots (c.args.method.slots + 1)) target (subst T c.in-Ok.is (c.in-Some.ensures.receiver r act) ∙ ap slots next) (h q depth stack))
     c.received.ensures.target
@@ -32,5 +32,5 @@ returns-in-Err-clause-target g c = λ r depth.
     let q = with_heap c.args.heap.now r in
     let stack = operands c.args.mounted.now in
     let act : ℕ → Option Effect = λ class. selected_effect w q depth class c.args.method.number (suc c.args.method.slots) stack in
-    let T : Result Receiver Exception → Type 0 = ReceiverGives w act (virtual_effect w c.args.resolution.now c.args.method.number c.args.method.slots q depth stack) in
+    let T : Result Receiver Exception → Type 0 = λ x. ReceiverGives w act (virtual_effect w c.args.resolution.now c.args.method.number c.args.method.slots q depth stack) (Some x) in
     subst T c.in-Err.is (c.in-Some.ensures.receiver r act)

@@ -6,11 +6,11 @@ use Rattle.ref_model.specs.Calls.{chosen}
 use Rattle.invocation.specs.Targets.{Gives, numbered_effect}
 use Rattle.invocation.proofs.invocations.selected_anew.Goals as goal
 
-pub returns-in-Some-method_number-clause-selected : goal.returns-in-Some-method_number-clause-selected
-returns-in-Some-method_number-clause-selected g c = λ r depth stack.
+pub returns-in_ok-method_number-in-Method-clause-selected : goal.returns-in_ok-method_number-in-Method-clause-selected
+returns-in_ok-method_number-in-Method-clause-selected g c = λ r depth stack.
     let w = g.W.EventWorld.world c.args.world.now in
     let act : ℕ → Option Effect = λ k. numbered_effect w r depth k c.args.slots stack in
     let P : Option Effect → Type 0 = λ x. Gives w r depth stack x c.numbered.result in
     let by : Option Choice → Option Effect = λ o. o >>= λ choice. chosen w choice act in
-    subst P (sym (ap by (sym c.in_ok-choice.ensures ∙ c.in-Some.is ∙ ap Some c.in-Method.is) ∙ ap act (sym c.in-Some-method_number.ensures)))
+    subst P (sym (ap by (sym c.in_ok-choice.ensures ∙ c.in-Some.is ∙ ap Some c.in-Method.is) ∙ ap act (sym c.in_ok-method_number-in-Method.ensures)))
     (c.numbered.ensures.numbered r depth stack)
