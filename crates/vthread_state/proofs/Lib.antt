@@ -1,3 +1,4 @@
 pub mod TableLaws
 pub mod JoinLaws
 pub mod RisingLaws
+pub mod GoingLaws

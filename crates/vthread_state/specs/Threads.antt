@@ -1,5 +1,6 @@
 -- The table of threads.
-use Rattle.std.specs.Prelude.{ℕ, ◌<◌, Bool, List, length, Option, Some, None, slice_get, slice_set}
+use Rattle.std.specs.Prelude.{ℕ, ◌<◌, Bool, true, false, List, length, Option, Some, None, is_some, not, slice_get, slice_set, ◌&&◌}
+use Rattle.std.specs.List.{list_any}
 use Rattle.std.specs.Option.{ForSome, option_map}
 use Rattle.items.specs.Options.{◌>>=◌}
 use Rattle.vthread_state.specs.declared.phase.Phase.{Phase}
@@ -46,6 +47,19 @@ with_thread table t f = record table { threads = threads_with f table.threads t 
 -- a thread has this status now
 abbrev pub with_status : Threads → ℕ → Status → Threads
 with_status table t status = with_thread table t (λ thread. record thread { status = status })
+
+-- ---- what keeps the program going (JLS 12.8)
+
+-- it was started, didn't end, and is no daemon
+abbrev pub keeps_going : Thread → Bool
+keeps_going thread = is_some (phase_of thread.status) && not thread.daemon
+
+abbrev pub goes_on : Threads → Bool
+goes_on table = list_any keeps_going table.threads
+
+abbrev pub times_true : Bool → ℕ
+times_true true = 1
+times_true false = 0
 
 -- ---- who joins whom
 

@@ -7,25 +7,26 @@ ghost use Rattle.vthread_state.specs.declared.error.ThreadError.TheVariants as e
 ghost use Rattle.vthread_state.specs.declared.phase.Phase.TheVariants as phases;
 ghost use Rattle.vthread_state.specs.declared.thread.Status.TheVariants as statuses;
 ghost use Rattle.vthread_state.specs.JavaState.{java_state};
-ghost use Rattle.vthread_state.specs.Threads.{IsInTable, joins, new_thread, phase_at, status_at, target_of, target_of_status, thread_at, with_status, with_thread};
+ghost use Rattle.vthread_state.specs.Threads.{IsInTable, goes_on, joins, new_thread, phase_at, status_at, target_of, target_of_status, thread_at, with_status, with_thread};
 
 use crate::error::{NotNew, ThreadError};
 use crate::java_state::JavaState;
 use crate::joiners::{come, joined_by, leave};
 use crate::phase::Phase;
-use crate::thread::{Status, Thread, ThreadKind};
+use crate::thread::{Status, Thread, ThreadKind, recount};
 use items::NoMemory;
 use std::alloc::Global;
 use std::marker::Model;
 use thread_lists::ThreadLists;
 
-/// The threads by number, and who waits to join each of them.
+/// The threads by number, who waits to join each of them, and how many of them keep the program going.
 #[derive(Drop)]
 pub struct ThreadTable {
     alloc: Global,
     limit: u32,
     threads: Vec<Thread>,
     joiners: ThreadLists,
+    going: u32,
 }
 
 impl Model for ThreadTable {
@@ -50,6 +51,7 @@ impl ThreadTable {
             limit,
             threads: Vec::new(alloc),
             joiners: ThreadLists::new(alloc),
+            going: 0,
         })
     }
 
@@ -164,6 +166,21 @@ impl ThreadTable {
         Ok(threads)
     }
 
+    /// Whether a thread that is no daemon was started and didn't end, so that the program goes on (JLS 12.8). The threads aren't looked at.
+    pub fn goes_on(&self) -> bool
+        ensures { result ≡ goes_on self.now }
+    {
+        self.going > 0
+    }
+
+    /// A thread as it is.
+    pub fn row(&self, t: u32) -> Thread
+        requires { t < length self.now.threads }
+        ensures { thread_at self.now t ≡ Some result }
+    {
+        self.threads[t as usize]
+    }
+
     /// Which kind of thread it is.
     pub fn kind(&self, t: u32) -> ThreadKind
         requires { t < length self.now.threads }
@@ -186,7 +203,9 @@ impl ThreadTable {
         ensures { self.new ≡ with_thread self.old t (λ thread. record thread { daemon = daemon }) }
     {
         let thread = &mut self.threads[t as usize];
+        let before = thread.keeps_going();
         thread.daemon = daemon;
+        self.going = recount(self.going, before, thread.keeps_going());
     }
 
     /// The number of a thread's Thread object.
@@ -221,7 +240,9 @@ impl ThreadTable {
     {
         let thread = &mut self.threads[t as usize];
         let target = joined_by(thread.status);
+        let before = thread.keeps_going();
         thread.status = status;
+        self.going = recount(self.going, before, thread.keeps_going());
         leave(&mut self.joiners, t, target);
         come(&mut self.joiners, t, joined_by(status));
     }

@@ -1,7 +1,8 @@
-use Rattle.std.proofs.Common.{◌≡◌, ◌++◌, [], ◌∷◌, List, length, refl, ap, ◌∙◌, arith, rules, length-append}
+use Rattle.std.proofs.Common.{◌≡◌, ◌++◌, [], ◌∷◌, List, length, refl, sym, ap, ◌∙◌, arith, rules, length-append}
 use Rattle.thread_lists.specs.Lists.{Lists}
 use Rattle.vthread_state.specs.declared.thread.Thread.{Thread}
 use Rattle.vthread_state.specs.declared.thread.Status.TheVariants.{New}
+use Rattle.vthread_state.proofs.GoingLaws.{going, going_more}
 use Rattle.vthread_state.proofs.JoinLaws.{joined_more}
 use Rattle.vthread_state.proofs.table.ThreadTable.add.Goals as goal
 
@@ -17,4 +18,5 @@ invariant_of-self-2 c =
       joined = joined_more c.self.inside.threads.items _ c.self.inside.joiners _ new c.self.invariant.joined items refl lists (omega (arith, threads, size));
       few = omega (arith, ap length items, length-append c.self.inside.threads.items (new ∷ []), size, c.self.invariant.few, c.if-t-self.false);
       bound = c.self.invariant.bound;
+      going = c.self.invariant.going ∙ sym (going_more c.self.inside.threads.items new refl) ∙ ap going (sym items);
     }

@@ -1,7 +1,8 @@
-use Rattle.std.proofs.Common.{◌<◌, length, List, refl, sym, ap, subst, ◌∙◌, rules}
+use Rattle.std.proofs.Common.{◌<◌, length, List, refl, sym, ap, subst, ◌∙◌, arith, rules}
 use Rattle.vthread_state.specs.declared.thread.Thread.{Thread}
 use Rattle.vthread_state.specs.Threads.{Threads, with_thread}
 use Rattle.vthread_state.proofs.TableLaws.{here, threads_with_is}
+use Rattle.vthread_state.proofs.GoingLaws.{going_set}
 use Rattle.vthread_state.proofs.JoinLaws.{joined_same}
 use Rattle.vthread_state.proofs.table.ThreadTable.set_name.Goals as goal
 
@@ -13,6 +14,7 @@ invariant_of-self c =
       joined = joined_same _ _ _ old _ c.self.invariant.joined (here _ _ old low c.index_mut-thread.ensures.value) low refl;
       few = search rules;
       bound = c.self.invariant.bound;
+      going = omega (arith, c.self.invariant.going, going_set c.self.inside.threads.items c.args.t old (record old { name = c.args.name }) (here _ _ old low c.index_mut-thread.ensures.value));
     }
 
 pub returns : goal.returns
