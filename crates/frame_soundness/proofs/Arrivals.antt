@@ -11,7 +11,7 @@ use Rattle.verify_types.specs.TypeStates.{TypeState}
 use Rattle.verify_types.specs.Typing.{Leads}
 use Rattle.state_model.specs.Frames.{Frame}
 use Rattle.ref_model.specs.Frames.{gone}
-use Rattle.frame_soundness.specs.Typed.{IsAt, Stands, AreUnder, Typed}
+use Rattle.frame_soundness.specs.Typed.{own_locals, IsAt, Stands, AreUnder, Typed}
 
 pub record Arrived (w : World) (f : Frame) (pc : ℕ) (c : Contents Slot) : Type 0 where
   pub frame : Frame
@@ -23,9 +23,9 @@ if_true : {A : Type 0} (b : Bool) (x y : A) → b ≡ true → (if b then x else
 if_true true x y e = refl
 if_true false x y e = absurd cc
 
--- a state of the method leads to the pc, and the slots have its kinds
+-- a state of the method leads to the pc, and the slots have its kinds, but for a monitor
 pub arrived : (w : World) (f : Frame) (at : IsAt w f) (s : TypeState) (pc : ℕ) (c : Contents Slot) → Leads at.env s pc
-    → HasKinds s.types c → length s.types.stack ≤ at.env.max_stack → Arrived w f pc c
+    → HasKinds s.types (record { locals = own_locals w f.method c.locals; stack = c.stack }) → length s.types.stack ≤ at.env.max_stack → Arrived w f pc c
 arrived w f at s pc c leads kinds shallow =
     let there : Frame = record f { pc = pc; locals = c.locals; stack = c.stack } in
     let few : length c.stack ≤ f.room = rw (at.room, ← same_length s.types.stack c.stack kinds.stack) shallow in
@@ -43,7 +43,7 @@ arrived w f at s pc c leads kinds shallow =
           has = leads.has;
           room = at.room;
         };
-        kinds = leads.keeps c kinds;
+        kinds = leads.keeps (record { locals = own_locals w f.method c.locals; stack = c.stack }) kinds;
       };
     }
 

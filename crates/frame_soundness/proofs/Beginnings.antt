@@ -1,5 +1,5 @@
 -- The first frame of a method keeps to the typing.
-use Rattle.std.proofs.Common.{◌≡◌, ℕ, zero, suc, ◌+◌, ◌-◌, ◌≤◌, Bool, true, false, List, [], ◌++◌, length, replicate, Option, Some, None, refl, subst, ◌∙◌, arith}
+use Rattle.std.proofs.Common.{◌≡◌, ℕ, zero, suc, ◌+◌, ◌-◌, ◌≤◌, Bool, true, false, List, [], ◌++◌, length, replicate, Option, Some, None, refl, sym, subst, ◌∙◌, arith}
 use Rattle.std.specs.Prelude.{get_or, nat_le, slice_get, if◌then◌else◌}
 use Rattle.std.proofs.lemmas.Bool.{le-leb}
 use Rattle.std.proofs.lemmas.List.{length-append}
@@ -8,7 +8,8 @@ use Rattle.items.proofs.Binds.{bind_is}
 use Rattle.stack_maps.specs.declared.types.VType.{VType}
 use Rattle.stack_maps.specs.declared.types.VType.TheVariants as types
 use Rattle.instruction_rows.specs.declared.value.Slot.{Slot}
-use Rattle.instruction_rows.specs.declared.value.Slot.TheVariants.{Second}
+use Rattle.instruction_rows.specs.declared.value.Value.TheVariants as values
+use Rattle.instruction_rows.specs.declared.value.Slot.TheVariants.{One, Second}
 use Rattle.instruction_rows.specs.Contents.{Contents, slot_types}
 use Rattle.instruction_rows.specs.Soundness.{AreOf, HasKinds}
 use Rattle.instruction_rows.proofs.ListLaws.{same_length, append_of}
@@ -21,7 +22,9 @@ use Rattle.verify_types.specs.Environment.{environment_of, environment, first_fr
 use Rattle.verify_types.specs.Typing.{AreTyped}
 use Rattle.state_model.specs.Frames.{Frame}
 use Rattle.ref_model.specs.Frames.{first_frame}
-use Rattle.frame_soundness.specs.Typed.{Stands}
+use Rattle.frame_soundness.specs.Typed.{IsAt}
+use Rattle.frame_soundness.specs.CallLaws.{StandsAtFirst}
+use Rattle.frame_soundness.proofs.OwnLocals.{plain_locals, guarded_locals, synchronized_is}
 
 unset : (n : ℕ) → AreOf (replicate n types.Top) (replicate n Second)
 unset zero = tt
@@ -33,11 +36,11 @@ padded_of n ts xs of =
     append_of ts (replicate (n - length ts) types.Top) xs (replicate (n - length xs) Second) of
     (subst (λ (k : ℕ). AreOf (replicate (n - length ts) types.Top) (replicate (n - k) Second)) (same_length ts xs of) (unset (n - length ts)))
 
-pub record Begun (w : World) (n : ℕ) (code : MethodCode) (xs : List Slot) : Type 0 where
+pub record Begun (w : World) (n : ℕ) (info : MethodInfo) (code : MethodCode) (xs : List Slot) : Type 0 where
   pub frame : Frame
   pub is : first_frame n code xs ≡ Some frame
   pub method : frame.method ≡ n
-  pub stands : Stands w frame
+  pub stands : StandsAtFirst w info frame
 
 if_true : {A : Type 0} (b : Bool) (x y : A) → b ≡ true → (if b then x else y) ≡ x
 if_true true x y e = refl
@@ -51,7 +54,7 @@ part_fits a b n h = omega arith
 
 -- the slots of the arguments have the kinds of the method's first types
 pub begun : (w : World) (n : ℕ) (info : MethodInfo) (code : MethodCode) (xs : List Slot) → AreTyped w → slice_get w.methods n ≡ Some info
-    → code_at w n ≡ Some code → AreOf (slot_types (first_types w info).locals) xs → Begun w n code xs
+    → code_at w n ≡ Some code → AreOf (slot_types (first_types w info).locals) xs → Begun w n info code xs
 begun w n info code xs typed_world info_is code_is of =
     let env = environment_of w info code (get_or w.resolutions n []) (get_or w.catches n []) in
     let inner : (code_at w n >>= λ c. Some (environment_of w info c (get_or w.resolutions n []) (get_or w.catches n []))) ≡ Some env =
@@ -75,20 +78,43 @@ begun w n info code xs typed_world info_is code_is of =
     part_fits (length xs) (length (replicate (code.max_locals - length xs) Second)) code.max_locals
     (subst (λ (k : ℕ). k ≤ code.max_locals) whole most) in
     let there : Frame = record { method = n; pc = 0; locals = slots.locals; stack = []; room = code.max_stack } in
+    let same_flag = synchronized_is w n info info_is in
+    let at : IsAt w there = record {
+      env = env;
+      method = env_is;
+      place = start.place;
+      there = start.there;
+      state = start.state;
+      has = start.has;
+      room = refl;
+    } in
     record {
       frame = there;
       is = if_true (nat_le (length xs) code.max_locals) (Some there) None (le-leb (length xs) code.max_locals few);
       method = refl;
       stands = record {
-        at = record {
-          env = env;
-          method = env_is;
-          place = start.place;
-          there = start.there;
-          state = start.state;
-          has = start.has;
-          room = refl;
+        plain = λ e. record {
+          at = at;
+          kinds = record {
+            locals = subst (λ (ys : List Slot). AreOf start.state.types.locals ys) (sym (plain_locals w n slots.locals (same_flag ∙ e))) after.locals;
+            stack = after.stack;
+          };
         };
-        kinds = after;
+        guarded = λ o e. record {
+          at = record {
+            env = env;
+            method = env_is;
+            place = start.place;
+            there = start.there;
+            state = start.state;
+            has = start.has;
+            room = refl;
+          };
+          kinds = record {
+            locals = subst (λ (ys : List Slot). AreOf start.state.types.locals ys)
+                (sym (guarded_locals w n slots.locals (One (values.Ref o)) (same_flag ∙ e))) after.locals;
+            stack = after.stack;
+          };
+        };
       };
     }

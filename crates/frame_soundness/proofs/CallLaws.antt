@@ -1,6 +1,6 @@
 -- Static calls of frames that keep to the typing.
 use Rattle.std.proofs.Common.{◌≡◌, ℕ, ◌+◌, ◌≤◌, Bool, true, false, List, [], ◌∷◌, ◌++◌, length, take, drop, Option, Some, None, Ok, refl, ap, sym, subst, ◌∙◌, arith}
-use Rattle.std.specs.Prelude.{codes, map, not, reverse, nat_le, nat_lt, slice_get, sum_by, ◌&&◌, ◌||◌, if◌then◌else◌}
+use Rattle.std.specs.Prelude.{codes, is_none, map, not, reverse, nat_le, nat_lt, slice_get, sum_by, ◌&&◌, ◌||◌, if◌then◌else◌}
 use Rattle.std.specs.Option.{option_map, option_map_or}
 use Rattle.std.proofs.lemmas.Bool.{le-leb}
 use Rattle.std.proofs.lemmas.List.{length-append, length-reverse}
@@ -40,11 +40,13 @@ use Rattle.verify_types.specs.Effects.{row_of, row_state, state_after}
 use Rattle.verify_types.specs.Typing.{AreTyped}
 use Rattle.state_model.specs.Frames.{Frame}
 use Rattle.ref_model.specs.Kinds.{argument_slots}
-use Rattle.ref_model.specs.Members.{is_initializer}
+use Rattle.lib_table.specs.declared.native.Native.{Native}
+use Rattle.ref_model.specs.Members.{native_at, is_initializer, is_synchronized, is_hold}
 use Rattle.ref_model.specs.Fetch.{Named, named_method, method_of as number_of}
 use Rattle.ref_model.specs.Frames.{first_frame, callee, caller}
 use Rattle.ref_model.specs.LocalRows.{most_frames, has_local_call, frames_called, static_called, row}
-use Rattle.frame_soundness.specs.Typed.{Waits, IsUnder, AreUnder, Typed, given_back, back_of, initializes}
+use Rattle.frame_soundness.specs.CallLaws.{StandsAtFirst}
+use Rattle.frame_soundness.specs.Typed.{own_locals, Waits, IsUnder, AreUnder, Typed, given_back, back_of, initializes}
 use Rattle.frame_soundness.specs.LocalLaws.{Goes}
 use Rattle.frame_soundness.proofs.FetchLaws.{parts, fine}
 use Rattle.frame_soundness.proofs.Beginnings.{begun}
@@ -178,7 +180,8 @@ left_is k stack tops left lies count =
 pub record StaticBegins (w : World) (f : Frame) (below : List Frame) (m : Named) (code : MethodCode) : Type 0 where
   pub frame : Frame
   pub is : callee m.number code (argument_slots m.method.signature) f.stack ≡ Some frame
-  pub typed : Typed w (frame ∷ caller f (argument_slots m.method.signature) ∷ below)
+  pub stands : StandsAtFirst w m.method frame
+  pub under : AreUnder w frame.method (caller f (argument_slots m.method.signature) ∷ below)
 
 pub static_begins : (w : World) (f : Frame) (below : List Frame) (index : ℕ) (m : Named) (code : MethodCode) → AreTyped w
     → (t : Typed w (f ∷ below)) → row_of t.0.at.place.instruction ≡ invoke static index
@@ -219,7 +222,7 @@ static_begins w f below index m code typed_world t known named static_flag code_
           ∙ ap (λ o. given_back o call.rest) (sym (back_is w m.number m.method m.method.signature.result call.at refl));
       goes_on = ap row_goes_on known;
       kinds = record {
-        locals = subst (λ (s : TypeState). AreOf s.types.locals f.locals) call.is t.0.kinds.locals;
+        locals = subst (λ (s : TypeState). AreOf s.types.locals (own_locals w f.method f.locals)) call.is t.0.kinds.locals;
         stack = subst (λ (xs : List Slot). AreOf call.rest xs) (sym kept) tops.below;
       };
       before = t.0.kinds.locals;
@@ -229,7 +232,8 @@ static_begins w f below index m code typed_world t known named static_flag code_
     record {
       frame = b.frame;
       is = callee_is m.number code n f.stack tops.tops tops.left b.frame tops.is count b.is;
-      typed = (b.stands, subst (λ (k : ℕ). AreUnder w k (waiting ∷ below)) (sym b.method) (under, t.1));
+      stands = b.stands;
+      under = subst (λ (k : ℕ). AreUnder w k (waiting ∷ below)) (sym b.method) (under, t.1);
     }
 
 pub static_goes : (w : World) (f : Frame) (below : List Frame) (index : ℕ) (m : Named) (code : MethodCode) → AreTyped w
@@ -253,5 +257,10 @@ static_goes w f below index m code typed_world t known named static_flag code_is
       frames = after;
       is = row_is w f below t.0.at (invoke static index) (Some after) known
           (bind_is (named_method w i.resolution) (λ x. static_called w x f below) m (Some after) named act);
-      typed = b.typed;
+      typed = (b.stands.plain (unguarded (native_at w m.number) (is_synchronized m.method) (is_hold w m.method) local), b.under);
     }
+  where
+    unguarded : (o : Option Native) (a b : Bool) → (is_none o && not a && not b) ≡ true → a ≡ false
+    unguarded o false b e = refl
+    unguarded None true b e = absurd cc
+    unguarded (Some n) true b e = absurd cc

@@ -27,7 +27,7 @@ use Rattle.verify_types.specs.Typing.{AreTyped}
 use Rattle.state_model.specs.Frames.{Frame}
 use Rattle.ref_model.specs.Kinds.{argument_slots}
 use Rattle.ref_model.specs.Fetch.{Named, named_method}
-use Rattle.frame_soundness.specs.Typed.{Stands, given_back}
+use Rattle.frame_soundness.specs.Typed.{own_locals, Stands, given_back}
 use Rattle.frame_soundness.specs.CallLaws.{CallerWaits, takes_receiver}
 use Rattle.frame_soundness.proofs.FetchLaws.{parts, fine}
 use Rattle.frame_soundness.proofs.ReturnLaws.{back_is}
@@ -208,7 +208,7 @@ callers_wait w f invocation index m typed s known receiver named =
         given = t.stack ∙ result_is w m.method.signature.result t.under
             ∙ ap (λ o. given_back o t.under) (sym (back_is w chosen.number chosen.method m.method.signature.result there same));
         goes_on = ap row_goes_on known;
-        kinds = record { locals = t.locals f.locals s.kinds.locals; stack = t.kept (drop n f.stack) left };
+        kinds = record { locals = t.locals (own_locals w f.method f.locals) s.kinds.locals; stack = t.kept (drop n f.stack) left };
         before = s.kinds.locals;
       };
     }

@@ -1,6 +1,7 @@
 -- Methods are entered by frames that keep to the typing.
 use Rattle.std.proofs.Common.{◌≡◌, ℕ, suc, Bool, true, false, List, [], ◌∷◌, drop, Option, Some, None, Ok, refl, ap, sym, subst}
-use Rattle.std.specs.Prelude.{nat_lt, slice_get, ◌||◌, if◌then◌else◌}
+use Rattle.std.specs.Prelude.{nat_lt, slice_get, if◌then◌else◌}
+use Rattle.instruction_rows.specs.declared.value.Slot.{Slot}
 use Rattle.items.specs.Options.{◌>>=◌}
 use Rattle.items.proofs.Binds.{some_is}
 use Rattle.descriptors.specs.declared.kind.Signature.{Signature}
@@ -24,18 +25,21 @@ use Rattle.verify_types.specs.Typing.{AreTyped}
 use Rattle.state_model.specs.Frames.{Frame}
 use Rattle.ref_model.specs.declared.exception.Exception.TheVariants.{AbstractMethodError, StackOverflowError}
 use Rattle.ref_model.specs.Kinds.{argument_slots}
-use Rattle.ref_model.specs.Members.{native_at, is_synchronized, is_hold}
+use Rattle.link_model.specs.declared.members.MethodInfo.{MethodInfo}
+use Rattle.ref_model.specs.Members.{native_at, is_synchronized}
+use Rattle.ref_model.specs.Monitors.{method_monitor, with_monitor}
+use Rattle.ref_model.specs.Requests.{calls}
 use Rattle.ref_model.specs.Memory.{Memory}
 use Rattle.ref_model.specs.Fetch.{Named, named_method}
 use Rattle.ref_model.specs.Frames.{callee, caller}
 use Rattle.ref_model.specs.LocalRows.{most_frames}
-use Rattle.ref_model.specs.Effects.{Effect, invokes, throws}
+use Rattle.ref_model.specs.Effects.{Effect, invokes, throws, asks}
 use Rattle.ref_model.specs.NativeRows.{native_acted}
 use Rattle.ref_model.specs.Natives.{native_row, native_takes}
-use Rattle.ref_model.specs.Calls.{code_entered, native_entered, entered}
+use Rattle.ref_model.specs.Calls.{receiver_of, frame_entered, code_entered, native_entered, entered}
 use Rattle.frame_soundness.specs.Typed.{Waits, IsUnder, AreUnder, Typed, back_of, initializes}
 use Rattle.frame_soundness.specs.StateKinds.{MemoryFits}
-use Rattle.frame_soundness.specs.CallLaws.{CallerWaits, takes_receiver}
+use Rattle.frame_soundness.specs.CallLaws.{CallerWaits, StandsAtFirst, takes_receiver}
 use Rattle.frame_soundness.specs.NativeKinds.{FitsNative}
 use Rattle.frame_soundness.specs.EnterLaws.{IsOfClass, IsChosen, IsCallResult}
 use Rattle.frame_soundness.proofs.FetchLaws.{parts, fine}
@@ -46,15 +50,26 @@ use Rattle.frame_soundness.proofs.NativeEnters.{result_of, IsTaken, taken_by, na
 
 -- ---- a method with code
 
+-- its frame begins, or does when it has its monitor
+frame_goes : (w : World) (f : Frame) (below : List Frame) (next : ℕ) (m : MethodInfo) (g : Frame) (rest : List Slot) (effect : Effect)
+    → StandsAtFirst w m g → AreUnder w g.method (record f { stack = rest } ∷ below) → (b : Bool) → is_synchronized m ≡ b
+    → (if b then (method_monitor m (receiver_of g) >>= λ o. Some (asks (calls o (with_monitor g o)) rest)) else Some (invokes g rest)) ≡ Some effect
+    → IsCallResult w f below next effect
+frame_goes w f below next m g rest effect stands under true guarded e =
+    let o = some_is (method_monitor m (receiver_of g)) (λ o. Some (asks (calls o (with_monitor g o)) rest)) effect e in
+    result_of w f below next (asks (calls o.0 (with_monitor g o.0)) rest) effect o.2 (stands.guarded o.0 guarded, under)
+frame_goes w f below next m g rest effect stands under false plain e =
+    result_of w f below next (invokes g rest) effect e (stands.plain plain, under)
+
 code_begins : (w : World) (f : Frame) (below : List Frame) (next : ℕ) (m chosen : Named) (code : MethodCode) (effect : Effect) → AreTyped w
     → (t : Typed w (f ∷ below)) → (h : CallerWaits w f t.0 m) → (c : IsChosen w m chosen)
     → slice_get w.methods chosen.number ≡ Some chosen.method → code_at w chosen.number ≡ Some code
     → (callee chosen.number code (suc (argument_slots m.method.signature)) f.stack >>= λ g.
-    Some (invokes g (drop (suc (argument_slots m.method.signature)) f.stack))) ≡ Some effect
+    frame_entered chosen.method g (drop (suc (argument_slots m.method.signature)) f.stack)) ≡ Some effect
     → IsCallResult w f below next effect
 code_begins w f below next m chosen code effect typed t h c there code_is e =
     let n = suc (argument_slots m.method.signature) in
-    let g = some_is (callee chosen.number code n f.stack) (λ g. Some (invokes g (drop n f.stack))) effect e in
+    let g = some_is (callee chosen.number code n f.stack) (λ g. frame_entered chosen.method g (drop n f.stack)) effect e in
     let made : callee chosen.number code (suc (argument_slots chosen.method.signature)) f.stack ≡ Some g.0 =
     subst (λ (s : Signature). callee chosen.number code (suc (argument_slots s)) f.stack ≡ Some g.0) (sym c.signature) g.1 in
     let taken : all_wanted w (argument_types w chosen.method.signature) t.0.at.state.types.stack ≡ Ok h.rest =
@@ -67,8 +82,8 @@ code_begins w f below next m chosen code effect typed t h c there code_is e =
     h.waits chosen there (ap (λ (s : Signature). s.result) c.signature) left in
     let under : IsUnder w chosen.number (caller f n) (initializes w chosen.number) =
     subst (IsUnder w chosen.number (caller f n)) (sym (object_is_no_initializer w chosen there c.method.flag)) waits in
-    result_of w f below next (invokes g.0 (drop n f.stack)) effect g.2
-    (b.stands, subst (λ (k : ℕ). AreUnder w k (caller f n ∷ below)) (sym b.method) (under, t.1))
+    frame_goes w f below next chosen.method g.0 (drop n f.stack) effect b.stands
+    (subst (λ (k : ℕ). AreUnder w k (caller f n ∷ below)) (sym b.method) (under, t.1)) (is_synchronized chosen.method) refl g.2
 
 code_goes : (w : World) (f : Frame) (below : List Frame) (next depth : ℕ) (m chosen : Named) (effect : Effect) → AreTyped w
     → (t : Typed w (f ∷ below)) → (h : CallerWaits w f t.0 m) → (c : IsChosen w m chosen)
@@ -76,15 +91,14 @@ code_goes : (w : World) (f : Frame) (below : List Frame) (next depth : ℕ) (m c
     → code_entered w depth chosen o (suc (argument_slots m.method.signature)) f.stack ≡ Some effect → IsCallResult w f below next effect
 code_goes w f below next depth m chosen effect typed t h c there None code_is e = result_of w f below next (throws AbstractMethodError) effect e tt
 code_goes w f below next depth m chosen effect typed t h c there (Some code) code_is e =
-    by (is_synchronized chosen.method || is_hold w chosen.method) (nat_lt depth most_frames) e
+    by (nat_lt depth most_frames) e
   where
-    by : (a b : Bool) → (if a then None else if b
+    by : (b : Bool) → (if b
         then (callee chosen.number code (suc (argument_slots m.method.signature)) f.stack >>= λ g.
-        Some (invokes g (drop (suc (argument_slots m.method.signature)) f.stack)))
+        frame_entered chosen.method g (drop (suc (argument_slots m.method.signature)) f.stack))
         else Some (throws StackOverflowError)) ≡ Some effect → IsCallResult w f below next effect
-    by true b e = absurd cc
-    by false true e = code_begins w f below next m chosen code effect typed t h c there code_is e
-    by false false e = result_of w f below next (throws StackOverflowError) effect e tt
+    by true e = code_begins w f below next m chosen code effect typed t h c there code_is e
+    by false e = result_of w f below next (throws StackOverflowError) effect e tt
 
 -- ---- a native method
 
@@ -154,28 +168,28 @@ static_code : (w : World) (f : Frame) (below : List Frame) (next index depth : �
 static_code w f below next index depth m effect typed t known named c None code_is e =
     result_of w f below next (throws AbstractMethodError) effect e tt
 static_code w f below next index depth m effect typed t known named c (Some code) code_is e =
-    by (is_synchronized m.method || is_hold w m.method) (nat_lt depth most_frames) e
+    by (nat_lt depth most_frames) e
   where
     same_frame : (o : Option Frame) (a b : Frame) → o ≡ Some a → o ≡ Some b → a ≡ b
     same_frame o a b x y = cc
 
     begins_there : (callee m.number code (argument_slots m.method.signature) f.stack >>= λ g.
-        Some (invokes g (drop (argument_slots m.method.signature) f.stack))) ≡ Some effect → IsCallResult w f below next effect
+        frame_entered m.method g (drop (argument_slots m.method.signature) f.stack)) ≡ Some effect → IsCallResult w f below next effect
     begins_there e =
         let b = static_begins w f below index m code typed t known named c.flag code_is in
         let left = drop (argument_slots m.method.signature) f.stack in
-        let g = some_is (callee m.number code (argument_slots m.method.signature) f.stack) (λ g. Some (invokes g left)) effect e in
+        let g = some_is (callee m.number code (argument_slots m.method.signature) f.stack) (λ g. frame_entered m.method g left) effect e in
         let same = same_frame (callee m.number code (argument_slots m.method.signature) f.stack) b.frame g.0 b.is g.1 in
-        result_of w f below next (invokes g.0 left) effect g.2
-        (subst (λ (h : Frame). Typed w (h ∷ caller f (argument_slots m.method.signature) ∷ below)) same b.typed)
+        frame_goes w f below next m.method g.0 left effect (subst (StandsAtFirst w m.method) same b.stands)
+        (subst (λ (h : Frame). AreUnder w h.method (caller f (argument_slots m.method.signature) ∷ below)) same b.under)
+        (is_synchronized m.method) refl g.2
 
-    by : (a b : Bool) → (if a then None else if b
+    by : (b : Bool) → (if b
         then (callee m.number code (argument_slots m.method.signature) f.stack >>= λ g.
-        Some (invokes g (drop (argument_slots m.method.signature) f.stack)))
+        frame_entered m.method g (drop (argument_slots m.method.signature) f.stack))
         else Some (throws StackOverflowError)) ≡ Some effect → IsCallResult w f below next effect
-    by true b e = absurd cc
-    by false true e = begins_there e
-    by false false e = result_of w f below next (throws StackOverflowError) effect e tt
+    by true e = begins_there e
+    by false e = result_of w f below next (throws StackOverflowError) effect e tt
 
 pub statics_are_entered : (w : World) (f : Frame) (below : List Frame) (index depth : ℕ) (m : Named) (r : Memory) (effect : Effect) → AreTyped w
     → MemoryFits w r → (t : Typed w (f ∷ below)) → row_of t.0.at.place.instruction ≡ invoke static index

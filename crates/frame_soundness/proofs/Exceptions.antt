@@ -30,7 +30,7 @@ use Rattle.ref_model.specs.Classes.{is_sub}
 use Rattle.ref_model.specs.Fetch.{handlers_of}
 use Rattle.ref_model.specs.Frames.{is_root}
 use Rattle.ref_model.specs.Throwing.{catches, handler_of}
-use Rattle.frame_soundness.specs.Typed.{IsAt, Waits, IsUnder, Typed, Thrown, back_of}
+use Rattle.frame_soundness.specs.Typed.{own_locals, IsAt, Waits, IsUnder, Typed, Thrown, back_of}
 use Rattle.frame_soundness.specs.ThrowLaws.{IsHandled}
 use Rattle.frame_soundness.proofs.FetchLaws.{parts, typed_method, fine}
 use Rattle.frame_soundness.proofs.Arrivals.{arrived, on_frames}
@@ -114,12 +114,13 @@ handled w f below class o h typed_world t found =
     (ap (λ pc. covers pc h) (sym (pc_is w f at)) ∙ covered.0) in
     let slots : Contents Slot = record { locals = f.locals; stack = pushed (values.Ref o) [] } in
     let type = caught_type at.env.world h.catch in
-    let kinds : HasKinds (caught at.env.world h at.state).types slots = record {
+    let own : Contents Slot = record { locals = own_locals w f.method f.locals; stack = slots.stack } in
+    let kinds : HasKinds (caught at.env.world h at.state).types own = record {
       locals = t.0.locals;
       stack = (is_of kinds.Reference type (One (values.Ref o)) (caught_kind at.env.world h.catch) (record { value = Some o; is = refl }), tt);
     } in
     let a = arrived w f at (caught at.env.world h at.state) h.row.handler slots leads kinds
-    (one_fits w f typed_world at (caught at.env.world h at.state) h.row.handler slots leads kinds) in
+    (one_fits w f typed_world at (caught at.env.world h at.state) h.row.handler own leads kinds) in
     record { frame = a.frame; is = a.is; typed = on_frames w f a.frame below a.method a.stands t.1 }
   where
     inside : (o : Option MethodCode) (a b : MethodCode) → o ≡ Some a → o ≡ Some b → a ≡ b

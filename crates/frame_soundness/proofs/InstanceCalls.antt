@@ -28,8 +28,7 @@ use Rattle.state_model.specs.Frames.{Frame}
 use Rattle.ref_model.specs.Kinds.{argument_slots}
 use Rattle.ref_model.specs.Fetch.{Named}
 use Rattle.ref_model.specs.Frames.{first_frame, callee}
-use Rattle.frame_soundness.specs.Typed.{Stands}
-use Rattle.frame_soundness.specs.CallLaws.{Begins}
+use Rattle.frame_soundness.specs.CallLaws.{Begins, StandsAtFirst}
 use Rattle.frame_soundness.proofs.Beginnings.{begun}
 use Rattle.frame_soundness.proofs.Exceptions.{class_kind}
 use Rattle.frame_soundness.proofs.Arguments.{stacked, all_on_top, reversed_of, in_order}
@@ -44,11 +43,11 @@ class_narrow w n = by (array_type w n) refl
     by None e = rw e refl
     by (Some a) e = rw e refl
 
-record IsReceiver (t : VType) : Type 0 where
+pub record IsReceiver (t : VType) : Type 0 where
   pub kind : kind_of_type t ≡ Some kinds.Reference
   pub narrow : is_wide t ≡ false
 
-receiver_is : (w : World) (m : MethodInfo) → IsReceiver (receiver_type w m)
+pub receiver_is : (w : World) (m : MethodInfo) → IsReceiver (receiver_type w m)
 receiver_is w m = by (is_constructor m) (is_object w m.class)
   where
     by : (a b : Bool) → IsReceiver (if a then (if b then class_type w m.class else types.UninitThis) else class_type w m.class)
@@ -57,7 +56,7 @@ receiver_is w m = by (is_constructor m) (is_object w m.class)
     by false b = record { kind = class_kind w m.class; narrow = class_narrow w m.class }
 
 -- the types of the first local variables of a method of an object
-instance_locals : (w : World) (info : MethodInfo) → has_flag ACC_STATIC info.flags ≡ false
+pub instance_locals : (w : World) (info : MethodInfo) → has_flag ACC_STATIC info.flags ≡ false
     → slot_types (first_types w info).locals ≡ receiver_type w info ∷ slot_types (map (type_of_kind w) info.signature.args)
 instance_locals w info not_static =
     ap (λ b. slot_types ((if b then [] else receiver_type w info ∷ []) ++ map (type_of_kind w) info.signature.args)) not_static
@@ -122,7 +121,7 @@ begins w m code ts rest x xs g typed at code_is not_static of taken popped_is ma
     let here = callee_is m.number code (suc (argument_slots m.method.signature)) xs all b.under begun_at.frame lies count first in
     let same = same_frame (callee m.number code (suc (argument_slots m.method.signature)) xs) begun_at.frame g here made in
     record {
-      stands = subst (Stands w) same begun_at.stands;
+      stands = subst (StandsAtFirst w m.method) same begun_at.stands;
       method = ap (λ (f : Frame). f.method) (sym same) ∙ begun_at.method;
       left = subst (λ (ys : List Slot). AreOf x.1 ys)
           (sym (left_is (suc (argument_slots m.method.signature)) xs all b.under lies count)) b.below;

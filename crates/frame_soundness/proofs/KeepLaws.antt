@@ -14,7 +14,7 @@ use Rattle.verify_types.proofs.ListLaws.{and_true}
 use Rattle.state_model.specs.Frames.{Frame}
 use Rattle.ref_model.specs.Kinds.{argument_slots}
 use Rattle.ref_model.specs.Fetch.{Named, named_method}
-use Rattle.ref_model.specs.Frames.{contents, moved, callee, caller, is_root, returned}
+use Rattle.ref_model.specs.Frames.{contents, moved, callee, caller, is_left_openly, returned}
 use Rattle.ref_model.specs.LocalRows.{most_frames, has_local_call, frames_called, static_called, local_act, row, rows}
 use Rattle.frame_soundness.specs.Typed.{Typed}
 use Rattle.frame_soundness.specs.LocalLaws.{Goes, NamesStatic}
@@ -59,7 +59,7 @@ act_goes w f below after typed names t (local act) known e =
 act_goes w f below after typed names t (constant index) known e = narrow_goes w f below index typed t known
 act_goes w f below after typed names t (wide_constant index) known e = wide_goes w f below index typed t known
 act_goes w f below after typed names t (returns kind) known e =
-    return_goes w f below kind typed t known (not_none (is_root w f below) (returned w kind f below) after e)
+    return_goes w f below kind typed t known (not_none (is_left_openly w f below) (returned w kind f below) after e)
 act_goes w f below after typed names t (invoke static index) known e =
     let m = some_is (named_method w t.0.at.place.instruction.resolution) (λ m. static_called w m f below) after e in
     static_keeps w f below after index m.0 typed names t known m.1 m.2

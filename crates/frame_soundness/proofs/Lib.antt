@@ -1,4 +1,5 @@
 pub mod FetchLaws
+pub mod OwnLocals
 pub mod Arrivals
 pub mod LocalRowLaws
 pub mod ReturnLaws

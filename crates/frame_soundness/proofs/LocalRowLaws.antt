@@ -15,7 +15,7 @@ use Rattle.instruction_rows.specs.Table.{row as row_in_table}
 use Rattle.instruction_rows.specs.SlotEffect.{Way, on, to, acted, pushed, divides_by_zero}
 use Rattle.instruction_rows.specs.TypeEffect.{typed, type_pushed}
 use Rattle.instruction_rows.specs.Pcs.{pc_after}
-use Rattle.instruction_rows.specs.Soundness.{HasKinds, IsSound, IsSoundRow, IsWay}
+use Rattle.instruction_rows.specs.Soundness.{AreOf, HasKinds, IsSound, IsSoundRow, IsWay}
 use Rattle.instruction_rows.proofs.RowLaws.{keeps}
 use Rattle.instruction_rows.proofs.TableLaws.{sound}
 use Rattle.instruction_rows.proofs.KindLaws.{pushed_kinds}
@@ -31,12 +31,14 @@ use Rattle.verify_types.specs.Effects.{row_of, row_state, state_after, constant_
 use Rattle.verify_types.specs.Typing.{Leads, IsFine, AreTyped}
 use Rattle.state_model.specs.Frames.{Frame}
 use Rattle.ref_model.specs.Fetch.{fetched, constant_of}
+use Rattle.ref_model.specs.Monitors.{is_synchronized_at}
 use Rattle.ref_model.specs.Frames.{contents, gone, moved, behind}
 use Rattle.ref_model.specs.LocalRows.{local_act, constant_pushed, row}
-use Rattle.frame_soundness.specs.Typed.{IsAt, Typed}
+use Rattle.frame_soundness.specs.Typed.{own_locals, own_contents, IsAt, Typed}
 use Rattle.frame_soundness.specs.LocalLaws.{Goes}
 use Rattle.frame_soundness.proofs.FetchLaws.{fetched_is, fine}
 use Rattle.frame_soundness.proofs.Arrivals.{arrived, on_frames}
+use Rattle.frame_soundness.proofs.OwnLocals.{acts_alike, divides_alike}
 
 -- ---- the row of the top frame's instruction, where that is known
 
@@ -84,16 +86,23 @@ row_goes w f below r typed_world t known nonzero =
     let at = t.0.at in
     let i = at.place.instruction in
     let good = fine w f typed_world at in
-    let k = keeps r at.state.types good.after.types (contents f) (sound_row i r known)
-    (local_types at.env i at.state good.after r known good.is) t.0.kinds nonzero in
-    let to = led at.env i at.state r good known k.moved.way k.way in
-    let a = arrived w f at good.after to.pc k.moved.contents to.leads k.kinds good.after_shallow in
-    let goes : moved f i.instr.next k.moved ≡ Some a.frame =
-    bind_is (pc_after i.instr.next k.moved.way) (λ pc. gone f pc k.moved.contents) to.pc (Some a.frame) to.is a.is in
-    let frames : moved f i.instr.next k.moved >>= (λ g. Some (g ∷ below)) ≡ Some (a.frame ∷ below) =
-    bind_is (moved f i.instr.next k.moved) (λ g. Some (g ∷ below)) a.frame (Some (a.frame ∷ below)) goes refl in
-    let act = bind_is (acted r (contents f)) (λ m. moved f i.instr.next m >>= λ g. Some (g ∷ below)) k.moved
-    (Some (a.frame ∷ below)) k.is frames in
+    let b = is_synchronized_at w f.method in
+    let k = keeps r at.state.types good.after.types (own_contents w f) (sound_row i r known)
+    (local_types at.env i at.state good.after r known good.is) t.0.kinds (divides_alike r b (contents f) ∙ nonzero) in
+    let whole = acts_alike b r (contents f) k.moved k.is in
+    let to = led at.env i at.state r good known whole.moved.way (subst (IsWay r) (sym whole.way) k.way) in
+    let own : Contents Slot = record { locals = own_locals w f.method whole.moved.contents.locals; stack = whole.moved.contents.stack } in
+    let kinds : HasKinds good.after.types own = record {
+      locals = subst (λ (xs : List Slot). AreOf good.after.types.locals xs) (sym whole.own) k.kinds.locals;
+      stack = subst (λ (xs : List Slot). AreOf good.after.types.stack xs) (sym whole.stack) k.kinds.stack;
+    } in
+    let a = arrived w f at good.after to.pc whole.moved.contents to.leads kinds good.after_shallow in
+    let goes : moved f i.instr.next whole.moved ≡ Some a.frame =
+    bind_is (pc_after i.instr.next whole.moved.way) (λ pc. gone f pc whole.moved.contents) to.pc (Some a.frame) to.is a.is in
+    let frames : moved f i.instr.next whole.moved >>= (λ g. Some (g ∷ below)) ≡ Some (a.frame ∷ below) =
+    bind_is (moved f i.instr.next whole.moved) (λ g. Some (g ∷ below)) a.frame (Some (a.frame ∷ below)) goes refl in
+    let act = bind_is (acted r (contents f)) (λ m. moved f i.instr.next m >>= λ g. Some (g ∷ below)) whole.moved
+    (Some (a.frame ∷ below)) whole.is frames in
     record {
       frames = a.frame ∷ below;
       is = row_is w f below at (local r) (Some (a.frame ∷ below)) known act;
@@ -142,10 +151,11 @@ constant_goes w f below r typed_world t known goes_on state act =
     let c = constant_is at.env.world i.resolution.site parts.0 parts.1 in
     let stack = pushed c.value f.stack in
     let slots : Contents Slot = record { locals = f.locals; stack = stack } in
-    let kinds : HasKinds (with_stack at.state (type_pushed parts.0 at.state.types.stack)).types slots =
+    let own : Contents Slot = record { locals = own_locals w f.method f.locals; stack = stack } in
+    let kinds : HasKinds (with_stack at.state (type_pushed parts.0 at.state.types.stack)).types own =
     record { locals = t.0.kinds.locals; stack = pushed_kinds parts.0 c.value at.state.types.stack f.stack c.kind t.0.kinds.stack } in
     let leads = good.on (ap row_goes_on known ∙ goes_on) in
-    let a = arrived w f at good.after i.instr.next slots leads (subst (λ (s : TypeState). HasKinds s.types slots) pushing kinds) good.after_shallow in
+    let a = arrived w f at good.after i.instr.next slots leads (subst (λ (s : TypeState). HasKinds s.types own) pushing kinds) good.after_shallow in
     let frames : behind f i.instr.next stack >>= (λ g. Some (g ∷ below)) ≡ Some (a.frame ∷ below) =
     bind_is (behind f i.instr.next stack) (λ g. Some (g ∷ below)) a.frame (Some (a.frame ∷ below)) a.is refl in
     let done = bind_is (constant_of i.resolution.site) (λ v. behind f i.instr.next (pushed v f.stack) >>= λ g. Some (g ∷ below)) c.value

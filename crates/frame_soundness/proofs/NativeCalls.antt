@@ -1,5 +1,5 @@
 -- Native methods on the operand stack.
-use Rattle.std.proofs.Common.{◌≡◌, List, [], ◌∷◌, Option, Some, None, Ok, subst}
+use Rattle.std.proofs.Common.{◌≡◌, List, [], ◌∷◌, Option, Some, None, Ok, ap, sym, subst, ◌∙◌}
 use Rattle.items.proofs.Binds.{some_is}
 use Rattle.lib_table.specs.declared.native.Native.{Native}
 use Rattle.opcodes.specs.declared.op.ValueKind.{ValueKind}
@@ -14,11 +14,12 @@ use Rattle.instruction_rows.proofs.StackLaws.{applied_of}
 use Rattle.link_model.specs.World.{World}
 use Rattle.ref_model.specs.Memory.{Memory}
 use Rattle.ref_model.specs.Effects.{Effect, done, gives}
-use Rattle.ref_model.specs.NativeRows.{Answer, returns, returns_value, fails, native, answered, native_acted}
+use Rattle.ref_model.specs.Requests.{request_result, calls}
+use Rattle.ref_model.specs.NativeRows.{Answer, returns, returns_value, fails, asks_for, native, answered, native_acted}
 use Rattle.ref_model.specs.Natives.{native_row}
 use Rattle.frame_soundness.specs.Typed.{given_back}
 use Rattle.frame_soundness.specs.StateKinds.{MemoryFits}
-use Rattle.frame_soundness.specs.EventLaws.{IsKept}
+use Rattle.frame_soundness.specs.EventLaws.{IsKept, WithBack}
 use Rattle.frame_soundness.specs.NativeLaws.{native_result, IsAnswer, Always, IsBack}
 use Rattle.frame_soundness.proofs.FieldLaws.{kept_is}
 use Rattle.frame_soundness.proofs.NativeLaws.{natives_keep}
@@ -34,10 +35,22 @@ always_applied P (k ∷ ks) f xs x always e =
     let v = some_is (popped k xs) (λ v. applied Answer ks (f v.0) v.1) x e in
     always_applied P ks (f v.0.0) v.0.1 x (always v.0.0) v.2
 
+-- whatever comes back of a request, on what lies below the operands
+given_keeps : (back : Option VType) (rest : List VType) (left : List Slot) (result : Option ValueKind) → IsBack back result → AreOf rest left
+    → WithBack result left (λ xs. AreOf (given_back back rest) xs)
+given_keeps None rest left None fit of None is = of
+given_keeps None rest left None fit of (Some v) is = absurd is
+given_keeps None rest left (Some k) fit of given is = absurd fit
+given_keeps (Some t) rest left None fit of given is = absurd fit
+given_keeps (Some t) rest left (Some k) fit of None is = absurd is
+given_keeps (Some t) rest left (Some k) fit of (Some v) is = pushed_kinds t v rest left (fit ∙ ap Some (sym is)) of
+
 -- an answer on what lies below the operands
 pub answered_keeps : (w : World) (result : Option ValueKind) (back : Option VType) (answer : Answer) (rest : List VType) (left : List Slot)
     → IsAnswer w result answer → IsBack back result → AreOf rest left → IsKept w (given_back back rest) (answered left answer)
 answered_keeps w result back (fails x) rest left is fit of = tt
+answered_keeps w result back (asks_for (calls o g)) rest left is fit of = absurd is
+answered_keeps w result back (asks_for q) rest left is fit of = given_keeps back rest left (request_result q) (subst (IsBack back) is fit) of
 answered_keeps w result back (returns q) rest left is fit of = by back (subst (IsBack back) is.0 fit)
   where
     by : (back : Option VType) → IsBack back None → IsKept w (given_back back rest) (done q left)

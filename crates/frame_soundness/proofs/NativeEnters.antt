@@ -22,13 +22,14 @@ use Rattle.verify_types.specs.Typing.{AreTyped}
 use Rattle.state_model.specs.Frames.{Frame}
 use Rattle.ref_model.specs.Memory.{Memory}
 use Rattle.ref_model.specs.Fetch.{Named}
-use Rattle.ref_model.specs.Effects.{Effect, done, invokes, throws, throws_object}
+use Rattle.ref_model.specs.Requests.{calls}
+use Rattle.ref_model.specs.Effects.{Effect, done, invokes, throws, throws_object, asks}
 use Rattle.ref_model.specs.NativeRows.{Answer, NativeRow, native, answered, native_acted}
 use Rattle.ref_model.specs.Natives.{native_row, native_takes}
 use Rattle.ref_model.specs.Operands.{argument_kinds}
-use Rattle.frame_soundness.specs.Typed.{Typed, given_back, result_type}
+use Rattle.frame_soundness.specs.Typed.{own_locals, Typed, given_back, result_type}
 use Rattle.frame_soundness.specs.StateKinds.{MemoryFits}
-use Rattle.frame_soundness.specs.EventLaws.{IsKept}
+use Rattle.frame_soundness.specs.EventLaws.{IsKept, with_back}
 use Rattle.frame_soundness.specs.NativeLaws.{native_result, IsAnswer}
 use Rattle.frame_soundness.specs.NativeKinds.{GivesKind, IsNativeOf, FitsNative}
 use Rattle.frame_soundness.specs.EnterLaws.{IsCallResult}
@@ -89,12 +90,22 @@ native_goes w f below m r n effect typed fits t k goes takes_is e =
         let slots : Contents Slot = record { locals = f.locals; stack = stack } in
         let types = k.stack ∙ result_is w m.method.signature.result k.under in
         let a = arrived w f t.0.at good.after t.0.at.place.instruction.instr.next slots (good.on goes)
-        (record { locals = k.locals f.locals t.0.kinds.locals; stack = subst (λ (us : List VType). AreOf us stack) (sym types) h.1 })
+        (record { locals = k.locals (own_locals w f.method f.locals) t.0.kinds.locals; stack = subst (λ (us : List VType). AreOf us stack) (sym types) h.1 })
         good.after_shallow in
         record { frame = a.frame; is = a.is; typed = on_frames w f a.frame below a.method a.stands t.1; values = h.0 }
     kept (invokes g stack) h = absurd h
     kept (throws x) h = tt
     kept (throws_object o) h = tt
+    kept (asks (calls o g) stack) h = absurd h
+    kept (asks q stack) h = λ back is.
+        let good = fine w f typed t.0.at in
+        let slots : Contents Slot = record { locals = f.locals; stack = with_back back stack } in
+        let types = k.stack ∙ result_is w m.method.signature.result k.under in
+        let a = arrived w f t.0.at good.after t.0.at.place.instruction.instr.next slots (good.on goes) (record {
+          locals = k.locals (own_locals w f.method f.locals) t.0.kinds.locals;
+          stack = subst (λ (us : List VType). AreOf us (with_back back stack)) (sym types) (h back is);
+        }) good.after_shallow in
+        record { frame = a.frame; is = a.is; typed = on_frames w f a.frame below a.method a.stands t.1 }
 
     by : (row : NativeRow) → native_row w r n ≡ Some row → native_acted row f.stack ≡ Some effect
         → IsCallResult w f below t.0.at.place.instruction.instr.next effect

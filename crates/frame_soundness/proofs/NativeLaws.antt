@@ -1,5 +1,5 @@
 -- Native methods keep kinds.
-use Rattle.std.proofs.Common.{◌≡◌, ℕ, zero, suc, ◌-◌, Bool, true, false, List, [], ◌∷◌, ◌++◌, length, Option, Some, None, refl, ap, sym, subst, ◌∙◌}
+use Rattle.std.proofs.Common.{◌≡◌, ℕ, zero, suc, ◌-◌, pos, negsuc, Bool, true, false, List, [], ◌∷◌, ◌++◌, length, Option, Some, None, refl, ap, sym, subst, ◌∙◌}
 use Rattle.std.specs.Prelude.{codes, nat_le, slice_get, slice_set, ◌==◌, if◌then◌else◌}
 use Rattle.std.specs.Option.{option_map_or}
 use Rattle.std.specs.List.{AllZip}
@@ -22,7 +22,11 @@ use Rattle.ref_model.specs.Classes.{class_name}
 use Rattle.ref_model.specs.Memory.{Memory}
 use Rattle.ref_model.specs.Heap.{object_at, class_at, units_at, values_of, values_at, object_with, with_value, cells_of_units, with_text}
 use Rattle.ref_model.specs.Texts.{hex_text, decimal_text, boolean_text, char_text, null_text, text_bytes}
-use Rattle.ref_model.specs.NativeRows.{Answer, returns, fails, NativeRow, new_text, gives_text, on_units, on_text, on_text_or, reference}
+use Rattle.vthread_state.specs.declared.thread.ThreadKind.{ThreadKind}
+use Rattle.vthread_state.specs.declared.thread.ThreadKind.TheVariants.{Platform, Virtual}
+use Rattle.ref_model.specs.Requests.{creates}
+use Rattle.ref_model.specs.ThreadNatives.{number_field, number_in, thread_number, with_number, on_object, on_number, on_thread, on_name, named, unparked}
+use Rattle.ref_model.specs.NativeRows.{Answer, returns, fails, asks_for, NativeRow, new_text, gives_text, on_units, on_text, on_text_or, reference}
 use Rattle.ref_model.specs.ObjectNatives.{boolean, identity_hash, described}
 use Rattle.ref_model.specs.StringNatives.{unit_at, char_given, concatenated}
 use Rattle.ref_model.specs.BuilderNatives.{text_in, builder_text, on_builder, builder_given, builder_with, appended}
@@ -201,6 +205,65 @@ written_is w r (Some stream) units fits = by (stream == err_stream)
     by true = (refl, record { heap = fits.heap; statics = fits.statics })
     by false = (refl, record { heap = fits.heap; statics = fits.statics })
 
+-- ---- threads
+
+on_object_is : (w : World) (result : Option ValueKind) (this : Option ℕ) (act : ℕ → Answer) → ((o : ℕ) → IsAnswer w result (act o))
+    → IsAnswer w result (on_object this act)
+on_object_is w result None act each = tt
+on_object_is w result (Some o) act each = each o
+
+on_number_is : (w : World) (result : Option ValueKind) (n : Option ℕ) (act : ℕ → Answer) → ((t : ℕ) → IsAnswer w result (act t))
+    → IsAnswer w result (on_number n act)
+on_number_is w result None act each = tt
+on_number_is w result (Some t) act each = each t
+
+on_thread_is : (w : World) (result : Option ValueKind) (r : Memory) (this : Option ℕ) (act : ℕ → Answer) → ((t : ℕ) → IsAnswer w result (act t))
+    → IsAnswer w result (on_thread r this act)
+on_thread_is w result r this act each = on_object_is w result this _ (λ o. on_number_is w result (thread_number r o) act each)
+
+on_units_is : (w : World) (result : Option ValueKind) (m : Option (List ℕ)) (act : List ℕ → Answer) → ((units : List ℕ) → IsAnswer w result (act units))
+    → IsAnswer w result (on_units m act)
+on_units_is w result None act each = tt
+on_units_is w result (Some units) act each = each units
+
+created_is : (w : World) (r : Memory) (name this : Option ℕ) (kind : ThreadKind) → IsAnswer w None (on_object this (λ o.
+    on_number (thread_number r o) (λ t. on_name r name (asks_for (creates kind o name)))))
+created_is w r name this kind = on_object_is w None this _ (λ o. on_number_is w None (thread_number r o) _ (λ t. by name o))
+  where
+    by : (name : Option ℕ) (o : ℕ) → IsAnswer w None (on_name r name (asks_for (creates kind o name)))
+    by None o = refl
+    by (Some n) o = on_units_is w None (units_at r n) _ (λ units. refl)
+
+named_is : (w : World) (r : Memory) (t : ℕ) (name : Option ℕ) → IsAnswer w None (named r t name)
+named_is w r t None = tt
+named_is w r t (Some n) = on_units_is w None (units_at r n) _ (λ units. refl)
+
+unparked_is : (w : World) (r : Memory) (thread : Option ℕ) → MemoryFits w r → IsAnswer w None (unparked r thread)
+unparked_is w r None fits = (refl, fits)
+unparked_is w r (Some o) fits = on_number_is w None (thread_number r o) _ (λ t. refl)
+
+-- the number of a thread in place of another
+pub number_fits : (w : World) (r q : Memory) (o n : ℕ) → MemoryFits w r → with_number r o n ≡ Some q → MemoryFits w q
+number_fits w r q o n fits e =
+    let before = some_is (thread_number r o) (λ before. with_value r o number_field (values.Int (pos n))) q e in
+    let vs = some_is (values_at r o) (λ fields. slice_get fields number_field >>= number_in) before.0 before.1 in
+    let old = some_is (slice_get vs.0 number_field) number_in before.0 vs.2 in
+    let x = some_is (object_at r o) values_of vs.0 vs.1 in
+    let y = some_is (object_at r o) (object_with r o number_field (values.Int (pos n))) q before.2 in
+    let same = same_object (object_at r o) x.0 y.0 x.1 y.1 in
+    object_set w r q o number_field old.0 (values.Int (pos n)) x.0 vs.0 fits x.1 x.2 old.1 (sym (number_kind old.0 before.0 old.2))
+    (ap (object_with r o number_field (values.Int (pos n))) same ∙ y.2)
+  where
+    same_object : (m : Option Object) (a b : Object) → m ≡ Some a → m ≡ Some b → a ≡ b
+    same_object m a b x y = cc
+
+    number_kind : (v : Value) (k : ℕ) → number_in v ≡ Some k → kind_of v ≡ kinds.Int
+    number_kind (values.Int (pos k)) m e = refl
+    number_kind (values.Int (negsuc k)) m e = absurd cc
+    number_kind (values.Long k) m e = absurd cc
+    number_kind values.Null m e = absurd cc
+    number_kind (values.Ref o) m e = absurd cc
+
 -- ---- the table
 
 inside : (a b : NativeRow) → ◌≡◌ {A = Option NativeRow} (Some a) (Some b) → a ≡ b
@@ -262,4 +325,36 @@ natives_keep w r natives.PrintStreamPrintChar row fits e = kept w None _ row e (
 natives_keep w r natives.PrintStreamPrintBoolean row fits e = kept w None _ row e (λ n stream. written_is w r stream (boolean_text n) fits)
 natives_keep w r natives.PrintStreamPrintString row fits e =
     kept w None _ row e (λ text stream. on_text_or_is w None null_text r text _ (λ units. written_is w r stream units fits))
-natives_keep w r n row fits e = absurd cc
+natives_keep w r natives.ObjectWait row fits e = kept w None _ row e (λ this. on_object_is w None this _ (λ o. refl))
+natives_keep w r natives.ObjectWaitMillis row fits e = kept w None _ row e (λ millis this. on_object_is w None this _ (λ o. refl))
+natives_keep w r natives.ObjectNotify row fits e = kept w None _ row e (λ this. on_object_is w None this _ (λ o. refl))
+natives_keep w r natives.ObjectNotifyAll row fits e = kept w None _ row e (λ this. on_object_is w None this _ (λ o. refl))
+natives_keep w r natives.SystemNanoTime row fits e = kept w (Some kinds.Long) _ row e refl
+natives_keep w r natives.SystemCurrentTimeMillis row fits e = kept w (Some kinds.Long) _ row e refl
+natives_keep w r natives.ThreadCreatePlatform row fits e = kept w None _ row e (λ name this. created_is w r name this Platform)
+natives_keep w r natives.ThreadCreateVirtual row fits e = kept w None _ row e (λ name this. created_is w r name this Virtual)
+natives_keep w r natives.ThreadStart row fits e = kept w None _ row e (λ this. on_thread_is w None r this _ (λ t. refl))
+natives_keep w r natives.ThreadInterrupt row fits e = kept w None _ row e (λ this. on_thread_is w None r this _ (λ t. refl))
+natives_keep w r natives.ThreadIsInterrupted row fits e = kept w (Some kinds.Int) _ row e (λ this. on_thread_is w (Some kinds.Int) r this _ (λ t. refl))
+natives_keep w r natives.ThreadJoin row fits e = kept w None _ row e (λ this. on_thread_is w None r this _ (λ t. refl))
+natives_keep w r natives.ThreadJoinMillis row fits e = kept w None _ row e (λ millis this. on_thread_is w None r this _ (λ t. refl))
+natives_keep w r natives.ThreadIsAlive row fits e = kept w (Some kinds.Int) _ row e (λ this. on_thread_is w (Some kinds.Int) r this _ (λ t. refl))
+natives_keep w r natives.ThreadIsVirtual row fits e = kept w (Some kinds.Int) _ row e (λ this. on_thread_is w (Some kinds.Int) r this _ (λ t. refl))
+natives_keep w r natives.ThreadIsDaemon row fits e = kept w (Some kinds.Int) _ row e (λ this. on_thread_is w (Some kinds.Int) r this _ (λ t. refl))
+natives_keep w r natives.ThreadSetDaemon row fits e = kept w None _ row e (λ daemon this. on_thread_is w None r this _ (λ t. refl))
+natives_keep w r natives.ThreadGetName row fits e =
+    kept w (Some kinds.Reference) _ row e (λ this. on_thread_is w (Some kinds.Reference) r this _ (λ t. refl))
+natives_keep w r natives.ThreadSetName row fits e = kept w None _ row e (λ name this. on_thread_is w None r this _ (λ t. named_is w r t name))
+natives_keep w r natives.ThreadId row fits e = kept w (Some kinds.Long) _ row e (λ this. on_thread_is w (Some kinds.Long) r this _ (λ t. (refl, fits)))
+natives_keep w r natives.ThreadGetState row fits e =
+    kept w (Some kinds.Reference) _ row e (λ this. on_thread_is w (Some kinds.Reference) r this _ (λ t. refl))
+natives_keep w r natives.ThreadCurrentThread row fits e = kept w (Some kinds.Reference) _ row e refl
+natives_keep w r natives.ThreadYield row fits e = kept w None _ row e refl
+natives_keep w r natives.ThreadOnSpinWait row fits e = kept w None _ row e (refl, fits)
+natives_keep w r natives.ThreadSleep row fits e = kept w None _ row e (λ millis. refl)
+natives_keep w r natives.ThreadInterrupted row fits e = kept w (Some kinds.Int) _ row e refl
+natives_keep w r natives.LockSupportPark row fits e = kept w None _ row e refl
+natives_keep w r natives.LockSupportParkBlocker row fits e = kept w None _ row e (λ blocker. refl)
+natives_keep w r natives.LockSupportParkNanos row fits e = kept w None _ row e (λ nanos. refl)
+natives_keep w r natives.LockSupportParkNanosBlocker row fits e = kept w None _ row e (λ nanos blocker. refl)
+natives_keep w r natives.LockSupportUnpark row fits e = kept w None _ row e (λ thread. unparked_is w r thread fits)

@@ -11,8 +11,10 @@ use Rattle.ref_model.specs.declared.exception.Exception.{Exception}
 use Rattle.ref_model.specs.Members.{new_values}
 use Rattle.ref_model.specs.State.{State}
 use Rattle.ref_model.specs.Heap.{cells_of_values, with_instance}
-use Rattle.ref_model.specs.Throwing.{exception_name, out_of_memory, throwing_new, raised}
+use Rattle.ref_model.specs.Memory.{Memory}
+use Rattle.ref_model.specs.Throwing.{exception_name, out_of_memory, made_or_first, exception_made, throwing_new, raised}
 use Rattle.frame_soundness.specs.Typed.{Thrown}
+use Rattle.frame_soundness.specs.StateKinds.{MemoryFits}
 use Rattle.frame_soundness.specs.TypedStates.{IsTypedState}
 use Rattle.frame_soundness.specs.ThrowLaws.{OfFrames}
 use Rattle.frame_soundness.proofs.ObjectLaws.{more_fits, new_fits}
@@ -30,6 +32,27 @@ name_is_class w name class e =
 
 same_state : (a b : State) → ◌≡◌ {A = Option State} (Some a) (Some b) → a ≡ b
 same_state a b e = cc
+
+-- a new exception, or the one of the start
+pub exception_fits : (w : World) (r : Memory) (e : Exception) (x : Memory × ℕ) → MemoryFits w r → exception_made w r e ≡ Some x → MemoryFits w x.0
+exception_fits w r e x fits made =
+    let class = some_is (name_number w (exception_name e)) (λ class. Some (made_or_first r (with_instance r class (new_values w class)))) x made in
+    subst (λ (y : Memory × ℕ). MemoryFits w y.0) (same_pair (made_or_first r (with_instance r class.0 (new_values w class.0))) x class.2)
+    (by class.0 (name_is_class w (exception_name e) class.0 class.1) (nat_le (cells_of_values (length (new_values w class.0))) r.room))
+  where
+    same_pair : (a b : Memory × ℕ) → ◌≡◌ {A = Option (Memory × ℕ)} (Some a) (Some b) → a ≡ b
+    same_pair a b same = cc
+
+    by : (class : ℕ) → array_type w class ≡ None → (b : Bool) → MemoryFits w (made_or_first r (if b then Some (
+      record r {
+        heap = r.heap ++ instance class (new_values w class) ∷ [];
+        room = r.room - cells_of_values (length (new_values w class));
+      },
+      length r.heap,
+    ) else None)).0
+    by class no_array false = fits
+    by class no_array true =
+        more_fits w r (cells_of_values (length (new_values w class))) (instance class (new_values w class) ∷ []) fits (new_fits w class no_array, tt)
 
 pub raises_keep : (w : World) (r q : State) (t : ℕ) (e : Exception) → IsTypedState w r → OfFrames r t (Thrown w) → raised w r t e ≡ Some q
     → IsTypedState w q

@@ -1,6 +1,6 @@
 -- Returns of frames that keep to the typing.
 use Rattle.std.proofs.Common.{◌≡◌, ◌≢◌, ◌⊎◌, inl, inr, ℕ, Bool, true, false, cond, List, [], ◌∷◌, Option, Some, None, Result, Ok, refl, ap, sym, subst, ◌∙◌}
-use Rattle.std.specs.Prelude.{is_none, slice_get, ◌==◌, if◌then◌else◌}
+use Rattle.std.specs.Prelude.{is_none, slice_get, ◌==◌, ◌||◌, if◌then◌else◌}
 use Rattle.std.specs.Option.{option_map}
 use Rattle.items.specs.Options.{◌>>=◌}
 use Rattle.items.proofs.Binds.{bind_is}
@@ -38,9 +38,9 @@ use Rattle.verify_types.proofs.ListLaws.{option_true}
 use Rattle.state_model.specs.Frames.{Frame}
 use Rattle.ref_model.specs.Kinds.{kept}
 use Rattle.ref_model.specs.Fetch.{fetched}
-use Rattle.ref_model.specs.Frames.{contents, behind, is_root, stack_returned, returned_to, returned}
+use Rattle.ref_model.specs.Frames.{behind, is_root, is_guarded_frame, is_left_openly, stack_returned, returned_to, returned}
 use Rattle.ref_model.specs.LocalRows.{row}
-use Rattle.frame_soundness.specs.Typed.{IsAt, Waits, IsUnder, Typed, given_back, back_of, result_type}
+use Rattle.frame_soundness.specs.Typed.{own_locals, own_contents, IsAt, Waits, IsUnder, Typed, given_back, back_of, result_type}
 use Rattle.frame_soundness.specs.LocalLaws.{Goes}
 use Rattle.frame_soundness.proofs.FetchLaws.{parts, fetched_is, fine}
 use Rattle.frame_soundness.proofs.Arrivals.{arrived, on_frames}
@@ -130,7 +130,7 @@ nothing_given w f at good rest under of =
       kinds = subst (λ (b : Option VType). AreOf (given_back b rest) under) (sym (back_is w f.method p.info None p.info_is result)) of;
     }
 
-value_given : (w : World) (f : Frame) (k : ValueKind) → (at : IsAt w f) → HasKinds at.state.types (contents f)
+value_given : (w : World) (f : Frame) (k : ValueKind) → (at : IsAt w f) → HasKinds at.state.types (own_contents w f)
     → (x : VType × List VType) → type_popped k at.state.types.stack ≡ Ok x
     → is_returned at.env (returns (Some k)) at.state ≡ true → (rest : List VType)
     (under : List Slot) → AreOf rest under → Given w f (Some k) rest under
@@ -168,7 +168,7 @@ taken_types env i s after k known e =
     let inner = ok_is (type_popped k s.types.stack) (λ x. Ok x.1) outer.0 outer.1 in
     (inner.0, inner.1)
 
-pub given : (w : World) (f : Frame) (kind : Option ValueKind) → (at : IsAt w f) → HasKinds at.state.types (contents f)
+pub given : (w : World) (f : Frame) (kind : Option ValueKind) → (at : IsAt w f) → HasKinds at.state.types (own_contents w f)
     → IsFine at.env at.place.instruction at.state → row_of at.place.instruction ≡ returns kind → (rest : List VType)
     (under : List Slot) → AreOf rest under → Given w f kind rest under
 given w f None at kinds good known rest under of =
@@ -191,12 +191,13 @@ returned_goes w f g rest kind typed_world t known h =
     let good = fine w g typed_world h.at in
     let same = same_state h.after good.after (state_after h.at.env h.at.place.instruction h.at.state) h.is good.is in
     let slots : Contents Slot = record { locals = g.locals; stack = b.stack } in
-    let kinds : HasKinds h.after.types slots = record {
+    let own : Contents Slot = record { locals = own_locals w g.method g.locals; stack = b.stack } in
+    let kinds : HasKinds h.after.types own = record {
       locals = h.kinds.locals;
       stack = subst (λ (ts : List VType). AreOf ts b.stack) (sym h.given) b.kinds;
     } in
     let a = arrived w g h.at good.after next slots (good.on h.goes_on)
-    (subst (λ (s : TypeState). HasKinds s.types slots) same kinds) good.after_shallow in
+    (subst (λ (s : TypeState). HasKinds s.types own) same kinds) good.after_shallow in
     let to : returned_to w g b.stack ≡ Some a.frame =
     bind_is (fetched w g) (λ call. behind g call.instr.next b.stack) h.at.place.instruction (Some a.frame) (fetched_is w g h.at) a.is in
     let last : returned_to w g b.stack >>= (λ caller. Some (caller ∷ rest)) ≡ Some (a.frame ∷ rest) =
@@ -215,15 +216,24 @@ if_false : {A : Type 0} (b : Bool) (x y : A) → b ≡ false → (if b then x el
 if_false true x y e = absurd cc
 if_false false x y e = refl
 
+-- a return from a frame that is no root frame
+pub inner_goes : (w : World) (f : Frame) (below : List Frame) (kind : Option ValueKind) → AreTyped w → (t : Typed w (f ∷ below))
+    → row_of t.0.at.place.instruction ≡ returns kind → is_root w f below ≡ false → Goes w (returned w kind f below)
+inner_goes w f [] kind typed_world t known root = absurd cc
+inner_goes w f (g ∷ rest) kind typed_world t known root =
+    returned_goes w f g rest kind typed_world t known (subst (IsUnder w f.method g) root t.1.0)
+
 pub return_goes : (w : World) (f : Frame) (below : List Frame) (kind : Option ValueKind) → AreTyped w → (t : Typed w (f ∷ below))
-    → row_of t.0.at.place.instruction ≡ returns kind → is_root w f below ≡ false → Goes w (row w (f ∷ below))
-return_goes w f [] kind typed_world t known root = absurd cc
-return_goes w f (g ∷ rest) kind typed_world t known root =
-    let h = subst (IsUnder w f.method g) root t.1.0 in
-    let goes = returned_goes w f g rest kind typed_world t known h in
+    → row_of t.0.at.place.instruction ≡ returns kind → is_left_openly w f below ≡ false → Goes w (row w (f ∷ below))
+return_goes w f below kind typed_world t known inner =
+    let goes = inner_goes w f below kind typed_world t known (no_root (is_root w f below) (is_guarded_frame w f) inner) in
     record {
       frames = goes.frames;
-      is = row_is w f (g ∷ rest) t.0.at (returns kind) (Some goes.frames) known
-          (if_false (is_root w f (g ∷ rest)) None (returned w kind f (g ∷ rest)) root ∙ goes.is);
+      is = row_is w f below t.0.at (returns kind) (Some goes.frames) known
+          (if_false (is_left_openly w f below) None (returned w kind f below) inner ∙ goes.is);
       typed = goes.typed;
     }
+  where
+    no_root : (a b : Bool) → (a || b) ≡ false → a ≡ false
+    no_root true b e = absurd cc
+    no_root false b e = refl

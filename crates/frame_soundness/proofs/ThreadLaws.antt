@@ -3,7 +3,7 @@ use Rattle.std.proofs.Common.{◌≡◌, ◌⊎◌, inl, inr, ℕ, List, [], Opt
 use Rattle.std.specs.Prelude.{slice_get, slice_set}
 use Rattle.std.specs.Option.{option_map_or}
 use Rattle.vthread_state.specs.declared.phase.Phase.{Phase}
-use Rattle.vthread_state.specs.declared.phase.Phase.TheVariants.{Run, Throwing}
+use Rattle.vthread_state.specs.declared.phase.Phase.TheVariants.{Throwing}
 use Rattle.vthread_state.specs.declared.thread.Status.{Status}
 use Rattle.vthread_state.specs.declared.thread.Status.TheVariants.{New, Live, Done}
 use Rattle.link_model.specs.World.{World}
@@ -48,9 +48,8 @@ thread_changed w r t change typed good = by (slice_get r.threads t) refl
 
 -- frames that keep to the typing do so in each status
 of_phase : (w : World) (frames : List Frame) (phase : Phase) → Typed w frames → AreOfPhase w frames phase
-of_phase w frames Run typed = typed
 of_phase w frames (Throwing o) typed = thrown w frames typed
-of_phase w frames phase typed = tt
+of_phase w frames phase typed = typed
 
 of_status : (w : World) (frames : List Frame) (status : Status) → Typed w frames → AreOfStatus w frames status
 of_status w frames New typed = tt
@@ -82,4 +81,4 @@ throwing_keeps w r t o typed good =
 
 pub finished_keeps : (w : World) (r : State) (t : ℕ) → IsTypedState w r → IsTypedState w (finished r t)
 finished_keeps w r t typed =
-    thread_changed w r t (λ thread. record { thread = record thread.thread { status = Done }; frames = [] }) typed (λ x at. tt)
+    thread_changed w r t (λ thread. record thread { thread = record thread.thread { status = Done }; frames = [] }) typed (λ x at. tt)

@@ -8,7 +8,9 @@ use Rattle.instruction_rows.specs.declared.value.Slot.{Slot}
 use Rattle.instruction_rows.specs.Rows.{Invocation, virtual, special, static, interface, dynamic, invoke}
 use Rattle.instruction_rows.specs.TypeEffect.{type_popped}
 use Rattle.instruction_rows.specs.Soundness.{AreOf}
+use Rattle.link_model.specs.declared.members.MethodInfo.{MethodInfo}
 use Rattle.link_model.specs.declared.members.MethodCode.{MethodCode}
+use Rattle.link_model.specs.Initializers.{is_synchronized}
 use Rattle.link_model.specs.World.{World}
 use Rattle.link_model.specs.Decoded.{code_at}
 use Rattle.verify_types.specs.Calls.{argument_types}
@@ -17,13 +19,19 @@ use Rattle.verify_types.specs.Operands.{all_wanted}
 use Rattle.verify_types.specs.Typing.{AreTyped}
 use Rattle.state_model.specs.Frames.{Frame}
 use Rattle.ref_model.specs.Kinds.{argument_slots}
+use Rattle.ref_model.specs.Monitors.{with_monitor}
 use Rattle.ref_model.specs.Fetch.{Named, named_method}
 use Rattle.ref_model.specs.Frames.{callee, caller}
 use Rattle.frame_soundness.specs.Typed.{Stands, Waits, back_of}
 
+-- The first frame of a method keeps to the typing, with a monitor where the method is synchronized.
+pub record StandsAtFirst (w : World) (m : MethodInfo) (g : Frame) : Type 0 where
+  pub plain : is_synchronized m ≡ false → Stands w g
+  pub guarded : (o : ℕ) → is_synchronized m ≡ true → Stands w (with_monitor g o)
+
 -- the callee's frame keeps to the typing, and what the caller keeps has these types
 pub record Begins (w : World) (m : Named) (rest : List VType) (xs : List Slot) (g : Frame) : Type 0 where
-  pub stands : Stands w g
+  pub stands : StandsAtFirst w m.method g
   pub method : g.method ≡ m.number
   pub left : AreOf rest (drop (suc (argument_slots m.method.signature)) xs)
 

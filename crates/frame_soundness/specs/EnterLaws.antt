@@ -13,13 +13,13 @@ use Rattle.ref_model.specs.Kinds.{argument_slots}
 use Rattle.ref_model.specs.Members.{native_at}
 use Rattle.ref_model.specs.Memory.{Memory}
 use Rattle.ref_model.specs.Fetch.{Named, named_method}
-use Rattle.ref_model.specs.Effects.{Effect, done, invokes, throws, throws_object}
+use Rattle.ref_model.specs.Effects.{Effect, done, invokes, throws, throws_object, asks}
 use Rattle.ref_model.specs.Calls.{entered}
 use Rattle.frame_soundness.specs.Typed.{Typed}
 use Rattle.frame_soundness.specs.StateKinds.{MemoryFits}
 use Rattle.frame_soundness.specs.CallLaws.{takes_receiver}
 use Rattle.frame_soundness.specs.NativeKinds.{FitsNative}
-use Rattle.frame_soundness.specs.StepKinds.{GoesOnBehind}
+use Rattle.frame_soundness.specs.StepKinds.{GoesOnBehind, IsAsked}
 
 -- ---- what linking gives of a method (JVMS 4.6, 6.5)
 
@@ -40,12 +40,14 @@ pub record IsChosen (w : World) (m chosen : Named) : Type 0 where
 
 -- ---- the method is entered
 
--- A native method is done, and the frame goes on; one with code begins, and the frame waits below it.
+-- A native method is done or asks, and the frame goes on; one with code begins, or does when it has its monitor, and the frame waits below
+-- it.
 abbrev pub IsCallResult : World → Frame → List Frame → ℕ → Effect → Type 0
 IsCallResult w f below next (done q stack) = GoesOnBehind w f below next q stack
 IsCallResult w f below next (invokes g stack) = Typed w (g ∷ record f { stack = stack } ∷ below)
 IsCallResult w f below next (throws e) = Unit {0}
 IsCallResult w f below next (throws_object o) = Unit {0}
+IsCallResult w f below next (asks q stack) = IsAsked w f below next q stack
 
 abbrev pub MethodsAreEntered : Type 0
 MethodsAreEntered = (w : World) (f : Frame) (below : List Frame) (invocation : Invocation) (index depth : ℕ) (m chosen : Named) (r : Memory)

@@ -3,12 +3,14 @@ use Rattle.std.specs.Prelude.{◌≡◌, ◌≤◌, ℕ, true, List, ◌∷◌, 
 use Rattle.items.specs.Options.{◌>>=◌}
 use Rattle.items.specs.First.{Each}
 use Rattle.opcodes.specs.declared.op.Element.{Element}
+use Rattle.opcodes.specs.declared.op.ValueKind.{ValueKind}
 use Rattle.opcodes.specs.declared.op.ValueKind.TheVariants as kinds
 use Rattle.stack_maps.specs.declared.types.VType.{VType}
 use Rattle.stack_maps.specs.declared.types.VType.TheVariants as types
+use Rattle.instruction_rows.specs.declared.value.Value.{Value}
 use Rattle.instruction_rows.specs.declared.value.Slot.{Slot}
-use Rattle.instruction_rows.specs.Kinds.{kind_of_type}
-use Rattle.instruction_rows.specs.SlotEffect.{popped}
+use Rattle.instruction_rows.specs.Kinds.{kind_of, kind_of_type}
+use Rattle.instruction_rows.specs.SlotEffect.{popped, pushed}
 use Rattle.instruction_rows.specs.TypeEffect.{type_popped, types_popped, type_pushed}
 use Rattle.instruction_rows.specs.Soundness.{AreOf}
 use Rattle.link_model.specs.declared.members.FieldInfo.{FieldInfo}
@@ -21,19 +23,36 @@ use Rattle.ref_model.specs.Members.{is_static_field, instance_fields, field_plac
 use Rattle.ref_model.specs.Memory.{Memory}
 use Rattle.ref_model.specs.Heap.{class_at}
 use Rattle.ref_model.specs.Fetch.{field_of, class_of}
-use Rattle.ref_model.specs.Effects.{Effect, done, invokes, throws, throws_object}
+use Rattle.ref_model.specs.Requests.{request_result, calls}
+use Rattle.ref_model.specs.Effects.{Effect, done, invokes, throws, throws_object, asks}
 use Rattle.ref_model.specs.Fields.{stored, static_gotten, static_put, field_gotten, field_put}
 use Rattle.ref_model.specs.Arrays.{array_loaded, array_stored, length_gotten, array_made, arrays_made}
 use Rattle.ref_model.specs.Instances.{object_made, object_cast, object_judged}
 use Rattle.frame_soundness.specs.StateKinds.{HasFieldKinds, MemoryFits}
 
+-- what comes back of a request with this result: nothing, or a value of the kind
+abbrev pub IsGivenBack : Option ValueKind → Option Value → Type 0
+IsGivenBack None None = Unit {0}
+IsGivenBack (Some k) (Some v) = kind_of v ≡ k
+IsGivenBack result back = ⊥
+
+abbrev pub with_back : Option Value → List Slot → List Slot
+with_back None stack = stack
+with_back (Some v) stack = pushed v stack
+
+-- it holds of the operand stack, whatever comes back on it
+abbrev pub WithBack : Option ValueKind → List Slot → (List Slot → Type 0) → Type 0
+WithBack result stack Holds = (back : Option Value) → IsGivenBack result back → Holds (with_back back stack)
+
 -- What an effect leaves, where the operands after the instruction have these types: values of their kinds, in memory and on the operand
--- stack. An exception changes nothing.
+-- stack. An exception changes nothing, and a request nothing yet.
 abbrev pub IsKept : World → List VType → Effect → Type 0
 IsKept w rest (done q stack) = MemoryFits w q × AreOf rest stack
 IsKept w rest (invokes g stack) = ⊥
 IsKept w rest (throws e) = Unit {0}
 IsKept w rest (throws_object o) = Unit {0}
+IsKept w rest (asks (calls o g) stack) = ⊥
+IsKept w rest (asks q stack) = WithBack (request_result q) stack (λ xs. AreOf rest xs)
 
 -- What linking gives: getstatic and putstatic name a static field (JVMS 6.5).
 abbrev pub IsStaticResolution : World → Resolution → Type 0

@@ -12,7 +12,7 @@ use Rattle.verify_types.specs.Environment.{Instruction}
 use Rattle.verify_types.specs.Effects.{row_of}
 use Rattle.verify_types.specs.Typing.{AreTyped}
 use Rattle.state_model.specs.Frames.{Frame}
-use Rattle.ref_model.specs.Frames.{contents, is_root}
+use Rattle.ref_model.specs.Frames.{contents, is_left_openly}
 use Rattle.ref_model.specs.Fetch.{fetched, Named, named_method}
 use Rattle.ref_model.specs.LocalRows.{most_frames, has_local_call, row, rows}
 use Rattle.frame_soundness.specs.Typed.{Typed}
@@ -37,10 +37,10 @@ abbrev pub WideConstantsGoOn : Type 0
 WideConstantsGoOn = (w : World) (f : Frame) (below : List Frame) (index : ℕ) → AreTyped w → (t : Typed w (f ∷ below)) →
     row_of t.0.at.place.instruction ≡ wide_constant index → Goes w (row w (f ∷ below))
 
--- So does a return, but from a root frame.
+-- So does a return, but from a root frame, from one of a synchronized method, and from that of jvt.Native.hold.
 abbrev pub ReturnsGoOn : Type 0
 ReturnsGoOn = (w : World) (f : Frame) (below : List Frame) (kind : Option ValueKind) → AreTyped w → (t : Typed w (f ∷ below)) →
-    row_of t.0.at.place.instruction ≡ returns kind → is_root w f below ≡ false → Goes w (row w (f ∷ below))
+    row_of t.0.at.place.instruction ≡ returns kind → is_left_openly w f below ≡ false → Goes w (row w (f ∷ below))
 
 -- So does a static call that is local. A linked program names a static method there, which has code where it isn't native.
 abbrev pub StaticCallsGoOn : Type 0

@@ -12,13 +12,14 @@ use Rattle.instruction_rows.specs.Soundness.{AreOf}
 use Rattle.link_model.specs.World.{World}
 use Rattle.ref_model.specs.Memory.{Memory}
 use Rattle.ref_model.specs.Effects.{Effect}
-use Rattle.ref_model.specs.NativeRows.{Answer, returns, returns_value, fails, NativeRow, native, native_acted}
+use Rattle.ref_model.specs.Requests.{request_result, calls}
+use Rattle.ref_model.specs.NativeRows.{Answer, returns, returns_value, fails, asks_for, NativeRow, native, native_acted}
 use Rattle.ref_model.specs.Natives.{native_row}
 use Rattle.frame_soundness.specs.Typed.{given_back}
 use Rattle.frame_soundness.specs.StateKinds.{MemoryFits}
 use Rattle.frame_soundness.specs.EventLaws.{IsKept}
 
--- the kind of what a native method gives back, by its descriptor; of a method without a result, and of one that has no row, None
+-- the kind of what a native method gives back, by its descriptor; of a method without a result, None
 abbrev pub native_result : Native → Option ValueKind
 native_result natives.ObjectEquals = Some kinds.Int
 native_result natives.ObjectHashCode = Some kinds.Int
@@ -41,13 +42,26 @@ native_result natives.StringBuilderAppendBoolean = Some kinds.Reference
 native_result natives.StringBuilderAppendString = Some kinds.Reference
 native_result natives.StringBuilderLength = Some kinds.Int
 native_result natives.StringBuilderToString = Some kinds.Reference
+native_result natives.SystemNanoTime = Some kinds.Long
+native_result natives.SystemCurrentTimeMillis = Some kinds.Long
+native_result natives.ThreadIsInterrupted = Some kinds.Int
+native_result natives.ThreadIsAlive = Some kinds.Int
+native_result natives.ThreadIsVirtual = Some kinds.Int
+native_result natives.ThreadIsDaemon = Some kinds.Int
+native_result natives.ThreadGetName = Some kinds.Reference
+native_result natives.ThreadId = Some kinds.Long
+native_result natives.ThreadGetState = Some kinds.Reference
+native_result natives.ThreadCurrentThread = Some kinds.Reference
+native_result natives.ThreadInterrupted = Some kinds.Int
 native_result n = None
 
--- an answer with a result of this kind, or without one
+-- an answer, or a request, with a result of this kind, or without one
 abbrev pub IsAnswer : World → Option ValueKind → Answer → Type 0
 IsAnswer w result (returns q) = (result ≡ None) × MemoryFits w q
 IsAnswer w result (returns_value q v) = (result ≡ Some (kind_of v)) × MemoryFits w q
 IsAnswer w result (fails e) = Unit {0}
+IsAnswer w result (asks_for (calls o g)) = ⊥
+IsAnswer w result (asks_for q) = result ≡ request_result q
 
 -- what holds of a function of values of these kinds, whatever they are
 abbrev pub Always : (Answer → Type 0) → (takes : List ValueKind) → Function takes Answer → Type 0

@@ -8,12 +8,13 @@ use Rattle.verify_types.specs.Effects.{row_of}
 use Rattle.verify_types.specs.Typing.{AreTyped}
 use Rattle.state_model.specs.Frames.{Frame}
 use Rattle.ref_model.specs.Memory.{Memory}
-use Rattle.ref_model.specs.Effects.{Effect, done, invokes, throws, throws_object}
+use Rattle.ref_model.specs.Requests.{Request, request_result, calls}
+use Rattle.ref_model.specs.Effects.{Effect, done, invokes, throws, throws_object, asks}
 use Rattle.ref_model.specs.Frames.{behind}
 use Rattle.ref_model.specs.Step.{event_effect}
 use Rattle.frame_soundness.specs.Typed.{Typed}
 use Rattle.frame_soundness.specs.StateKinds.{HasFieldKinds, MemoryFits}
-use Rattle.frame_soundness.specs.EventLaws.{IsStaticResolution, IsInstanceResolution, OfReceiver, got_object, put_object, IsObjectResolution, HasDimensions}
+use Rattle.frame_soundness.specs.EventLaws.{IsStaticResolution, IsInstanceResolution, OfReceiver, got_object, put_object, IsObjectResolution, HasDimensions, WithBack}
 
 -- ---- what linking gives
 
@@ -40,12 +41,24 @@ pub record GoesOnBehind (w : World) (f : Frame) (below : List Frame) (next : ℕ
   pub typed : Typed w (frame ∷ below)
   pub values : MemoryFits w q
 
+-- the frame goes on after it, with this operand stack
+pub record FrameGoesOn (w : World) (f : Frame) (below : List Frame) (next : ℕ) (stack : List Slot) : Type 0 where
+  pub frame : Frame
+  pub is : behind f next stack ≡ Some frame
+  pub typed : Typed w (frame ∷ below)
+
+-- A request: a call goes into its frame, and the frame of any other goes on with what comes back.
+abbrev pub IsAsked : World → Frame → List Frame → ℕ → Request → List Slot → Type 0
+IsAsked w f below next (calls o g) stack = Typed w (g ∷ record f { stack = stack } ∷ below)
+IsAsked w f below next q stack = WithBack (request_result q) stack (λ xs. FrameGoesOn w f below next xs)
+
 -- an exception changes nothing, and no event invokes
 abbrev pub IsResult : World → Frame → List Frame → ℕ → Effect → Type 0
 IsResult w f below next (done q stack) = GoesOnBehind w f below next q stack
 IsResult w f below next (invokes g stack) = ⊥
 IsResult w f below next (throws e) = Unit {0}
 IsResult w f below next (throws_object o) = Unit {0}
+IsResult w f below next (asks q stack) = IsAsked w f below next q stack
 
 -- An event of a frame that keeps to the typing leaves one that does, and a memory whose values have their kinds.
 abbrev pub EventsGoOn : Type 0

@@ -1,9 +1,11 @@
 -- What it means that the frames of a thread keep to the typing of its program: the kinds of their slots are those of the states that the
 -- typing has at their pcs (JVMS 4.10.1.6).
-use Rattle.std.specs.Prelude.{◌≡◌, ℕ, Bool, true, false, List, [], ◌∷◌, Option, Some, None, Ok, slice_get}
+use Rattle.std.specs.Prelude.{◌≡◌, ℕ, Bool, true, false, List, [], ◌∷◌, Option, Some, None, Ok, slice_get, if◌then◌else◌}
 use Rattle.std.specs.Option.{option_map, option_map_or}
 use Rattle.items.specs.Options.{◌>>=◌}
 use Rattle.stack_maps.specs.declared.types.VType.{VType}
+use Rattle.instruction_rows.specs.declared.value.Slot.{Slot}
+use Rattle.instruction_rows.specs.Contents.{Contents}
 use Rattle.instruction_rows.specs.Rows.{row_goes_on}
 use Rattle.instruction_rows.specs.TypeEffect.{type_pushed}
 use Rattle.instruction_rows.specs.Soundness.{AreOf, HasKinds}
@@ -16,7 +18,7 @@ use Rattle.verify_types.specs.Effects.{row_of, state_after}
 use Rattle.verify_types.specs.Walk.{Placed, placed_at}
 use Rattle.state_model.specs.Frames.{Frame}
 use Rattle.ref_model.specs.Members.{is_initializer}
-use Rattle.ref_model.specs.Frames.{contents}
+use Rattle.ref_model.specs.Monitors.{is_synchronized_at}
 
 -- ---- one frame
 
@@ -30,10 +32,24 @@ pub record IsAt (w : World) (f : Frame) : Type 0 where
   pub has : place.state ≡ Some state
   pub room : f.room ≡ env.max_stack
 
+-- all items but the last
+abbrev pub but_last : {A : Type 0} → List A → List A
+but_last [] = []
+but_last (x ∷ []) = []
+but_last (x ∷ y ∷ rest) = x ∷ but_last (y ∷ rest)
+
+-- The local variables that the code of a method of this number names. The frame of a synchronized method has one more, the last, for its
+-- monitor.
+abbrev pub own_locals : World → ℕ → List Slot → List Slot
+own_locals w method locals = if is_synchronized_at w method then but_last locals else locals
+
+abbrev pub own_contents : World → Frame → Contents Slot
+own_contents w f = record { locals = own_locals w f.method f.locals; stack = f.stack }
+
 -- A frame whose next step is its instruction: its slots have the kinds of the state before it.
 pub record Stands (w : World) (f : Frame) : Type 0 where
   pub at : IsAt w f
-  pub kinds : HasKinds at.state.types (contents f)
+  pub kinds : HasKinds at.state.types (own_contents w f)
 
 -- the operand stack with what comes back, if anything does
 abbrev pub given_back : Option VType → List VType → List VType
@@ -49,8 +65,8 @@ pub record Waits (w : World) (back : Option VType) (f : Frame) : Type 0 where
   pub rest : List VType
   pub given : after.types.stack ≡ given_back back rest
   pub goes_on : row_goes_on (row_of at.place.instruction) ≡ true
-  pub kinds : HasKinds (record { locals = after.types.locals; stack = rest }) (contents f)
-  pub before : AreOf at.state.types.locals f.locals
+  pub kinds : HasKinds (record { locals = after.types.locals; stack = rest }) (own_contents w f)
+  pub before : AreOf at.state.types.locals (own_locals w f.method f.locals)
 
 -- ---- the frames of a thread, the top first
 
@@ -82,7 +98,7 @@ Typed w (f ∷ below) = Stands w f × AreUnder w f.method below
 
 pub record Throws (w : World) (f : Frame) : Type 0 where
   pub at : IsAt w f
-  pub locals : AreOf at.state.types.locals f.locals
+  pub locals : AreOf at.state.types.locals (own_locals w f.method f.locals)
 
 abbrev pub Thrown : World → List Frame → Type 0
 Thrown w [] = ⊥

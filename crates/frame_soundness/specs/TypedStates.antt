@@ -2,7 +2,7 @@
 -- each thread are such as its status asks for.
 use Rattle.std.specs.Prelude.{◌≡◌, ℕ, List, Some, slice_get}
 use Rattle.vthread_state.specs.declared.phase.Phase.{Phase}
-use Rattle.vthread_state.specs.declared.phase.Phase.TheVariants.{Run, Throwing}
+use Rattle.vthread_state.specs.declared.phase.Phase.TheVariants.{Throwing}
 use Rattle.vthread_state.specs.declared.thread.Status.{Status}
 use Rattle.vthread_state.specs.declared.thread.Status.TheVariants.{New, Live, Done}
 use Rattle.link_model.specs.World.{World}
@@ -13,11 +13,10 @@ use Rattle.frame_soundness.specs.StateKinds.{MemoryFits}
 
 -- ---- one thread
 
--- the frames of a live thread: only one that runs or throws has a step
+-- the frames of a live thread: one that waits is at its instruction, as one that runs
 abbrev pub AreOfPhase : World → List Frame → Phase → Type 0
-AreOfPhase w frames Run = Typed w frames
 AreOfPhase w frames (Throwing o) = Thrown w frames
-AreOfPhase w frames phase = Unit {0}
+AreOfPhase w frames phase = Typed w frames
 
 abbrev pub AreOfStatus : World → List Frame → Status → Type 0
 AreOfStatus w frames New = Unit {0}

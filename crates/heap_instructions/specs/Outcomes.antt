@@ -7,7 +7,7 @@ use Rattle.instruction_rows.specs.declared.value.Slot.TheVariants as slots
 use Rattle.continuation.specs.Continuation.{Continuation}
 use Rattle.heap_objs.specs.Heap.{Heap}
 use Rattle.ref_model.specs.Memory.{Memory}
-use Rattle.ref_model.specs.Effects.{Effect, done, gives, throws, throws_object}
+use Rattle.ref_model.specs.Effects.{Effect, done, gives, throws, throws_object, asks}
 use Rattle.heap_instructions.specs.declared.outcome.Outcome.{Outcome}
 use Rattle.heap_instructions.specs.declared.outcome.Outcome.TheVariants as outcomes
 use Rattle.heap_instructions.specs.Operands.{operands, room_of}
@@ -27,12 +27,13 @@ is_int_on_top stack = true
 abbrev pub can_have : ℕ → List Slot → Bool
 can_have room stack = nat_le (length stack) room && is_int_on_top stack
 
--- an effect, unless it leaves an operand stack that a frame with this room can't have
+-- an effect, unless it asks something, or leaves an operand stack that a frame with this room can't have
 abbrev pub fitting : ℕ → Option Effect → Option Effect
 fitting room (Some (done r stack)) = if can_have room stack then Some (done r stack) else None
+fitting room (Some (asks q rest)) = None
 fitting room effect = effect
 
--- The definitions have no effect here, or one that leaves an operand stack that a frame with this room can't have.
+-- The definitions have no effect here, or one that asks something, or that leaves an operand stack that a frame with this room can't have.
 abbrev pub LacksEffect : ℕ → Option Effect → Type 0
 LacksEffect room effect = fitting room effect ≡ None
 

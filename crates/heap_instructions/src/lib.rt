@@ -8,6 +8,7 @@ mod divisions;
 mod fields;
 mod kinds;
 mod makers;
+mod monitors;
 mod objects;
 mod operands;
 mod outcome;

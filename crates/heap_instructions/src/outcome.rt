@@ -9,7 +9,7 @@ pub enum Outcome {
     Throws(Exception),
     /// It throws this object, and nothing has changed.
     ThrowsObject(u32),
-    /// The definitions have no effect here, or its result has no room on the operand stack or is no int: nothing has changed. Well typed
-    /// frames never get here.
+    /// The definitions have no effect here, or one that asks something of the threads, or its result has no room on the operand stack or is
+    /// no int: nothing has changed.
     Undefined,
 }

@@ -1,9 +1,11 @@
 -- What an invocation does, where the method that it names is known.
-use Rattle.std.proofs.Common.{ℕ, ◌≡◌, Bool, true, false, List, Option, Some, None, drop, refl, sym, subst, ap, ◌∙◌}
-use Rattle.std.specs.Prelude.{Result, Ok, Err, IfOk, nat_lt, slice_get, ◌||◌, if◌then◌else◌}
+use Rattle.std.proofs.Common.{ℕ, ◌≡◌, ◌-◌, ◌++◌, Bool, true, false, List, [], Option, Some, None, drop, length, reverse, refl, sym, subst, ap, ◌∙◌}
+use Rattle.std.specs.Prelude.{Result, Ok, Err, IfOk, nat_le, nat_lt, replicate, slice_get, take, ◌||◌, if◌then◌else◌}
+use Rattle.std.specs.Option.{option_map_or}
 use Rattle.items.specs.Options.{◌>>=◌}
 use Rattle.items.proofs.Binds.{bind_is}
 use Rattle.instruction_rows.specs.declared.value.Slot.{Slot}
+use Rattle.instruction_rows.specs.declared.value.Slot.TheVariants.{Second}
 use Rattle.instruction_rows.specs.Rows.{Invocation, virtual, special, static, interface}
 use Rattle.link_model.specs.declared.members.MethodInfo.{MethodInfo}
 use Rattle.link_model.specs.declared.sites.Resolution.{Resolution}
@@ -12,12 +14,15 @@ use Rattle.link_model.specs.World.{World}
 use Rattle.link_model.specs.Decoded.{code_at}
 use Rattle.lib_table.specs.declared.native.Native.{Native}
 use Rattle.ref_model.specs.Memory.{Memory}
-use Rattle.ref_model.specs.Effects.{Effect, invokes, late_failure, throws}
+use Rattle.ref_model.specs.Effects.{Effect, asks, invokes, late_failure, throws}
 use Rattle.ref_model.specs.Fetch.{Named, method_of, named_method}
 use Rattle.ref_model.specs.Kinds.{argument_slots}
-use Rattle.ref_model.specs.Calls.{called, code_entered, entered, invoked, native_entered}
+use Rattle.ref_model.specs.Calls.{called, code_entered, entered, invoked, method_entered, native_entered, receiver_of}
 use Rattle.ref_model.specs.Classes.{is_sub}
-use Rattle.ref_model.specs.Frames.{callee}
+use Rattle.ref_model.specs.Frames.{callee, first_frame, is_guarded, is_guarded_frame}
+use Rattle.ref_model.specs.Monitors.{method_monitor, with_monitor}
+use Rattle.ref_model.specs.Requests.{calls}
+use Rattle.state_model.specs.Frames.{Frame}
 use Rattle.ref_model.specs.LocalRows.{most_frames}
 use Rattle.ref_model.specs.Members.{is_hold, is_synchronized, native_at}
 use Rattle.ref_model.specs.declared.exception.Exception.TheVariants as exceptions
@@ -29,7 +34,7 @@ use Rattle.invocation.specs.declared.target.Target.TheVariants as targets
 use Rattle.invocation.specs.Arguments.{takes_double}
 use Rattle.invocation.specs.Receivers.{tested}
 use Rattle.invocation.specs.InvocationCache.{FitsReceiver, IsNamed}
-use Rattle.invocation.specs.Targets.{Gives, IsLocalCallee, IsLocalCode, IsReceived, IsStaticCallee, begins, numbered_effect, received_effect, selected_effect, special_effect, virtual_effect}
+use Rattle.invocation.specs.Targets.{Gives, IsLocalCallee, IsLocalCode, IsReceived, IsStaticCallee, LacksCall, begins, unguarded, numbered_effect, received_effect, selected_effect, special_effect, virtual_effect}
 
 pub named_is : (w : World) (resolution : Resolution) (n : ℕ) (m : MethodInfo) → Some n ≡ method_of resolution.site → Some m ≡ slice_get w.methods n →
     named_method w resolution ≡ Some (record { number = n; method = m })
@@ -68,18 +73,89 @@ pub special_is : (w : World) (resolution : Resolution) (r : Memory) (depth : ℕ
 special_is w resolution r depth stack n slots m site method is =
     invoked_by w resolution special r depth stack n m site method ∙ ap (λ s. special_effect w resolution n s r depth stack) (sym is)
 
--- a method with code begins
+-- ---- a method with code
+
+-- it begins, or asks for its monitor
+entered_is : (w : World) (r : Memory) (depth : ℕ) (stack : List Slot) (n slots : ℕ) (m : MethodInfo) (code : MethodCode) →
+    slice_get w.methods n ≡ Some m → native_at w n ≡ None → code_at w n ≡ Some code →
+    numbered_effect w r depth n slots stack ≡ method_entered w depth (record { number = n; method = m }) code slots stack
+entered_is w r depth stack n slots m code method native has =
+    let named : Named = record { number = n; method = m } in
+    ap (λ (x : Option MethodInfo). (x >>= λ y. Some (record { number = n; method = y })) >>= λ y. entered w r depth y slots stack) method
+    ∙ ap (λ (x : Option Native). native_entered w r depth named x slots stack) native ∙ ap (λ (x : Option MethodCode). code_entered w depth named x slots stack) has
+
+or_none : (a b : Bool) → (a || b) ≡ false → a ≡ false
+or_none true b e = cc
+or_none false b e = refl
+
+-- the effect of a method that is synchronized, or isn't
+abbrev monitor_effect : MethodInfo → List Slot → Frame → Option Effect
+monitor_effect m rest g = method_monitor m (receiver_of g) >>= λ o. Some (asks (calls o (with_monitor g o)) rest)
+
+abbrev frame_effect : MethodInfo → List Slot → Bool → Frame → Option Effect
+frame_effect m rest guarded g = if guarded then monitor_effect m rest g else Some (invokes g rest)
+
 pub coded_is : (w : World) (r : Memory) (depth : ℕ) (stack : List Slot) (n slots : ℕ) (m : MethodInfo) (code : MethodCode) →
     slice_get w.methods n ≡ Some m → native_at w n ≡ None → code_at w n ≡ Some code → (is_synchronized m || is_hold w m) ≡ false →
     numbered_effect w r depth n slots stack ≡ begins depth (record { method = n; slots = slots; locals = code.max_locals; operands = code.max_stack }) stack
 coded_is w r depth stack n slots m code method native has plain =
-    let named : Named = record { number = n; method = m } in
-    let held : Option Effect = None in
-    let begun : Option Effect =
-    if nat_lt depth most_frames then (callee n code slots stack >>= λ g. Some (invokes g (drop slots stack))) else Some (throws exceptions.StackOverflowError) in
-    ap (λ (x : Option MethodInfo). (x >>= λ y. Some (record { number = n; method = y })) >>= λ y. entered w r depth y slots stack) method
-    ∙ ap (λ (x : Option Native). native_entered w r depth named x slots stack) native ∙ ap (λ (x : Option MethodCode). code_entered w depth named x slots stack) has
-    ∙ ap (λ (b : Bool). if b then held else begun) plain
+    entered_is w r depth stack n slots m code method native has
+    ∙ ap (λ (b : Bool). if nat_lt depth most_frames then (callee n code slots stack >>= frame_effect m (drop slots stack) b) else Some (throws exceptions.StackOverflowError))
+    (or_none (is_synchronized m) (is_hold w m) plain)
+
+-- ---- a guarded method
+
+abbrev sized_frame : ℕ → MethodCode → List Slot → Frame
+sized_frame n code slots = record {
+  method = n;
+  pc = 0;
+  locals = slots ++ replicate (code.max_locals - length slots) Second;
+  stack = [];
+  room = code.max_stack;
+}
+
+first_numbered : (n : ℕ) (code : MethodCode) (slots : List Slot) (g : Frame) → first_frame n code slots ≡ Some g → g.method ≡ n
+first_numbered n code slots g = by (nat_le (length slots) code.max_locals)
+  where
+    by : (b : Bool) → (if b then Some (sized_frame n code slots) else None) ≡ Some g → g.method ≡ n
+    by true e = let is : sized_frame n code slots ≡ g = cc in ap (λ (f : Frame). f.method) (sym is)
+    by false e = cc
+
+callee_numbered : (n : ℕ) (code : MethodCode) (slots : ℕ) (stack : List Slot) (g : Frame) → callee n code slots stack ≡ Some g → g.method ≡ n
+callee_numbered n code slots stack g = by (nat_le slots (length stack))
+  where
+    by : (b : Bool) → (if b then first_frame n code (reverse (take slots stack)) else None) ≡ Some g → g.method ≡ n
+    by true e = first_numbered n code (reverse (take slots stack)) g e
+    by false e = cc
+
+-- its frame is guarded
+guarded_at : (w : World) (n : ℕ) (m : MethodInfo) (g : Frame) → slice_get w.methods n ≡ Some m → is_guarded w m ≡ true → g.method ≡ n → is_guarded_frame w g ≡ true
+guarded_at w n m g method guarded at =
+    ap (λ (k : ℕ). option_map_or (is_guarded w) (slice_get w.methods k) false) at ∙ ap (λ (x : Option MethodInfo). option_map_or (is_guarded w) x false) method ∙ guarded
+
+asks_lack : (w : World) (m : MethodInfo) (rest : List Slot) (g : Frame) (o : Option ℕ) → unguarded w (o >>= λ o. Some (asks (calls o (with_monitor g o)) rest)) ≡ None
+asks_lack w m rest g None = refl
+asks_lack w m rest g (Some o) = refl
+
+frame_lacks : (w : World) (m : MethodInfo) (rest : List Slot) (g : Frame) (b : Bool) → is_guarded_frame w g ≡ true → unguarded w (frame_effect m rest b g) ≡ None
+frame_lacks w m rest g true is = asks_lack w m rest g (method_monitor m (receiver_of g))
+frame_lacks w m rest g false is = ap (λ (b : Bool). if b then None else Some (invokes g rest)) is
+
+begun_lacks : (w : World) (m : MethodInfo) (rest : List Slot) (found : Option Frame) → ((g : Frame) → found ≡ Some g → is_guarded_frame w g ≡ true) →
+    unguarded w (found >>= frame_effect m rest (is_synchronized m)) ≡ None
+begun_lacks w m rest None is = refl
+begun_lacks w m rest (Some g) is = frame_lacks w m rest g (is_synchronized m) (is g refl)
+
+pub guarded_lacks : (w : World) (r : Memory) (depth : ℕ) (stack : List Slot) (n slots : ℕ) (m : MethodInfo) (code : MethodCode) →
+    slice_get w.methods n ≡ Some m → native_at w n ≡ None → code_at w n ≡ Some code → (is_synchronized m || is_hold w m) ≡ true →
+    LacksCall w depth (numbered_effect w r depth n slots stack)
+guarded_lacks w r depth stack n slots m code method native has guarded = λ few.
+    let found = callee n code slots stack in
+    let rest = drop slots stack in
+    let full : Option Effect = Some (throws exceptions.StackOverflowError) in
+    ap (unguarded w) (entered_is w r depth stack n slots m code method native has)
+    ∙ ap (λ (b : Bool). unguarded w (if b then (found >>= frame_effect m rest (is_synchronized m)) else full)) few
+    ∙ begun_lacks w m rest found (λ g e. guarded_at w n m g method guarded (callee_numbered n code slots stack g e))
 
 -- ---- the test of the receiver's class
 

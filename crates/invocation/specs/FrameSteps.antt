@@ -13,7 +13,7 @@ use Rattle.state_model.specs.Frames.{Frame}
 use Rattle.frames.specs.Frames.{top_room, with_stack}
 use Rattle.continuation.specs.Continuation.{Continuation, without_pin}
 use Rattle.ref_model.specs.Effects.{invokes, throws}
-use Rattle.ref_model.specs.Frames.{is_root, returned, returned_to, stack_returned}
+use Rattle.ref_model.specs.Frames.{is_guarded_frame, is_left_openly, is_root, returned, returned_to, stack_returned}
 use Rattle.ref_model.specs.Throwing.{at_handler, handler_of}
 use Rattle.heap_instructions.specs.Operands.{operands}
 use Rattle.invocation.specs.declared.entering.Entered.{Entered}
@@ -48,15 +48,31 @@ abbrev pub top_is_root : World → List Frame → Bool
 top_is_root w [] = false
 top_is_root w (f ∷ below) = is_root w f below
 
--- the frames after a return from the top one
+-- whether others see that it is left
+abbrev pub top_is_guarded : World → List Frame → Bool
+top_is_guarded w [] = false
+top_is_guarded w (f ∷ below) = is_guarded_frame w f
+
+-- whether a return from it is no local instruction
+abbrev pub top_is_left_openly : World → List Frame → Bool
+top_is_left_openly w [] = false
+top_is_left_openly w (f ∷ below) = is_left_openly w f below
+
+-- the frames after a return from the top one, where that is local
 abbrev pub top_returned : World → Option ValueKind → List Frame → Option (List Frame)
 top_returned w kind [] = None
-top_returned w kind (f ∷ below) = if is_root w f below then None else returned w kind f below
+top_returned w kind (f ∷ below) = if is_left_openly w f below then None else returned w kind f below
+
+-- it is a root frame, and no others see that it is left
+pub record IsLeftRoot (w : World) (old new : Continuation) : Type 0 where
+  pub root : top_is_root w old.stack.frames ≡ true
+  pub plain : top_is_guarded w old.stack.frames ≡ false
+  pub same : new ≡ old
 
 abbrev pub IsLeft : World → Option ValueKind → Continuation → Continuation → Left → Type 0
 IsLeft w kind old new leaving.Returned =
     (top_returned w kind old.stack.frames ≡ Some new.stack.frames) × (new.pinned ≡ without_pin (length old.stack.frames - 1) old.pinned)
-IsLeft w kind old new leaving.Root = (top_is_root w old.stack.frames ≡ true) × (new ≡ old)
+IsLeft w kind old new leaving.Root = IsLeftRoot w old new
 IsLeft w kind old new leaving.Undefined = top_returned w kind old.stack.frames ≡ None
 
 -- the kinds of what a return takes
@@ -114,7 +130,7 @@ pub record IsHandled (w : World) (class o : ℕ) (old new : Continuation) : Type
 -- it has none, and is left
 pub record IsUnhandled (w : World) (class : ℕ) (old new : Continuation) : Type 0 where
   pub none : top_handler w class old.stack.frames ≡ None
-  pub inner : top_is_root w old.stack.frames ≡ false
+  pub inner : top_is_left_openly w old.stack.frames ≡ false
   pub frames : new.stack.frames ≡ drop 1 old.stack.frames
   pub pinned : new.pinned ≡ without_pin (length old.stack.frames - 1) old.pinned
 
@@ -122,6 +138,7 @@ pub record IsUnhandled (w : World) (class : ℕ) (old new : Continuation) : Type
 pub record IsUncaught (w : World) (class : ℕ) (old new : Continuation) : Type 0 where
   pub none : top_handler w class old.stack.frames ≡ None
   pub root : top_is_root w old.stack.frames ≡ true
+  pub plain : top_is_guarded w old.stack.frames ≡ false
   pub same : new ≡ old
 
 -- it has a handler, and can't go on there, since the object has no room on its operand stack
@@ -134,4 +151,4 @@ abbrev pub IsCaught : World → ℕ → ℕ → Continuation → Continuation �
 IsCaught w class o old new catching.Handled = IsHandled w class o old new
 IsCaught w class o old new catching.Left = IsUnhandled w class old new
 IsCaught w class o old new catching.Uncaught = IsUncaught w class old new
-IsCaught w class o old new catching.Undefined = IsStuck w class o old
+IsCaught w class o old new catching.Undefined = top_is_guarded w old.stack.frames ≡ false → IsStuck w class o old

@@ -16,8 +16,9 @@ use Rattle.continuation.specs.Continuation.{Continuation}
 use Rattle.ref_model.specs.Memory.{Memory}
 use Rattle.state_model.specs.Frames.{Frame}
 use Rattle.ref_model.specs.declared.exception.Exception.TheVariants as exceptions
-use Rattle.ref_model.specs.Effects.{Effect, invokes, throws}
+use Rattle.ref_model.specs.Effects.{Effect, asks, invokes, throws}
 use Rattle.ref_model.specs.Fetch.{method_of}
+use Rattle.ref_model.specs.Frames.{is_guarded_frame}
 use Rattle.ref_model.specs.Kinds.{argument_slots}
 use Rattle.ref_model.specs.LocalRows.{has_local_call, most_frames}
 use Rattle.ref_model.specs.NativeRows.{native_acted}
@@ -65,12 +66,23 @@ abbrev pub IfCode : Target → (Callee → Type 0) → Type 0
 IfCode (targets.Code callee) holds = holds callee
 IfCode target holds = Unit {0}
 
--- A target is that of this effect; it is undefined only where there is none.
+-- an effect, unless it asks something, or begins a method that is guarded
+abbrev pub unguarded : World → Option Effect → Option Effect
+unguarded w (Some (asks q rest)) = None
+unguarded w (Some (invokes g rest)) = if is_guarded_frame w g then None else Some (invokes g rest)
+unguarded w effect = effect
+
+-- In a thread that may have one more frame the definitions have no effect here, or one that asks something, or that begins a method that is
+-- guarded.
+abbrev pub LacksCall : World → ℕ → Option Effect → Type 0
+LacksCall w depth effect = nat_lt depth most_frames ≡ true → unguarded w effect ≡ None
+
+-- A target is that of this effect; it is undefined only where the effect is none, or that of a guarded method.
 abbrev pub Gives : World → Memory → ℕ → List Slot → Option Effect → Target → Type 0
 Gives w r depth stack effect (targets.Native native) = effect ≡ native_effect w r native stack
 Gives w r depth stack effect (targets.Code callee) = effect ≡ begins depth callee stack
 Gives w r depth stack effect (targets.Throws e) = effect ≡ Some (throws e)
-Gives w r depth stack effect targets.Undefined = effect ≡ None
+Gives w r depth stack effect targets.Undefined = LacksCall w depth effect
 
 -- the method with a number runs, and takes so many slots
 abbrev pub numbered_effect : World → Memory → ℕ → ℕ → ℕ → List Slot → Option Effect

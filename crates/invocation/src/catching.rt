@@ -3,7 +3,7 @@
 ghost use Rattle.std.specs.Prelude.{◌≡◌, ◌<◌, length};
 ghost use Rattle.invocation.specs.FrameSteps.{IsAtHandler, IsCaught};
 
-use crate::returning::is_root;
+use crate::returning::{is_guarded, is_left_openly};
 use crate::world::CallWorld;
 use continuation::Mounted;
 use instruction_rows::{Slot, Value};
@@ -17,7 +17,8 @@ pub enum Caught {
     Left,
     /// No handler catches it in a root frame, and nothing has changed.
     Uncaught,
-    /// The definitions have no such step: the object has no room on the operand stack.
+    /// The definitions have no such step: the object has no room on the operand stack. Or others see that the frame is left, and nothing has
+    /// changed.
     Undefined,
 }
 
@@ -51,7 +52,10 @@ pub fn catch_object<W: CallWorld>(world: &W, class: u32, o: u32, mounted: &mut M
         }
         return Caught::Handled;
     }
-    if is_root(world, mounted) {
+    if is_left_openly(world, mounted) {
+        if is_guarded(world, mounted) {
+            return Caught::Undefined;
+        }
         return Caught::Uncaught;
     }
     mounted.pop_frame();

@@ -16,6 +16,6 @@ pub use catching::{Caught, catch_object};
 pub use entering::{Entered, enter};
 pub use invocation_cache::InvocationCache;
 pub use invocations::{invoke, static_callee};
-pub use returning::{Left, is_root, leave};
+pub use returning::{Left, leave};
 pub use target::{Callee, Target};
 pub use world::CallWorld;

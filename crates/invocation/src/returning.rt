@@ -2,14 +2,14 @@
 
 ghost use Rattle.std.specs.Prelude.{◌≡◌, ◌<◌, length};
 ghost use Rattle.ref_model.specs.Operands.{HasOperands};
-ghost use Rattle.invocation.specs.FrameSteps.{HasPushed, IsBack, IsBehind, IsLeft, returned_kinds, top_is_root};
+ghost use Rattle.invocation.specs.FrameSteps.{HasPushed, IsBack, IsBehind, IsLeft, returned_kinds, top_is_guarded, top_is_left_openly};
 ghost use Rattle.heap_instructions.specs.Operands.{operands};
 
 use crate::world::CallWorld;
 use continuation::Mounted;
 use heap_instructions::{kept, push_value, slots_of, value_operand};
 use instruction_rows::Value;
-use link_model::MethodInfo;
+use link_model::{MethodInfo, is_synchronized};
 use opcodes::ValueKind;
 
 /// What became of a return.
@@ -19,17 +19,29 @@ pub enum Left {
     Returned,
     /// It is from a root frame, and nothing has changed.
     Root,
-    /// The definitions have no such return: a look-up has nothing, or what comes back has no room.
+    /// The definitions have no such return: a look-up has nothing, or what comes back has no room. Or others see it, and nothing has changed.
     Undefined,
 }
 
-/// Whether the top frame is a root frame.
+/// Whether a return from the top frame is no local instruction.
 #[inline(always)]
-pub fn is_root<W: CallWorld>(world: &W, mounted: &Mounted) -> bool
+pub(crate) fn is_left_openly<W: CallWorld>(world: &W, mounted: &Mounted) -> bool
     requires { 0 < length mounted.now.stack.frames }
-    ensures { result ≡ top_is_root (W.world world.now) mounted.now.stack.frames }
+    ensures { result ≡ top_is_left_openly (W.world world.now) mounted.now.stack.frames }
 {
-    mounted.depth() == 1 || world.is_initializer(mounted.top().method)
+    mounted.depth() == 1 || world.is_open(mounted.top().method)
+}
+
+/// Whether others see that the top frame is left: its method is synchronized, or jvt.Native.hold.
+#[inline(never)]
+pub(crate) fn is_guarded<W: CallWorld>(world: &W, mounted: &Mounted) -> bool
+    requires { 0 < length mounted.now.stack.frames }
+    ensures { result ≡ top_is_guarded (W.world world.now) mounted.now.stack.frames }
+{
+    match world.method(mounted.top().method) {
+        Some(method) => is_synchronized(method) || world.is_hold(method),
+        None => false,
+    }
 }
 
 // What a method gives back, as its result keeps it. `None`: the method gives nothing back.
@@ -96,7 +108,10 @@ fn leave_with<W: CallWorld>(world: &W, kind: Option<ValueKind>, mounted: &mut Mo
     ensures left { IsLeft (W.world world.now) kind mounted.old mounted.new result }
     ensures thread { mounted.new.thread ≡ mounted.old.thread }
 {
-    if is_root(world, mounted) {
+    if is_left_openly(world, mounted) {
+        if is_guarded(world, mounted) {
+            return Left::Undefined;
+        }
         return Left::Root;
     }
     let Some(method) = world.method(mounted.top().method) else {

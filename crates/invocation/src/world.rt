@@ -1,7 +1,7 @@
 //! What invocations, returns and exceptions ask of a linked world.
 
-ghost use Rattle.std.specs.Prelude.{◌≡◌, IfOk, false, slice_get};
-ghost use Rattle.std.specs.Option.{option_copied, option_map, option_map_or};
+ghost use Rattle.std.specs.Prelude.{◌≡◌, IfOk, slice_get};
+ghost use Rattle.std.specs.Option.{option_copied, option_map};
 ghost use Rattle.link_rules.specs.Members as linked;
 ghost use Rattle.link_model.specs.Decoded.{code_at};
 ghost use Rattle.verify_types.specs.Environment.{Handler, Instruction};
@@ -9,7 +9,7 @@ ghost use Rattle.ref_model.specs.Calls as calls;
 ghost use Rattle.ref_model.specs.Fetch.{fetched};
 ghost use Rattle.ref_model.specs.Members as members;
 ghost use Rattle.ref_model.specs.Throwing as throwing;
-ghost use Rattle.invocation.specs.Places.{frame_at};
+ghost use Rattle.invocation.specs.Places.{frame_at, is_open};
 
 use heap_instructions::EventWorld;
 use items::NoMemory;
@@ -46,10 +46,10 @@ pub trait CallWorld: EventWorld {
     fn is_hold(&self, method: &MethodInfo) -> bool
         ensures { result ≡ members.is_hold (Self.world self.now) method.now };
 
-    /// Whether a method is a class initializer (JVMS 2.9.2).
-    fn is_initializer(&self, n: u32) -> bool
-        ensures { result ≡ option_map_or members.is_initializer
-            (slice_get (Self.world self.now).methods n) false };
+    /// Whether a return from a method is no local instruction, wherever its frame lies: the method is a class initializer, synchronized, or
+    /// jvt.Native.hold.
+    fn is_open(&self, n: u32) -> bool
+        ensures { result ≡ is_open (Self.world self.now) n };
 
     /// The pc after the instruction at a pc of a method. `None`: there is no instruction.
     fn next(&self, method: u32, pc: u32) -> Option<u32>

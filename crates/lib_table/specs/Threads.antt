@@ -12,11 +12,12 @@ runnable =
     (abstract_method (public + abstract) "run" "()V"
     ∷ [])
 
--- Its field is what run calls. The two private constructors are for the builders.
+-- Its fields are what run calls, and the number of its thread. The two private constructors are for the builders.
 abbrev pub thread : Class
 thread =
     class public "java/lang/Thread" (Some "java/lang/Object") ("java/lang/Runnable" ∷ [])
     (field private "0target" "Ljava/lang/Runnable;"
+    ∷ field private "0number" "I"
     ∷ [])
     (method public "<init>" "()V" 2 1 None
     (aload_0

@@ -16,13 +16,16 @@ static CLASSES: [ClassDeclaration; 5] = [
         fields: &[],
         methods: &[method!(public abstract "run" "()V")],
     },
-    // Its field is what `run` calls. The two private constructors are for the builders.
+    // Its fields are what `run` calls, and the number of its thread. The two private constructors are for the builders.
     ClassDeclaration {
         flags: flags!(public),
         name: "java/lang/Thread",
         parent: Some("java/lang/Object"),
         interfaces: &["java/lang/Runnable"],
-        fields: &[field!(private "0target" "Ljava/lang/Runnable;")],
+        fields: &[
+            field!(private "0target" "Ljava/lang/Runnable;"),
+            field!(private "0number" "I"),
+        ],
         methods: &[
             method!(public "<init>" "()V" stack 2 locals 1 {
                 Aload0;

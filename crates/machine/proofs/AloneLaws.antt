@@ -8,9 +8,10 @@ use Rattle.history.specs.declared.entry.Entry.{Entry}
 use Rattle.history.specs.declared.entry.What.{What}
 use Rattle.history.specs.declared.entry.What.TheVariants.{Mount, Unmount, Step, Clock}
 use Rattle.ref_model.specs.declared.ending.Ending.{Ending}
-use Rattle.ref_model.specs.Alone.{alone, stepped_alone}
+use Rattle.ref_model.specs.Alone.{alone, needs_others, stepped_alone}
 use Rattle.ref_model.specs.Ending.{ending}
 use Rattle.ref_model.specs.Opening.{opening}
+use Rattle.ref_model.specs.Resuming.{next_asks}
 use Rattle.ref_model.specs.Run.{Outcome, outcome_after, after_steps, replay, first_outcome, run, steps}
 use Rattle.ref_model.specs.Setting.{Setting}
 use Rattle.ref_model.specs.State.{State}
@@ -132,10 +133,15 @@ alone_steps p r (suc n) q opens e =
     let parts = some_is (alone p n) (stepped_alone p) q e in
     by parts.0 (is_some (ending parts.0)) (alone_steps p r n parts.0 opens parts.1) parts.2
   where
-    by : (s : State) (b : Bool) → Few p r s n → (if b then Some s else step p s 0 None) ≡ Some q → Few p r q (suc n)
+    goes : (s : State) (b : Bool) → (if b then None else step p s 0 None) ≡ Some q → step p s 0 None ≡ Some q
+    goes s true next = cc
+    goes s false next = next
+
+    by : (s : State) (b : Bool) → Few p r s n → (if b then Some s else if next_asks p.world s 0 needs_others then None else step p s 0 None) ≡ Some q → Few p r q (suc n)
     by s true h next = let few = h.few in record { count = h.count; is = h.is ∙ next; few = omega arith }
-    by s false h next =
+    by s false h asks =
         let few = h.few in
+        let next = goes s (next_asks p.world s 0 needs_others) asks in
         record { count = suc h.count; is = bind_is (steps p h.count r 0) (λ x. step p x 0 None) s (Some q) h.is next; few = omega arith }
 
 -- ---- both

@@ -19,7 +19,7 @@ use Rattle.frame_soundness.specs.Typed.{Typed}
 use Rattle.frame_soundness.specs.TypedStates.{IsTypedState}
 use Rattle.frame_soundness.proofs.KeepLaws.{rows_keep}
 use Rattle.frame_soundness.proofs.ThreadLaws.{frames_keep}
-use Rattle.step_soundness.specs.Resolutions.{IsStepResolution}
+use Rattle.step_soundness.specs.Resolutions.{IsStepResolution, instruction_frames}
 use Rattle.step_soundness.proofs.Steps.{step_keeps, running_is_typed}
 use Rattle.frames.specs.Frames.{top_method, top_pc}
 use Rattle.interp_local.specs.Fetched.{instruction_at}
@@ -57,7 +57,7 @@ any_setting w = record { world = w; main = 0; limits = record { heap_cells = 0; 
 
 -- a step whose constant names what linking gives
 kept : (w : World) (r q : State) → IsReady w → IsTypedState w r → IsStepResolution w r 0 → ((p : Setting) → p.world ≡ w → step p r 0 None ≡ Some q) → IsTypedStep w r q
-kept w r q ready typed names goes = record { step = goes; typed = step_keeps (any_setting w) r q 0 ready.linked typed names (goes (any_setting w) refl) }
+kept w r q ready typed names goes = record { step = goes; typed = step_keeps (any_setting w) r q 0 None ready.linked typed names (goes (any_setting w) refl) }
 
 inside : {A : Type 0} (a b : A) → ◌≡◌ {A = Option A} (Some a) (Some b) → a ≡ b
 inside a b e = cc
@@ -68,7 +68,7 @@ top_of f g below others e = cc
 -- ---- a step of a thread that runs
 
 run_names : (w : World) (a : Parts) (f : Frame) (below : List Frame) → IsReady w → a.status ≡ Live Run → IsStepResolution w (state_of a (f ∷ below)) 0
-run_names w a f below ready running = record { top = λ g others e. ready.named (memory_of a) g }
+run_names w a f below ready running = record { top = λ g others e. ready.named (memory_of a) g; runs = ready.runs }
 
 run_goes : (w : World) (a b : Parts) (frames after : List Frame) → a.status ≡ Live Run → ending (state_of a frames) ≡ None → IsRunStep w 0 (state_of a frames) frames (state_of b after) → IsStep w (state_of a frames) (state_of b after)
 run_goes w a b frames after running goes made = λ p same.
@@ -94,8 +94,8 @@ local_kept w a frames after typed running goes made fits =
 
 -- ---- a step of a thread that throws
 
-throw_names : (w : World) (a : Parts) (o : ℕ) (frames : List Frame) → a.status ≡ Live (Throwing o) → IsStepResolution w (state_of a frames) 0
-throw_names w a o frames throws = record { top = λ g others e. absurd (none (sym (ap (running_frames frames) throws) ∙ e)) }
+throw_names : (w : World) (a : Parts) (o : ℕ) (frames : List Frame) → IsReady w → a.status ≡ Live (Throwing o) → IsStepResolution w (state_of a frames) 0
+throw_names w a o frames ready throws = record { top = λ g others e. absurd (none (sym (ap (instruction_frames frames) throws) ∙ e)); runs = ready.runs }
   where
     none : {A : Type 0} {x : A} → ◌≡◌ {A = Option A} None (Some x) → ⊥
     none e = cc
@@ -104,7 +104,7 @@ pub throw_kept : (w : World) (a b : Parts) (o : ℕ) (frames after : List Frame)
     → ThrowingSteps w 0 main_name o a frames b after → IsTypedStep w (state_of a frames) (state_of b after)
 throw_kept w a b o frames after ready typed throws goes made =
     let step : throwing_step w (state_of a frames) 0 o frames ≡ Some (state_of b after) = made (main_stage a frames) (record { number = refl; named = refl }) in
-    kept w (state_of a frames) (state_of b after) ready typed (throw_names w a o frames throws) (λ p same.
+    kept w (state_of a frames) (state_of b after) ready typed (throw_names w a o frames ready throws) (λ p same.
     throwing_is_step p (state_of a frames) (state_of b after) 0 o (main_thread a.status frames) refl throws goes
     (subst (λ (v : World). throwing_step v (state_of a frames) 0 o frames ≡ Some (state_of b after)) (sym same) step))
 

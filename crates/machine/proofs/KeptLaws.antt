@@ -52,12 +52,15 @@ pub is_state : (a : Parts) (frames : List Frame) (q : State) → AreParts a fram
 is_state a frames q x = λ i. record {
   memory = x.memory i;
   threads = x.threads i;
+  most_threads = x.most_threads i;
+  unnamed = x.unnamed i;
+  owners = x.owners i;
   now = x.now i;
   main_threw = x.main_threw i;
 }
 
 pub own_parts : (a : Parts) (frames : List Frame) → AreParts a frames (state_of a frames)
-own_parts a frames = record { memory = refl; threads = refl; now = refl; main_threw = refl }
+own_parts a frames = record { memory = refl; threads = refl; most_threads = refl; unnamed = refl; owners = refl; now = refl; main_threw = refl }
 
 pub here : (p : Setting) (a : Parts) (frames : List Frame) (s : Kept) (h : List Entry) (u : Bool) → (x : IsConsistent p a frames s h u) → u ≡ false → state_of a frames ≡ x.legal.state
 here p a frames s h u x works = is_state a frames x.legal.state (x.parts works)

@@ -15,7 +15,7 @@ use Rattle.verify_types.specs.Environment.{Instruction}
 use Rattle.state_model.specs.Frames.{Frame}
 use Rattle.ref_model.specs.State.{State}
 use Rattle.ref_model.specs.Fetch.{fetched}
-use Rattle.ref_model.specs.Frames.{contents, moved, is_root, returned}
+use Rattle.ref_model.specs.Frames.{contents, moved, is_guarded_frame, is_root, returned}
 use Rattle.ref_model.specs.LocalRows.{row, rows, local_act}
 use Rattle.ref_model.specs.Entries.{frames_at, ends_behind, are_grouped_steps, is_grouped, is_static_call, may_be_last, most_local_steps, stands_at_static_call}
 use Rattle.interp_local.specs.FrameRows.{stays, stays_by}
@@ -128,7 +128,7 @@ pub root_ends : (w : World) (f : Frame) (below : List Frame) (i : Instruction) (
     → row_of i.instr.op ≡ returns kind → is_root w f below ≡ true → ends_run w (f ∷ below) ≡ true
 root_ends w f below i kind at is root =
     fetched_row w f below i (returns kind) at is
-    (ap (λ (b : Bool). if b then None else returned w kind f below) root)
+    (ap (λ (b : Bool). if b || is_guarded_frame w f then None else returned w kind f below) root)
 
 -- ---- an entry of such a run and one more step
 

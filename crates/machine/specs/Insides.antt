@@ -1,7 +1,8 @@
 -- What the parts of a machine have to do with its history.
-use Rattle.std.specs.Prelude.{◌≡◌, ◌-◌, Bool, false, List, [], ◌∷◌, length, vec_capacity}
+use Rattle.std.specs.Prelude.{◌≡◌, ◌-◌, Bool, false, List, [], ◌∷◌, None, length, vec_capacity}
 use Rattle.history.specs.declared.entry.Entry.{Entry}
 use Rattle.state_model.specs.Frames.{Frame}
+use Rattle.ref_model.specs.Opening.{opening_owners}
 use Rattle.ref_model.specs.Setting.{Setting}
 use Rattle.ref_model.specs.State.{State}
 use Rattle.startup.specs.Openings.{setting}
@@ -18,6 +19,9 @@ use Rattle.machine.specs.States.{main_thread}
 pub record AreParts (a : Parts) (frames : List Frame) (q : State) : Type 0 where
   pub memory : memory_of a ≡ q.memory
   pub threads : main_thread a.status frames ∷ [] ≡ q.threads
+  pub most_threads : a.most_threads ≡ q.most_threads
+  pub unnamed : 0 ≡ q.unnamed
+  pub owners : opening_owners None ≡ q.owners
   pub now : 0 ≡ q.now
   pub main_threw : a.main_threw ≡ q.main_threw
 

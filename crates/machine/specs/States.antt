@@ -15,6 +15,8 @@ use Rattle.thread_steps.specs.States.{memory_of}
 abbrev pub main_thread : Status → List Frame → JavaThread
 main_thread status frames = record {
   thread = record { kind = Platform; daemon = false; object = opening.main_thread; name = opening.main_name; status = status };
+  permit = false;
+  interrupted = false;
   frames = frames;
 }
 
@@ -22,6 +24,9 @@ abbrev pub state_of : Parts → List Frame → State
 state_of a frames = record {
   memory = memory_of a;
   threads = main_thread a.status frames ∷ [];
+  most_threads = a.most_threads;
+  unnamed = 0;
+  owners = opening.opening_owners None;
   now = 0;
   main_threw = a.main_threw;
 }

@@ -28,7 +28,7 @@ use runtime_program::ReadyProgram;
 use startup::open_typed;
 use std::alloc::Global;
 use std::marker::Model;
-use step_soundness::linked_worlds_open;
+use step_soundness::{linked_worlds_open, runs_are_such};
 use thread_steps::Parts;
 use vthread_state::{Phase, Status};
 
@@ -67,12 +67,13 @@ fn is_ready(program: &ReadyProgram)
     linked_worlds_open();
     linked_fields_have_kinds();
     linked_code_is_named();
+    runs_are_such();
 }
 
 // The parts of a program that begins.
-fn first_parts(alloc: Global, heap: Heap, statics: Vec<Value>) -> Parts
+fn first_parts(alloc: Global, heap: Heap, statics: Vec<Value>, most_threads: u32) -> Parts
     ensures { (frames : List Frame) → state_of result frames
-        ≡ first_state heap.objects (heap.cells - heap.used) statics.items frames }
+        ≡ first_state most_threads heap.objects (heap.cells - heap.used) statics.items frames }
 {
     Parts {
         natives: NativeState {
@@ -84,6 +85,7 @@ fn first_parts(alloc: Global, heap: Heap, statics: Vec<Value>) -> Parts
         statics,
         status: Status::Live(Phase::Run),
         main_threw: false,
+        most_threads,
     }
 }
 
@@ -130,7 +132,7 @@ impl<'p> Machine<'p> {
             program,
             main,
             limits,
-            parts: first_parts(alloc, opened.heap, opened.statics),
+            parts: first_parts(alloc, opened.heap, opened.statics, limits.threads),
             mounted: opened.mounted,
             cache,
             history: Vec::new(alloc),

@@ -1,5 +1,5 @@
 -- Answers and outcomes of equal definitions, and what stays where an exception was thrown.
-use Rattle.std.proofs.Common.{ℕ, ◌≡◌, false, List, [], Option, Some, None, ap, refl, subst, sym, ◌∙◌}
+use Rattle.std.proofs.Common.{ℕ, ◌≡◌, List, [], Option, Some, None, ap, refl, subst, sym, ◌∙◌}
 use Rattle.std.specs.Prelude.{Result, Ok, Err, IfOk}
 use Rattle.items.specs.declared.no_memory.NoMemory.{NoMemory}
 use Rattle.continuation.specs.Continuation.{Continuation}

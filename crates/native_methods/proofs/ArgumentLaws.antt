@@ -16,13 +16,13 @@ use Rattle.ref_model.specs.NativeRows.{NativeRow, native, native_acted, answered
 use Rattle.ref_model.specs.Natives.{native_row, native_takes}
 use Rattle.ref_model.proofs.NativeLaws.{rows_take}
 use Rattle.ref_model.specs.Operands.{FindsArguments, HasOperands}
-use Rattle.native_methods.specs.Arguments.{answer_to, answer_to_two, kinds_of, native_effect, row_answer, with_argument}
+use Rattle.native_methods.specs.Arguments.{answer_to, answer_to_none, answer_to_two, kinds_of, native_effect, row_answer, with_argument}
 use Rattle.native_methods.specs.NativeStates.{Answers, AnswersOn, IsAnswer, IsAnswerEffect, LacksAnswer, with_natives}
 use Rattle.native_methods.specs.declared.state.NativeState.{NativeState}
 use Rattle.items.specs.declared.no_memory.NoMemory.{NoMemory}
 use Rattle.heap_instructions.specs.Outcomes.{LacksEffect}
 use Rattle.native_methods.proofs.AnswerLaws.{any_memory}
-use Rattle.native_methods.proofs.UndefinedLaws.{lacks_answered, row_takes_one, row_takes_two}
+use Rattle.native_methods.proofs.UndefinedLaws.{lacks_answered, row_takes_none, row_takes_one, row_takes_two}
 use Rattle.native_methods.specs.declared.arguments.Arguments.{Arguments}
 use Rattle.native_methods.specs.declared.answer.Answer.{Answer}
 use Rattle.native_methods.specs.declared.answer.Answer.TheVariants as answers
@@ -82,7 +82,12 @@ by_answer (answers.Throws e) defined effect q rest some is h = is _ h
 by_answer answers.Undefined defined effect q rest some is h = λ room.
     subst (LacksEffect room) (sym (is some.0 some.1)) (lacks_answered some.0 rest room (subst LacksAnswer some.1 h))
 
--- A native method that takes one operand, and one that takes two, the second a reference.
+-- A native method that takes nothing, one that takes one operand, and one that takes two, the second a reference.
+pub none_answered : (answer : Answer) (w : World) (r q : Memory) (n : Native) (stack : List Slot) → native_takes n ≡ Some [] →
+    IsAnswer answer (answer_to_none w r n) q → IsAnswerEffect answer (native_effect w n r stack) q stack
+none_answered answer w r q n stack takes h =
+    by_answer answer (answer_to_none w r n) (native_effect w n r stack) q stack (row_takes_none w r n takes) (answered_is (native_row w r n) stack) h
+
 pub one_answered : (answer : Answer) (w : World) (r q : Memory) (n : Native) (k : ValueKind) (x : Of k) (stack rest : List Slot) →
     native_takes n ≡ Some (k ∷ []) → popped k stack ≡ Some (x, rest) → IsAnswer answer (answer_to w r n k x) q → IsAnswerEffect answer (native_effect w n r stack) q rest
 one_answered answer w r q n k x stack rest takes p h =
@@ -99,6 +104,10 @@ two_answered answer w r q n k x this stack middle rest takes p p2 h =
     (λ a e. argument_is k x row stack middle (answered rest a) p
     (argument_is kinds.Reference this (with_argument k x row) middle rest (answered rest a) p2
     (answered_is (with_argument kinds.Reference this (with_argument k x row)) rest a e))) h
+
+pub none_along : (w : World) (n : Native) (stack : List Slot) (old new : NativeState) (a : Answer) → native_takes n ≡ Some [] →
+    Answers (λ r. answer_to_none w r n) old new a → AnswersOn w n stack 0 old new a
+none_along w n stack old new a takes h = λ r. none_answered a w (with_natives old r) (with_natives new r) n stack takes (h r)
 
 -- The same, unless memory ran out.
 pub one_along : (w : World) (n : Native) (k : ValueKind) (x : Of k) (stack : List Slot) (count : ℕ) (old new : NativeState) (result : Result Answer NoMemory) →

@@ -1,5 +1,5 @@
 -- Where a native method is undefined: nothing is answered, or a count that is greater than an int.
-use Rattle.std.proofs.Common.{ℕ, zero, suc, pos, negsuc, ◌≡◌, ◌<◌, ◌-◌, ◌++◌, Bool, true, false, List, [], ◌∷◌, Option, Some, None, arith, length, refl, ap, sym, ◌∙◌, subst}
+use Rattle.std.proofs.Common.{ℕ, zero, suc, pos, negsuc, ◌≡◌, ◌-◌, ◌++◌, Bool, true, false, List, [], ◌∷◌, Option, Some, None, arith, length, refl, ap, sym, ◌∙◌, subst}
 use Rattle.std.specs.Prelude.{nat_le, slice_get, slice_set, if◌then◌else◌}
 use Rattle.std.proofs.lemmas.Bool.{and_right}
 use Rattle.items.specs.Options.{◌>>=◌}
@@ -22,7 +22,7 @@ use Rattle.ref_model.specs.BuilderNatives.{builder_text, text_in}
 use Rattle.ref_model.proofs.NativeLaws.{rows_take}
 use Rattle.heap_instructions.proofs.HeapReadLaws.{item_set}
 use Rattle.heap_instructions.specs.Outcomes.{LacksEffect, greatest_int}
-use Rattle.native_methods.specs.Arguments.{answer_to, answer_to_two, to_one, to_two}
+use Rattle.native_methods.specs.Arguments.{answer_to, answer_to_none, answer_to_two, row_answer, to_one, to_two}
 use Rattle.native_methods.specs.NativeStates.{LacksAnswer}
 
 -- ---- answers
@@ -35,6 +35,7 @@ not_counted false a e = refl
 pub lacks_answered : (a : rows.Answer) (rest : List Slot) (room : ℕ) → LacksAnswer (Some a) → LacksEffect room (Some (answered rest a))
 lacks_answered (rows.returns r) rest room h = cc
 lacks_answered (rows.fails e) rest room h = cc
+lacks_answered (rows.asks_for q) rest room h = refl
 lacks_answered (rows.returns_value r (values.Int (negsuc n))) rest room h = cc
 lacks_answered (rows.returns_value r (values.Long n)) rest room h = cc
 lacks_answered (rows.returns_value r values.Null) rest room h = cc
@@ -61,6 +62,11 @@ one_answers (Some (native (kinds.Reference ∷ []) act)) kinds.Long x e = absurd
 one_answers (Some (native (kinds.Reference ∷ []) act)) kinds.Reference x e = (act x, refl)
 one_answers (Some (native (j ∷ l ∷ ks) act)) k x e = absurd cc
 
+pub none_answers : (o : Option NativeRow) → row_kinds o ≡ Some [] → (a : rows.Answer) × (row_answer o ≡ Some a)
+none_answers None e = absurd cc
+none_answers (Some (native [] act)) e = (act, refl)
+none_answers (Some (native (j ∷ ks) act)) e = absurd cc
+
 first_given : (k : ValueKind) (act : Function (k ∷ kinds.Reference ∷ []) rows.Answer) (x : Of k) (this : Of kinds.Reference) →
     to_two k x this (Some (native (k ∷ kinds.Reference ∷ []) act)) ≡ Some (act x this)
 first_given kinds.Int act x this = refl
@@ -74,6 +80,9 @@ two_answer (Some (native takes act)) k x this e =
     let is : takes ≡ k ∷ kinds.Reference ∷ [] = cc in
     subst (λ (ks : List ValueKind). (act : Function ks rows.Answer) → (a : rows.Answer) × (to_two k x this (Some (native ks act)) ≡ Some a)) (sym is)
     (λ act. (act x this, first_given k act x this)) act
+
+pub row_takes_none : (w : World) (r : Memory) (n : Native) → native_takes n ≡ Some [] → (a : rows.Answer) × (answer_to_none w r n ≡ Some a)
+row_takes_none w r n e = none_answers (native_row w r n) (rows_take w r n ∙ e)
 
 pub row_takes_one : (w : World) (r : Memory) (n : Native) (k : ValueKind) (x : Of k) → native_takes n ≡ Some (k ∷ []) → (a : rows.Answer) × (answer_to w r n k x ≡ Some a)
 row_takes_one w r n k x e = one_answers (native_row w r n) k x (rows_take w r n ∙ e)

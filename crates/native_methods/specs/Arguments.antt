@@ -16,6 +16,7 @@ use Rattle.native_methods.specs.declared.arguments.Arguments.TheVariants as argu
 
 -- the kinds of what native methods take in the code
 abbrev pub kinds_of : Arguments → List ValueKind
+kinds_of arguments.Nothing = []
 kinds_of arguments.Reference = kinds.Reference ∷ []
 kinds_of arguments.TwoReferences = kinds.Reference ∷ kinds.Reference ∷ []
 kinds_of arguments.IntAndReference = kinds.Int ∷ kinds.Reference ∷ []
@@ -25,6 +26,7 @@ kinds_of arguments.Long = kinds.Long ∷ []
 
 -- and how many slots they take
 abbrev pub slots_of : Arguments → ℕ
+slots_of arguments.Nothing = 0
 slots_of arguments.Reference = 1
 slots_of arguments.TwoReferences = 2
 slots_of arguments.IntAndReference = 2
@@ -51,7 +53,10 @@ to_one k x row = row_answer (with_argument k x row)
 abbrev pub to_two : (k : ValueKind) → Of k → Of kinds.Reference → Option NativeRow → Option Answer
 to_two k x this row = row_answer (with_argument kinds.Reference this (with_argument k x row))
 
--- what a native method answers to them
+-- what a native method answers to them, and without arguments
+abbrev pub answer_to_none : World → Memory → Native → Option Answer
+answer_to_none w r n = row_answer (native_row w r n)
+
 abbrev pub answer_to : World → Memory → Native → (k : ValueKind) → Of k → Option Answer
 answer_to w r n k x = to_one k x (native_row w r n)
 

@@ -12,6 +12,7 @@ use Rattle.ref_model.specs.Effects.{Effect, done, gives, throws}
 use Rattle.ref_model.specs.Heap.{units_of, values_of, with_value}
 use Rattle.ref_model.specs.NativeRows as rows
 use Rattle.ref_model.specs.Printing.{line}
+use Rattle.ref_model.specs.ThreadNatives.{number_field, number_in}
 use Rattle.state_model.specs.Objects.{Object}
 use Rattle.heap_instructions.specs.Operands.{operands, room_of}
 use Rattle.heap_instructions.specs.Outcomes.{IsEffect, LacksEffect, greatest_int, with_heap}
@@ -33,12 +34,13 @@ with_natives s r = with_heap s.heap (beside_heap s r)
 
 -- ---- answers
 
--- an answer, unless it gives a count that is greater than an int
+-- an answer, unless it asks something, or gives a count that is greater than an int
 abbrev pub counted : Option rows.Answer → Option rows.Answer
 counted (Some (rows.returns_value r (values.Int (pos n)))) = if nat_le n greatest_int then Some (rows.returns_value r (values.Int (pos n))) else None
+counted (Some (rows.asks_for q)) = None
 counted defined = defined
 
--- The definitions answer nothing here, or give a count that is greater than an int.
+-- The definitions answer nothing here, or ask something, or give a count that is greater than an int.
 abbrev pub LacksAnswer : Option rows.Answer → Type 0
 LacksAnswer defined = counted defined ≡ None
 
@@ -81,6 +83,11 @@ AnswersOn w n stack count old new answer = (r : Memory) →
 abbrev pub IsAnswered : ℕ → Answer → Continuation → Continuation → Outcome → Type 0
 IsAnswered count answer old new outcome = (q : Memory) (effect : Option Effect) →
     IsAnswerEffect answer effect q (drop count (operands old)) → IsEffect (room_of old) outcome effect q (operands new)
+
+-- ---- the thread of a Thread object
+
+abbrev pub thread_in : List Object → ℕ → Option ℕ
+thread_in heap o = slice_get heap o >>= values_of >>= λ fields. slice_get fields number_field >>= number_in
 
 -- ---- making and setting
 

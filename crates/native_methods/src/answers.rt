@@ -2,7 +2,8 @@
 
 ghost use Rattle.std.specs.Prelude.{◌≡◌, IfOk};
 ghost use Rattle.opcodes.specs.declared.op.ValueKind.TheVariants as kinds;
-ghost use Rattle.native_methods.specs.Arguments.{answer_to, answer_to_two};
+ghost use Rattle.link_model.specs.World.{World};
+ghost use Rattle.native_methods.specs.Arguments.{answer_to, answer_to_none, answer_to_two};
 ghost use Rattle.native_methods.specs.NativeStates.{Answers, KeptIfThrown};
 
 use crate::answer::Answer;
@@ -15,10 +16,23 @@ use crate::string_natives::{
     string_to_string,
 };
 use crate::texts::{boolean_text, char_text, int_text, long_text};
+use crate::thread_natives::{
+    monitor_asked, name_set, thread_asked, thread_created, thread_id, unpark,
+};
 use crate::world::NativeWorld;
 use items::NoMemory;
 use lib_table::Native;
 use std::alloc::Global;
+
+/// The native methods that take nothing.
+pub(crate) fn on_nothing(state: &NativeState, native: Native) -> Answer
+    ensures { (w : World) → Answers (λ r. answer_to_none w r native) state.now state.now result }
+{
+    match native {
+        Native::ThreadOnSpinWait => Answer::Returns,
+        _ => Answer::Undefined,
+    }
+}
 
 /// The native methods that take one reference.
 pub(crate) fn on_reference<W: NativeWorld>(
@@ -42,6 +56,20 @@ pub(crate) fn on_reference<W: NativeWorld>(
         Native::StringBuilderLength => Ok(builder_length(state, this)),
         Native::StringBuilderToString => builder_to_string(alloc, state, this),
         Native::PrintStreamPrintln => print(state, this, &[], true),
+        Native::ObjectWait => Ok(monitor_asked(state, this)),
+        Native::ObjectNotify => Ok(monitor_asked(state, this)),
+        Native::ObjectNotifyAll => Ok(monitor_asked(state, this)),
+        Native::ThreadStart
+        | Native::ThreadInterrupt
+        | Native::ThreadIsInterrupted
+        | Native::ThreadJoin
+        | Native::ThreadIsAlive
+        | Native::ThreadIsVirtual
+        | Native::ThreadIsDaemon
+        | Native::ThreadGetName
+        | Native::ThreadGetState => Ok(thread_asked(state, this)),
+        Native::ThreadId => Ok(thread_id(state, this)),
+        Native::LockSupportUnpark => Ok(unpark(state, this)),
         _ => Ok(Answer::Undefined),
     }
 }
@@ -67,6 +95,10 @@ pub(crate) fn on_two_references<W: NativeWorld>(
         Native::StringBuilderAppendString => append_string(alloc, state, this, other),
         Native::PrintStreamPrintlnString => print_string(alloc, state, this, other, true),
         Native::PrintStreamPrintString => print_string(alloc, state, this, other, false),
+        Native::ThreadCreatePlatform | Native::ThreadCreateVirtual => {
+            Ok(thread_created(state, this, other))
+        }
+        Native::ThreadSetName => Ok(name_set(state, this, other)),
         _ => Ok(Answer::Undefined),
     }
 }
@@ -105,6 +137,7 @@ pub(crate) fn on_int_and_reference<W: NativeWorld>(
         }
         Native::PrintStreamPrintChar => print(state, this, &char_text(n), false),
         Native::PrintStreamPrintBoolean => print(state, this, boolean_text(n), false),
+        Native::ThreadSetDaemon => Ok(thread_asked(state, this)),
         _ => Ok(Answer::Undefined),
     }
 }
@@ -123,11 +156,21 @@ pub(crate) fn on_long_and_reference<W: NativeWorld>(
         state.old state.new a) }
     ensures kept { IfOk result (λ a. KeptIfThrown a state.old state.new) }
 {
-    let text = long_text(alloc, n)?;
     match native {
-        Native::StringBuilderAppendLong => append(alloc, state, this, text.as_slice()),
-        Native::PrintStreamPrintlnLong => print(state, this, text.as_slice(), true),
-        Native::PrintStreamPrintLong => print(state, this, text.as_slice(), false),
+        Native::StringBuilderAppendLong => {
+            let text = long_text(alloc, n)?;
+            append(alloc, state, this, text.as_slice())
+        }
+        Native::PrintStreamPrintlnLong => {
+            let text = long_text(alloc, n)?;
+            print(state, this, text.as_slice(), true)
+        }
+        Native::PrintStreamPrintLong => {
+            let text = long_text(alloc, n)?;
+            print(state, this, text.as_slice(), false)
+        }
+        Native::ObjectWaitMillis => Ok(monitor_asked(state, this)),
+        Native::ThreadJoinMillis => Ok(thread_asked(state, this)),
         _ => Ok(Answer::Undefined),
     }
 }

@@ -1,7 +1,6 @@
 //! What native methods take.
 
-ghost use Rattle.std.specs.Prelude.{◌≡◌};
-ghost use Rattle.std.specs.Option.{option_map};
+ghost use Rattle.std.specs.Prelude.{◌≡◌, Some};
 ghost use Rattle.ref_model.specs.Natives.{native_takes};
 ghost use Rattle.native_methods.specs.Arguments as spec;
 
@@ -11,6 +10,7 @@ use opcodes::ValueKind;
 /// What native methods take, from the topmost operand on, with the receiver below.
 #[derive(Clone, Copy)]
 pub enum Arguments {
+    Nothing,
     Reference,
     TwoReferences,
     IntAndReference,
@@ -25,6 +25,7 @@ impl Arguments {
         ensures { result.now ≡ spec.kinds_of self }
     {
         match self {
+            Arguments::Nothing => &[],
             Arguments::Reference => &[ValueKind::Reference],
             Arguments::TwoReferences => &[ValueKind::Reference, ValueKind::Reference],
             Arguments::IntAndReference => &[ValueKind::Int, ValueKind::Reference],
@@ -39,6 +40,7 @@ impl Arguments {
         ensures { result ≡ spec.slots_of self }
     {
         match self {
+            Arguments::Nothing => 0,
             Arguments::Reference | Arguments::Int => 1,
             Arguments::TwoReferences | Arguments::IntAndReference | Arguments::Long => 2,
             Arguments::LongAndReference => 3,
@@ -46,9 +48,9 @@ impl Arguments {
     }
 }
 
-/// What a native method takes. `None`: the machine does nothing in its place yet.
-pub fn takes(native: Native) -> Option<Arguments>
-    ensures { option_map spec.kinds_of result ≡ native_takes native }
+/// What a native method takes.
+pub fn takes(native: Native) -> Arguments
+    ensures { Some (spec.kinds_of result) ≡ native_takes native }
 {
     match native {
         Native::ObjectInit
@@ -60,13 +62,31 @@ pub fn takes(native: Native) -> Option<Arguments>
         | Native::StringBuilderInit
         | Native::StringBuilderLength
         | Native::StringBuilderToString
-        | Native::PrintStreamPrintln => Some(Arguments::Reference),
+        | Native::PrintStreamPrintln
+        | Native::ObjectWait
+        | Native::ObjectNotify
+        | Native::ObjectNotifyAll
+        | Native::ThreadStart
+        | Native::ThreadInterrupt
+        | Native::ThreadIsInterrupted
+        | Native::ThreadJoin
+        | Native::ThreadIsAlive
+        | Native::ThreadIsVirtual
+        | Native::ThreadIsDaemon
+        | Native::ThreadGetName
+        | Native::ThreadId
+        | Native::ThreadGetState
+        | Native::LockSupportParkBlocker
+        | Native::LockSupportUnpark => Arguments::Reference,
         Native::ObjectEquals
         | Native::StringEquals
         | Native::StringConcat
         | Native::StringBuilderAppendString
         | Native::PrintStreamPrintlnString
-        | Native::PrintStreamPrintString => Some(Arguments::TwoReferences),
+        | Native::PrintStreamPrintString
+        | Native::ThreadCreatePlatform
+        | Native::ThreadCreateVirtual
+        | Native::ThreadSetName => Arguments::TwoReferences,
         Native::ObjectToString
         | Native::StringCharAt
         | Native::StringBuilderAppendInt
@@ -77,15 +97,27 @@ pub fn takes(native: Native) -> Option<Arguments>
         | Native::PrintStreamPrintlnBoolean
         | Native::PrintStreamPrintInt
         | Native::PrintStreamPrintChar
-        | Native::PrintStreamPrintBoolean => Some(Arguments::IntAndReference),
+        | Native::PrintStreamPrintBoolean
+        | Native::ThreadSetDaemon => Arguments::IntAndReference,
         Native::StringBuilderAppendLong
         | Native::PrintStreamPrintlnLong
-        | Native::PrintStreamPrintLong => Some(Arguments::LongAndReference),
+        | Native::PrintStreamPrintLong
+        | Native::ObjectWaitMillis
+        | Native::ThreadJoinMillis
+        | Native::LockSupportParkNanosBlocker => Arguments::LongAndReference,
         Native::StringValueOfInt
         | Native::StringValueOfChar
         | Native::StringValueOfBoolean
-        | Native::SystemExit => Some(Arguments::Int),
-        Native::StringValueOfLong => Some(Arguments::Long),
-        _ => None,
+        | Native::SystemExit => Arguments::Int,
+        Native::StringValueOfLong | Native::ThreadSleep | Native::LockSupportParkNanos => {
+            Arguments::Long
+        }
+        Native::SystemNanoTime
+        | Native::SystemCurrentTimeMillis
+        | Native::ThreadCurrentThread
+        | Native::ThreadYield
+        | Native::ThreadOnSpinWait
+        | Native::ThreadInterrupted
+        | Native::LockSupportPark => Arguments::Nothing,
     }
 }

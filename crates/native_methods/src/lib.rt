@@ -1,5 +1,5 @@
 //! What the machine does in place of the code of native methods (the API of `Object`, `String`, `StringBuilder`, `System` and
-//! `PrintStream`).
+//! `PrintStream`). Those of threads, monitors and the clock test what they work on, and what they ask for isn't done yet.
 #![tactic(auto)]
 
 mod answer;
@@ -13,6 +13,7 @@ mod run;
 mod state;
 mod string_natives;
 mod texts;
+mod thread_natives;
 mod utf8;
 mod world;
 

@@ -11,7 +11,8 @@ ghost use Rattle.native_methods.specs.NativeStates.{AnswersOn, KeptIfThrown, Sta
 
 use crate::answer::{Answer, outcome_of};
 use crate::answers::{
-    on_int, on_int_and_reference, on_long, on_long_and_reference, on_reference, on_two_references,
+    on_int, on_int_and_reference, on_long, on_long_and_reference, on_nothing, on_reference,
+    on_two_references,
 };
 use crate::arguments::{Arguments, takes};
 use crate::state::NativeState;
@@ -39,6 +40,7 @@ fn answer_of<W: NativeWorld>(
     ensures within { spec.slots_of arguments ≤ length (operands mounted.now) }
 {
     match arguments {
+        Arguments::Nothing => Ok(on_nothing(state, native)),
         Arguments::Reference => {
             let this = reference_operand(mounted, 0);
             on_reference(alloc, world, native, state, this)
@@ -85,9 +87,7 @@ pub fn run_native<W: NativeWorld>(
     ensures kept_state { IfOk result (λ o. StaysIfThrown o state.old state.new) }
     ensures only { ChangesOperands mounted.old mounted.new }
 {
-    let Some(arguments) = takes(native) else {
-        return Ok(Outcome::Undefined);
-    };
+    let arguments = takes(native);
     let answer = answer_of(alloc, world, native, arguments, state, mounted)?;
     Ok(outcome_of(mounted, arguments.slots(), answer))
 }

@@ -8,3 +8,6 @@ mod WorkedWorld
 mod WorkedHeap
 mod WorkedOperands
 mod WorkedRuns
+mod WorkedThreadWorld
+mod WorkedRequests
+mod WorkedWaits

@@ -14,7 +14,7 @@ use Rattle.items.specs.Options.{◌>>=◌}
 use Rattle.state_model.specs.Frames.{Frame}
 use Rattle.ref_model.specs.Kinds.{argument_slots}
 use Rattle.ref_model.specs.Fetch.{fetched, constant_of, Named, named_method}
-use Rattle.ref_model.specs.Frames.{contents, moved, behind, callee, caller, is_root, stack_returned, returned_to, returned}
+use Rattle.ref_model.specs.Frames.{contents, moved, behind, callee, caller, is_left_openly, stack_returned, returned_to, returned}
 use Rattle.ref_model.specs.LocalRows.{constant_pushed, frames_called, static_called, has_local_call, most_frames, local_act, row}
 use Rattle.ref_model.specs.StepLaws.{ChangesTop}
 
@@ -52,8 +52,8 @@ returned_top w kind f (g ∷ rest) after e =
     let caller = some_is (returned_to w g stack.0) (λ caller. Some (caller ∷ rest)) after stack.2 in
     replaced_top f g caller.0 rest after cc
 
-left_top : (w : World) (kind : Option ValueKind) (f : Frame) (below after : List Frame) (root : Bool)
-    → (if root then None else returned w kind f below) ≡ Some after → ChangesTop (f ∷ below) after
+left_top : (w : World) (kind : Option ValueKind) (f : Frame) (below after : List Frame) (openly : Bool)
+    → (if openly then None else returned w kind f below) ≡ Some after → ChangesTop (f ∷ below) after
 left_top w kind f below after true e = absurd cc
 left_top w kind f below after false e = returned_top w kind f below after e
 
@@ -79,7 +79,7 @@ act_top w i (local r) f below after e =
     on_top (moved f i.instr.next m.0) f below after m.2
 act_top w i (constant index) f below after e = constant_top i.resolution i.instr.next f below after e
 act_top w i (wide_constant index) f below after e = constant_top i.resolution i.instr.next f below after e
-act_top w i (returns kind) f below after e = left_top w kind f below after (is_root w f below) e
+act_top w i (returns kind) f below after e = left_top w kind f below after (is_left_openly w f below) e
 act_top w i (invoke static index) f below after e =
     let m = some_is (named_method w i.resolution) (λ m. static_called w m f below) after e in
     static_top w m.0 f below after (has_local_call w m.0 && nat_lt (length (f ∷ below)) most_frames) m.2

@@ -1,6 +1,6 @@
 -- Invocations that aren't local (JVMS 6.5: invokevirtual, invokespecial, invokestatic, invokeinterface). Tests come in this order: null, the
--- class of the receiver, selection, the number of frames. A call is stated by the descriptor that its instruction names.
-use Rattle.std.specs.Prelude.{ℕ, suc, List, Option, Some, None, drop, nat_lt, slice_get, ◌||◌, if◌then◌else◌}
+-- class of the receiver, selection, the number of frames, the monitor. A call is stated by the descriptor that its instruction names.
+use Rattle.std.specs.Prelude.{ℕ, suc, List, Option, Some, None, drop, nat_lt, slice_get, if◌then◌else◌}
 use Rattle.items.specs.Options.{◌>>=◌}
 use Rattle.opcodes.specs.declared.op.ValueKind.TheVariants as kinds
 use Rattle.lib_table.specs.declared.native.Native.{Native}
@@ -10,6 +10,7 @@ use Rattle.link_rules.specs.Members.{method_number}
 use Rattle.instruction_rows.specs.declared.value.Slot.{Slot}
 use Rattle.instruction_rows.specs.Rows.{Invocation, virtual, special, static, interface, dynamic}
 use Rattle.instruction_rows.specs.SlotEffect.{popped}
+use Rattle.link_model.specs.declared.members.MethodInfo.{MethodInfo}
 use Rattle.link_model.specs.declared.members.MethodCode.{MethodCode}
 use Rattle.link_model.specs.declared.sites.Resolution.{Resolution}
 use Rattle.link_model.specs.declared.sites.SelectionFailure.{SelectionFailure}
@@ -19,23 +20,36 @@ pub use Rattle.link_model.specs.Methods.{selecting_class, choice_of}
 use Rattle.link_model.specs.Decoded.{code_at}
 use Rattle.ref_model.specs.declared.exception.Exception.TheVariants as exceptions
 use Rattle.ref_model.specs.Kinds.{argument_slots}
-use Rattle.ref_model.specs.Members.{native_at, is_synchronized, is_hold}
+use Rattle.ref_model.specs.Members.{native_at, is_synchronized}
+use Rattle.state_model.specs.Frames.{Frame}
 use Rattle.ref_model.specs.Memory.{Memory}
 use Rattle.ref_model.specs.Fetch.{Named, named_method}
 use Rattle.ref_model.specs.Frames.{callee}
 use Rattle.ref_model.specs.LocalRows.{most_frames}
-use Rattle.ref_model.specs.Effects.{Effect, invokes, throws, on_instance}
+use Rattle.ref_model.specs.Monitors.{method_monitor, with_monitor, reference_in}
+use Rattle.ref_model.specs.Requests.{calls}
+use Rattle.ref_model.specs.Effects.{Effect, invokes, throws, asks, on_instance}
 use Rattle.ref_model.specs.NativeRows.{native_acted}
 use Rattle.ref_model.specs.Natives.{native_row}
 
 -- ---- the method that was selected runs
 
+-- the receiver of the method that begins with this frame
+abbrev pub receiver_of : Frame → Option ℕ
+receiver_of g = slice_get g.locals 0 >>= reference_in
+
+-- A synchronized method asks for its monitor, and begins when it has it (JVMS 2.11.10).
+abbrev pub frame_entered : MethodInfo → Frame → List Slot → Option Effect
+frame_entered m g rest =
+    if is_synchronized m
+    then (method_monitor m (receiver_of g) >>= λ o. Some (asks (calls o (with_monitor g o)) rest))
+    else Some (invokes g rest)
+
 -- a method with code: a thread has at most so many frames, of which it has this many
 abbrev pub method_entered : World → ℕ → Named → MethodCode → ℕ → List Slot → Option Effect
 method_entered w depth m code slots stack =
-    if is_synchronized m.method || is_hold w m.method then None
-    else if nat_lt depth most_frames
-    then (callee m.number code slots stack >>= λ g. Some (invokes g (drop slots stack)))
+    if nat_lt depth most_frames
+    then (callee m.number code slots stack >>= λ g. frame_entered m.method g (drop slots stack))
     else Some (throws exceptions.StackOverflowError)
 
 -- without code it is abstract (JVMS 4.6)

@@ -14,6 +14,7 @@ use Rattle.ref_model.specs.declared.exception.Exception.TheVariants as exception
 use Rattle.ref_model.specs.Classes.{is_array, is_sub}
 use Rattle.ref_model.specs.Memory.{Memory}
 use Rattle.ref_model.specs.Heap.{class_at}
+use Rattle.ref_model.specs.Requests.{Request}
 
 pub data Effect : Type 0 where
   -- it is done: the memory, and the operand stack with which the frame goes on after it
@@ -24,6 +25,8 @@ pub data Effect : Type 0 where
   throws : Exception → Effect
   -- it throws this object
   throws_object : ℕ → Effect
+  -- It asks something of the threads, with nothing changed. The frame goes on with this operand stack, but for what comes back.
+  asks : Request → List Slot → Effect
 
 -- it is done, and pushes a value on what is left of the operand stack
 abbrev pub gives : Memory → Value → List Slot → Effect

@@ -1,20 +1,17 @@
 -- How steps lie in entries: all steps of an entry but the last are local instructions. The last is an event; or it is an invokestatic
 -- that is local; or it is the step after ten thousand local instructions, of whichever kind.
-use Rattle.std.specs.Prelude.{ℕ, zero, suc, Bool, true, false, List, [], ◌∷◌, Option, Some, None, is_some, nat_le, not, slice_get, ◌==◌, ◌&&◌, ◌||◌}
+use Rattle.std.specs.Prelude.{ℕ, zero, suc, Bool, true, false, List, [], ◌∷◌, Option, Some, None, is_some, nat_le, not, ◌==◌, ◌&&◌, ◌||◌}
 use Rattle.std.specs.Option.{option_map_or}
-use Rattle.items.specs.Options.{◌>>=◌}
 use Rattle.history.specs.declared.entry.Entry.{Entry}
 use Rattle.history.specs.declared.entry.What.{What}
 use Rattle.history.specs.declared.entry.What.TheVariants.{Mount, Unmount, Step, Clock}
 use Rattle.instruction_rows.specs.Rows.{Row, invoke, static}
 use Rattle.instruction_rows.specs.Table.{row as row_of}
-use Rattle.vthread_state.specs.declared.phase.Phase.TheVariants.{Run}
-use Rattle.vthread_state.specs.declared.thread.Status.{Status}
-use Rattle.vthread_state.specs.declared.thread.Status.TheVariants.{Live}
 use Rattle.link_model.specs.World.{World}
 use Rattle.verify_types.specs.Environment.{Instruction}
 use Rattle.state_model.specs.Frames.{Frame}
 use Rattle.ref_model.specs.Setting.{Setting}
+pub use Rattle.ref_model.specs.State.{running_frames, frames_at}
 use Rattle.ref_model.specs.State.{State}
 use Rattle.ref_model.specs.Fetch.{fetched}
 use Rattle.ref_model.specs.LocalRows.{row, rows}
@@ -23,15 +20,6 @@ use Rattle.ref_model.specs.Run.{Outcome, outcome_after}
 -- how many local instructions come before the last step of an entry at most
 abbrev pub most_local_steps : ℕ
 most_local_steps = 10000
-
--- ---- the frames of a thread whose next step is an instruction
-
-abbrev pub running_frames : List Frame → Status → Option (List Frame)
-running_frames frames (Live Run) = Some frames
-running_frames frames status = None
-
-abbrev pub frames_at : State → ℕ → Option (List Frame)
-frames_at r t = slice_get r.threads t >>= λ thread. running_frames thread.frames thread.thread.status
 
 -- ---- the last step
 

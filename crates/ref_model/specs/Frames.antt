@@ -14,7 +14,7 @@ use Rattle.link_model.specs.declared.members.MethodCode.{MethodCode}
 use Rattle.link_model.specs.World.{World}
 use Rattle.state_model.specs.Frames.{Frame}
 use Rattle.ref_model.specs.Kinds.{kept}
-use Rattle.ref_model.specs.Members.{is_initializer}
+use Rattle.ref_model.specs.Members.{is_initializer, is_synchronized, is_hold}
 use Rattle.ref_model.specs.Fetch.{fetched}
 
 abbrev pub contents : Frame → Contents Slot
@@ -72,6 +72,17 @@ is_initializer_frame w f = option_map_or is_initializer (slice_get w.methods f.m
 -- whether it is a root frame, over these: the bottom frame of its thread, or that of a class initializer
 abbrev pub is_root : World → Frame → List Frame → Bool
 is_root w f below = is_empty below || is_initializer_frame w f
+
+-- whether others can see that a frame of the method is left: the method is synchronized, or pins its thread
+abbrev pub is_guarded : World → MethodInfo → Bool
+is_guarded w m = is_synchronized m || is_hold w m
+
+abbrev pub is_guarded_frame : World → Frame → Bool
+is_guarded_frame w f = option_map_or (is_guarded w) (slice_get w.methods f.method) false
+
+-- whether a return from the frame, over these, is no local instruction
+abbrev pub is_left_openly : World → Frame → List Frame → Bool
+is_left_openly w f below = is_root w f below || is_guarded_frame w f
 
 -- the operand stack of the caller, with what the method returns on top
 abbrev pub stack_returned : Option ValueKind → MethodInfo → List Slot → List Slot → Option (List Slot)

@@ -14,7 +14,7 @@ use Rattle.state_model.specs.Frames.{Frame}
 use Rattle.ref_model.specs.Kinds.{argument_slots}
 use Rattle.ref_model.specs.Members.{native_at, is_synchronized, is_hold}
 use Rattle.ref_model.specs.Fetch.{fetched, constant_of, Named, named_method}
-use Rattle.ref_model.specs.Frames.{contents, moved, behind, callee, caller, is_root, returned}
+use Rattle.ref_model.specs.Frames.{contents, moved, behind, callee, caller, is_left_openly, returned}
 
 -- how many frames a thread may have
 abbrev pub most_frames : ℕ
@@ -47,7 +47,7 @@ abbrev pub local_act : World → Instruction → Row → Frame → List Frame �
 local_act w i (local r) f below = acted r (contents f) >>= λ m. moved f i.instr.next m >>= λ g. Some (g ∷ below)
 local_act w i (constant index) f below = constant_pushed i.resolution i.instr.next f below
 local_act w i (wide_constant index) f below = constant_pushed i.resolution i.instr.next f below
-local_act w i (returns kind) f below = if is_root w f below then None else returned w kind f below
+local_act w i (returns kind) f below = if is_left_openly w f below then None else returned w kind f below
 local_act w i (invoke static index) f below = named_method w i.resolution >>= λ m. static_called w m f below
 local_act w i (invoke virtual index) f below = None
 local_act w i (invoke special index) f below = None

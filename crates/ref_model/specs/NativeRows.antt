@@ -11,7 +11,8 @@ use Rattle.ref_model.specs.declared.exception.Exception.{Exception}
 use Rattle.ref_model.specs.declared.exception.Exception.TheVariants as exceptions
 use Rattle.ref_model.specs.Memory.{Memory}
 use Rattle.ref_model.specs.Heap.{units_at, with_text}
-use Rattle.ref_model.specs.Effects.{Effect, done, gives, throws}
+use Rattle.ref_model.specs.Requests.{Request}
+use Rattle.ref_model.specs.Effects.{Effect, done, gives, throws, asks}
 
 pub data Answer : Type 0 where
   -- it returns, in this memory, without a result or with one
@@ -19,6 +20,8 @@ pub data Answer : Type 0 where
   returns_value : Memory → Value → Answer
   -- it throws, and nothing else changes
   fails : Exception → Answer
+  -- it asks something of the threads, with nothing changed
+  asks_for : Request → Answer
 
 -- The kinds are those of the arguments, the topmost first, and of the receiver below them.
 pub data NativeRow : Type 0 where
@@ -34,6 +37,7 @@ abbrev pub answered : List Slot → Answer → Effect
 answered rest (returns r) = done r rest
 answered rest (returns_value r v) = gives r v rest
 answered rest (fails e) = throws e
+answered rest (asks_for q) = asks q rest
 
 abbrev pub native_acted : NativeRow → List Slot → Option Effect
 native_acted (native takes act) stack = applied Answer takes act stack >>= λ x. Some (answered x.1 x.0)

@@ -1,5 +1,5 @@
 -- The state in which a program begins (JVMS 5.2, 5.5, 2.9.2; the order and the numbers of objects: own).
-use Rattle.std.specs.Prelude.{ℕ, ◌+◌, pos, false, List, [], ◌∷◌, ◌++◌, Option, Some, None, codes, filter, filter_map, flat_map, fold, length, map, position, reverse, slice_get, if◌then◌else◌}
+use Rattle.std.specs.Prelude.{ℕ, ◌+◌, pos, false, List, [], ◌∷◌, ◌++◌, Option, Some, None, codes, filter, filter_map, flat_map, fold, length, map, position, reverse, slice_get, ◌==◌, if◌then◌else◌}
 use Rattle.std.specs.Option.{option_map}
 use Rattle.std.specs.List.{range_with_len}
 use Rattle.items.specs.Options.{◌>>=◌}
@@ -36,8 +36,9 @@ use Rattle.state_model.specs.Objects.{Object, instance, text}
 use Rattle.ref_model.specs.Setting.{Setting}
 use Rattle.ref_model.specs.Classes.{array_class}
 use Rattle.ref_model.specs.Kinds.{zero_of, kept}
-use Rattle.ref_model.specs.Members.{new_values}
-use Rattle.ref_model.specs.State.{JavaThread, State}
+use Rattle.ref_model.specs.Members.{new_values, is_synchronized}
+use Rattle.ref_model.specs.State.{JavaThread, Owner, State}
+use Rattle.ref_model.specs.Monitors.{class_monitor, with_monitor}
 use Rattle.ref_model.specs.Frames.{first_frame}
 use Rattle.ref_model.specs.Printing.{out_stream, err_stream}
 
@@ -183,18 +184,36 @@ abbrev pub frames_of : World → List ℕ → List Frame → Option (List Frame)
 frames_of w [] below = Some below
 frames_of w (n ∷ ns) below = frame_of w n [] >>= λ f. frames_of w ns below >>= λ frames. Some (f ∷ frames)
 
+-- the monitor that main holds, where it is synchronized
+abbrev pub opening_monitor : Setting → Option ℕ
+opening_monitor p =
+    slice_get p.world.methods p.main >>= λ m. if is_synchronized m then Some (class_monitor m.class) else None
+
+abbrev pub guarded_by : Option ℕ → Frame → Frame
+guarded_by None f = f
+guarded_by (Some o) f = with_monitor f o
+
+abbrev pub main_frame : Setting → Option Frame
+main_frame p =
+    frame_of p.world p.main (One (values.Ref (main_words p.world)) ∷ []) >>= λ f. Some (guarded_by (opening_monitor p) f)
+
 abbrev pub opening_frames : Setting → Option (List Frame)
-opening_frames p =
-    frame_of p.world p.main (One (values.Ref (main_words p.world)) ∷ []) >>= λ f.
-    frames_of p.world (initializers p.world.program) (f ∷ [])
+opening_frames p = main_frame p >>= λ f. frames_of p.world (initializers p.world.program) (f ∷ [])
 
 -- ---- the state
 
 abbrev pub opening_thread : List Frame → JavaThread
 opening_thread frames = record {
   thread = record { kind = Platform; daemon = false; object = main_thread; name = main_name; status = Live Run };
+  permit = false;
+  interrupted = false;
   frames = frames;
 }
+
+-- thread 0 owns the monitor that main holds, and every other monitor has no owner
+abbrev pub opening_owners : Option ℕ → ℕ → Option Owner
+opening_owners None p = None
+opening_owners (Some o) p = if p == o then Some (record { thread = 0; count = 1 }) else None
 
 abbrev pub opening : Setting → Option State
 opening p = do
@@ -210,6 +229,9 @@ opening p = do
       exited = None;
     };
     threads = opening_thread frames ∷ [];
+    most_threads = p.limits.threads;
+    unnamed = 0;
+    owners = opening_owners (opening_monitor p);
     now = 0;
     main_threw = false;
   })

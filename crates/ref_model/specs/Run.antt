@@ -1,5 +1,5 @@
 -- Histories: what entries make of the state in which a program begins.
-use Rattle.std.specs.Prelude.{ℕ, zero, suc, List, [], ◌∷◌, Option, Some, None, nat_lt, if◌then◌else◌}
+use Rattle.std.specs.Prelude.{ℕ, zero, suc, List, [], ◌∷◌, Option, Some, None}
 use Rattle.history.specs.declared.entry.Entry.{Entry}
 use Rattle.history.specs.declared.entry.What.{What}
 use Rattle.history.specs.declared.entry.What.TheVariants.{Mount, Unmount, Step, Clock}
@@ -8,24 +8,21 @@ use Rattle.ref_model.specs.Setting.{Setting}
 use Rattle.ref_model.specs.State.{State}
 use Rattle.ref_model.specs.Opening.{opening}
 use Rattle.ref_model.specs.Step.{step}
+pub use Rattle.ref_model.specs.Waiting.{at_time}
 
 -- The machine after a history. With several carriers, what they have comes beside the state.
 pub record Outcome : Type 0 where
   pub state : State
 
--- steps of one thread, none of which picks another
+-- steps of one thread, none of which picks a thread
 abbrev pub steps : Setting → ℕ → State → ℕ → Option State
 steps p zero r t = Some r
 steps p (suc n) r t = steps p n r t >>= λ q. step p q t None
 
--- so many steps of one thread, at least one, of which the last may pick another
+-- so many steps of one thread, at least one, of which the last may pick a thread
 abbrev pub after_steps : Setting → State → ℕ → ℕ → Option ℕ → Option State
 after_steps p r t zero pick = None
 after_steps p r t (suc n) pick = steps p n r t >>= λ q. step p q t pick
-
--- time goes on, and never back; no thread waits for it yet
-abbrev pub at_time : State → ℕ → Option State
-at_time r now = if nat_lt r.now now then Some (record r { now = now }) else None
 
 abbrev pub with_state : Outcome → State → Outcome
 with_state o r = record o { state = r }

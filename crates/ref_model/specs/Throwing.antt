@@ -21,6 +21,7 @@ use Rattle.ref_model.specs.Heap.{class_at, units_at, with_instance}
 use Rattle.ref_model.specs.Texts.{text_bytes}
 use Rattle.ref_model.specs.Fetch.{handlers_of}
 use Rattle.ref_model.specs.Frames.{behind, is_root}
+use Rattle.ref_model.specs.Monitors.{owns, with_exit, is_synchronized_frame, frame_monitor}
 
 -- ---- what the machine throws
 
@@ -30,7 +31,11 @@ exception_name exceptions.ArithmeticException = codes "java/lang/ArithmeticExcep
 exception_name exceptions.ArrayIndexOutOfBoundsException = codes "java/lang/ArrayIndexOutOfBoundsException"
 exception_name exceptions.ArrayStoreException = codes "java/lang/ArrayStoreException"
 exception_name exceptions.ClassCastException = codes "java/lang/ClassCastException"
+exception_name exceptions.IllegalArgumentException = codes "java/lang/IllegalArgumentException"
+exception_name exceptions.IllegalMonitorStateException = codes "java/lang/IllegalMonitorStateException"
+exception_name exceptions.IllegalThreadStateException = codes "java/lang/IllegalThreadStateException"
 exception_name exceptions.IncompatibleClassChangeError = codes "java/lang/IncompatibleClassChangeError"
+exception_name exceptions.InterruptedException = codes "java/lang/InterruptedException"
 exception_name exceptions.NegativeArraySizeException = codes "java/lang/NegativeArraySizeException"
 exception_name exceptions.NullPointerException = codes "java/lang/NullPointerException"
 exception_name exceptions.OutOfMemoryError = codes "java/lang/OutOfMemoryError"
@@ -55,6 +60,15 @@ abbrev pub raised : World → State → ℕ → Exception → Option State
 raised w r t e =
     name_number w (exception_name e) >>= λ class. Some (throwing_new r t (with_instance r.memory class (new_values w class)))
 
+-- the same object, and the memory with it
+abbrev pub made_or_first : Memory → Option (Memory × ℕ) → Memory × ℕ
+made_or_first r None = (r, out_of_memory)
+made_or_first r (Some x) = x
+
+abbrev pub exception_made : World → Memory → Exception → Option (Memory × ℕ)
+exception_made w r e =
+    name_number w (exception_name e) >>= λ class. Some (made_or_first r (with_instance r class (new_values w class)))
+
 -- ---- handlers
 
 -- whether a row of the exception table catches an object of the class (JVMS 2.10)
@@ -76,7 +90,7 @@ uncaught_line thread class = codes "Exception in thread \"" ++ thread ++ codes "
 
 -- the thread is done, and all its frames are dropped
 abbrev pub finished : State → ℕ → State
-finished r t = with_thread r t (λ thread. record { thread = record thread.thread { status = Done }; frames = [] })
+finished r t = with_thread r t (λ thread. record thread { thread = record thread.thread { status = Done }; frames = [] })
 
 abbrev pub uncaught : World → State → ℕ → ℕ → Option State
 uncaught w r t class =
@@ -87,11 +101,32 @@ uncaught w r t class =
       main_threw = r.main_threw || t == 0;
     }) t)
 
--- ---- one step of the phase
+-- ---- a frame that nothing catches it in is left
 
--- no row of the top frame catches it: the frame is left, and with a root frame all frames
+-- a frame that holds no monitor any more: with a root frame all frames are left
+abbrev pub frame_dropped : World → State → ℕ → ℕ → Frame → List Frame → Option State
+frame_dropped w r t class f below = if is_root w f below then uncaught w r t class else Some (with_frames r t below)
+
+-- an exception in place of the one that was thrown, in the frames below
+abbrev pub thrown_below : World → State → ℕ → Frame → List Frame → Memory × ℕ → Option State
+thrown_below w r t f below made =
+    if is_root w f below
+    then (class_at w made.0 made.1 >>= λ class. uncaught w (with_memory r made.0) t class)
+    else Some (throwing (with_frames (with_memory r made.0) t below) t made.1)
+
+-- The frame of a synchronized method leaves its monitor. Where the thread doesn't own it, IllegalMonitorStateException takes the place of
+-- what was thrown (JVMS 2.11.10).
+abbrev pub frame_with_monitor_left : World → State → ℕ → ℕ → Frame → List Frame → ℕ → Option State
+frame_with_monitor_left w r t class f below o =
+    if owns r t o then frame_dropped w (with_exit r o) t class f below
+    else (exception_made w r.memory exceptions.IllegalMonitorStateException >>= thrown_below w r t f below)
+
 abbrev pub frame_left : World → State → ℕ → ℕ → Frame → List Frame → Option State
-frame_left w r t class f below = if is_root w f below then uncaught w r t class else Some (with_frames r t below)
+frame_left w r t class f below =
+    if is_synchronized_frame w f then (frame_monitor w f >>= frame_with_monitor_left w r t class f below)
+    else frame_dropped w r t class f below
+
+-- ---- one step of the phase
 
 abbrev pub handled : World → State → ℕ → ℕ → ℕ → Frame → List Frame → Option Handler → Option State
 handled w r t o class f below None = frame_left w r t class f below

@@ -12,7 +12,7 @@ use Rattle.link_resolution.proofs.TableLaws.{get_tabulate, past_tabulate, row-ta
 use Rattle.link_resolution.proofs.HierarchyLaws.{no_superclasses}
 use Rattle.link_model.specs.World.{World}
 use Rattle.ref_model.specs.Members.{own_fields, is_static_field, field_place, field_zero, native_at, new_values, static_place}
-use Rattle.runtime_program.specs.Places.{initializer_of}
+use Rattle.invocation.specs.Places.{is_open}
 
 -- the entry of a table, where the function gives none past the end
 entry-tabulate : {A : Type 0} (f : ℕ → Option A) (n : ℕ) → ((c : ℕ) → n ≤ c → f c ≡ None) → (c : ℕ)
@@ -36,11 +36,11 @@ no_native w n h = rw (slice_get_past w.methods n h) refl
 pub natives_are : (w : World) (n : ℕ) → option_and_then (λ o. o) (slice_get (tabulate (native_at w) (length w.methods)) n) ≡ native_at w n
 natives_are w n = entry-tabulate (native_at w) (length w.methods) (no_native w) n
 
-no_initializer : (w : World) (n : ℕ) → length w.methods ≤ n → initializer_of w n ≡ false
-no_initializer w n h = rw (slice_get_past w.methods n h) refl
+not_open : (w : World) (n : ℕ) → length w.methods ≤ n → is_open w n ≡ false
+not_open w n h = rw (slice_get_past w.methods n h) refl
 
-pub initializers_are : (w : World) (n : ℕ) → unwrap_or (slice_get (tabulate (initializer_of w) (length w.methods)) n) false ≡ initializer_of w n
-initializers_are w n = entry_or-tabulate (initializer_of w) (length w.methods) false (no_initializer w) n
+pub open_are : (w : World) (n : ℕ) → unwrap_or (slice_get (tabulate (is_open w) (length w.methods)) n) false ≡ is_open w n
+open_are w n = entry_or-tabulate (is_open w) (length w.methods) false (not_open w) n
 
 -- ---- classes
 

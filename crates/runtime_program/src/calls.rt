@@ -39,8 +39,9 @@ impl CallWorld for ReadyProgram {
         ReadyProgram::is_hold(self, method)
     }
 
-    fn is_initializer(&self, n: u32) -> bool {
-        ReadyProgram::is_initializer(self, n)
+    #[inline(always)]
+    fn is_open(&self, n: u32) -> bool {
+        ReadyProgram::is_open(self, n)
     }
 
     #[inline(always)]

@@ -1,17 +1,19 @@
-//! Which methods are native, and which are class initializers (JVMS 4.6).
+//! Which methods are native, and which are left by no local instruction (JVMS 4.6).
 
 ghost use Rattle.std.specs.Prelude.{◌≡◌, false, codes, length, IfOk};
 ghost use Rattle.link_resolution.specs.Tables.{tabulate};
 ghost use Rattle.class_grammar.specs.Text.{same_text};
 ghost use Rattle.link_rules.specs.Program.{class_at, own_name as name_of};
 ghost use Rattle.ref_model.specs.Members as spec;
-ghost use Rattle.runtime_program.specs.Places.{initializer_of, native_of_place};
+ghost use Rattle.ref_model.specs.Frames as frames;
+ghost use Rattle.invocation.specs.Places.{is_open};
+ghost use Rattle.runtime_program.specs.Places.{native_of_place};
 
 use class_grammar::is_same;
 use class_model::{ClassFile, Member};
 use items::NoMemory;
 use lib_table::{Native, native_of};
-use link_model::{MethodInfo, is_initializer};
+use link_model::{MethodInfo, is_initializer, is_synchronized};
 use link_resolution::{key_in, own_name};
 use link_rules::MemberPlace;
 use link_tables::Tables;
@@ -59,28 +61,6 @@ pub(crate) fn all_natives(alloc: Global, tables: &Tables) -> Result<Vec<Option<N
     Ok(natives)
 }
 
-// Whether the method of a number is a class initializer. `false`: also where there is none.
-fn initializer_at(tables: &Tables, n: u32) -> bool
-    ensures { result ≡ initializer_of tables.now n }
-{
-    match tables.method(n) {
-        Some(method) => is_initializer(method),
-        None => false,
-    }
-}
-
-/// Whether each method is a class initializer, by their numbers.
-pub(crate) fn all_initializers(alloc: Global, tables: &Tables) -> Result<Vec<bool>, NoMemory>
-    ensures { IfOk result (λ v. v.items
-        ≡ tabulate (initializer_of tables.now) (length tables.now.methods)) }
-{
-    let mut flags = Vec::new(alloc);
-    for n in 0..tables.method_count() {
-        flags.push(initializer_at(tables, n))?;
-    }
-    Ok(flags)
-}
-
 // Whether a class is jvt.Native.
 fn is_native_class(tables: &Tables, class: u32) -> bool
     ensures { result ≡ class_at (λ f. same_text (name_of f) (codes "jvt/Native")) false
@@ -100,4 +80,33 @@ pub(crate) fn is_hold(tables: &Tables, method: &MethodInfo) -> bool
         return false;
     }
     is_native_class(tables, method.class)
+}
+
+// Whether others see that a frame of a method is left.
+fn is_guarded(tables: &Tables, method: &MethodInfo) -> bool
+    ensures { result ≡ frames.is_guarded tables.now method.now }
+{
+    is_synchronized(method) || is_hold(tables, method)
+}
+
+// Whether a return from the method of a number is no local instruction, wherever its frame lies. `false`: also where there is none.
+fn open_at(tables: &Tables, n: u32) -> bool
+    ensures { result ≡ is_open tables.now n }
+{
+    match tables.method(n) {
+        Some(method) => is_initializer(method) || is_guarded(tables, method),
+        None => false,
+    }
+}
+
+/// Whether a return from each method is no local instruction, wherever its frame lies, by their numbers.
+pub(crate) fn all_open(alloc: Global, tables: &Tables) -> Result<Vec<bool>, NoMemory>
+    ensures { IfOk result (λ v. v.items
+        ≡ tabulate (is_open tables.now) (length tables.now.methods)) }
+{
+    let mut flags = Vec::new(alloc);
+    for n in 0..tables.method_count() {
+        flags.push(open_at(tables, n))?;
+    }
+    Ok(flags)
 }

@@ -1,7 +1,7 @@
 //! A program that is ready to run, and its look-ups.
 
-ghost use Rattle.std.specs.Prelude.{◌≡◌, false, codes, slice_get, IfOk, IfSome};
-ghost use Rattle.std.specs.Option.{option_copied, option_map, option_map_or};
+ghost use Rattle.std.specs.Prelude.{◌≡◌, codes, slice_get, IfOk, IfSome};
+ghost use Rattle.std.specs.Option.{option_copied, option_map};
 ghost use Rattle.link_rules.specs.Program.{is_interface as is_interface_of};
 ghost use Rattle.link_rules.specs.Faults.{Links};
 ghost use Rattle.link_rules.specs.Members as linked;
@@ -15,6 +15,7 @@ ghost use Rattle.ref_model.specs.Members as members;
 ghost use Rattle.ref_model.specs.Throwing.{exception_name};
 ghost use Rattle.verify_types.specs.Typing.{AreTyped};
 ghost use Rattle.runtime_program.specs.Handlers.{handler_at, handler_pc};
+ghost use Rattle.invocation.specs.Places.{is_open};
 ghost use Rattle.interp_local.specs.Fetched.{instruction_at, instruction_of};
 ghost use Rattle.runtime_program.specs.Instructions.{next_of};
 
@@ -160,13 +161,13 @@ impl ReadyProgram {
         is_hold(self.tables(), method)
     }
 
-    /// Whether a method is a class initializer (JVMS 2.9.2). `false`: also where there is no method of this number.
+    /// Whether a return from a method is no local instruction, wherever its frame lies: the method is a class initializer, synchronized, or
+    /// jvt.Native.hold. `false`: also where there is no method of this number.
     #[inline(always)]
-    pub fn is_initializer(&self, n: u32) -> bool
-        ensures { result ≡
-            option_map_or members.is_initializer (slice_get self.now.methods n) false }
+    pub fn is_open(&self, n: u32) -> bool
+        ensures { result ≡ is_open self.now n }
     {
-        flag_entry(&self.extra.initializers, n)
+        flag_entry(&self.extra.open_methods, n)
     }
 
     /// The pc after the instruction at a pc of a method. `None`: none begins there.

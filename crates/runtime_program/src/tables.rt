@@ -8,7 +8,7 @@ use crate::array_classes::all_inner_classes;
 use crate::exception_classes::{ExceptionClasses, exception_classes};
 use crate::field_values::all_new_values;
 use crate::instance_places::all_instance_places;
-use crate::methods::{all_initializers, all_natives};
+use crate::methods::{all_natives, all_open};
 use crate::static_places::{StaticPlaces, all_static_places};
 use instruction_rows::Value;
 use items::{Items, NoMemory};
@@ -16,12 +16,12 @@ use lib_table::Native;
 use link_tables::Tables;
 use std::alloc::Global;
 
-/// By method: what the machine does in place of its code, and whether it is a class initializer. By class: the values
+/// By method: what the machine does in place of its code, and whether no local instruction leaves it. By class: the values
 /// of a new object. By field: how many static fields come before it, and its place in an object. By array class: the class of its elements.
 #[derive(Drop)]
 pub(crate) struct ReadyTables {
     pub(crate) natives: Vec<Option<Native>>,
-    pub(crate) initializers: Vec<bool>,
+    pub(crate) open_methods: Vec<bool>,
     pub(crate) new_values: Vec<Items<Value>>,
     pub(crate) static_places: StaticPlaces,
     pub(crate) instance_places: Vec<Option<u32>>,
@@ -34,7 +34,7 @@ pub(crate) fn tables_of(alloc: Global, tables: &Tables) -> Result<ReadyTables, N
     ensures { IfOk result (λ t. HasTables tables.now t) }
 {
     let natives = all_natives(alloc, tables)?;
-    let initializers = all_initializers(alloc, tables)?;
+    let open_methods = all_open(alloc, tables)?;
     let new_values = all_new_values(alloc, tables)?;
     let static_places = all_static_places(alloc, tables)?;
     let instance_places = all_instance_places(alloc, tables)?;
@@ -42,7 +42,7 @@ pub(crate) fn tables_of(alloc: Global, tables: &Tables) -> Result<ReadyTables, N
     let exceptions = exception_classes(alloc, tables)?;
     Ok(ReadyTables {
         natives,
-        initializers,
+        open_methods,
         new_values,
         static_places,
         instance_places,

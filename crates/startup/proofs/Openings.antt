@@ -1,24 +1,49 @@
 -- The opening state, from its parts.
-use Rattle.std.proofs.Common.{◌≡◌, ℕ, List, Option, Some, refl, sym, ap, ◌∙◌}
+use Rattle.std.proofs.Common.{◌≡◌, ℕ, Bool, false, List, [], ◌∷◌, Option, Some, None, refl, sym, ap, ◌∙◌}
+use Rattle.std.specs.Prelude.{slice_get, if◌then◌else◌}
+use Rattle.std.specs.Option.{option_map_or}
 use Rattle.items.specs.Options.{◌>>=◌}
-use Rattle.items.proofs.Binds.{bind_is}
+use Rattle.items.proofs.Binds.{bind_is, some_is}
 use Rattle.instruction_rows.specs.declared.value.Value.{Value}
+use Rattle.link_model.specs.declared.members.MethodInfo.{MethodInfo}
 use Rattle.state_model.specs.Frames.{Frame}
 use Rattle.state_model.specs.Objects.{Object}
 use Rattle.ref_model.specs.Setting.{Setting}
 use Rattle.ref_model.specs.State.{State}
-use Rattle.ref_model.specs.Opening.{opening, opening_heap, opening_frames, opening_statics}
+use Rattle.ref_model.specs.Members.{is_synchronized}
+use Rattle.ref_model.specs.Monitors.{class_monitor, is_synchronized_at}
+use Rattle.ref_model.specs.Opening.{opening, opening_heap, opening_frames, opening_monitor, opening_owners, opening_statics, main_frame as opening_main, main_words, frames_of, guarded_by, initializers}
+use Rattle.startup.specs.FirstFrames.{frames_with, main_frame}
 use Rattle.startup.specs.Openings.{first_state}
 
+-- main holds no monitor
+holds_none : (p : Setting) → is_synchronized_at p.world p.main ≡ false → opening_monitor p ≡ None
+holds_none p = by (slice_get p.world.methods p.main)
+  where
+    by : (found : Option MethodInfo) → option_map_or is_synchronized found false ≡ false
+        → (found >>= λ m. if is_synchronized m then Some (class_monitor m.class) else None) ≡ None
+    by None plain = refl
+    by (Some m) plain = ap (λ (b : Bool). if b then Some (class_monitor m.class) else None) plain
+
+-- the frames with main's, which has no local variable for a monitor
+frames_are : (p : Setting) (frames : List Frame) → opening_monitor p ≡ None → frames_with p.world p.main (main_words p.world) ≡ Some frames → opening_frames p ≡ Some frames
+frames_are p frames none made =
+    let found = some_is (main_frame p.world p.main (main_words p.world)) (λ f. frames_of p.world (initializers p.world.program) (f ∷ [])) frames made in
+    let first : Option Frame = Some found.0 in
+    bind_is (opening_main p) (λ f. frames_of p.world (initializers p.world.program) (f ∷ [])) found.0 (Some frames)
+    (bind_is (main_frame p.world p.main (main_words p.world)) (λ f. Some (guarded_by (opening_monitor p) f)) found.0 first found.1 (ap (λ (m : Option ℕ). Some (guarded_by m found.0)) none)) found.2
+
 pub opening_is : (p : Setting) (heap : List Object) (room : ℕ) (statics : List Value) (frames : List Frame) → opening_heap p.world ≡ Some heap
-    → opening_frames p ≡ Some frames → room ≡ p.limits.heap_cells → statics ≡ opening_statics p.world.program
-    → opening p ≡ Some (first_state heap room statics frames)
-opening_is p heap room statics frames has_heap has_frames cells values =
-    let with_statics = λ (os : List Object) (fs : List Frame). Some (first_state os p.limits.heap_cells (opening_statics p.world.program) fs) in
+    → is_synchronized_at p.world p.main ≡ false → frames_with p.world p.main (main_words p.world) ≡ Some frames → room ≡ p.limits.heap_cells → statics ≡ opening_statics p.world.program
+    → opening p ≡ Some (first_state p.limits.threads heap room statics frames)
+opening_is p heap room statics frames has_heap plain has_frames cells values =
+    let none = holds_none p plain in
+    let owned = λ (m : Option ℕ) (os : List Object) (fs : List Frame). Some (record (first_state p.limits.threads os p.limits.heap_cells (opening_statics p.world.program) fs) { owners = opening_owners m }) in
+    let with_statics = owned (opening_monitor p) in
     let state : Option State = with_statics heap frames in
     let begun : opening p ≡ state =
     bind_is (opening_heap p.world) (λ os. opening_frames p >>= λ fs. with_statics os fs) heap state has_heap
-    (bind_is (opening_frames p) (λ fs. with_statics heap fs) frames state has_frames refl) in
-    begun
-    ∙ ap (λ (n : ℕ). Some (first_state heap n (opening_statics p.world.program) frames)) (sym cells)
-    ∙ ap (λ (vs : List Value). Some (first_state heap room vs frames)) (sym values)
+    (bind_is (opening_frames p) (λ fs. with_statics heap fs) frames state (frames_are p frames none has_frames) refl) in
+    begun ∙ ap (λ (m : Option ℕ). owned m heap frames) none
+    ∙ ap (λ (n : ℕ). Some (first_state p.limits.threads heap n (opening_statics p.world.program) frames)) (sym cells)
+    ∙ ap (λ (vs : List Value). Some (first_state p.limits.threads heap room vs frames)) (sym values)

@@ -1,6 +1,7 @@
 //! The state in which a program begins.
 
 ghost use Rattle.std.specs.Prelude.{◌≡◌, ◌+◌, [], length, IfOk};
+ghost use Rattle.ref_model.specs.Monitors.{is_synchronized_at};
 ghost use Rattle.ref_model.specs.Opening.{opening, opening_statics};
 ghost use Rattle.step_soundness.specs.OpeningLaws.{IsMain};
 ghost use Rattle.link_soundness.specs.Begins.{MayBegin};
@@ -15,7 +16,7 @@ use continuation::Mounted;
 use heap_objs::Heap;
 use instruction_rows::Value;
 use items::NoMemory;
-use link_model::OBJECTS_BEFORE_STRINGS;
+use link_model::{OBJECTS_BEFORE_STRINGS, is_synchronized};
 use link_numbers::Names;
 use ref_model::Limits;
 use runtime_program::ReadyProgram;
@@ -39,7 +40,18 @@ fn words_number(strings: &Names) -> Result<u32, NoMemory>
         .ok_or(NoMemory)
 }
 
-/// Begins a program whose main method has this number (JVMS 5.2, 5.5). A frame too many counts as memory run out.
+// Whether the method with a number is synchronized.
+fn is_guarded(program: &ReadyProgram, n: u32) -> bool
+    ensures { result ≡ is_synchronized_at program.now n }
+{
+    match program.method(n) {
+        Some(method) => is_synchronized(method),
+        None => false,
+    }
+}
+
+/// Begins a program whose main method has this number (JVMS 5.2, 5.5). A frame too many counts as memory run out, and so does a main that
+/// is synchronized.
 pub fn open(
     alloc: Global,
     program: &ReadyProgram,
@@ -51,13 +63,16 @@ pub fn open(
     requires main { IsMain program.now main }
     // The definitions have an opening state, and it is this one.
     ensures state { IfOk result (λ o. opening (setting program.now main limits)
-        ≡ Some (opened_state o)) }
+        ≡ Some (opened_state limits o)) }
     ensures statics { IfOk result (λ o. o.statics.items ≡ opening_statics program.now.program) }
     ensures cells { IfOk result (λ o. o.heap.cells ≡ limits.heap_cells) }
     ensures used { IfOk result (λ o. o.heap.used ≡ 0) }
     ensures thread { IfOk result (λ o. o.mounted.thread ≡ 0) }
     ensures pinned { IfOk result (λ o. o.mounted.pinned ≡ []) }
 {
+    if is_guarded(program, main) {
+        return Err(NoMemory);
+    }
     let library = library_in(alloc, program.tables())?;
     let strings = program.tables().strings();
     let heap = first_heap(alloc, program, library, strings, limits.heap_cells)?;

@@ -42,8 +42,9 @@ pub fn open_typed(
     requires library { HasLibrary program.now.program }
     requires main { IsMain program.now main }
     ensures state { IfOk result (λ o. opening (setting program.now main limits)
-        ≡ Some (opened_state o)) }
-    ensures typed { IfOk result (λ o. IsTypedState program.now (opened_state o)) }
+        ≡ Some (opened_state limits o)) }
+    ensures typed { IfOk result (λ o.
+        IsTypedState program.now (opened_state limits o)) }
     ensures cells { IfOk result (λ o. o.heap.cells ≡ limits.heap_cells) }
     ensures used { IfOk result (λ o. o.heap.used ≡ 0) }
     ensures thread { IfOk result (λ o. o.mounted.thread ≡ 0) }

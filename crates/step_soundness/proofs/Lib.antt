@@ -1,7 +1,10 @@
 pub mod Invocations
-pub mod Steps
-pub mod Openings
+pub mod StateChanges
 pub mod MethodNumbers
 pub mod Selections
 pub mod Signatures
+pub mod Starts
+pub mod Requests
+pub mod Steps
+pub mod Openings
 pub mod LinkedWorlds

@@ -1,14 +1,14 @@
 -- The opening state keeps to the typing.
 use Rattle.std.proofs.Common.{◌≡◌, ℕ, zero, suc, ◌+◌, ◌-◌, ◌<◌, Bool, true, false, List, [], ◌∷◌, ◌++◌, length, Option, Some, None, refl, ap, sym, subst, ◌∙◌, arith}
-use Rattle.std.specs.Prelude.{codes, map, pos, nat_lt, position, slice_get, ◌==◌, if◌then◌else◌}
+use Rattle.std.specs.Prelude.{codes, map, not, pos, nat_lt, position, slice_get, ◌==◌, ◌&&◌, if◌then◌else◌}
 use Rattle.std.specs.Option.{option_map, option_map_or}
 use Rattle.std.specs.List.{AllZip, range_with_len}
 use Rattle.std.proofs.lemmas.Bool.{ltb-true, eqb-true}
 use Rattle.std.proofs.lemmas.List.Quantifiers.{position-Some}
 use Rattle.items.specs.Options.{◌>>=◌}
 use Rattle.items.specs.First.{Each}
-use Rattle.items.proofs.Binds.{some_is}
-use Rattle.class_model.specs.declared.access_flags.TheConstants.{ACC_STATIC}
+use Rattle.items.proofs.Binds.{some_is, bind_is}
+use Rattle.class_model.specs.declared.access_flags.TheConstants.{ACC_STATIC, ACC_SYNCHRONIZED}
 use Rattle.descriptors.specs.declared.kind.Kind.{Kind as FieldType}
 use Rattle.link_rules.specs.Program.{has_flag}
 use Rattle.opcodes.specs.declared.op.ValueKind.{ValueKind}
@@ -37,11 +37,13 @@ use Rattle.state_model.specs.Frames.{Frame}
 use Rattle.state_model.specs.Objects.{Object, instance, text}
 use Rattle.ref_model.specs.Setting.{Setting}
 use Rattle.ref_model.specs.Classes.{same_type, array_class}
-use Rattle.ref_model.specs.Members.{is_initializer, new_values}
+use Rattle.ref_model.specs.Members.{is_initializer, is_synchronized, new_values}
+use Rattle.ref_model.specs.Monitors.{class_monitor}
 use Rattle.ref_model.specs.State.{JavaThread, State}
 use Rattle.ref_model.specs.Frames.{first_frame}
-use Rattle.ref_model.specs.Opening.{new_of, thread_state, thread_states, words_class, opening_heap, opening_statics, initializers, frame_of, frames_of, opening_frames, opening_thread, main_words, first_state_name, opening}
+use Rattle.ref_model.specs.Opening.{new_of, thread_state, thread_states, words_class, opening_heap, opening_statics, initializers, frame_of, frames_of, opening_monitor, guarded_by, main_frame, opening_frames, opening_owners, opening_thread, main_words, first_state_name, opening}
 use Rattle.frame_soundness.specs.Typed.{Stands, IsUnder, Typed, initializes}
+use Rattle.frame_soundness.specs.CallLaws.{StandsAtFirst}
 use Rattle.frame_soundness.specs.StateKinds.{IsOfKind, instance_kinds, ValuesFit, ObjectFits}
 use Rattle.frame_soundness.specs.TypedStates.{IsTypedThread, IsTypedState}
 use Rattle.frame_soundness.specs.StepKinds.{IsLinkedWorld}
@@ -168,20 +170,20 @@ zip_kinds (v ∷ vs) = (refl, zip_kinds vs)
 
 -- ---- frames
 
-record BeginsAt (w : World) (n : ℕ) (f : Frame) : Type 0 where
-  pub stands : Stands w f
+record BeginsAt (w : World) (n : ℕ) (info : MethodInfo) (f : Frame) : Type 0 where
+  pub stands : StandsAtFirst w info f
   pub method : f.method ≡ n
 
 frame_begins : (w : World) (n : ℕ) (info : MethodInfo) (slots : List Slot) (f : Frame) → AreTyped w → slice_get w.methods n ≡ Some info
     → has_flag ACC_STATIC info.flags ≡ true → AreOf (slot_types (map (type_of_kind w) info.signature.args)) slots
-    → frame_of w n slots ≡ Some f → BeginsAt w n f
+    → frame_of w n slots ≡ Some f → BeginsAt w n info f
 frame_begins w n info slots f typed at flag of e =
     let code = some_is (code_at w n) (λ code. first_frame n code slots) f e in
     let first : AreOf (slot_types (first_types w info).locals) slots =
     subst (λ (ts : List VType). AreOf (slot_types ts) slots) (sym (static_locals w info flag)) of in
     let b = begun w n info code.0 slots typed at code.1 first in
     let same = one (first_frame n code.0 slots) b.frame f b.is code.2 in
-    record { stands = subst (Stands w) same b.stands; method = ap (λ (g : Frame). g.method) (sym same) ∙ b.method }
+    record { stands = subst (StandsAtFirst w info) same b.stands; method = ap (λ (g : Frame). g.method) (sym same) ∙ b.method }
   where
     one : (m : Option Frame) (a b : Frame) → m ≡ Some a → m ≡ Some b → a ≡ b
     one m a b x y = cc
@@ -204,6 +206,14 @@ words_of w (t ∷ []) o takes =
 same_frames : (a b : List Frame) → ◌≡◌ {A = Option (List Frame)} (Some a) (Some b) → a ≡ b
 same_frames a b e = cc
 
+-- an initializer holds no monitor
+unguarded : (m : MethodInfo) → is_initializer m ≡ true → is_synchronized m ≡ false
+unguarded m is = ap (λ b. has_flag ACC_SYNCHRONIZED m.flags && not b) is ∙ never (has_flag ACC_SYNCHRONIZED m.flags)
+  where
+    never : (b : Bool) → (b && false) ≡ false
+    never true = refl
+    never false = refl
+
 -- the frames of class initializers, over frames that keep to the typing
 initializers_stand : (w : World) (ns : List ℕ) (below frames : List Frame) → AreTyped w → Each (IsClassInitializer w) ns → Typed w below
     → frames_of w ns below ≡ Some frames → Typed w frames
@@ -218,20 +228,43 @@ initializers_stand w (n ∷ ns) below frames typed each good e =
     let is : initializes w f.0.method ≡ true =
     ap (initializes w) b.method ∙ ap (λ o. option_map_or is_initializer o false) m.at ∙ m.is in
     subst (Typed w) (same_frames (f.0 ∷ more.0) frames more.2)
-    (by f.0 b.stands is more.0 (initializers_stand w ns below more.0 typed each.1 good more.1))
+    (by f.0 (b.stands.plain (unguarded m.method m.is)) is more.0 (initializers_stand w ns below more.0 typed each.1 good more.1))
   where
     by : (f : Frame) → Stands w f → initializes w f.method ≡ true → (rest : List Frame) → Typed w rest → Typed w (f ∷ rest)
     by f stands is [] good = absurd good
     by f stands is (g ∷ rest) good = (stands, (subst (IsUnder w f.method g) (sym is) good.0, good.1))
 
+-- main's frame holds its monitor, where main is synchronized
+main_stands : (p : Setting) (m : MethodInfo) (f : Frame) → slice_get p.world.methods p.main ≡ Some m → StandsAtFirst p.world m f
+    → Stands p.world (guarded_by (opening_monitor p) f)
+main_stands p m f at stands =
+    subst (λ (o : Option ℕ). Stands p.world (guarded_by o f)) (sym held) (by (is_synchronized m) refl)
+  where
+    monitor : Bool → Option ℕ
+    monitor b = if b then Some (class_monitor m.class) else None
+
+    held : opening_monitor p ≡ monitor (is_synchronized m)
+    held =
+        bind_is (slice_get p.world.methods p.main) (λ x. if is_synchronized x then Some (class_monitor x.class) else None) m
+        (monitor (is_synchronized m)) at refl
+
+    by : (b : Bool) → is_synchronized m ≡ b → Stands p.world (guarded_by (monitor b) f)
+    by true e = stands.guarded (class_monitor m.class) e
+    by false e = stands.plain e
+
 frames_stand : (p : Setting) (frames : List Frame) → AreTyped p.world → IsOpening p → opening_frames p ≡ Some frames → Typed p.world frames
 frames_stand p frames typed facts e =
     let w = p.world in
     let words = One (values.Ref (main_words w)) ∷ [] in
-    let f = some_is (frame_of w p.main words) (λ f. frames_of w (initializers w.program) (f ∷ [])) frames e in
+    let g = some_is (main_frame p) (λ f. frames_of w (initializers w.program) (f ∷ [])) frames e in
+    let f = some_is (frame_of w p.main words) (λ f. Some (guarded_by (opening_monitor p) f)) g.0 g.1 in
     let m = facts.main in
     let b = frame_begins w p.main m.method words f.0 typed m.at m.flag (words_of w m.method.signature.args (main_words w) m.takes) f.1 in
-    initializers_stand w (initializers w.program) (f.0 ∷ []) frames typed facts.initializers (b.stands, tt) f.2
+    let stands = subst (Stands w) (same_frame (guarded_by (opening_monitor p) f.0) g.0 f.2) (main_stands p m.method f.0 m.at b.stands) in
+    initializers_stand w (initializers w.program) (g.0 ∷ []) frames typed facts.initializers (stands, tt) g.2
+  where
+    same_frame : (a b : Frame) → ◌≡◌ {A = Option Frame} (Some a) (Some b) → a ≡ b
+    same_frame a b e = cc
 
 -- ---- the state
 
@@ -254,6 +287,9 @@ opened p heap frames = record {
     exited = None;
   };
   threads = opening_thread frames ∷ [];
+  most_threads = p.limits.threads;
+  unnamed = 0;
+  owners = opening_owners (opening_monitor p);
   now = 0;
   main_threw = false;
 }

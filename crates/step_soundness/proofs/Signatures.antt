@@ -106,7 +106,7 @@ flag_of p at found f m g other file member other_file other_member flag (inr is)
     not_static other (member_open p found g other other_file other_member is)
 
 -- of what is chosen
-chosen_runs : (w : World) (class n : ℕ) (m chosen : Named) (choice : Choice) → w.methods ≡ methods_of w.program
+pub chosen_runs : (w : World) (class n : ℕ) (m chosen : Named) (choice : Choice) → w.methods ≡ methods_of w.program
     → slice_get w.methods m.number ≡ Some m.method → choice_of w class m.number ≡ Some choice → chosen_method w choice ≡ Some n
     → method_numbered w n ≡ Some chosen → Runs m chosen
 chosen_runs w class n m chosen Abstract methods at found is numbered = absurd cc

@@ -1,6 +1,13 @@
 -- What a step asks of the constant of its instruction: facts that linking gives, about this instruction and the object at hand alone, so that
 -- each can be tested by look-ups (JVMS 5.4.3, 5.4.6, 6.5).
-use Rattle.std.specs.Prelude.{◌≡◌, ℕ, true, List, ◌∷◌, Option, Some, None, drop}
+use Rattle.std.specs.Prelude.{◌≡◌, ℕ, true, false, List, [], ◌∷◌, Option, Some, None, drop, slice_get}
+use Rattle.class_model.specs.declared.access_flags.TheConstants.{ACC_STATIC}
+use Rattle.link_rules.specs.declared.place.MemberPlace.{MemberPlace}
+use Rattle.link_rules.specs.Program.{has_flag}
+use Rattle.vthread_state.specs.declared.phase.Phase.TheVariants.{Throwing}
+use Rattle.vthread_state.specs.declared.thread.Status.{Status}
+use Rattle.vthread_state.specs.declared.thread.Status.TheVariants.{New, Live, Done}
+use Rattle.link_model.specs.declared.members.MethodInfo.{MethodInfo}
 use Rattle.items.specs.Options.{◌>>=◌}
 use Rattle.descriptors.specs.declared.kind.Signature.{Signature}
 use Rattle.opcodes.specs.declared.op.ValueKind.TheVariants as kinds
@@ -22,7 +29,7 @@ use Rattle.ref_model.specs.Memory.{Memory}
 use Rattle.ref_model.specs.State.{State}
 use Rattle.ref_model.specs.Fetch.{fetched, Named, named_method}
 use Rattle.ref_model.specs.Calls.{method_numbered}
-use Rattle.ref_model.specs.Entries.{frames_at}
+use Rattle.ref_model.specs.Starting.{run_method}
 use Rattle.frame_soundness.specs.EventLaws.{OfReceiver}
 use Rattle.frame_soundness.specs.StepKinds.{IsEventResolution}
 use Rattle.frame_soundness.specs.EnterLaws.{IsOfClass, IsChosen}
@@ -70,7 +77,30 @@ IsRowResolution w resolution row r stack = Unit {0}
 abbrev pub IsFrameResolution : World → Memory → Frame → Type 0
 IsFrameResolution w r f = (i : Instruction) → fetched w f ≡ Some i → IsRowResolution w i.resolution (row_of i) r f.stack
 
--- ---- one step of thread t, which asks for something only where its next step is an instruction
+-- ---- the run of a thread that is started
+
+-- a method of objects that takes nothing
+pub record IsRun (m : MethodInfo) : Type 0 where
+  pub flag : has_flag ACC_STATIC m.flags ≡ false
+  pub takes : m.signature.args ≡ []
+
+-- Whichever method is selected for a Thread object as its run is such (JVMS 5.4.6).
+abbrev pub RunsFit : World → Type 0
+RunsFit w = (class n : ℕ) (at : MemberPlace) (m : MethodInfo) → run_method w ≡ Some n → choice_of w class n ≡ Some (Method at) →
+    slice_get w.methods (method_number w.program at) ≡ Some m → IsRun m
+
+-- ---- one step of thread t
+
+-- the frames of a live thread that is at an instruction: it runs, or waits there
+abbrev pub instruction_frames : List Frame → Status → Option (List Frame)
+instruction_frames frames New = None
+instruction_frames frames (Live (Throwing o)) = None
+instruction_frames frames (Live phase) = Some frames
+instruction_frames frames Done = None
+
+abbrev pub instruction_frames_at : State → ℕ → Option (List Frame)
+instruction_frames_at r t = slice_get r.threads t >>= λ thread. instruction_frames thread.frames thread.thread.status
 
 pub record IsStepResolution (w : World) (r : State) (t : ℕ) : Type 0 where
-  pub top : (f : Frame) (below : List Frame) → frames_at r t ≡ Some (f ∷ below) → IsFrameResolution w r.memory f
+  pub top : (f : Frame) (below : List Frame) → instruction_frames_at r t ≡ Some (f ∷ below) → IsFrameResolution w r.memory f
+  pub runs : RunsFit w

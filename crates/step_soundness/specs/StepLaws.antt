@@ -1,5 +1,5 @@
 -- Steps keep to the typing.
-use Rattle.std.specs.Prelude.{◌≡◌, ℕ, List, ◌∷◌, Some, None}
+use Rattle.std.specs.Prelude.{◌≡◌, ℕ, List, ◌∷◌, Option, Some}
 use Rattle.instruction_rows.specs.Rows.{Invocation, invoke}
 use Rattle.link_model.specs.declared.sites.Resolution.{Resolution}
 use Rattle.link_model.specs.Infos.{methods_of}
@@ -15,12 +15,13 @@ use Rattle.ref_model.specs.Effects.{Effect}
 use Rattle.ref_model.specs.Calls.{method_numbered, invoked}
 use Rattle.ref_model.specs.Entries.{frames_at}
 use Rattle.ref_model.specs.Step.{step}
+use Rattle.ref_model.specs.Waiting.{at_time}
 use Rattle.frame_soundness.specs.Typed.{Typed}
 use Rattle.frame_soundness.specs.StateKinds.{MemoryFits}
 use Rattle.frame_soundness.specs.TypedStates.{IsTypedState}
 use Rattle.frame_soundness.specs.StepKinds.{IsLinkedWorld}
 use Rattle.frame_soundness.specs.EnterLaws.{IsOfObjects, IsCallResult}
-use Rattle.step_soundness.specs.Resolutions.{method_run, IsSelected, IsRowResolution, IsStepResolution}
+use Rattle.step_soundness.specs.Resolutions.{method_run, IsSelected, IsRowResolution, RunsFit, IsStepResolution}
 
 -- ---- the threads of a state
 
@@ -45,10 +46,18 @@ InvocationsGoOn = (w : World) (f : Frame) (below : List Frame) (invocation : Inv
 
 -- Each step of a thread leaves a state that keeps to the typing.
 abbrev pub StepKeeps : Type 0
-StepKeeps = (p : Setting) (r q : State) (t : ℕ) → IsLinkedWorld p.world → IsTypedState p.world r → IsStepResolution p.world r t →
-    step p r t None ≡ Some q → IsTypedState p.world q
+StepKeeps = (p : Setting) (r q : State) (t : ℕ) (pick : Option ℕ) → IsLinkedWorld p.world → IsTypedState p.world r →
+    IsStepResolution p.world r t → step p r t pick ≡ Some q → IsTypedState p.world q
+
+-- Time leaves one too.
+abbrev pub TimeKeeps : Type 0
+TimeKeeps = (w : World) (r q : State) (now : ℕ) → IsTypedState w r → at_time r now ≡ Some q → IsTypedState w q
 
 -- ---- what follows from linking
+
+-- The run of a Thread object is as threads ask for it, in each linked world.
+abbrev pub RunsAreSuch : Type 0
+RunsAreSuch = (w : World) → w.methods ≡ methods_of w.program → RunsFit w
 
 -- Of the method that is selected for objects of a class only what it is itself is asked: it has the signature of the one that is named
 -- (JVMS 5.4.5, 5.4.6).

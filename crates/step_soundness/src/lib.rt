@@ -2,7 +2,7 @@
 //! `ref_model` and `typed_frames`, each as a call that does nothing.
 #![tactic(auto)]
 
-ghost use Rattle.step_soundness.specs.StepLaws.{RunningIsTyped, FramesKeep, InvocationsGoOn, StepKeeps, SelectionFits};
+ghost use Rattle.step_soundness.specs.StepLaws.{RunningIsTyped, FramesKeep, InvocationsGoOn, StepKeeps, TimeKeeps, RunsAreSuch, SelectionFits};
 ghost use Rattle.step_soundness.specs.MethodKinds.{InvocationsFit};
 ghost use Rattle.step_soundness.specs.OpeningLaws.{OpeningIsTyped, DimensionsAreThere, MainIsFound, InitializersAreSuch};
 
@@ -17,13 +17,23 @@ pub fn invocations_go_on()
     ensures { InvocationsGoOn }
 {}
 
-/// A step of a thread leaves a state that keeps to the typing, where the constant of its instruction names what linking gives there
-/// (JVMS 2.10, 2.11, 4.10.1.6, 6.5).
+/// A step of a thread leaves a state that keeps to the typing, where the constant of its instruction names what linking gives there: an
+/// instruction, a request, the end of a wait, or an exception on its way (JVMS 2.10, 2.11, 4.10.1.6, 6.5).
 pub fn steps_keep()
     ensures { StepKeeps }
 {}
 
-/// The state in which a linked program begins keeps to the typing, by tests made once (JVMS 2.9.2, 5.5).
+/// Time that goes on leaves one too.
+pub fn time_keeps()
+    ensures { TimeKeeps }
+{}
+
+/// The `run` that is selected for a Thread object takes nothing, and is a method of objects (JVMS 5.4.6).
+pub fn runs_are_such()
+    ensures { RunsAreSuch }
+{}
+
+/// The state in which a linked program begins keeps to the typing, by what linking gives (JVMS 2.9.2, 5.5).
 pub fn openings_are_typed()
     ensures { OpeningIsTyped }
 {}

@@ -1,6 +1,6 @@
 -- Invocations as steps.
 use Rattle.std.proofs.Common.{◌≡◌, ℕ, suc, ◌≤◌, true, false, Bool, List, ◌∷◌, length, drop, Option, Some, None, refl, ap, sym, ◌∙◌, subst}
-use Rattle.std.specs.Prelude.{is_none, not, nat_lt, ◌&&◌, ◌||◌, if◌then◌else◌}
+use Rattle.std.specs.Prelude.{is_none, not, nat_lt, ◌&&◌, if◌then◌else◌}
 use Rattle.items.specs.Options.{◌>>=◌}
 use Rattle.items.proofs.Binds.{bind_is, some_is}
 use Rattle.lib_table.specs.declared.native.Native.{Native}
@@ -18,7 +18,7 @@ use Rattle.ref_model.specs.Fetch.{fetched, Named, named_method}
 use Rattle.ref_model.specs.Frames.{callee, caller}
 use Rattle.ref_model.specs.Kinds.{argument_slots}
 use Rattle.ref_model.specs.Members.{native_at, is_synchronized, is_hold}
-use Rattle.ref_model.specs.Effects.{Effect, invokes, throws}
+use Rattle.ref_model.specs.Effects.{Effect, asks, invokes, throws}
 use Rattle.ref_model.specs.declared.exception.Exception.{Exception}
 use Rattle.ref_model.specs.declared.exception.Exception.TheVariants as exceptions
 use Rattle.continuation.specs.Continuation.{Continuation}
@@ -34,7 +34,9 @@ use Rattle.invocation.specs.FrameSteps.{HasBegun}
 use Rattle.invocation.specs.declared.target.Callee.{Callee}
 use Rattle.invocation.specs.declared.target.Target.{Target}
 use Rattle.invocation.specs.declared.target.Target.TheVariants as targets
-use Rattle.ref_model.specs.Calls.{invoked, native_entered, code_entered, method_entered}
+use Rattle.ref_model.specs.Calls.{invoked, native_entered, code_entered, method_entered, receiver_of}
+use Rattle.ref_model.specs.Monitors.{method_monitor, with_monitor}
+use Rattle.ref_model.specs.Requests.{calls}
 use Rattle.ref_model.specs.LocalRows.{row, local_act, has_local_call, static_called, frames_called, most_frames}
 use Rattle.ref_model.specs.Step.{after_effect, row_or_event}
 use Rattle.invocation.specs.Targets.{row_invoked, begins, IsInvoked}
@@ -77,16 +79,16 @@ entered_so w r m f below fs e =
     let frame = some_is (callee m.number code.0 slots f.stack) (λ g. Some (g ∷ caller f slots ∷ below)) fs code.2 in
     let same : fs ≡ frame.0 ∷ caller f slots ∷ below = let x = frame.2 in cc in
     let made : Option Effect = Some (invokes frame.0 (drop slots f.stack)) in
+    let monitor : Frame → Option Effect = λ g. method_monitor m.method (receiver_of g) >>= λ o. Some (asks (calls o (with_monitor g o)) (drop slots f.stack)) in
     let begins : method_entered w (suc (length below)) m code.0 slots f.stack ≡ made =
-    ap (λ (b : Bool). if b then None else if nat_lt (suc (length below)) most_frames then (callee m.number code.0 slots f.stack >>= λ g. Some (invokes g (drop slots f.stack))) else Some (throws exceptions.StackOverflowError)) (neither (is_synchronized m.method) (is_hold w m.method) plain.1 plain.2)
+    ap (λ (b : Bool). if nat_lt (suc (length below)) most_frames then (callee m.number code.0 slots f.stack >>= λ g. if b then monitor g else Some (invokes g (drop slots f.stack))) else Some (throws exceptions.StackOverflowError)) (unset (is_synchronized m.method) plain.1)
     ∙ ap (λ (b : Bool). if b then (callee m.number code.0 slots f.stack >>= λ g. Some (invokes g (drop slots f.stack))) else Some (throws exceptions.StackOverflowError)) facts.1
     ∙ bind_is (callee m.number code.0 slots f.stack) (λ g. Some (invokes g (drop slots f.stack))) frame.0 made frame.1 refl in
     (frame.0, same, ap (λ (n : Option Native). native_entered w r (suc (length below)) m n slots f.stack) (none_is (native_at w m.number) plain.0) ∙ ap (λ (c : Option MethodCode). code_entered w (suc (length below)) m c slots f.stack) code.1 ∙ begins)
   where
-    neither : (a b : Bool) → not a ≡ true → not b ≡ true → (a || b) ≡ false
-    neither true b x y = absurd cc
-    neither false true x y = absurd cc
-    neither false false x y = refl
+    unset : (b : Bool) → not b ≡ true → b ≡ false
+    unset true x = absurd cc
+    unset false x = refl
 
 -- what an invocation leads to, where it is a local instruction
 row_agrees : (w : World) (i : Instruction) (invocation : Invocation) (index : ℕ) (r : State) (t : ℕ) (f : Frame) (below fs : List Frame) (x : Effect) → local_act w i (invoke invocation index) f below ≡ Some fs

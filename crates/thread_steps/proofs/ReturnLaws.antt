@@ -2,7 +2,7 @@
 use Rattle.std.proofs.Common.{◌≡◌, ◌<◌, ℕ, true, false, Bool, List, [], ◌∷◌, ◌++◌, length, drop, Option, Some, None, refl, ap, sym, subst, arith, ◌∙◌}
 use Rattle.std.specs.Prelude.{◌==◌, ◌||◌, if◌then◌else◌, slice_get}
 use Rattle.std.specs.Global.{Vec}
-use Rattle.std.specs.Option.{option_map}
+use Rattle.std.specs.Option.{option_map, option_map_or}
 use Rattle.items.specs.Options.{◌>>=◌}
 use Rattle.items.proofs.Binds.{bind_is, some_is}
 use Rattle.opcodes.specs.declared.op.ValueKind.{ValueKind}
@@ -12,6 +12,7 @@ use Rattle.instruction_rows.specs.Table.{row as row_of}
 use Rattle.vthread_state.specs.declared.phase.Phase.TheVariants.{Run}
 use Rattle.vthread_state.specs.declared.thread.Status.{Status}
 use Rattle.vthread_state.specs.declared.thread.Status.TheVariants.{Live, Done}
+use Rattle.link_model.specs.declared.members.MethodInfo.{MethodInfo}
 use Rattle.link_model.specs.declared.sites.Resolution.{Resolution}
 use Rattle.link_model.specs.World.{World}
 use Rattle.verify_types.specs.Environment.{Handler}
@@ -19,17 +20,19 @@ use Rattle.state_model.specs.Frames.{Frame}
 use Rattle.state_model.specs.Objects.{text}
 use Rattle.ref_model.specs.Classes.{class_name}
 use Rattle.ref_model.specs.Fetch.{fetched}
-use Rattle.ref_model.specs.Frames.{returned}
+use Rattle.ref_model.specs.Frames.{is_guarded, is_guarded_frame, is_root, returned}
 use Rattle.ref_model.specs.Heap.{class_at, units_at, units_of}
 use Rattle.ref_model.specs.LocalRows.{row, local_act}
+use Rattle.ref_model.specs.Members.{is_hold, is_synchronized}
+use Rattle.ref_model.specs.Monitors.{frame_monitor, is_synchronized_frame}
 use Rattle.ref_model.specs.Operands.{FindsOperands, HasOperands}
 use Rattle.ref_model.specs.State.{State, with_frames, with_status}
-use Rattle.ref_model.specs.Step.{event_step, root_left, row_event, row_or_event}
+use Rattle.ref_model.specs.Step.{event_step, frame_returned, monitor_returned, root_left, row_event, row_or_event}
 use Rattle.ref_model.specs.Texts.{text_bytes}
-use Rattle.ref_model.specs.Throwing.{at_handler, finished, handler_of, handled, throwing_step, uncaught, uncaught_line}
+use Rattle.ref_model.specs.Throwing.{at_handler, finished, frame_dropped, frame_with_monitor_left, handler_of, handled, throwing_step, uncaught, uncaught_line}
 use Rattle.continuation.specs.Continuation.{Continuation}
 use Rattle.heap_instructions.specs.HeapReads.{class_number}
-use Rattle.invocation.specs.FrameSteps.{IsHandled, IsUnhandled, returned_kinds, top_at_handler, top_handler, top_is_root, top_returned}
+use Rattle.invocation.specs.FrameSteps.{IsHandled, IsUnhandled, returned_kinds, top_at_handler, top_handler, top_is_guarded, top_is_left_openly, top_is_root, top_returned}
 use Rattle.thread_steps.specs.declared.parts.Parts.{Parts}
 use Rattle.thread_steps.specs.States.{Stage, IsRunStep, memory_of, own_thread, state_of}
 use Rattle.thread_steps.specs.Returning.{EndsUncaught, LeavesRoot, ReturnSteps, ThrowingSteps, returned_kind, status_left}
@@ -55,6 +58,24 @@ value_taken w resolution r kind stack is x = by kind (subst (λ (s : Row). Finds
     by : (k : Option ValueKind) → FindsOperands w resolution (returns k) stack → HasOperands (returned_kinds k) 0 stack
     by None y = tt
     by (Some k) y = y
+
+-- ---- frames whose end no others see
+
+or_left : (a b : Bool) → (a || b) ≡ false → a ≡ false
+or_left true b e = cc
+or_left false b e = refl
+
+or_right : (a b : Bool) → (a || b) ≡ false → b ≡ false
+or_right true b e = cc
+or_right false b e = e
+
+-- they hold no monitor
+holds_none : (w : World) (f : Frame) → is_guarded_frame w f ≡ false → is_synchronized_frame w f ≡ false
+holds_none w f = by (slice_get w.methods f.method)
+  where
+    by : (found : Option MethodInfo) → option_map_or (is_guarded w) found false ≡ false → option_map_or is_synchronized found false ≡ false
+    by None e = refl
+    by (Some m) e = or_left (is_synchronized m) (is_hold w m) e
 
 -- ---- a return to the caller
 
@@ -82,10 +103,10 @@ root_is_left a frames after status left is stage f below top =
     by [] rest done = own_finished stage a (f ∷ below) ∙ λ i. state_of stage (record a { status = sym done i }) (sym rest i)
     by (g ∷ others) rest goes = own_frames stage a (f ∷ below) (g ∷ others) ∙ λ i. state_of stage (record a { status = sym goes i }) (sym rest i)
 
-pub root_steps : (w : World) (a b : Parts) (kind : Option ValueKind) (frames after : List Frame) → top_is_root w frames ≡ true → LeavesRoot a frames b after → ReturnSteps w kind a frames b after
-root_steps w a b kind frames after root left stage f below i top at is =
+pub root_steps : (w : World) (a b : Parts) (kind : Option ValueKind) (frames after : List Frame) → top_is_root w frames ≡ true → top_is_guarded w frames ≡ false → LeavesRoot a frames b after → ReturnSteps w kind a frames b after
+root_steps w a b kind frames after root plain left stage f below i top at is =
     subst (λ (fs : List Frame). IsRunStep w stage.number (state_of stage a fs) fs (state_of stage b after)) (sym top)
-    (event_is_run w r q stage.number (f ∷ below) (no_row w i (returns kind) f below at is (ap (λ (x : Bool). if x then None else returned w kind f below) here)) step)
+    (event_is_run w r q stage.number (f ∷ below) (no_row w i (returns kind) f below at is (ap (λ (x : Bool). if x || is_guarded_frame w f then None else returned w kind f below) here)) step)
   where
     r : State
     r = state_of stage a (f ∷ below)
@@ -96,9 +117,19 @@ root_steps w a b kind frames after root left stage f below i top at is =
     here : top_is_root w (f ∷ below) ≡ true
     here = subst (λ (fs : List Frame). top_is_root w fs ≡ true) top root
 
+    free : is_synchronized_frame w f ≡ false
+    free = holds_none w f (subst (λ (fs : List Frame). top_is_guarded w fs ≡ false) top plain)
+
+    held : Option State
+    held = frame_monitor w f >>= monitor_returned w r stage.number kind f below
+
+    further : Option State
+    further = returned w kind f below >>= λ fs. Some (with_frames r stage.number fs)
+
     step : event_step w r stage.number (f ∷ below) ≡ Some q
     step = bind_is (fetched w f) (λ j. row_event w j (row_of j.instr.op) r stage.number f below) i (Some q) at
-        (ap (λ (act : Row). row_event w i act r stage.number f below) is ∙ ap (λ (x : Bool). if x then Some (root_left r stage.number below) else None) here
+        (ap (λ (act : Row). row_event w i act r stage.number f below) is ∙ ap (λ (x : Bool). if x then held else frame_returned w r stage.number kind f below) free
+        ∙ ap (λ (x : Bool). if x then Some (root_left r stage.number below) else further) here
         ∙ ap (λ (s : State). Some s) (left stage f below top))
 
 -- ---- an exception on its way
@@ -148,24 +179,28 @@ pub left_steps : (w : World) (a : Parts) (t name o class : ℕ) (m n : Continuat
     → ThrowingSteps w t name o a m.stack.frames a n.stack.frames
 left_steps w a t name o class m n named some x stage is = by m.stack.frames some x.none x.inner x.frames
   where
-    by : (frames : List Frame) → 0 < length frames → top_handler w class frames ≡ None → top_is_root w frames ≡ false → n.stack.frames ≡ drop 1 frames
+    by : (frames : List Frame) → 0 < length frames → top_handler w class frames ≡ None → top_is_left_openly w frames ≡ false → n.stack.frames ≡ drop 1 frames
         → throwing_step w (state_of stage a frames) stage.number o frames ≡ Some (state_of stage a n.stack.frames)
     by [] some none inner left = absurd (omega arith)
     by (f ∷ below) some none inner left =
         let r : State = state_of stage a (f ∷ below) in
         handled_so w stage a o class f below None (state_of stage a n.stack.frames) named (mapped_none (handler_of w class f) none)
-        (ap (λ (b : Bool). if b then uncaught w r stage.number class else Some (with_frames r stage.number below)) inner
+        (ap (λ (b : Bool). if b then (frame_monitor w f >>= frame_with_monitor_left w r stage.number class f below) else frame_dropped w r stage.number class f below)
+        (holds_none w f (or_right (is_root w f below) (is_guarded_frame w f) inner))
+        ∙ ap (λ (b : Bool). if b then uncaught w r stage.number class else Some (with_frames r stage.number below)) (or_left (is_root w f below) (is_guarded_frame w f) inner)
         ∙ ap (λ (s : State). Some s) (own_frames stage a (f ∷ below) below ∙ ap (state_of stage a) (sym left)))
 
 -- A root frame whose method doesn't catch an object of this class ends the thread.
 pub uncaught_steps : (w : World) (a b : Parts) (t name o class : ℕ) (frames after : List Frame)
     → Some class ≡ class_number w a.natives.heap.objects o
-    → top_handler w class frames ≡ None → top_is_root w frames ≡ true → EndsUncaught w t name class a b after → ThrowingSteps w t name o a frames b after
-uncaught_steps w a b t name o class [] after named none root ends stage is = absurd cc
-uncaught_steps w a b t name o class (f ∷ below) after named none root ends stage is =
+    → top_handler w class frames ≡ None → top_is_root w frames ≡ true → top_is_guarded w frames ≡ false → EndsUncaught w t name class a b after → ThrowingSteps w t name o a frames b after
+uncaught_steps w a b t name o class [] after named none root plain ends stage is = absurd cc
+uncaught_steps w a b t name o class (f ∷ below) after named none root plain ends stage is =
     let r : State = state_of stage a (f ∷ below) in
     handled_so w stage a o class f below None (state_of stage b after) named (mapped_none (handler_of w class f) none)
-    (ap (λ (x : Bool). if x then uncaught w r stage.number class else Some (with_frames r stage.number below)) root ∙ ends stage (f ∷ below) is)
+    (ap (λ (b : Bool). if b then (frame_monitor w f >>= frame_with_monitor_left w r stage.number class f below) else frame_dropped w r stage.number class f below)
+    (holds_none w f plain)
+    ∙ ap (λ (x : Bool). if x then uncaught w r stage.number class else Some (with_frames r stage.number below)) root ∙ ends stage (f ∷ below) is)
 
 -- ---- the end of a thread whose exception nothing caught
 

@@ -37,4 +37,4 @@ own_status stage a frames status =
 -- it is done
 pub own_finished : (stage : Stage) (a : Parts) (frames : List Frame) → finished (state_of stage a frames) stage.number ≡ state_of stage (record a { status = Done }) []
 own_finished stage a frames =
-    own_changed stage a (record a { status = Done }) frames [] (λ thread. record { thread = record thread.thread { status = Done }; frames = [] }) refl
+    own_changed stage a (record a { status = Done }) frames [] (λ thread. record thread { thread = record thread.thread { status = Done }; frames = [] }) refl

@@ -39,6 +39,7 @@ state_of stage a frames = record stage.state {
   memory = memory_of a;
   threads = slice_set stage.state.threads stage.number (own_thread stage a frames);
   main_threw = a.main_threw;
+  most_threads = a.most_threads;
 }
 
 -- The instruction at the top frame's pc of a thread leads from one state to the other.

@@ -1,6 +1,7 @@
-use Rattle.std.proofs.Common.{sym, subst}
+use Rattle.std.proofs.Common.{ap, sym, subst}
 use Rattle.frame_soundness.specs.EventLaws.{HasDimensions}
 use Rattle.frame_soundness.specs.StateKinds.{HasFieldKinds}
+use Rattle.link_model.specs.World.{World}
 use Rattle.link_soundness.specs.Names.{AreNamed}
 use Rattle.machine.proofs.machine_state.is_ready.Goals as goal
 
@@ -16,4 +17,5 @@ returns c =
         arrays = subst HasDimensions (sym linked) (c.linked_worlds_open.ensures.dimensions p);
       };
       named = subst AreNamed (sym linked) (c.linked_code_is_named.ensures p links c.requires);
+      runs = c.runs_are_such.ensures c.args.program.now (ap (λ (w : World). w.methods) linked);
     }

@@ -1,8 +1,9 @@
 use Rattle.std.proofs.Common.{ℕ, ℤ, List, Some, ap, rules, subst, to_z-of_z, ◌∙◌}
-use Rattle.std.specs.Prelude.{FitsSigned, IfOk, true}
+use Rattle.std.specs.Prelude.{FitsSigned, IfOk, not, true, unsigned_abs, ◌==◌}
 use Rattle.std.specs.Int.{w32}
 use Rattle.opcodes.specs.declared.op.ValueKind.TheVariants as kinds
 use Rattle.ref_model.specs.Printing.{written}
+use Rattle.ref_model.specs.Requests.{sets_daemon}
 use Rattle.ref_model.specs.StringNatives.{string_char_at}
 use Rattle.ref_model.specs.Texts.{char_text}
 use Rattle.native_methods.specs.Arguments.{to_two}
@@ -21,3 +22,7 @@ returns-in-PrintStreamPrintlnChar-clause-answer g c =
     let x = c.print-in-PrintStreamPrintlnChar in
     let P : List ℕ → Type 0 = λ units. IfOk x.result (λ a. Answers (λ r. Some (written r c.args.this (printed true units))) c.args.state.now x.new.state a) in
     rw c.in-PrintStreamPrintlnChar.is (subst P (c.char_text-in-PrintStreamPrintlnChar.ensures ∙ ap char_text (to_z-of_z fits)) x.ensures.answer)
+
+pub returns-in-ThreadSetDaemon-clause-answer : goal.returns-in-ThreadSetDaemon-clause-answer
+returns-in-ThreadSetDaemon-clause-answer g c =
+    rw c.in-ThreadSetDaemon.is (c.thread_asked.ensures (λ t. sets_daemon t (not (unsigned_abs c.args.n == 0))))

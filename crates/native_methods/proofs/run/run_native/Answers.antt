@@ -5,7 +5,7 @@ use Rattle.native_methods.proofs.run.run_native.Goals as goal
 
 pub answer_of-requires-clause-given : goal.answer_of-requires-clause-given
 answer_of-requires-clause-given g c =
-    arguments_found (g.W.EventWorld.world c.args.world.now) c.args.native c.in-Some.arguments (operands c.args.mounted.now) c.in-Some.ensures c.requires.arguments
+    arguments_found (g.W.EventWorld.world c.args.world.now) c.args.native c.takes-arguments.result (operands c.args.mounted.now) c.takes-arguments.ensures c.requires.arguments
 
 pub returns-clause-kept_state : goal.returns-clause-kept_state
 returns-clause-kept_state g c =

@@ -43,4 +43,4 @@ returns-clause-state c =
     c.in_ok-statics.ensures ∙ ap (λ (v : World). flat_map (static_values strings) v.program.classes) c.tables-3.ensures
     ∙ ap (λ (ts : List (List ℕ)). flat_map (static_values ts) w.program.classes) texts ∙ statics_are w.program in
     opening_is (setting w c.args.main c.args.limits) heap.objects (heap.cells - heap.used) statics frames
-    (heap_is w l has ∙ ap Some (sym objects)) all room values
+    (heap_is w l has ∙ ap Some (sym objects)) (sym c.is_guarded.ensures ∙ c.if-is_guarded.false) all room values

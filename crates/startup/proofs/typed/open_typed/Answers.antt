@@ -13,7 +13,7 @@ returns-clause-typed c =
     let p = w.program in
     let linked : w ≡ world_of p = c.is_linked.ensures.linked in
     let links = c.is_linked.ensures.links in
-    c.openings_are_typed.ensures (setting w c.args.main c.args.limits) (opened_state c.in_ok-opened.opened)
+    c.openings_are_typed.ensures (setting w c.args.main c.args.limits) (opened_state c.args.limits c.in_ok-opened.opened)
     (record {
       typed = c.is_linked.ensures.typed;
       fields = subst HasFieldKinds (sym linked) (c.linked_fields_have_kinds.ensures p links);

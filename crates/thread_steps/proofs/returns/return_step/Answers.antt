@@ -11,5 +11,5 @@ returns-in-Returned g c =
 pub returns-in-Root : goal.returns-in-Root
 returns-in-Root g c =
     root_steps (g.W.EventWorld.world c.args.world.now) c.args.parts.now c.leave_root.new.parts c.args.kind c.args.mounted.now.stack.frames c.leave_root.new.mounted.stack.frames
-    c.in-Root.ensures.left.0
-    (subst (λ (m : Continuation). LeavesRoot c.args.parts.now m.stack.frames c.leave_root.new.parts c.leave_root.new.mounted.stack.frames) c.in-Root.ensures.left.1 c.leave_root.ensures)
+    c.in-Root.ensures.left.root c.in-Root.ensures.left.plain
+    (subst (λ (m : Continuation). LeavesRoot c.args.parts.now m.stack.frames c.leave_root.new.parts c.leave_root.new.mounted.stack.frames) c.in-Root.ensures.left.same c.leave_root.ensures)

@@ -8,7 +8,7 @@ returns-in-Uncaught g c =
     let w = g.W.EventWorld.world c.args.world.now in
     on_ok c.end_uncaught.result c.end_uncaught.ensures
     (uncaught_steps w c.args.parts.now c.end_uncaught.new.parts c.args.thread c.args.name c.args.o c.in-Some.class c.args.mounted.now.stack.frames c.end_uncaught.new.mounted.stack.frames
-    c.in-Some.ensures c.in-Uncaught.ensures.caught.none c.in-Uncaught.ensures.caught.root)
+    c.in-Some.ensures c.in-Uncaught.ensures.caught.none c.in-Uncaught.ensures.caught.root c.in-Uncaught.ensures.caught.plain)
 
 pub returns-in-Handled : goal.returns-in-Handled
 returns-in-Handled g c =
