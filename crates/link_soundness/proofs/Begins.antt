@@ -1,40 +1,30 @@
 -- Main and the class initializers of a program have code (JVMS 2.9.2, 4.6, 4.7.3, JLS 12.1.4): they are static and so not abstract, no class of
 -- a file has native methods, and no native method of a built-in class is one of these.
 use Rattle.std.proofs.Common.{◌≡◌, ◌⊎◌, inl, inr, ℕ, zero, suc, ◌+◌, ◌≤◌, Bool, true, false, not, All, List, [], ◌∷◌, length, Option, Some, None, refl, ap, sym, subst, ◌∙◌, arith}
-use Rattle.std.specs.Prelude.{codes, map, nat_le, option_and_then, slice_get, ◌==◌, ◌&&◌, ◌||◌, if◌then◌else◌}
+use Rattle.std.specs.Prelude.{codes, map, nat_le, option_and_then, slice_get, ◌&&◌, ◌||◌, if◌then◌else◌}
 use Rattle.std.specs.List.{flat_map, list_all}
-use Rattle.std.proofs.lemmas.Bool.{eqb-true, le-leb, leb-true, or_left, or_right}
+use Rattle.std.proofs.lemmas.Bool.{le-leb, leb-true, or_left, or_right}
 use Rattle.std.proofs.lemmas.List.{length-map}
 use Rattle.std.proofs.lemmas.Option.{slice_get_within, get_or_from_slice_get}
-use Rattle.items.specs.First.{AllNone, Each}
+use Rattle.items.specs.First.{AllNone}
 use Rattle.items.proofs.FirstLaws.{passed}
 use Rattle.class_model.specs.declared.access_flags.TheConstants.{ACC_STATIC}
 use Rattle.class_model.specs.declared.class_file.ClassFile.{ClassFile}
-use Rattle.class_model.specs.declared.constant.Const.{Const}
 use Rattle.class_model.specs.declared.member.Member.{Member}
 use Rattle.class_grammar.specs.Text.{same_text}
-use Rattle.descriptors.specs.Meaning.{signature_of}
 use Rattle.instruction_rows.specs.declared.value.Slot.{Slot}
 use Rattle.instruction_rows.specs.declared.value.Slot.TheVariants.{One}
 use Rattle.instruction_rows.specs.declared.value.Value.TheVariants as values
 use Rattle.instruction_rows.specs.Contents.{slot_types}
 use Rattle.instruction_rows.specs.Soundness.{AreOf}
 use Rattle.lib_table.specs.Build as build
-use Rattle.lib_table.specs.Declarations.{Class}
 use Rattle.lib_table.specs.Library.{library}
-use Rattle.lib_table.specs.Objects as objects
-use Rattle.lib_table.specs.Pool.{placed, class, string, name_and_type, field, method, interface_method}
 use Rattle.lib_table.specs.Spelled.{IsSpelled}
-use Rattle.lib_table.specs.System as system
 use Rattle.lib_table.specs.Table.{groups}
-use Rattle.lib_table.specs.Texts as texts
-use Rattle.lib_table.specs.ThreadBuilders as thread_builders
-use Rattle.lib_table.specs.Threads as threads
-use Rattle.lib_table.specs.Throwables as throwables
 use Rattle.lib_table.proofs.SpelledClasses.{library_spelled}
 use Rattle.link_rules.specs.declared.why.LinkWhy.TheVariants.{Native, WrongKind}
 use Rattle.link_rules.specs.Faults.{Links, method_faults_at}
-use Rattle.link_rules.specs.Members.{Key, is_abstract_method, is_native, is_static}
+use Rattle.link_rules.specs.Members.{is_abstract_method, is_native, is_static}
 use Rattle.link_rules.specs.Program.{Program, has_flag, is_from_file}
 use Rattle.link_rules.specs.Selection.{key_in}
 use Rattle.link_model.specs.declared.members.MethodCode.{MethodCode}
@@ -42,13 +32,9 @@ use Rattle.link_model.specs.declared.members.MethodInfo.{MethodInfo}
 use Rattle.link_model.specs.Codes.{code_of}
 use Rattle.link_model.specs.Infos.{codes_in, codes_of, methods_of}
 use Rattle.link_model.specs.Initializers.{is_of_initializer, is_static_method}
-use Rattle.link_model.specs.MainMethod.{is_string, takes_strings}
-use Rattle.link_model.specs.World.{World}
+use Rattle.link_model.specs.MainMethod.{takes_strings}
 use Rattle.link_model.specs.Worlds.{world_of}
-use Rattle.descriptors.specs.declared.kind.Kind.{Kind as FieldType}
 use Rattle.stack_maps.specs.declared.types.VType.{VType}
-use Rattle.stack_maps.specs.declared.types.VType.TheVariants as types
-use Rattle.verify_types.specs.ClassTypes.{base_of_element, type_of_element, type_of_kind}
 use Rattle.verify_types.specs.Environment.{first_frame as first_types}
 use Rattle.verify_types.specs.Typing.{AreTyped}
 use Rattle.verify_types.proofs.ListLaws.{and_true, at_all, each_kept, not_true, numbered}
@@ -58,53 +44,14 @@ use Rattle.frame_soundness.proofs.Beginnings.{begun}
 use Rattle.frame_soundness.proofs.CallLaws.{static_locals}
 use Rattle.step_soundness.specs.OpeningLaws.{IsClassInitializer, IsMain}
 use Rattle.step_soundness.proofs.LinkedWorlds.{initializers_are_such}
+use Rattle.step_soundness.proofs.Openings.{words_of}
 use Rattle.step_soundness.proofs.MethodNumbers.{Behind, before, before_more, left_at, map_at, mapped_at, member_of, none_before, regrouped, right_at, split_at}
 use Rattle.link_soundness.specs.Begins.{HasCode, HasLocals, MayBegin}
 use Rattle.link_soundness.specs.Library.{HasLibrary}
 use Rattle.link_soundness.proofs.Bodies.{code_there}
 use Rattle.link_soundness.proofs.LinkedCode.{each_at}
+use Rattle.link_soundness.proofs.NativeTests.{begins, begins_there, begins_with_code, class_passes, groups_pass, has_code_to_begin}
 use Rattle.link_soundness.proofs.Supers.{parts_at}
-
--- ---- no native method of a built-in class is main or a class initializer, by computation
-
-abbrev begins : Key → Bool
-begins key = takes_strings (signature_of key.descriptor).args || same_text key.name (codes "<clinit>")
-
-abbrev member_passes : List Const → Member → Bool
-member_passes pool m = not (is_native m && begins (key_in pool m))
-
-abbrev file_passes : ClassFile → Bool
-file_passes f = list_all (member_passes f.pool) f.methods
-
-abbrev class_passes : Class → Bool
-class_passes c = file_passes (build.class_file c)
-
-objects_pass : list_all class_passes objects.classes ≡ true
-unfolding placed class string name_and_type field method interface_method build.class_file build.field build.method build.code_attribute build.code build.stack_map build.with_instruction objects.classes
-objects_pass = refl
-
-texts_pass : list_all class_passes texts.classes ≡ true
-unfolding placed class string name_and_type field method interface_method build.class_file build.field build.method build.code_attribute build.code build.stack_map build.with_instruction texts.classes
-texts_pass = refl
-
-system_pass : list_all class_passes system.classes ≡ true
-unfolding placed class string name_and_type field method interface_method build.class_file build.field build.method build.code_attribute build.code build.stack_map build.with_instruction system.classes
-system_pass = refl
-
-threads_pass : list_all class_passes threads.classes ≡ true
-unfolding placed class string name_and_type field method interface_method build.class_file build.field build.method build.code_attribute build.code build.stack_map build.with_instruction threads.classes
-threads_pass = refl
-
-thread_builders_pass : list_all class_passes thread_builders.classes ≡ true
-unfolding placed class string name_and_type field method interface_method build.class_file build.field build.method build.code_attribute build.code build.stack_map build.with_instruction thread_builders.classes
-thread_builders_pass = refl
-
-throwables_pass : list_all class_passes throwables.classes ≡ true
-unfolding placed class string name_and_type field method interface_method build.class_file build.field build.method build.code_attribute build.code build.stack_map build.with_instruction throwables.classes
-throwables_pass = refl
-
-groups_pass : Each (λ g. list_all class_passes g ≡ true) groups
-groups_pass = (objects_pass, (texts_pass, (system_pass, (threads_pass, (thread_builders_pass, (throwables_pass, tt))))))
 
 -- ---- where a class of a program comes from
 
@@ -125,7 +72,7 @@ all_at P xs k x all e = subst P (get_or_from_slice_get xs k x x e) (all k x (sli
 -- built in, or of a file
 pub record IsKnown (p : Program) (c : ℕ) (f : ClassFile) : Type 0 where
   pub spelled : IsSpelled f
-  pub origin : (file_passes f ≡ true) ⊎ (is_from_file p c ≡ true)
+  pub origin : (begins_with_code f ≡ true) ⊎ (is_from_file p c ≡ true)
 
 pub known : (p : Program) (c : ℕ) (f : ClassFile) → HasLibrary p → slice_get p.classes c ≡ Some f → IsKnown p c f
 known p c f has file = by (split_at library has.files c f (sym (ap (λ (q : Program). slice_get q.classes c) has.is) ∙ file))
@@ -141,7 +88,7 @@ known p c f has file = by (split_at library has.files c f (sym (ap (λ (q : Prog
         let k = flat_from (map build.class_file) groups c f here in
         let d = mapped_at build.class_file k.2 k.1 f k.4 in
         let passes = at_all class_passes k.2 k.1 d.from (each_at (λ g. list_all class_passes g ≡ true) groups k.0 k.2 groups_pass k.3) d.at in
-        record { spelled = all_at IsSpelled library c f library_spelled here; origin = inl (subst (λ g. file_passes g ≡ true) d.is passes) }
+        record { spelled = all_at IsSpelled library c f library_spelled here; origin = inl (subst (λ g. begins_with_code g ≡ true) d.is (begins_there d.from passes)) }
     by (inr b) = record {
       spelled = all_at IsSpelled has.files b.rest f has.spelled b.is;
       origin = inr (le-leb p.built_in c (later p.built_in (length library) b.rest built_in b.number));
@@ -166,8 +113,8 @@ method_begins p c i f m links has file member static begin =
     let k = known p c f has file in
     code_there f i m k.spelled member (by k.origin (passed (not (is_from_file p c && is_native m)) Native rules.1.1.1.0)) abstract
   where
-    by : (file_passes f ≡ true) ⊎ (is_from_file p c ≡ true) → not (is_from_file p c && is_native m) ≡ true → is_native m ≡ false
-    by (inl passes) rule = not_both (is_native m) (begins (key_in f.pool m)) (at_all (member_passes f.pool) f.methods i m passes member) begin
+    by : (begins_with_code f ≡ true) ⊎ (is_from_file p c ≡ true) → not (is_from_file p c && is_native m) ≡ true → is_native m ≡ false
+    by (inl passes) rule = not_both (is_native m) (begins (key_in f.pool m)) (at_all (has_code_to_begin f.pool) f.methods i m passes member) begin
     by (inr from_file) rule = not_after (is_from_file p c) (is_native m) rule from_file
 
 -- the code of a number
@@ -205,19 +152,6 @@ initializer_has p n links has is =
 
 -- ---- main has a local variable for its array
 
-words_of : (w : World) (args : List FieldType) → takes_strings args ≡ true → AreOf (slot_types (map (type_of_kind w) args)) (One values.Null ∷ [])
-words_of w [] takes = absurd cc
-words_of w (t ∷ other ∷ more) takes = absurd cc
-words_of w (t ∷ []) takes = by (t.dimensions == 0) (ap (λ n. n == 0) one)
-  where
-    one : t.dimensions ≡ 1
-    one = eqb-true t.dimensions 1 (and_true (t.dimensions == 1) (is_string t.element) takes).0
-
-    by : (b : Bool) → b ≡ false
-        → AreOf (slot_types ((if b then type_of_element w t.element else types.Named t.dimensions (base_of_element w t.element)) ∷ [])) (One values.Null ∷ [])
-    by true e = absurd cc
-    by false e = (record { value = None; is = refl }, tt)
-
 some_local : (b : Bool) (x : Option Frame) (f : Frame) → (if b then x else None) ≡ Some f → b ≡ true
 some_local true x f e = refl
 some_local false x f e = absurd cc
@@ -227,9 +161,9 @@ main_has p n links has typed main =
     let w = world_of p in
     let m = main.method in
     let code = has_code p n m links has main.at main.flag (or_left (takes_strings m.signature.args) (same_text m.name (codes "<clinit>")) main.takes) in
-    let slots : List Slot = One values.Null ∷ [] in
+    let slots : List Slot = One (values.Ref 0) ∷ [] in
     let first : AreOf (slot_types (first_types w m).locals) slots =
-    subst (λ (ts : List VType). AreOf (slot_types ts) slots) (sym (static_locals w m main.flag)) (words_of w m.signature.args main.takes) in
+    subst (λ (ts : List VType). AreOf (slot_types ts) slots) (sym (static_locals w m main.flag)) (words_of w m.signature.args 0 main.takes) in
     let b = begun w n m code.0 slots typed main.at code.1 first in
     let room : 1 ≤ code.0.max_locals = leb-true 1 code.0.max_locals (some_local (nat_le 1 code.0.max_locals) _ b.frame b.is) in
     (code.0, code.1, omega arith)

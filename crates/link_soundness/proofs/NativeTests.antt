@@ -1,6 +1,7 @@
--- A test that a declared class passes only if its native methods fit their descriptors. Each built-in class passes it by computation.
+-- A test that a declared class passes only if its native methods fit their descriptors, and none of them is main or a class initializer. Each
+-- built-in class passes it by computation.
 use Rattle.std.proofs.Common.{◌≡◌, ℕ, Bool, true, false, List, [], ◌∷◌, ◌++◌, Option, Some, None, refl, ap, subst, ◌∙◌}
-use Rattle.std.specs.Prelude.{slice_get, ◌&&◌, if◌then◌else◌}
+use Rattle.std.specs.Prelude.{codes, not, slice_get, ◌&&◌, ◌||◌, if◌then◌else◌}
 use Rattle.std.specs.List.{list_all}
 use Rattle.items.specs.First.{Each}
 use Rattle.class_model.specs.declared.class_file.ClassFile.{ClassFile}
@@ -24,9 +25,10 @@ use Rattle.lib_table.specs.Texts as texts
 use Rattle.lib_table.specs.ThreadBuilders as thread_builders
 use Rattle.lib_table.specs.Threads as threads
 use Rattle.lib_table.specs.Throwables as throwables
-use Rattle.link_rules.specs.Members.{Key, is_static}
+use Rattle.link_rules.specs.Members.{Key, is_native, is_static}
 use Rattle.link_rules.specs.Program.{own_name}
 use Rattle.link_rules.specs.Selection.{key_in}
+use Rattle.link_model.specs.MainMethod.{takes_strings}
 use Rattle.ref_model.specs.Kinds.{value_kind}
 use Rattle.ref_model.specs.Natives.{native_takes}
 use Rattle.ref_model.specs.Operands.{argument_kinds}
@@ -140,10 +142,25 @@ member_passes methods pool m = member_fits methods (key_in pool m) (is_static m)
 abbrev file_passes : Class → ClassFile → Bool
 file_passes c f = same_text (own_name f) c.name && list_all (member_passes c.methods f.pool) f.methods
 
+-- a program can begin with a method like this
+abbrev pub begins : Key → Bool
+begins key = takes_strings (signature_of key.descriptor).args || same_text key.name (codes "<clinit>")
+
+abbrev pub has_code_to_begin : List Const → Member → Bool
+has_code_to_begin pool m = not (is_native m && begins (key_in pool m))
+
+abbrev pub begins_with_code : ClassFile → Bool
+begins_with_code f = list_all (has_code_to_begin f.pool) f.methods
+
 abbrev pub class_passes : Class → Bool
-class_passes c = file_passes c (build.class_file c)
+class_passes c = file_passes c (build.class_file c) && begins_with_code (build.class_file c)
 
 -- what it gives
+pub named_so : (c : Class) → class_passes c ≡ true → same_text (own_name (build.class_file c)) c.name ≡ true
+named_so c passes =
+    let f = build.class_file c in
+    (and_true (same_text (own_name f) c.name) (list_all (member_passes c.methods f.pool) f.methods) (and_true (file_passes c f) (begins_with_code f) passes).0).0
+
 pub member_is_fit : (c : Class) (i : ℕ) (m : Member) (j : ℕ) (declared : Method) (native : Native) → class_passes c ≡ true
     → slice_get (build.class_file c).methods i ≡ Some m → slice_get c.methods j ≡ Some declared
     → same_text (key_in (build.class_file c).pool m).name declared.name ≡ true
@@ -151,10 +168,14 @@ pub member_is_fit : (c : Class) (i : ℕ) (m : Member) (j : ℕ) (declared : Met
     → FitsNative (signature_of (key_in (build.class_file c).pool m).descriptor) (receiver (is_static m)) native
 member_is_fit c i m j declared native passes member method name descriptor is =
     let f = build.class_file c in
-    let all = (and_true (same_text (own_name f) c.name) (list_all (member_passes c.methods f.pool) f.methods) passes).1 in
+    let fits = (and_true (file_passes c f) (begins_with_code f) passes).0 in
+    let all = (and_true (same_text (own_name f) c.name) (list_all (member_passes c.methods f.pool) f.methods) fits).1 in
     let here = at_all (member_passes c.methods f.pool) f.methods i m all member in
     let one = at_all (declaration_fits (key_in f.pool m) (is_static m)) c.methods j declared here method in
     declaration_is_fit (key_in f.pool m) (is_static m) declared native one name descriptor is
+
+pub begins_there : (c : Class) → class_passes c ≡ true → begins_with_code (build.class_file c) ≡ true
+begins_there c passes = (and_true (file_passes c (build.class_file c)) (begins_with_code (build.class_file c)) passes).1
 
 -- ---- each built-in class passes
 

@@ -34,7 +34,7 @@ use Rattle.step_soundness.proofs.Selections.{text_same}
 use Rattle.link_soundness.specs.Library.{HasLibrary}
 use Rattle.link_soundness.proofs.BuiltIns.{IsBuiltIn, IsDeclared, built_in, file_named}
 use Rattle.link_soundness.proofs.LinkedCode.{each_at}
-use Rattle.link_soundness.proofs.NativeTests.{class_passes, groups_pass, member_is_fit, receiver}
+use Rattle.link_soundness.proofs.NativeTests.{class_passes, groups_pass, member_is_fit, named_so, receiver}
 
 -- ---- what is found first in a list lies in it
 
@@ -138,9 +138,8 @@ native_is p n m native h method e =
 file_is : (p : Program) (c : ℕ) (f : ClassFile) (declaration : Class) → Links p → slice_get p.classes c ≡ Some f → IsBuiltIn p declaration
     → class_passes declaration ≡ true → same_text (own_name f) declaration.name ≡ true → build.class_file declaration ≡ f
 file_is p c f declaration links file b passes same =
-    let own = (and_true (same_text (own_name (build.class_file declaration)) declaration.name) _ passes).0 in
     file_named p declaration b c f links file
-    (text_same (own_name (build.class_file declaration)) declaration.name own ∙ sym (text_same (own_name f) declaration.name same))
+    (text_same (own_name (build.class_file declaration)) declaration.name (named_so declaration passes) ∙ sym (text_same (own_name f) declaration.name same))
 
 -- ---- all of them
 

@@ -189,7 +189,7 @@ frame_begins w n info slots f typed at flag of e =
     one m a b x y = cc
 
 -- the array for main is a reference
-words_of : (w : World) (args : List FieldType) (o : ℕ) → takes_strings args ≡ true
+pub words_of : (w : World) (args : List FieldType) (o : ℕ) → takes_strings args ≡ true
     → AreOf (slot_types (map (type_of_kind w) args)) (One (values.Ref o) ∷ [])
 words_of w [] o takes = absurd cc
 words_of w (t ∷ other ∷ more) o takes = absurd cc
