@@ -66,9 +66,10 @@ numbered_is w n info chosen at e =
     same_info (slice_get w.methods n) info x.0 at x.1
     ∙ ap (λ (y : Named). y.method) (same_named (record { number = n; method = x.0 }) chosen x.2)
 
--- the method that runs has the signature of the one that is named, and is one of objects as that is
+-- the method that runs has the signature and the name of the one that is named, and is one of objects as that is
 pub record Runs (m chosen : Named) : Type 0 where
   pub signature : chosen.method.signature ≡ m.method.signature
+  pub name : chosen.method.name ≡ m.method.name
   pub of_objects : has_flag ACC_STATIC m.method.flags ≡ false → has_flag ACC_STATIC chosen.method.flags ≡ false
 
 -- a member that isn't static
@@ -140,6 +141,7 @@ chosen_runs w class n m chosen (Method found_at) methods at found is numbered =
     record {
       signature = ap (λ (i : MethodInfo). i.signature) (sym other) ∙ ap signature_of key.descriptor
           ∙ ap (λ (i : MethodInfo). i.signature) info.is;
+      name = ap (λ (i : MethodInfo). i.name) (sym other) ∙ key.name ∙ ap (λ (i : MethodInfo). i.name) info.is;
       of_objects = λ flag. ap (λ (i : MethodInfo). has_flag ACC_STATIC i.flags) (sym other)
           ∙ flag_of p (place info.class info.index) found_at info.file info.member key.file key.member info.file_is info.member_is
           key.file_is key.member_is (ap (λ (i : MethodInfo). has_flag ACC_STATIC i.flags) info.is ∙ flag) open_or_same;
@@ -159,6 +161,7 @@ run_is w special m chosen class n methods at runs numbered =
     let same = sym (numbered_is w n m.method chosen (ap (slice_get w.methods) (sym number) ∙ at) numbered) in
     record {
       signature = ap (λ (i : MethodInfo). i.signature) same;
+      name = ap (λ (i : MethodInfo). i.name) same;
       of_objects = λ flag. ap (λ (i : MethodInfo). has_flag ACC_STATIC i.flags) same ∙ flag;
     }
 run_is w static m chosen class n methods at runs numbered = absurd cc

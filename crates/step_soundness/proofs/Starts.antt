@@ -184,8 +184,14 @@ started_keeps w r q t a u typed_world runs typed of goes_on e =
 nothing_taken : (signature_of (codes "()V")).args ≡ []
 nothing_taken = refl
 
-pub runs_are_such : (w : World) → w.methods ≡ methods_of w.program → RunsFit w
-runs_are_such w methods class n at m found chosen there =
+-- what is selected, and its name
+pub record IsNamedRun (m : MethodInfo) : Type 0 where
+  pub run : IsRun m
+  pub name : m.name ≡ codes "run"
+
+pub named_run : (w : World) → w.methods ≡ methods_of w.program → (class n : ℕ) (at : MemberPlace) (m : MethodInfo) → run_method w ≡ Some n
+    → choice_of w class n ≡ Some (Method at) → slice_get w.methods (method_number w.program at) ≡ Some m → IsNamedRun m
+named_run w methods class n at m found chosen there =
     let p = w.program in
     let thread = some_is (name_number w (codes "java/lang/Thread")) (λ class. declared_method p run_key class >>= instance_at p) n found in
     let place = some_is (declared_method p run_key thread.0) (instance_at p) n thread.2 in
@@ -201,8 +207,11 @@ runs_are_such w methods class n at m found chosen there =
     bind_is (slice_get w.methods (method_number p at)) (λ x. Some (record { number = method_number p at; method = x })) m (Some other) there refl in
     let runs = chosen_runs w class (method_number p at) named other (Method at) methods here chosen refl numbered in
     record {
-      flag = runs.of_objects (flag_is p place.0 key.file key.member key.file_is key.member_is test.0);
-      takes = ap (λ (s : Signature). s.args) (runs.signature ∙ ap signature_of key.descriptor) ∙ nothing_taken;
+      run = record {
+        flag = runs.of_objects (flag_is p place.0 key.file key.member key.file_is key.member_is test.0);
+        takes = ap (λ (s : Signature). s.args) (runs.signature ∙ ap signature_of key.descriptor) ∙ nothing_taken;
+      };
+      name = runs.name ∙ key.name;
     }
   where
     not_static : (p : Program) (at : MemberPlace) (n : ℕ) → instance_at p at ≡ Some n → (has_method is_static p at ≡ false) × (method_number p at ≡ n)
@@ -217,3 +226,6 @@ runs_are_such w methods class n at m found chosen there =
     flag_is p at f m file member e =
         sym (ap (λ o. option_map_or is_static (option_map_or (λ (g : ClassFile). slice_get g.methods at.index) o None) false) file
         ∙ ap (λ o. option_map_or is_static o false) member) ∙ e
+
+pub runs_are_such : (w : World) → w.methods ≡ methods_of w.program → RunsFit w
+runs_are_such w methods class n at m found chosen there = (named_run w methods class n at m found chosen there).run

@@ -1,0 +1,9 @@
+pub mod Started
+pub mod Moves
+pub mod FrameLaws
+pub mod PromiseLaws
+pub mod HistoryLaws
+pub mod StallLaws
+pub mod HandLaws
+pub mod TypedLaws
+pub mod AloneLaws
