@@ -21,6 +21,10 @@ mod memory;
 #[cfg(test)]
 mod permits;
 #[cfg(test)]
+mod plain_schedule;
+#[cfg(test)]
+mod schedules;
+#[cfg(test)]
 mod sleepers;
 #[cfg(test)]
 mod stack_map_frames;

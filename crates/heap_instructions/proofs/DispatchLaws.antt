@@ -24,6 +24,7 @@ pub kept_same : {A : Type 0} (o : Outcome) (x : A) → KeptUnlessDone o x x
 kept_same outcomes.Done x = tt
 kept_same (outcomes.Throws e) x = refl
 kept_same (outcomes.ThrowsObject o) x = refl
+kept_same (outcomes.Asks asked count) x = refl
 kept_same outcomes.Undefined x = refl
 
 -- of the memory the heap alone

@@ -1,5 +1,5 @@
 -- Divisions, and what isn't one.
-use Rattle.std.proofs.Common.{ℤ, ◌≡◌, ◌+◌, Bool, true, false, List, [], ◌∷◌, Option, Some, None, drop, refl, ap, sym, subst, ◌∙◌}
+use Rattle.std.proofs.Common.{ℤ, ◌≡◌, Bool, true, false, List, [], ◌∷◌, Option, Some, None, refl, ap, sym, subst, ◌∙◌}
 use Rattle.std.specs.Prelude.{is_none, if◌then◌else◌}
 use Rattle.items.specs.Options.{◌>>=◌}
 use Rattle.jvm_words.specs.declared.operation.IntOp.{IntOp}

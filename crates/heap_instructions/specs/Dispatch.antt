@@ -19,7 +19,7 @@ use Rattle.ref_model.specs.declared.exception.Exception.TheVariants as exception
 use Rattle.ref_model.specs.Effects.{Effect, throws}
 use Rattle.ref_model.specs.Step.{division_effect, event_effect}
 use Rattle.heap_instructions.specs.declared.outcome.Outcome.{Outcome}
-use Rattle.heap_instructions.specs.Operands.{operands, ChangesOperands}
+use Rattle.heap_instructions.specs.Operands.{ChangesOperands}
 use Rattle.heap_instructions.specs.Outcomes.{Acts, ActsAlone, IsEffect, KeptUnlessDone, with_heap, with_statics}
 
 -- a frame of which its operand stack alone is looked at

@@ -1,5 +1,5 @@
 -- What an outcome says of the effect of an instruction or of a native method.
-use Rattle.std.specs.Prelude.{ℕ, pos, ◌≡◌, ◌-◌, ◌&&◌, Bool, true, List, ◌∷◌, Option, Some, None, drop, length, nat_le, if◌then◌else◌}
+use Rattle.std.specs.Prelude.{ℕ, pos, ◌≡◌, ◌-◌, ◌≤◌, ◌&&◌, Bool, true, List, ◌∷◌, Option, Some, None, drop, length, nat_le, if◌then◌else◌}
 use Rattle.instruction_rows.specs.declared.value.Value.{Value}
 use Rattle.instruction_rows.specs.declared.value.Value.TheVariants as values
 use Rattle.instruction_rows.specs.declared.value.Slot.{Slot}
@@ -8,6 +8,7 @@ use Rattle.continuation.specs.Continuation.{Continuation}
 use Rattle.heap_objs.specs.Heap.{Heap}
 use Rattle.ref_model.specs.Memory.{Memory}
 use Rattle.ref_model.specs.Effects.{Effect, done, gives, throws, throws_object, asks}
+use Rattle.ref_model.specs.Requests.{request_of}
 use Rattle.heap_instructions.specs.declared.outcome.Outcome.{Outcome}
 use Rattle.heap_instructions.specs.declared.outcome.Outcome.TheVariants as outcomes
 use Rattle.heap_instructions.specs.Operands.{operands, room_of}
@@ -27,13 +28,12 @@ is_int_on_top stack = true
 abbrev pub can_have : ℕ → List Slot → Bool
 can_have room stack = nat_le (length stack) room && is_int_on_top stack
 
--- an effect, unless it asks something, or leaves an operand stack that a frame with this room can't have
+-- an effect, unless it leaves an operand stack that a frame with this room can't have
 abbrev pub fitting : ℕ → Option Effect → Option Effect
 fitting room (Some (done r stack)) = if can_have room stack then Some (done r stack) else None
-fitting room (Some (asks q rest)) = None
 fitting room effect = effect
 
--- The definitions have no effect here, or one that asks something, or that leaves an operand stack that a frame with this room can't have.
+-- The definitions have no effect here, or one that leaves an operand stack that a frame with this room can't have.
 abbrev pub LacksEffect : ℕ → Option Effect → Type 0
 LacksEffect room effect = fitting room effect ≡ None
 
@@ -45,6 +45,8 @@ abbrev pub IsEffect : ℕ → Outcome → Option Effect → Memory → List Slot
 IsEffect room outcomes.Done effect q stack = effect ≡ Some (done q stack)
 IsEffect room (outcomes.Throws e) effect q stack = effect ≡ Some (throws e)
 IsEffect room (outcomes.ThrowsObject o) effect q stack = effect ≡ Some (throws_object o)
+IsEffect room (outcomes.Asks asked count) effect q stack =
+    (effect ≡ Some (asks (request_of asked) (drop count stack))) × (count ≤ length stack)
 IsEffect room outcomes.Undefined effect q stack = LacksEffect room effect
 
 -- An instruction, with its effect as a function of the memory and of the operand stack, had this outcome in the top frame: in each memory
@@ -62,6 +64,7 @@ abbrev pub KeptUnlessDone : {A : Type 0} → Outcome → A → A → Type 0
 KeptUnlessDone outcomes.Done old new = Unit {0}
 KeptUnlessDone (outcomes.Throws e) old new = new ≡ old
 KeptUnlessDone (outcomes.ThrowsObject o) old new = new ≡ old
+KeptUnlessDone (outcomes.Asks asked count) old new = new ≡ old
 KeptUnlessDone outcomes.Undefined old new = new ≡ old
 
 -- The outcome is that of each effect that replaces the topmost operands by this value and leaves this memory.

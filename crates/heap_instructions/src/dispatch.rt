@@ -9,7 +9,7 @@ ghost use Rattle.heap_instructions.specs.Operands.{HasTop, operands};
 use crate::arrays::{array_length, array_load, array_store, new_array, new_arrays};
 use crate::divisions::{divide_ints, divide_longs};
 use crate::fields::{get_field, get_static, put_field, put_static};
-use crate::monitors::use_monitor;
+use crate::monitors::{enter_monitor, exit_monitor};
 use crate::objects::{check_cast, instance_of, new_object, throw_object};
 use crate::outcome::Outcome;
 use crate::world::EventWorld;
@@ -43,8 +43,8 @@ fn run_simple<W: EventWorld>(
         Simple::ArrayStore(element) => array_store(world, element, heap, mounted),
         Simple::ArrayLength => array_length(world, heap, mounted),
         Simple::Throw => throw_object(mounted),
-        Simple::MonitorEnter => use_monitor(mounted),
-        Simple::MonitorExit => use_monitor(mounted),
+        Simple::MonitorEnter => enter_monitor(mounted),
+        Simple::MonitorExit => exit_monitor(mounted),
         Simple::IntBinary(op) => divide_ints(op, mounted),
         Simple::LongBinary(op) => divide_longs(op, mounted),
         _ => Outcome::Undefined,

@@ -21,6 +21,7 @@ pub use divisions::{divide_ints, divide_longs};
 pub use fields::{get_field, get_static, late_failure, put_field, put_static};
 pub use kinds::{kept, value_kind};
 pub use makers::{make_array, make_object, make_text};
+pub use monitors::{enter_monitor, exit_monitor};
 pub use objects::{check_cast, instance_of, new_object, throw_object};
 pub use operands::{
     drop_operands, give, int_operand, long_operand, push_value, reference_operand, slots_of,

@@ -1,4 +1,4 @@
-use ref_model::Exception;
+use ref_model::{Exception, ThreadRequest};
 
 /// What became of an instruction or of a native method.
 #[derive(Clone, Copy)]
@@ -9,7 +9,11 @@ pub enum Outcome {
     Throws(Exception),
     /// It throws this object, and nothing has changed.
     ThrowsObject(u32),
-    /// The definitions have no effect here, or one that asks something of the threads, or its result has no room on the operand stack or is
-    /// no int: nothing has changed.
+    /// It asks this of the threads, and takes so many slots of the operand stack: nothing has changed.
+    Asks {
+        request: ThreadRequest,
+        operands: u16,
+    },
+    /// The definitions have no effect here, or its result has no room on the operand stack or is no int: nothing has changed.
     Undefined,
 }

@@ -24,7 +24,7 @@ use Rattle.ref_model.specs.Run.{run, replay, first_outcome}
 use Rattle.startup.specs.Openings as openings
 use Rattle.frame_soundness.specs.TypedStates.{IsTypedState}
 use Rattle.invocation.specs.InvocationCache.{AreSelected, Kept}
-use Rattle.thread_steps.specs.declared.parts.Parts.{Parts}
+use Rattle.machine.specs.declared.main_parts.MainParts.{MainParts}
 use Rattle.machine.specs.Insides.{AreParts, IsConsistent}
 use Rattle.machine.specs.Machines.{HasGrown, IsLegal, Known, ending_within, errors, output, run_ending, state_after}
 use Rattle.machine.specs.Ready.{IsReady}
@@ -48,7 +48,7 @@ still_few h e events room = let longer = one_longer h e in omega arith
 
 -- ---- the parts of a state
 
-pub is_state : (a : Parts) (frames : List Frame) (q : State) → AreParts a frames q → state_of a frames ≡ q
+pub is_state : (a : MainParts) (frames : List Frame) (q : State) → AreParts a frames q → state_of a frames ≡ q
 is_state a frames q x = λ i. record {
   memory = x.memory i;
   threads = x.threads i;
@@ -59,15 +59,15 @@ is_state a frames q x = λ i. record {
   main_threw = x.main_threw i;
 }
 
-pub own_parts : (a : Parts) (frames : List Frame) → AreParts a frames (state_of a frames)
+pub own_parts : (a : MainParts) (frames : List Frame) → AreParts a frames (state_of a frames)
 own_parts a frames = record { memory = refl; threads = refl; most_threads = refl; unnamed = refl; owners = refl; now = refl; main_threw = refl }
 
-pub here : (p : Setting) (a : Parts) (frames : List Frame) (s : Kept) (h : List Entry) (u : Bool) → (x : IsConsistent p a frames s h u) → u ≡ false → state_of a frames ≡ x.legal.state
+pub here : (p : Setting) (a : MainParts) (frames : List Frame) (s : Kept) (h : List Entry) (u : Bool) → (x : IsConsistent p a frames s h u) → u ≡ false → state_of a frames ≡ x.legal.state
 here p a frames s h u x works = is_state a frames x.legal.state (x.parts works)
 
 -- ---- the machine begins, makes an entry, or gives up
 
-pub begins : (p : Setting) (a : Parts) (frames : List Frame) (s : Kept) (h : List Entry) → IsReady p.world → opening p ≡ Some (state_of a frames) → IsTypedState p.world (state_of a frames) → AreSelected p.world s → h ≡ []
+pub begins : (p : Setting) (a : MainParts) (frames : List Frame) (s : Kept) (h : List Entry) → IsReady p.world → opening p ≡ Some (state_of a frames) → IsTypedState p.world (state_of a frames) → AreSelected p.world s → h ≡ []
     → IsConsistent p a frames s h false
 begins p a frames s h ready opens typed selected empty = subst (λ (es : List Entry). IsConsistent p a frames s es false) (sym empty) (record {
   ready = ready;
@@ -100,7 +100,7 @@ more_legal p h n r q x same goes room one =
       few = still_few h (main_entry n) p.limits.events room;
     }
 
-pub kept_more : (p : Setting) (a b : Parts) (frames after : List Frame) (s t : Kept) (h g : List Entry) (u : Bool) → IsConsistent p a frames s h u → u ≡ false → ending (state_of a frames) ≡ None
+pub kept_more : (p : Setting) (a b : MainParts) (frames after : List Frame) (s t : Kept) (h g : List Entry) (u : Bool) → IsConsistent p a frames s h u → u ≡ false → ending (state_of a frames) ≡ None
     → length h + 3 ≤ p.limits.events → IsMade p.world (state_of a frames) h g (state_of b after) → AreSelected p.world t → IsConsistent p b after t g false
 unfolding more_legal
 kept_more p a b frames after s t h g u x works goes room made selected = subst (λ (es : List Entry). IsConsistent p b after t es false) (sym made.entries) (record {
@@ -111,7 +111,7 @@ kept_more p a b frames after s t h g u x works goes room made selected = subst (
   selected = selected;
 })
 
-pub gave_up : (p : Setting) (a b : Parts) (frames after : List Frame) (s t : Kept) (h g : List Entry) (u : Bool) → IsConsistent p a frames s h u → g ≡ h → AreSelected p.world t → IsConsistent p b after t g true
+pub gave_up : (p : Setting) (a b : MainParts) (frames after : List Frame) (s t : Kept) (h g : List Entry) (u : Bool) → IsConsistent p a frames s h u → g ≡ h → AreSelected p.world t → IsConsistent p b after t g true
 gave_up p a b frames after s t h g u x same selected = subst (λ (es : List Entry). IsConsistent p b after t es true) (sym same) (record {
   ready = x.ready;
   legal = x.legal;
@@ -121,14 +121,14 @@ gave_up p a b frames after s t h g u x same selected = subst (λ (es : List Entr
 })
 
 -- after an entry that was made or given up
-pub kept_after : {E : Type 0} (p : Setting) (a b : Parts) (frames after : List Frame) (s t : Kept) (h g : List Entry) (u v : Bool) (made : Result (Unit {0}) E) → IsConsistent p a frames s h u → u ≡ false → ending (state_of a frames) ≡ None
+pub kept_after : {E : Type 0} (p : Setting) (a b : MainParts) (frames after : List Frame) (s t : Kept) (h g : List Entry) (u v : Bool) (made : Result (Unit {0}) E) → IsConsistent p a frames s h u → u ≡ false → ending (state_of a frames) ≡ None
     → length h + 3 ≤ p.limits.events → OnOk made (IsMade p.world (state_of a frames) h g (state_of b after)) → OnErr made (g ≡ h) → AreSelected p.world t → v ≡ is_err made → IsConsistent p b after t g v
 kept_after p a b frames after s t h g u v (Ok x) kept works goes room is same selected failed =
     subst (λ (c : Bool). IsConsistent p b after t g c) (sym failed) (kept_more p a b frames after s t h g u kept works goes room is selected)
 kept_after p a b frames after s t h g u v (Err e) kept works goes room is same selected failed =
     subst (λ (c : Bool). IsConsistent p b after t g c) (sym failed) (gave_up p a b frames after s t h g u kept same selected)
 
-pub grown_after : {E : Type 0} (m : Known) (p : Setting) (a b : Parts) (frames after : List Frame) (s t : Kept) (h g : List Entry) (u v : Bool) (made : Result (Unit {0}) E) (j k : ℕ) → IsConsistent p a frames s h u → u ≡ false → ending (state_of a frames) ≡ None
+pub grown_after : {E : Type 0} (m : Known) (p : Setting) (a b : MainParts) (frames after : List Frame) (s t : Kept) (h g : List Entry) (u v : Bool) (made : Result (Unit {0}) E) (j k : ℕ) → IsConsistent p a frames s h u → u ≡ false → ending (state_of a frames) ≡ None
     → length h + 3 ≤ p.limits.events → OnOk made (IsMade p.world (state_of a frames) h g (state_of b after)) → AreSelected p.world t → v ≡ is_err made → p ≡ m.setting → h ≡ m.history → j ≡ m.spare → j ≤ k + 1
     → OnOk made (HasGrown m (record { setting = p; history = g; spare = k; given_up = v }))
 grown_after m p a b frames after s t h g u v (Ok x) j k kept works goes room is selected failed setting history spare left = record {
@@ -143,21 +143,21 @@ grown_after m p a b frames after s t h g u v (Err e) j k kept works goes room is
 
 -- ---- what the history gives
 
-pub after_is : (p : Setting) (a : Parts) (frames : List Frame) (s : Kept) (h : List Entry) (u : Bool) → IsConsistent p a frames s h u → u ≡ false → run p (java h) ≡ Some (state_of a frames)
+pub after_is : (p : Setting) (a : MainParts) (frames : List Frame) (s : Kept) (h : List Entry) (u : Bool) → IsConsistent p a frames s h u → u ≡ false → run p (java h) ≡ Some (state_of a frames)
 after_is p a frames s h u x works = x.legal.runs ∙ ap (λ (q : State). Some q) (sym (here p a frames s h u x works))
 
-pub ending_is : (p : Setting) (a : Parts) (frames : List Frame) (s : Kept) (h : List Entry) (u : Bool) (n : ℕ) → IsConsistent p a frames s h u → u ≡ false
+pub ending_is : (p : Setting) (a : MainParts) (frames : List Frame) (s : Kept) (h : List Entry) (u : Bool) (n : ℕ) → IsConsistent p a frames s h u → u ≡ false
     → ending_within p.limits (length h) (ending (state_of a frames)) ≡ run_ending (record { setting = p; history = h; spare = n; given_up = u })
 ending_is p a frames s h u n x works =
     sym (bind_is (run p (java h)) (λ q. ending_within p.limits (length h) (ending q)) (state_of a frames) (ending_within p.limits (length h) (ending (state_of a frames)))
     (after_is p a frames s h u x works) refl)
 
-pub output_is : (p : Setting) (a : Parts) (frames : List Frame) (s : Kept) (h : List Entry) (u : Bool) (n : ℕ) → IsConsistent p a frames s h u → u ≡ false
-    → a.natives.out.items ≡ output (record { setting = p; history = h; spare = n; given_up = u })
+pub output_is : (p : Setting) (a : MainParts) (frames : List Frame) (s : Kept) (h : List Entry) (u : Bool) (n : ℕ) → IsConsistent p a frames s h u → u ≡ false
+    → a.steps.natives.out.items ≡ output (record { setting = p; history = h; spare = n; given_up = u })
 output_is p a frames s h u n x works = sym (ap (λ o. option_map_or (λ (q : State). q.memory.out) o []) (after_is p a frames s h u x works))
 
-pub errors_is : (p : Setting) (a : Parts) (frames : List Frame) (s : Kept) (h : List Entry) (u : Bool) (n : ℕ) → IsConsistent p a frames s h u → u ≡ false
-    → a.natives.err.items ≡ errors (record { setting = p; history = h; spare = n; given_up = u })
+pub errors_is : (p : Setting) (a : MainParts) (frames : List Frame) (s : Kept) (h : List Entry) (u : Bool) (n : ℕ) → IsConsistent p a frames s h u → u ≡ false
+    → a.steps.natives.err.items ≡ errors (record { setting = p; history = h; spare = n; given_up = u })
 errors_is p a frames s h u n x works = sym (ap (λ o. option_map_or (λ (q : State). q.memory.err) o []) (after_is p a frames s h u x works))
 
 -- ---- where it goes on, and where it has ended
@@ -166,7 +166,7 @@ none_within : (limits : Limits) (n : ℕ) (o : Option Ending) → ending_within 
 none_within limits n None none = refl
 none_within limits n (Some e) none = absurd cc
 
-pub goes_on : (p : Setting) (a : Parts) (frames : List Frame) (s : Kept) (h : List Entry) (u : Bool) (n : ℕ) → IsConsistent p a frames s h u → u ≡ false
+pub goes_on : (p : Setting) (a : MainParts) (frames : List Frame) (s : Kept) (h : List Entry) (u : Bool) (n : ℕ) → IsConsistent p a frames s h u → u ≡ false
     → run_ending (record { setting = p; history = h; spare = n; given_up = u }) ≡ None → ending (state_of a frames) ≡ None
 goes_on p a frames s h u n x works none =
     none_within p.limits (length h) (ending (state_of a frames)) (ending_is p a frames s h u n x works ∙ none)
@@ -180,7 +180,7 @@ room_within limits n None none = by (nat_lt limits.events (n + 3)) refl none
     by false is none = let far = ltb-false limits.events (n + 3) is in omega arith
 room_within limits n (Some e) none = absurd cc
 
-pub room_left : (p : Setting) (a : Parts) (frames : List Frame) (s : Kept) (h : List Entry) (u : Bool) (n : ℕ) → IsConsistent p a frames s h u → u ≡ false
+pub room_left : (p : Setting) (a : MainParts) (frames : List Frame) (s : Kept) (h : List Entry) (u : Bool) (n : ℕ) → IsConsistent p a frames s h u → u ≡ false
     → run_ending (record { setting = p; history = h; spare = n; given_up = u }) ≡ None → length h + 3 ≤ p.limits.events
 room_left p a frames s h u n x works none =
     room_within p.limits (length h) (ending (state_of a frames)) (ending_is p a frames s h u n x works ∙ none)
@@ -214,8 +214,8 @@ setting_is p w main limits a b c =
     ap (λ (v : World). openings.setting v main limits) (sym a) ∙ ap (λ (n : ℕ). openings.setting p.world n limits) (sym b) ∙ ap (λ (l : Limits). openings.setting p.world p.main l) (sym c)
 
 -- what it leaves where it has ended
-pub is_run : (p : Setting) (a : Parts) (frames : List Frame) (s : Kept) (h : List Entry) (u : Bool) (n : ℕ) (told : Ending) → IsConsistent p a frames s h u → u ≡ false
-    → run_ending (record { setting = p; history = h; spare = n; given_up = u }) ≡ Some told → IsRun p h a.natives.out.items a.natives.err.items told
+pub is_run : (p : Setting) (a : MainParts) (frames : List Frame) (s : Kept) (h : List Entry) (u : Bool) (n : ℕ) (told : Ending) → IsConsistent p a frames s h u → u ≡ false
+    → run_ending (record { setting = p; history = h; spare = n; given_up = u }) ≡ Some told → IsRun p h a.steps.natives.out.items a.steps.natives.err.items told
 is_run p a frames s h u n told x works ended =
     let q = x.legal.state in
     let runs : run p h ≡ Some q = ap (run p) (sym (java_same h x.legal.entries)) ∙ x.legal.runs in

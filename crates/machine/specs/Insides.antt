@@ -8,25 +8,25 @@ use Rattle.ref_model.specs.State.{State}
 use Rattle.startup.specs.Openings.{setting}
 use Rattle.frame_soundness.specs.TypedStates.{IsTypedState}
 use Rattle.invocation.specs.InvocationCache.{AreSelected, Kept}
-use Rattle.thread_steps.specs.declared.parts.Parts.{Parts}
 use Rattle.machine.specs.declared.machine_state.Machine.TheInside.{Inside}
+use Rattle.machine.specs.declared.main_parts.MainParts.{MainParts}
 use Rattle.machine.specs.Machines.{IsLegal, Known}
 use Rattle.machine.specs.Ready.{IsReady}
 use Rattle.thread_steps.specs.States.{memory_of}
 use Rattle.machine.specs.States.{main_thread}
 
 -- These parts and frames are those of a state of the reference machine.
-pub record AreParts (a : Parts) (frames : List Frame) (q : State) : Type 0 where
-  pub memory : memory_of a ≡ q.memory
-  pub threads : main_thread a.status frames ∷ [] ≡ q.threads
+pub record AreParts (a : MainParts) (frames : List Frame) (q : State) : Type 0 where
+  pub memory : memory_of a.steps ≡ q.memory
+  pub threads : main_thread a.steps.status frames ∷ [] ≡ q.threads
   pub most_threads : a.most_threads ≡ q.most_threads
   pub unnamed : 0 ≡ q.unnamed
   pub owners : opening_owners None ≡ q.owners
   pub now : 0 ≡ q.now
-  pub main_threw : a.main_threw ≡ q.main_threw
+  pub main_threw : a.steps.main_threw ≡ q.main_threw
 
 -- The history is one of the reference machine, and the parts and frames are those of the state that it gives, unless the machine gave up.
-pub record IsConsistent (p : Setting) (a : Parts) (frames : List Frame) (cache : Kept) (history : List Entry) (given_up : Bool) : Type 0 where
+pub record IsConsistent (p : Setting) (a : MainParts) (frames : List Frame) (cache : Kept) (history : List Entry) (given_up : Bool) : Type 0 where
   pub ready : IsReady p.world
   pub legal : IsLegal p history
   pub typed : IsTypedState p.world legal.state

@@ -8,8 +8,8 @@ use Rattle.ref_model.specs.Setting.{Setting}
 use Rattle.ref_model.specs.State.{JavaThread, State}
 use Rattle.ref_model.specs.Opening as opening
 use Rattle.ref_model.specs.Step.{step}
-use Rattle.thread_steps.specs.declared.parts.Parts.{Parts}
 use Rattle.thread_steps.specs.States.{memory_of}
+use Rattle.machine.specs.declared.main_parts.MainParts.{MainParts}
 
 -- the main thread
 abbrev pub main_thread : Status → List Frame → JavaThread
@@ -20,15 +20,15 @@ main_thread status frames = record {
   frames = frames;
 }
 
-abbrev pub state_of : Parts → List Frame → State
+abbrev pub state_of : MainParts → List Frame → State
 state_of a frames = record {
-  memory = memory_of a;
-  threads = main_thread a.status frames ∷ [];
+  memory = memory_of a.steps;
+  threads = main_thread a.steps.status frames ∷ [];
   most_threads = a.most_threads;
   unnamed = 0;
   owners = opening.opening_owners None;
   now = 0;
-  main_threw = a.main_threw;
+  main_threw = a.steps.main_threw;
 }
 
 -- ---- one step

@@ -5,19 +5,19 @@ ghost use Rattle.state_model.specs.Frames.{Frame};
 ghost use Rattle.ref_model.specs.Ending.{ending, threads_ending};
 ghost use Rattle.machine.specs.States.{state_of};
 
+use crate::main_parts::MainParts;
 use ref_model::Ending;
-use thread_steps::Parts;
 use vthread_state::Status;
 
 // How the program ends by its thread alone.
 #[inline(always)]
-fn thread_ending(parts: &Parts) -> Option<Ending>
+fn thread_ending(parts: &MainParts) -> Option<Ending>
     ensures { (frames : List Frame) → result ≡ threads_ending (state_of parts.now frames) }
 {
-    match parts.status {
+    match parts.steps.status {
         Status::Live(_) => None,
         Status::New | Status::Done => {
-            if parts.main_threw {
+            if parts.steps.main_threw {
                 Some(Ending::MainThrew)
             } else {
                 Some(Ending::Ended)
@@ -28,10 +28,10 @@ fn thread_ending(parts: &Parts) -> Option<Ending>
 
 /// How the program has ended, if it has (JLS 12.8).
 #[inline(always)]
-pub(crate) fn ending_of(parts: &Parts) -> Option<Ending>
+pub(crate) fn ending_of(parts: &MainParts) -> Option<Ending>
     ensures { (frames : List Frame) → result ≡ ending (state_of parts.now frames) }
 {
-    match parts.natives.exited {
+    match parts.steps.natives.exited {
         Some(status) => Some(Ending::Exited(status)),
         None => thread_ending(parts),
     }

@@ -13,6 +13,7 @@ ghost use Rattle.machine.specs.Steps.{Advances, IsMade};
 
 use crate::last_steps::{fetched_step, unwinding_step};
 use crate::local::{MOST_STEPS, run_local};
+use crate::main_parts::MainParts;
 use continuation::Mounted;
 use history::{Entry, What};
 use invocation::InvocationCache;
@@ -20,7 +21,6 @@ use items::NoMemory;
 use jvm_edges::Gate;
 use runtime_program::ReadyProgram;
 use std::alloc::Global;
-use thread_steps::Parts;
 use vthread_state::{Phase, Status};
 
 // The local instructions of a thread that runs, and one more step. The answer is how many local ones there were.
@@ -29,12 +29,12 @@ fn running_entry(
     alloc: Global,
     program: &ReadyProgram,
     cache: &mut InvocationCache,
-    parts: &mut Parts,
+    parts: &mut MainParts,
     mounted: &mut Mounted,
 ) -> Result<u32, NoMemory>
     requires ready { IsReady program.now }
     requires typed { IsTypedState program.now (state_of parts.old mounted.old.stack.frames) }
-    requires running { parts.old.status ≡ Live Run }
+    requires running { parts.old.steps.status ≡ Live Run }
     requires going { ending (state_of parts.old mounted.old.stack.frames) ≡ None }
     requires selected { AreSelected program.now cache.old }
     ensures advances { IfOk result (λ n. Advances program.now n
@@ -56,13 +56,13 @@ fn running_entry(
 fn throwing_entry(
     alloc: Global,
     program: &ReadyProgram,
-    parts: &mut Parts,
+    parts: &mut MainParts,
     mounted: &mut Mounted,
     o: u32,
 ) -> Result<u32, NoMemory>
     requires ready { IsReady program.now }
     requires typed { IsTypedState program.now (state_of parts.old mounted.old.stack.frames) }
-    requires throws { parts.old.status ≡ Live (Throwing o) }
+    requires throws { parts.old.steps.status ≡ Live (Throwing o) }
     requires going { ending (state_of parts.old mounted.old.stack.frames) ≡ None }
     ensures advances { IfOk result (λ n. Advances program.now n
         (state_of parts.old mounted.old.stack.frames)
@@ -80,7 +80,7 @@ fn advance<G: Gate>(
     alloc: Global,
     program: &ReadyProgram,
     cache: &mut InvocationCache,
-    parts: &mut Parts,
+    parts: &mut MainParts,
     mounted: &mut Mounted,
     gate: &G,
 ) -> Result<u32, NoMemory>
@@ -94,7 +94,7 @@ fn advance<G: Gate>(
     ensures few { IfOk result (λ n. n ≤ 10000) }
     ensures cache { AreSelected program.now cache.new }
 {
-    match parts.status {
+    match parts.steps.status {
         Status::Live(Phase::Run) => {
             gate.local(0, 0);
             running_entry(alloc, program, cache, parts, mounted)
@@ -126,7 +126,7 @@ pub(crate) fn make_entry<G: Gate>(
     alloc: Global,
     program: &ReadyProgram,
     cache: &mut InvocationCache,
-    parts: &mut Parts,
+    parts: &mut MainParts,
     mounted: &mut Mounted,
     history: &mut Vec<Entry>,
     gate: &G,

@@ -11,6 +11,7 @@ ghost use Rattle.machine.specs.Ready.{IsReady};
 ghost use Rattle.machine.specs.States.{state_of};
 ghost use Rattle.machine.specs.Steps.{IsTypedStep};
 
+use crate::main_parts::MainParts;
 use continuation::Mounted;
 use interp_local::Fetched;
 use invocation::InvocationCache;
@@ -18,21 +19,22 @@ use items::NoMemory;
 use link_model::MAIN_NAME;
 use runtime_program::ReadyProgram;
 use std::alloc::Global;
-use thread_steps::{Parts, instruction_step, throwing_step};
+use thread_steps::{Progress, instruction_step, throwing_step};
 
-/// The step of a thread that runs, whose top frame is at this instruction, which isn't one that stays in its frame.
+/// The step of a thread that runs, whose top frame is at this instruction, which isn't one that stays in its frame. Where it asks something of
+/// the threads the machine gives up: programs with such instructions are refused before they run.
 #[inline(always)]
 pub(crate) fn fetched_step(
     alloc: Global,
     program: &ReadyProgram,
     cache: &mut InvocationCache,
-    parts: &mut Parts,
+    parts: &mut MainParts,
     mounted: &mut Mounted,
     fetched: Fetched<'_>,
 ) -> Result<(), NoMemory>
     requires ready { IsReady program.now }
     requires typed { IsTypedState program.now (state_of parts.old mounted.old.stack.frames) }
-    requires running { parts.old.status ≡ Live Run }
+    requires running { parts.old.steps.status ≡ Live Run }
     requires going { ending (state_of parts.old mounted.old.stack.frames) ≡ None }
     requires next { IsTopAt program.now mounted.old.stack.frames fetched }
     requires selected { AreSelected program.now cache.old }
@@ -40,28 +42,32 @@ pub(crate) fn fetched_step(
         (state_of parts.new mounted.new.stack.frames)) }
     ensures cache { AreSelected program.now cache.new }
 {
-    instruction_step(
+    let progress = instruction_step(
         alloc,
         program,
         cache,
-        parts,
+        &mut parts.steps,
         mounted,
         fetched.instr,
         fetched.resolution,
-    )
+    )?;
+    match progress {
+        Progress::Stepped => Ok(()),
+        Progress::Asks(_) => Err(NoMemory),
+    }
 }
 
 /// The next step of a thread that throws an object.
 pub(crate) fn unwinding_step(
     alloc: Global,
     program: &ReadyProgram,
-    parts: &mut Parts,
+    parts: &mut MainParts,
     mounted: &mut Mounted,
     o: u32,
 ) -> Result<(), NoMemory>
     requires ready { IsReady program.now }
     requires typed { IsTypedState program.now (state_of parts.old mounted.old.stack.frames) }
-    requires throws { parts.old.status ≡ Live (Throwing o) }
+    requires throws { parts.old.steps.status ≡ Live (Throwing o) }
     requires going { ending (state_of parts.old mounted.old.stack.frames) ≡ None }
     ensures { OnOk result (IsTypedStep program.now (state_of parts.old mounted.old.stack.frames)
         (state_of parts.new mounted.new.stack.frames)) }
@@ -69,5 +75,5 @@ pub(crate) fn unwinding_step(
     if mounted.depth() == 0 {
         return Err(NoMemory);
     }
-    throwing_step(alloc, program, parts, mounted, 0, MAIN_NAME, o)
+    throwing_step(alloc, program, &mut parts.steps, mounted, 0, MAIN_NAME, o)
 }

@@ -7,6 +7,7 @@ mod execution;
 mod last_steps;
 mod local;
 mod machine_state;
+mod main_parts;
 mod program_run;
 
 pub use execution::Execution;

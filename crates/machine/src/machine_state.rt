@@ -14,6 +14,7 @@ ghost use Rattle.machine.specs.States.{state_of};
 use crate::endings::ending_of;
 use crate::entries::make_entry;
 use crate::execution::Execution;
+use crate::main_parts::MainParts;
 use continuation::Mounted;
 use heap_objs::Heap;
 use history::Entry;
@@ -39,7 +40,7 @@ pub struct Machine<'p> {
     program: &'p ReadyProgram,
     main: u32,
     limits: Limits,
-    parts: Parts,
+    parts: MainParts,
     mounted: Mounted,
     cache: InvocationCache,
     history: Vec<Entry>,
@@ -71,20 +72,22 @@ fn is_ready(program: &ReadyProgram)
 }
 
 // The parts of a program that begins.
-fn first_parts(alloc: Global, heap: Heap, statics: Vec<Value>, most_threads: u32) -> Parts
+fn first_parts(alloc: Global, heap: Heap, statics: Vec<Value>, most_threads: u32) -> MainParts
     ensures { (frames : List Frame) → state_of result frames
         ≡ first_state most_threads heap.objects (heap.cells - heap.used) statics.items frames }
 {
-    Parts {
-        natives: NativeState {
-            heap,
-            out: Vec::new(alloc),
-            err: Vec::new(alloc),
-            exited: None,
+    MainParts {
+        steps: Parts {
+            natives: NativeState {
+                heap,
+                out: Vec::new(alloc),
+                err: Vec::new(alloc),
+                exited: None,
+            },
+            statics,
+            status: Status::Live(Phase::Run),
+            main_threw: false,
         },
-        statics,
-        status: Status::Live(Phase::Run),
-        main_threw: false,
         most_threads,
     }
 }
@@ -103,7 +106,7 @@ fn limit_within(limits: Limits, entries: usize) -> Option<Ending>
 
 // How a run with this number of entries has ended, if it has.
 #[inline(always)]
-fn ended_within(parts: &Parts, limits: Limits, entries: usize) -> Option<Ending>
+fn ended_within(parts: &MainParts, limits: Limits, entries: usize) -> Option<Ending>
     ensures { (frames : List Frame) → result
         ≡ ending_within limits entries (ending (state_of parts.now frames)) }
 {
@@ -195,7 +198,7 @@ impl<'p> Machine<'p> {
         requires there { n ≤ length (output self.now) }
         ensures { result.now ≡ drop n (output self.now) }
     {
-        self.parts.natives.out.split_at(n).1
+        self.parts.steps.natives.out.split_at(n).1
     }
 
     /// What the program has written to its error output, but for the first n bytes.
@@ -204,7 +207,7 @@ impl<'p> Machine<'p> {
         requires there { n ≤ length (errors self.now) }
         ensures { result.now ≡ drop n (errors self.now) }
     {
-        self.parts.natives.err.split_at(n).1
+        self.parts.steps.natives.err.split_at(n).1
     }
 
     /// Makes the next entry of the history: a run of local instructions, before which the gate is passed, and one more step. If memory runs
@@ -240,8 +243,8 @@ impl<'p> Machine<'p> {
         let Machine { parts, history, .. } = self;
         Execution {
             history,
-            out: parts.natives.out,
-            err: parts.natives.err,
+            out: parts.steps.natives.out,
+            err: parts.steps.natives.err,
             ending,
         }
     }

@@ -79,6 +79,7 @@ by_answer : (answer : Answer) (defined : Option rows.Answer) (effect : Option Ef
 by_answer answers.Returns defined effect q rest some is h = is _ h
 by_answer (answers.Gives v) defined effect q rest some is h = is _ h
 by_answer (answers.Throws e) defined effect q rest some is h = is _ h
+by_answer (answers.Asks asked) defined effect q rest some is h = is _ h
 by_answer answers.Undefined defined effect q rest some is h = λ room.
     subst (LacksEffect room) (sym (is some.0 some.1)) (lacks_answered some.0 rest room (subst LacksAnswer some.1 h))
 

@@ -1,5 +1,6 @@
 pub mod AnswerLaws
 pub mod UndefinedLaws
+pub mod AskedLaws
 pub mod ArgumentLaws
 pub mod BuilderLaws
 pub mod LineLaws

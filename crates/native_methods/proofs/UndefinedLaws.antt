@@ -35,7 +35,7 @@ not_counted false a e = refl
 pub lacks_answered : (a : rows.Answer) (rest : List Slot) (room : ℕ) → LacksAnswer (Some a) → LacksEffect room (Some (answered rest a))
 lacks_answered (rows.returns r) rest room h = cc
 lacks_answered (rows.fails e) rest room h = cc
-lacks_answered (rows.asks_for q) rest room h = refl
+lacks_answered (rows.asks_for q) rest room h = cc
 lacks_answered (rows.returns_value r (values.Int (negsuc n))) rest room h = cc
 lacks_answered (rows.returns_value r (values.Long n)) rest room h = cc
 lacks_answered (rows.returns_value r values.Null) rest room h = cc

@@ -8,9 +8,10 @@ use Rattle.continuation.specs.Continuation.{Continuation}
 use Rattle.lib_table.specs.declared.native.Native.{Native}
 use Rattle.link_model.specs.World.{World}
 use Rattle.ref_model.specs.Memory.{Memory}
-use Rattle.ref_model.specs.Effects.{Effect, done, gives, throws}
+use Rattle.ref_model.specs.Effects.{Effect, done, gives, throws, asks}
 use Rattle.ref_model.specs.Heap.{units_of, values_of, with_value}
 use Rattle.ref_model.specs.NativeRows as rows
+use Rattle.ref_model.specs.Requests.{request_of}
 use Rattle.ref_model.specs.Printing.{line}
 use Rattle.ref_model.specs.ThreadNatives.{number_field, number_in}
 use Rattle.state_model.specs.Objects.{Object}
@@ -34,13 +35,12 @@ with_natives s r = with_heap s.heap (beside_heap s r)
 
 -- ---- answers
 
--- an answer, unless it asks something, or gives a count that is greater than an int
+-- an answer, unless it gives a count that is greater than an int
 abbrev pub counted : Option rows.Answer → Option rows.Answer
 counted (Some (rows.returns_value r (values.Int (pos n)))) = if nat_le n greatest_int then Some (rows.returns_value r (values.Int (pos n))) else None
-counted (Some (rows.asks_for q)) = None
 counted defined = defined
 
--- The definitions answer nothing here, or ask something, or give a count that is greater than an int.
+-- The definitions answer nothing here, or give a count that is greater than an int.
 abbrev pub LacksAnswer : Option rows.Answer → Type 0
 LacksAnswer defined = counted defined ≡ None
 
@@ -49,22 +49,25 @@ abbrev pub IsAnswer : Answer → Option rows.Answer → Memory → Type 0
 IsAnswer answers.Returns defined q = defined ≡ Some (rows.returns q)
 IsAnswer (answers.Gives v) defined q = defined ≡ Some (rows.returns_value q v)
 IsAnswer (answers.Throws e) defined q = defined ≡ Some (rows.fails e)
+IsAnswer (answers.Asks asked) defined q = defined ≡ Some (rows.asks_for (request_of asked))
 IsAnswer answers.Undefined defined q = LacksAnswer defined
 
 -- A native method that has its arguments, with what it answers as a function of the memory, answered this.
 abbrev pub Answers : (Memory → Option rows.Answer) → NativeState → NativeState → Answer → Type 0
 Answers act old new answer = (r : Memory) → IsAnswer answer (act (with_natives old r)) (with_natives new r)
 
--- a value is the old one, where an exception was thrown
-abbrev pub KeptIfThrown : {A : Type 0} → Answer → A → A → Type 0
-KeptIfThrown (answers.Throws e) old new = new ≡ old
-KeptIfThrown answer old new = Unit {0}
+-- a value is the old one, where an exception was thrown, or something is asked
+abbrev pub KeptIfThrownOrAsked : {A : Type 0} → Answer → A → A → Type 0
+KeptIfThrownOrAsked (answers.Throws e) old new = new ≡ old
+KeptIfThrownOrAsked (answers.Asks asked) old new = new ≡ old
+KeptIfThrownOrAsked answer old new = Unit {0}
 
 -- the same of an outcome
-abbrev pub StaysIfThrown : {A : Type 0} → Outcome → A → A → Type 0
-StaysIfThrown (outcomes.Throws e) old new = new ≡ old
-StaysIfThrown (outcomes.ThrowsObject o) old new = new ≡ old
-StaysIfThrown outcome old new = Unit {0}
+abbrev pub StaysIfThrownOrAsked : {A : Type 0} → Outcome → A → A → Type 0
+StaysIfThrownOrAsked (outcomes.Throws e) old new = new ≡ old
+StaysIfThrownOrAsked (outcomes.ThrowsObject o) old new = new ≡ old
+StaysIfThrownOrAsked (outcomes.Asks asked count) old new = new ≡ old
+StaysIfThrownOrAsked outcome old new = Unit {0}
 
 -- An answer is that of this effect, where the memory is this one afterwards, and this is left of the operand stack; it is undefined only
 -- where no frame has such an effect.
@@ -72,6 +75,7 @@ abbrev pub IsAnswerEffect : Answer → Option Effect → Memory → List Slot �
 IsAnswerEffect answers.Returns effect q rest = effect ≡ Some (done q rest)
 IsAnswerEffect (answers.Gives v) effect q rest = effect ≡ Some (gives q v rest)
 IsAnswerEffect (answers.Throws e) effect q rest = effect ≡ Some (throws e)
+IsAnswerEffect (answers.Asks asked) effect q rest = effect ≡ Some (asks (request_of asked) rest)
 IsAnswerEffect answers.Undefined effect q rest = (room : ℕ) → LacksEffect room effect
 
 -- With its arguments on top of the operand stack, a native method answered this; the answer replaces this number of slots.

@@ -6,7 +6,7 @@ ghost use Rattle.native_methods.specs.NativeStates.{IsAnswered};
 use continuation::Mounted;
 use heap_instructions::{Outcome, drop_operands, give};
 use instruction_rows::Value;
-use ref_model::Exception;
+use ref_model::{Exception, ThreadRequest};
 
 /// What a native method answers to its arguments.
 #[derive(Clone, Copy)]
@@ -17,6 +17,8 @@ pub(crate) enum Answer {
     Gives(Value),
     /// It throws a new exception, and nothing has changed.
     Throws(Exception),
+    /// It asks this of the threads, and nothing has changed.
+    Asks(ThreadRequest),
     /// The definitions answer nothing here, or give a count that is greater than an int.
     Undefined,
 }
@@ -36,6 +38,10 @@ pub(crate) fn outcome_of(mounted: &mut Mounted, count: u16, answer: Answer) -> O
         }
         Answer::Gives(value) => give(mounted, count, value),
         Answer::Throws(exception) => Outcome::Throws(exception),
+        Answer::Asks(request) => Outcome::Asks {
+            request,
+            operands: count,
+        },
         Answer::Undefined => Outcome::Undefined,
     }
 }

@@ -4,7 +4,7 @@ ghost use Rattle.std.specs.Prelude.{◌≡◌, IfOk};
 ghost use Rattle.opcodes.specs.declared.op.ValueKind.TheVariants as kinds;
 ghost use Rattle.link_model.specs.World.{World};
 ghost use Rattle.native_methods.specs.Arguments.{answer_to, answer_to_none, answer_to_two};
-ghost use Rattle.native_methods.specs.NativeStates.{Answers, KeptIfThrown};
+ghost use Rattle.native_methods.specs.NativeStates.{Answers, KeptIfThrownOrAsked};
 
 use crate::answer::Answer;
 use crate::builder_natives::{append, append_string, builder_length, builder_to_string};
@@ -17,19 +17,28 @@ use crate::string_natives::{
 };
 use crate::texts::{boolean_text, char_text, int_text, long_text};
 use crate::thread_natives::{
-    monitor_asked, name_set, thread_asked, thread_created, thread_id, unpark,
+    daemon_set, joined_for, monitor_asked, name_set, thread_asked, thread_created, thread_id,
+    unpark, waited_for,
 };
 use crate::world::NativeWorld;
 use items::NoMemory;
 use lib_table::Native;
+use ref_model::ThreadRequest;
 use std::alloc::Global;
+use vthread_state::ThreadKind;
 
 /// The native methods that take nothing.
 pub(crate) fn on_nothing(state: &NativeState, native: Native) -> Answer
     ensures { (w : World) → Answers (λ r. answer_to_none w r native) state.now state.now result }
 {
     match native {
+        Native::SystemNanoTime => Answer::Asks(ThreadRequest::TellsNanos),
+        Native::SystemCurrentTimeMillis => Answer::Asks(ThreadRequest::TellsMillis),
+        Native::ThreadCurrentThread => Answer::Asks(ThreadRequest::Current),
+        Native::ThreadYield => Answer::Asks(ThreadRequest::Yields),
+        Native::ThreadInterrupted => Answer::Asks(ThreadRequest::TakesInterrupt),
         Native::ThreadOnSpinWait => Answer::Returns,
+        Native::LockSupportPark => Answer::Asks(ThreadRequest::Parks(None)),
         _ => Answer::Undefined,
     }
 }
@@ -44,7 +53,7 @@ pub(crate) fn on_reference<W: NativeWorld>(
 ) -> Result<Answer, NoMemory>
     ensures answer { IfOk result (λ a. Answers
         (λ r. answer_to (W.world world.now) r native kinds.Reference this) state.old state.new a) }
-    ensures kept { IfOk result (λ a. KeptIfThrown a state.old state.new) }
+    ensures kept { IfOk result (λ a. KeptIfThrownOrAsked a state.old state.new) }
 {
     match native {
         Native::ObjectInit | Native::StringBuilderInit => Ok(Answer::Returns),
@@ -56,9 +65,9 @@ pub(crate) fn on_reference<W: NativeWorld>(
         Native::StringBuilderLength => Ok(builder_length(state, this)),
         Native::StringBuilderToString => builder_to_string(alloc, state, this),
         Native::PrintStreamPrintln => print(state, this, &[], true),
-        Native::ObjectWait => Ok(monitor_asked(state, this)),
-        Native::ObjectNotify => Ok(monitor_asked(state, this)),
-        Native::ObjectNotifyAll => Ok(monitor_asked(state, this)),
+        Native::ObjectWait | Native::ObjectNotify | Native::ObjectNotifyAll => {
+            Ok(monitor_asked(native, this))
+        }
         Native::ThreadStart
         | Native::ThreadInterrupt
         | Native::ThreadIsInterrupted
@@ -67,8 +76,9 @@ pub(crate) fn on_reference<W: NativeWorld>(
         | Native::ThreadIsVirtual
         | Native::ThreadIsDaemon
         | Native::ThreadGetName
-        | Native::ThreadGetState => Ok(thread_asked(state, this)),
+        | Native::ThreadGetState => Ok(thread_asked(state, native, this)),
         Native::ThreadId => Ok(thread_id(state, this)),
+        Native::LockSupportParkBlocker => Ok(Answer::Asks(ThreadRequest::Parks(None))),
         Native::LockSupportUnpark => Ok(unpark(state, this)),
         _ => Ok(Answer::Undefined),
     }
@@ -86,7 +96,7 @@ pub(crate) fn on_two_references<W: NativeWorld>(
     ensures answer { IfOk result (λ a. Answers
         (λ r. answer_to_two (W.world world.now) r native kinds.Reference other this)
         state.old state.new a) }
-    ensures kept { IfOk result (λ a. KeptIfThrown a state.old state.new) }
+    ensures kept { IfOk result (λ a. KeptIfThrownOrAsked a state.old state.new) }
 {
     match native {
         Native::ObjectEquals => Ok(object_equals(state, this, other)),
@@ -95,9 +105,10 @@ pub(crate) fn on_two_references<W: NativeWorld>(
         Native::StringBuilderAppendString => append_string(alloc, state, this, other),
         Native::PrintStreamPrintlnString => print_string(alloc, state, this, other, true),
         Native::PrintStreamPrintString => print_string(alloc, state, this, other, false),
-        Native::ThreadCreatePlatform | Native::ThreadCreateVirtual => {
-            Ok(thread_created(state, this, other))
+        Native::ThreadCreatePlatform => {
+            Ok(thread_created(state, ThreadKind::Platform, this, other))
         }
+        Native::ThreadCreateVirtual => Ok(thread_created(state, ThreadKind::Virtual, this, other)),
         Native::ThreadSetName => Ok(name_set(state, this, other)),
         _ => Ok(Answer::Undefined),
     }
@@ -114,7 +125,7 @@ pub(crate) fn on_int_and_reference<W: NativeWorld>(
 ) -> Result<Answer, NoMemory>
     ensures answer { IfOk result (λ a. Answers
         (λ r. answer_to_two (W.world world.now) r native kinds.Int n this) state.old state.new a) }
-    ensures kept { IfOk result (λ a. KeptIfThrown a state.old state.new) }
+    ensures kept { IfOk result (λ a. KeptIfThrownOrAsked a state.old state.new) }
 {
     match native {
         Native::ObjectToString => described(alloc, world, state, this, n),
@@ -137,7 +148,7 @@ pub(crate) fn on_int_and_reference<W: NativeWorld>(
         }
         Native::PrintStreamPrintChar => print(state, this, &char_text(n), false),
         Native::PrintStreamPrintBoolean => print(state, this, boolean_text(n), false),
-        Native::ThreadSetDaemon => Ok(thread_asked(state, this)),
+        Native::ThreadSetDaemon => Ok(daemon_set(state, this, n)),
         _ => Ok(Answer::Undefined),
     }
 }
@@ -154,7 +165,7 @@ pub(crate) fn on_long_and_reference<W: NativeWorld>(
     ensures answer { IfOk result (λ a. Answers
         (λ r. answer_to_two (W.world world.now) r native kinds.Long n this)
         state.old state.new a) }
-    ensures kept { IfOk result (λ a. KeptIfThrown a state.old state.new) }
+    ensures kept { IfOk result (λ a. KeptIfThrownOrAsked a state.old state.new) }
 {
     match native {
         Native::StringBuilderAppendLong => {
@@ -169,8 +180,9 @@ pub(crate) fn on_long_and_reference<W: NativeWorld>(
             let text = long_text(alloc, n)?;
             print(state, this, text.as_slice(), false)
         }
-        Native::ObjectWaitMillis => Ok(monitor_asked(state, this)),
-        Native::ThreadJoinMillis => Ok(thread_asked(state, this)),
+        Native::ObjectWaitMillis => Ok(waited_for(this, n)),
+        Native::ThreadJoinMillis => Ok(joined_for(state, this, n)),
+        Native::LockSupportParkNanosBlocker => Ok(Answer::Asks(ThreadRequest::Parks(Some(n)))),
         _ => Ok(Answer::Undefined),
     }
 }
@@ -185,7 +197,7 @@ pub(crate) fn on_int<W: NativeWorld>(
 ) -> Result<Answer, NoMemory>
     ensures answer { IfOk result (λ a. Answers
         (λ r. answer_to (W.world world.now) r native kinds.Int n) state.old state.new a) }
-    ensures kept { IfOk result (λ a. KeptIfThrown a state.old state.new) }
+    ensures kept { IfOk result (λ a. KeptIfThrownOrAsked a state.old state.new) }
 {
     match native {
         Native::StringValueOfInt => {
@@ -212,13 +224,15 @@ pub(crate) fn on_long<W: NativeWorld>(
 ) -> Result<Answer, NoMemory>
     ensures answer { IfOk result (λ a. Answers
         (λ r. answer_to (W.world world.now) r native kinds.Long n) state.old state.new a) }
-    ensures kept { IfOk result (λ a. KeptIfThrown a state.old state.new) }
+    ensures kept { IfOk result (λ a. KeptIfThrownOrAsked a state.old state.new) }
 {
     match native {
         Native::StringValueOfLong => {
             let text = long_text(alloc, n)?;
             new_text(state, text.as_slice())
         }
+        Native::ThreadSleep => Ok(Answer::Asks(ThreadRequest::Sleeps(n))),
+        Native::LockSupportParkNanos => Ok(Answer::Asks(ThreadRequest::Parks(Some(n)))),
         _ => Ok(Answer::Undefined),
     }
 }

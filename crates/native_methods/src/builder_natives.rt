@@ -5,7 +5,7 @@ ghost use Rattle.std.specs.Option.{option_copied};
 ghost use Rattle.opcodes.specs.declared.op.ValueKind.TheVariants as kinds;
 ghost use Rattle.ref_model.specs.BuilderNatives as spec;
 ghost use Rattle.native_methods.specs.Arguments.{to_one, to_two};
-ghost use Rattle.native_methods.specs.NativeStates.{Answers, KeptIfThrown, builder_units};
+ghost use Rattle.native_methods.specs.NativeStates.{Answers, KeptIfThrownOrAsked, builder_units};
 
 use crate::answer::Answer;
 use crate::state::{NativeState, joined, make_text, new_text, set_value, text_at};
@@ -36,7 +36,7 @@ pub(crate) fn append(
 ) -> Result<Answer, NoMemory>
     ensures answer { IfOk result (λ a.
         Answers (λ r. Some (spec.appended r this units.now)) state.old state.new a) }
-    ensures kept { IfOk result (λ a. KeptIfThrown a state.old state.new) }
+    ensures kept { IfOk result (λ a. KeptIfThrownOrAsked a state.old state.new) }
 {
     let Some(o) = this else {
         return Ok(Answer::Throws(Exception::NullPointerException));
@@ -64,7 +64,7 @@ pub(crate) fn append_string(
     ensures answer { IfOk result (λ a. Answers
         (λ r. to_two kinds.Reference text this (Some (spec.append_string r)))
         state.old state.new a) }
-    ensures kept { IfOk result (λ a. KeptIfThrown a state.old state.new) }
+    ensures kept { IfOk result (λ a. KeptIfThrownOrAsked a state.old state.new) }
 {
     let Some(o) = text else {
         return append(alloc, state, this, null_text());
@@ -102,7 +102,7 @@ pub(crate) fn builder_to_string(
     ensures answer { IfOk result (λ a. Answers
         (λ r. to_one kinds.Reference this (Some (spec.builder_to_string r)))
         state.old state.new a) }
-    ensures kept { IfOk result (λ a. KeptIfThrown a state.old state.new) }
+    ensures kept { IfOk result (λ a. KeptIfThrownOrAsked a state.old state.new) }
 {
     let Some(o) = this else {
         return Ok(Answer::Throws(Exception::NullPointerException));

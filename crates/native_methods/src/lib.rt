@@ -1,5 +1,5 @@
 //! What the machine does in place of the code of native methods (the API of `Object`, `String`, `StringBuilder`, `System` and
-//! `PrintStream`). Those of threads, monitors and the clock test what they work on, and what they ask for isn't done yet.
+//! `PrintStream`). Those of threads, monitors and the clock test what they work on, and ask for the rest.
 #![tactic(auto)]
 
 mod answer;

@@ -9,7 +9,7 @@ ghost use Rattle.ref_model.specs.NativeRows as rows;
 ghost use Rattle.ref_model.specs.ObjectNatives as spec;
 ghost use Rattle.ref_model.specs.Texts.{hex_text as hex_of};
 ghost use Rattle.native_methods.specs.Arguments.{to_two};
-ghost use Rattle.native_methods.specs.NativeStates.{Answers, KeptIfThrown};
+ghost use Rattle.native_methods.specs.NativeStates.{Answers, KeptIfThrownOrAsked};
 
 use crate::answer::Answer;
 use crate::class_names::class_name;
@@ -92,7 +92,7 @@ pub(crate) fn described<W: NativeWorld>(
     ensures answer { IfOk result (λ a. Answers
         (λ r. Some (spec.described (W.world world.now) r this (hex_of hash)))
         state.old state.new a) }
-    ensures kept { IfOk result (λ a. KeptIfThrown a state.old state.new) }
+    ensures kept { IfOk result (λ a. KeptIfThrownOrAsked a state.old state.new) }
 {
     let Some(o) = this else {
         return Ok(Answer::Throws(Exception::NullPointerException));

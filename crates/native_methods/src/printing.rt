@@ -4,7 +4,7 @@ ghost use Rattle.std.specs.Prelude.{◌≡◌, ◌++◌, Some, IfOk, OnOk};
 ghost use Rattle.ref_model.specs.NativeRows.{on_text_or};
 ghost use Rattle.ref_model.specs.Printing as spec;
 ghost use Rattle.ref_model.specs.Texts as texts;
-ghost use Rattle.native_methods.specs.NativeStates.{Answers, KeptIfThrown, printed};
+ghost use Rattle.native_methods.specs.NativeStates.{Answers, KeptIfThrownOrAsked, printed};
 
 use crate::answer::Answer;
 use crate::state::{NativeState, text_at};
@@ -46,7 +46,7 @@ pub(crate) fn print(
 ) -> Result<Answer, NoMemory>
     ensures answer { IfOk result (λ a. Answers
         (λ r. Some (spec.written r stream (printed ends_line units.now))) state.old state.new a) }
-    ensures kept { IfOk result (λ a. KeptIfThrown a state.old state.new) }
+    ensures kept { IfOk result (λ a. KeptIfThrownOrAsked a state.old state.new) }
 {
     match stream {
         Some(ERR_STREAM) => {
@@ -73,7 +73,7 @@ pub(crate) fn print_string(
         (λ r. Some (on_text_or texts.null_text r text
         (λ units. spec.written r stream (printed ends_line units))))
         state.old state.new a) }
-    ensures kept { IfOk result (λ a. KeptIfThrown a state.old state.new) }
+    ensures kept { IfOk result (λ a. KeptIfThrownOrAsked a state.old state.new) }
 {
     let Some(o) = text else {
         return print(state, stream, null_text(), ends_line);

@@ -7,7 +7,7 @@ ghost use Rattle.heap_instructions.specs.Operands.{ChangesOperands, HasTop, oper
 ghost use Rattle.heap_instructions.specs.Outcomes.{Acts, KeptUnlessDone};
 ghost use Rattle.native_methods.specs.Arguments as spec;
 ghost use Rattle.native_methods.specs.Arguments.{native_effect};
-ghost use Rattle.native_methods.specs.NativeStates.{AnswersOn, KeptIfThrown, StaysIfThrown, with_natives};
+ghost use Rattle.native_methods.specs.NativeStates.{AnswersOn, KeptIfThrownOrAsked, StaysIfThrownOrAsked, with_natives};
 
 use crate::answer::{Answer, outcome_of};
 use crate::answers::{
@@ -36,7 +36,7 @@ fn answer_of<W: NativeWorld>(
     requires given { HasOperands (spec.kinds_of arguments) 0 (operands mounted.now) }
     ensures answer { IfOk result (AnswersOn (W.world world.now) native (operands mounted.now)
         (spec.slots_of arguments) state.old state.new) }
-    ensures kept { IfOk result (λ a. KeptIfThrown a state.old state.new) }
+    ensures kept { IfOk result (λ a. KeptIfThrownOrAsked a state.old state.new) }
     ensures within { spec.slots_of arguments ≤ length (operands mounted.now) }
 {
     match arguments {
@@ -71,7 +71,7 @@ fn answer_of<W: NativeWorld>(
     }
 }
 
-/// Does what a native method does in place of code. Those of threads, monitors and the clock have no effect yet, and are undefined.
+/// Does what a native method does in place of code. Those of threads, monitors and the clock ask it.
 pub fn run_native<W: NativeWorld>(
     alloc: Global,
     world: &W,
@@ -84,7 +84,7 @@ pub fn run_native<W: NativeWorld>(
     ensures effect { IfOk result (λ o. Acts (native_effect (W.world world.now) native)
         (with_natives state.old) mounted.old (with_natives state.new) mounted.new o) }
     ensures kept { IfOk result (λ o. KeptUnlessDone o mounted.old mounted.new) }
-    ensures kept_state { IfOk result (λ o. StaysIfThrown o state.old state.new) }
+    ensures kept_state { IfOk result (λ o. StaysIfThrownOrAsked o state.old state.new) }
     ensures only { ChangesOperands mounted.old mounted.new }
 {
     let arguments = takes(native);

@@ -4,7 +4,7 @@ ghost use Rattle.std.specs.Prelude.{◌≡◌, ◌++◌, Some, IfOk};
 ghost use Rattle.std.specs.Option.{option_copied};
 ghost use Rattle.ref_model.specs.Heap as heap;
 ghost use Rattle.ref_model.specs.NativeRows as rows;
-ghost use Rattle.native_methods.specs.NativeStates.{Answers, IsMade, IsSet, KeptIfThrown, units_in};
+ghost use Rattle.native_methods.specs.NativeStates.{Answers, IsMade, IsSet, KeptIfThrownOrAsked, units_in};
 
 use crate::answer::Answer;
 use heap_objs::Heap;
@@ -63,7 +63,7 @@ pub(crate) fn make_text(state: &mut NativeState, units: &[u16]) -> Result<Option
 pub(crate) fn new_text(state: &mut NativeState, units: &[u16]) -> Result<Answer, NoMemory>
     ensures answer { IfOk result (λ a.
         Answers (λ r. Some (rows.gives_text r units.now)) state.old state.new a) }
-    ensures kept { IfOk result (λ a. KeptIfThrown a state.old state.new) }
+    ensures kept { IfOk result (λ a. KeptIfThrownOrAsked a state.old state.new) }
 {
     match make_text(state, units)? {
         Some(o) => Ok(Answer::Gives(Value::Ref(o))),

@@ -4,7 +4,7 @@ ghost use Rattle.std.specs.Prelude.{◌≡◌, Some, IfOk};
 ghost use Rattle.opcodes.specs.declared.op.ValueKind.TheVariants as kinds;
 ghost use Rattle.ref_model.specs.StringNatives as spec;
 ghost use Rattle.native_methods.specs.Arguments.{to_one, to_two};
-ghost use Rattle.native_methods.specs.NativeStates.{Answers, KeptIfThrown, other_units};
+ghost use Rattle.native_methods.specs.NativeStates.{Answers, KeptIfThrownOrAsked, other_units};
 
 use crate::answer::Answer;
 use crate::object_natives::boolean;
@@ -138,7 +138,7 @@ pub(crate) fn string_concat(
     ensures answer { IfOk result (λ a. Answers
         (λ r. to_two kinds.Reference other this (Some (spec.string_concat r)))
         state.old state.new a) }
-    ensures kept { IfOk result (λ a. KeptIfThrown a state.old state.new) }
+    ensures kept { IfOk result (λ a. KeptIfThrownOrAsked a state.old state.new) }
 {
     let Some(o) = this else {
         return Ok(Answer::Throws(Exception::NullPointerException));

@@ -1,8 +1,9 @@
 -- How a program ends (JLS 12.8).
-use Rattle.std.specs.Prelude.{ℤ, Bool, true, false, not, Option, Some, None, ◌&&◌, if◌then◌else◌}
+use Rattle.std.specs.Prelude.{ℤ, Bool, true, false, Option, Some, None, if◌then◌else◌}
 use Rattle.std.specs.List.{list_any}
 use Rattle.vthread_state.specs.declared.thread.Status.{Status}
 use Rattle.vthread_state.specs.declared.thread.Status.TheVariants.{New, Live, Done}
+use Rattle.vthread_state.specs.Threads as table
 use Rattle.ref_model.specs.declared.ending.Ending.{Ending}
 use Rattle.ref_model.specs.declared.ending.Ending.TheVariants.{Ended, MainThrew, Exited}
 use Rattle.ref_model.specs.State.{JavaThread, State}
@@ -14,7 +15,7 @@ is_live Done = false
 
 -- a thread that keeps the program going: it was started, didn't end, and is no daemon
 abbrev pub keeps_going : JavaThread → Bool
-keeps_going t = is_live t.thread.status && not t.thread.daemon
+keeps_going x = table.keeps_going x.thread
 
 abbrev pub threads_ending : State → Option Ending
 threads_ending r =

@@ -5,6 +5,8 @@ use Rattle.opcodes.specs.declared.op.ValueKind.{ValueKind}
 use Rattle.opcodes.specs.declared.op.ValueKind.TheVariants as kinds
 use Rattle.vthread_state.specs.declared.thread.ThreadKind.{ThreadKind}
 use Rattle.state_model.specs.Frames.{Frame}
+use Rattle.ref_model.specs.declared.request.ThreadRequest.{ThreadRequest}
+use Rattle.ref_model.specs.declared.request.ThreadRequest.TheVariants as requests
 
 pub data Request : Type 0 where
   -- ---- java.lang.Thread
@@ -83,3 +85,32 @@ reads_clock (parks n) = is_timed n
 reads_clock (waits_on o n) = is_timed n
 reads_clock (joins t n) = is_timed n
 reads_clock q = false
+
+-- ---- requests as the code makes them: all but calls of synchronized methods
+
+abbrev pub request_of : ThreadRequest → Request
+request_of requests.Current = current
+request_of requests.Yields = yields
+request_of (requests.Creates kind object name) = creates kind object name
+request_of (requests.Starts t) = starts t
+request_of (requests.Joins t millis) = joins t millis
+request_of (requests.Sleeps millis) = sleeps millis
+request_of (requests.Interrupts t) = interrupts t
+request_of (requests.TellsInterrupt t) = tells_interrupt t
+request_of requests.TakesInterrupt = takes_interrupt
+request_of (requests.TellsAlive t) = tells_alive t
+request_of (requests.TellsVirtual t) = tells_virtual t
+request_of (requests.TellsDaemon t) = tells_daemon t
+request_of (requests.TellsName t) = tells_name t
+request_of (requests.TellsState t) = tells_state t
+request_of (requests.SetsDaemon t daemon) = sets_daemon t daemon
+request_of (requests.SetsName t name) = sets_name t name
+request_of (requests.Parks nanos) = parks nanos
+request_of (requests.Unparks t) = unparks t
+request_of requests.TellsNanos = tells_nanos
+request_of requests.TellsMillis = tells_millis
+request_of (requests.Enters o) = enters o
+request_of (requests.Exits o) = exits o
+request_of (requests.WaitsOn o millis) = waits_on o millis
+request_of (requests.Notifies o) = notifies o
+request_of (requests.NotifiesAll o) = notifies_all o

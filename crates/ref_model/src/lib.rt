@@ -6,8 +6,10 @@ mod ending;
 mod exception;
 mod laws;
 mod limits;
+mod request;
 
 pub use ending::{Ending, Which};
 pub use exception::Exception;
 pub use laws::{entries_are_local, local_steps_stay_in_their_frames, prefixes_run};
 pub use limits::Limits;
+pub use request::ThreadRequest;

@@ -7,6 +7,7 @@ use lib_table::Native;
 use link_model::{MethodCode, MethodInfo};
 use link_rules::{Choice, MemberPlace};
 use native_methods::NativeWorld;
+use program_state::ThreadWorld;
 use ref_model::Exception;
 use std::alloc::Global;
 use thread_steps::MachineWorld;
@@ -68,5 +69,11 @@ impl MachineWorld for ReadyProgram {
 
     fn class_name(&self, alloc: Global, class: u32) -> Result<Vec<u16>, NoMemory> {
         ReadyProgram::class_name(self, alloc, class)
+    }
+}
+
+impl ThreadWorld for ReadyProgram {
+    fn run_method(&self) -> Option<u32> {
+        ReadyProgram::run_method(self)
     }
 }

@@ -17,6 +17,7 @@ mod program;
 mod static_places;
 mod subtypes;
 mod tables;
+mod thread_run;
 
 pub use class_numbers::named;
 pub use field_values::zero_of;

@@ -12,6 +12,7 @@ ghost use Rattle.ref_model.specs.Arrays as arrays;
 ghost use Rattle.ref_model.specs.Calls as calls;
 ghost use Rattle.ref_model.specs.Classes as classes;
 ghost use Rattle.ref_model.specs.Members as members;
+ghost use Rattle.ref_model.specs.Starting as starting;
 ghost use Rattle.ref_model.specs.Throwing.{exception_name};
 ghost use Rattle.verify_types.specs.Typing.{AreTyped};
 ghost use Rattle.runtime_program.specs.Handlers.{handler_at, handler_pc};
@@ -210,6 +211,13 @@ impl ReadyProgram {
         ensures { result ≡ name_number self.now (exception_name exception) }
     {
         exception_in(&self.extra.exceptions, exception)
+    }
+
+    /// The number of the method run of java.lang.Thread. `None`: there is no such method, or it is static.
+    pub fn run_method(&self) -> Option<u32>
+        ensures { result ≡ starting.run_method self.now }
+    {
+        self.extra.run_method
     }
 
     /// The name of a class as a program sees it (java.lang.Class.getName).

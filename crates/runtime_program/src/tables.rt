@@ -10,6 +10,7 @@ use crate::field_values::all_new_values;
 use crate::instance_places::all_instance_places;
 use crate::methods::{all_natives, all_open};
 use crate::static_places::{StaticPlaces, all_static_places};
+use crate::thread_run::run_method;
 use instruction_rows::Value;
 use items::{Items, NoMemory};
 use lib_table::Native;
@@ -18,6 +19,7 @@ use std::alloc::Global;
 
 /// By method: what the machine does in place of its code, and whether no local instruction leaves it. By class: the values
 /// of a new object. By field: how many static fields come before it, and its place in an object. By array class: the class of its elements.
+/// And the number of the method run of java.lang.Thread.
 #[derive(Drop)]
 pub(crate) struct ReadyTables {
     pub(crate) natives: Vec<Option<Native>>,
@@ -27,6 +29,7 @@ pub(crate) struct ReadyTables {
     pub(crate) instance_places: Vec<Option<u32>>,
     pub(crate) inner_classes: Vec<Option<u32>>,
     pub(crate) exceptions: ExceptionClasses,
+    pub(crate) run_method: Option<u32>,
 }
 
 /// These tables of a program.
@@ -40,6 +43,7 @@ pub(crate) fn tables_of(alloc: Global, tables: &Tables) -> Result<ReadyTables, N
     let instance_places = all_instance_places(alloc, tables)?;
     let inner_classes = all_inner_classes(alloc, tables)?;
     let exceptions = exception_classes(alloc, tables)?;
+    let run_method = run_method(alloc, tables)?;
     Ok(ReadyTables {
         natives,
         open_methods,
@@ -48,6 +52,7 @@ pub(crate) fn tables_of(alloc: Global, tables: &Tables) -> Result<ReadyTables, N
         instance_places,
         inner_classes,
         exceptions,
+        run_method,
     })
 }
 

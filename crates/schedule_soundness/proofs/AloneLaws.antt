@@ -44,11 +44,11 @@ use Rattle.schedule_soundness.proofs.Openings.{Opens, opens}
 
 -- ---- so many steps, from where main is
 
-abbrev from : Setting → ℕ → Option State → Option State
+abbrev pub from : Setting → ℕ → Option State → Option State
 from p zero o = o
 from p (suc n) o = from p n o >>= stepped_alone p
 
-from_opening : (p : Setting) (n : ℕ) → alone p n ≡ from p n (opening p)
+pub from_opening : (p : Setting) (n : ℕ) → alone p n ≡ from p n (opening p)
 from_opening p zero = refl
 from_opening p (suc n) = ap (λ o. o >>= stepped_alone p) (from_opening p n)
 
@@ -56,11 +56,11 @@ from_none : (p : Setting) (n : ℕ) → from p n None ≡ None
 from_none p zero = refl
 from_none p (suc n) = ap (λ o. o >>= stepped_alone p) (from_none p n)
 
-from_next : (p : Setting) (n : ℕ) (o : Option State) → from p n (o >>= stepped_alone p) ≡ (from p n o >>= stepped_alone p)
+pub from_next : (p : Setting) (n : ℕ) (o : Option State) → from p n (o >>= stepped_alone p) ≡ (from p n o >>= stepped_alone p)
 from_next p zero o = refl
 from_next p (suc n) o = ap (λ x. x >>= stepped_alone p) (from_next p n o)
 
-from_more : (p : Setting) (a b : ℕ) (o : Option State) → from p (a + b) o ≡ from p b (from p a o)
+pub from_more : (p : Setting) (a b : ℕ) (o : Option State) → from p (a + b) o ≡ from p b (from p a o)
 from_more p zero b o = let same : 0 + b ≡ b = omega arith in ap (λ n. from p n o) same
 from_more p (suc a) b o =
     let same : suc a + b ≡ suc (a + b) = omega arith in
@@ -68,11 +68,11 @@ from_more p (suc a) b o =
 
 -- ---- one step
 
-one_state : (o : Option State) (a b : State) → o ≡ Some a → o ≡ Some b → a ≡ b
+pub one_state : (o : Option State) (a b : State) → o ≡ Some a → o ≡ Some b → a ≡ b
 one_state o a b e f = cc
 
 -- the state is the same, and main alone was started
-record Same (p : Setting) (q s : State) : Type 0 where
+pub record Same (p : Setting) (q s : State) : Type 0 where
   pub is : s ≡ q
   pub only : OnlyMain (look_of p.world q)
 
@@ -135,7 +135,7 @@ main_steps p r q t pick only e = by (eqb_tells t 0)
         absurd (no_both (was_started (spot_at (slice_get r.threads t)))
         (live_started (slice_get r.threads t) l.thread l.phase l.there l.status) (only t other.1))
 
-entry_of_main : (p : Setting) (n : ℕ) (r q : State) (t : ℕ) (pick : Option ℕ) → OnlyMain (look_of p.world r) → after_steps p r t (suc n) pick ≡ Some q
+pub entry_of_main : (p : Setting) (n : ℕ) (r q : State) (t : ℕ) (pick : Option ℕ) → OnlyMain (look_of p.world r) → after_steps p r t (suc n) pick ≡ Some q
     → t ≡ 0
 entry_of_main p zero r q t pick only e =
     let x = some_is (steps p zero r t) (λ x. step p x t pick) q e in
@@ -204,7 +204,7 @@ last_step : (p : Setting) (r q s : State) (pick : Option ℕ) → OnlyMain (look
 last_step p r q s None only e made = alone_step p r q s only e made
 last_step p r q s (Some u) only e made = absurd (none_picked p r q u only e)
 
-alone_entry : (p : Setting) (n : ℕ) (r q s : State) (t : ℕ) (pick : Option ℕ) → OnlyMain (look_of p.world r) → after_steps p r t n pick ≡ Some q
+pub alone_entry : (p : Setting) (n : ℕ) (r q s : State) (t : ℕ) (pick : Option ℕ) → OnlyMain (look_of p.world r) → after_steps p r t n pick ≡ Some q
     → from p n (Some r) ≡ Some s → Same p q s
 alone_entry p zero r q s t pick only e made = absurd cc
 alone_entry p (suc n) r q s t pick only e made =
@@ -215,7 +215,7 @@ alone_entry p (suc n) r q s t pick only e made =
     let before = alone_steps p n r a.0 b.0 only a.1 b.1 in
     last_step p a.0 q s pick before.only a.2 (ap (stepped_alone p) (sym before.is) ∙ b.2)
 
-some_from : (p : Setting) (n : ℕ) (o : Option State) (s : State) → from p n o ≡ Some s → (r : State) × (o ≡ Some r)
+pub some_from : (p : Setting) (n : ℕ) (o : Option State) (s : State) → from p n o ≡ Some s → (r : State) × (o ≡ Some r)
 some_from p n None s e = let z : None ≡ Some s = sym (from_none p n) ∙ e in absurd cc
 some_from p n (Some r) s e = (r, refl)
 
@@ -242,7 +242,7 @@ entries_alone p first (a ∷ es) r q s only no_ticks e made =
     entries_alone p first es x.0 q s here.only no_ticks.1 x.2 more
 
 -- at the opening main alone was started
-main_opens : (p : Setting) (first : State) → Opens p first → OnlyMain (look_of p.world first)
+pub main_opens : (p : Setting) (first : State) → Opens p first → OnlyMain (look_of p.world first)
 main_opens p first o zero ne = absurd (ne refl)
 main_opens p first o (suc t) ne = ap (λ ts. was_started (spot_at (slice_get ts (suc t)))) o.threads
 

@@ -97,7 +97,7 @@ change_of p r q u a (made y was now new empty) =
 
 -- ---- what has ended stays so
 
-abbrev ended_by : Option JavaThread → Bool
+abbrev pub ended_by : Option JavaThread → Bool
 ended_by o = option_map_or (λ (x : JavaThread). is_done x.thread.status) o false
 
 still_ended : (w : World) (before after : Option JavaThread) → Moved w before after

@@ -19,3 +19,15 @@ pub mod Unpinned
 pub mod TypedHistories
 pub mod MainAlone
 pub mod AloneLaws
+pub mod Filters
+pub mod Placed
+pub mod PutLaws
+pub mod Ahead
+pub mod Creations
+pub mod MainGoes
+pub mod FreeFrames
+pub mod FreeSteps
+pub mod Pins
+pub mod HoldCalls
+pub mod HoldStatic
+pub mod HoldNames

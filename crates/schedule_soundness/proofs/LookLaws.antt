@@ -37,7 +37,7 @@ ready_live r x New e = absurd cc
 ready_live r x (Live phase) e = phase_live phase
 ready_live r x Done e = absurd cc
 
-thread_live : (r : State) (o : Option JavaThread) → ready_at r o ≡ true → is_live_spot (spot_at o) ≡ true
+pub thread_live : (r : State) (o : Option JavaThread) → ready_at r o ≡ true → is_live_spot (spot_at o) ≡ true
 thread_live r None e = absurd cc
 thread_live r (Some x) e = ready_live r x x.thread.status e
 

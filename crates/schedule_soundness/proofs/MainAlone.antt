@@ -43,7 +43,7 @@ live_started o x phase at is =
     ∙ or_left (is_live_spot (spot_in phase)) (is_done_spot (spot_in phase)) (phase_live phase)
 
 -- who was started stays so
-started_stays : (w : World) (before after : Option JavaThread) → Moved w before after → was_started (spot_at before) ≡ true
+pub started_stays : (w : World) (before after : Option JavaThread) → Moved w before after → was_started (spot_at before) ≡ true
     → was_started (spot_at after) ≡ true
 started_stays w before after (still same) e = ap (λ o. was_started (spot_at o)) same ∙ e
 started_stays w before after (told x y was now status kept permit interrupted) e =
@@ -67,7 +67,7 @@ started_before w before after moved off = by (was_started (spot_at before)) refl
     by false e = e
 
 -- the thread that steps was started, and stays so
-own_started : (w : World) (r q : State) (t : ℕ) → LiveStep w t r q → was_started (spot_at (slice_get q.threads t)) ≡ true
+pub own_started : (w : World) (r q : State) (t : ℕ) → LiveStep w t r q → was_started (spot_at (slice_get q.threads t)) ≡ true
 own_started w r q t l =
     let y = l.stepped.moves.there l.thread l.there in
     ap (λ o. was_started (spot_at o)) y.1 ∙ (l.stepped.moves.own y.0 y.1).begun

@@ -63,7 +63,7 @@ opens p r e =
 
 -- ---- no frame pins
 
-plain_pin : (w : World) (n : ℕ) (f : Frame) → IsPlain w n → f.method ≡ n → is_pin w f ≡ false
+pub plain_pin : (w : World) (n : ℕ) (f : Frame) → IsPlain w n → f.method ≡ n → is_pin w f ≡ false
 plain_pin w n f plain is = ap (λ k. option_map_or (is_hold w) (slice_get w.methods k) false) is ∙ by (slice_get w.methods n) refl
   where
     by : (o : Option MethodInfo) → slice_get w.methods n ≡ o → option_map_or (is_hold w) o false ≡ false

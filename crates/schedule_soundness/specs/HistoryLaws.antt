@@ -14,6 +14,7 @@ use Rattle.ref_model.specs.Opening.{opening}
 use Rattle.ref_model.specs.Run.{run}
 use Rattle.ref_model.specs.Looks.{look_of, machine_from}
 use Rattle.schedule_soundness.specs.PromiseLaws.{BeginsUnpinned}
+use Rattle.schedule_soundness.specs.Started.{was_started}
 
 -- this is the state and the schedule of the program after a legal history
 pub record IsProgramAfter (p : Setting) (first : State) (v : Scheduled State) : Type 0 where
@@ -54,6 +55,11 @@ abbrev pub DequesHaveLiveThreads : Type 0
 DequesHaveLiveThreads = (p : Setting) (first : State) (v : Scheduled State) → IsProgramAfter p first v →
     (look_of p.world v.state).ended ≡ false → (t : ℕ) → 0 < in_deques t v.schedule →
     (is_live ((look_of p.world v.state).spot t) ≡ true) × (on_carriers t v.schedule ≡ 0)
+
+-- Who is in a place was started.
+abbrev pub PlacedWereStarted : Type 0
+PlacedWereStarted = (p : Setting) (first : State) (v : Scheduled State) → IsProgramAfter p first v → (t : ℕ) →
+    0 < places t v.schedule → was_started ((look_of p.world v.state).spot t) ≡ true
 
 -- ---- wake-ups, lists, and pins, while the program goes on
 

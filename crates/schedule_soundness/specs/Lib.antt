@@ -7,3 +7,6 @@ pub mod StallLaws
 pub mod HandLaws
 pub mod TypedLaws
 pub mod AloneLaws
+pub mod PutLaws
+pub mod EntryLaws
+pub mod PinLaws

@@ -5,11 +5,14 @@
 ghost use Rattle.schedule_soundness.specs.Moves.{OnlyStartsStart, StepsMoveOthers, TimeMovesAll};
 ghost use Rattle.schedule_soundness.specs.FrameLaws.{StepsLeaveOthers, EntriesLeaveOthers, TimeLeavesFrames};
 ghost use Rattle.schedule_soundness.specs.PromiseLaws.{LinkedProgramsBeginUnpinned, PromisesAreKept};
-ghost use Rattle.schedule_soundness.specs.HistoryLaws.{HistoryPrefixes, HistoriesGoOn, HistoriesRun, ThreadsAreInOnePlace, MountedAreInNoDeque, DequesHaveLiveThreads, NoWakeUpIsLost, ListsHaveTheirThreads, PinnedAreMounted, PinnedStayMounted, OthersLeaveMounted, OthersLeaveOwed, UnmountsStayAllowed};
+ghost use Rattle.schedule_soundness.specs.HistoryLaws.{HistoryPrefixes, HistoriesGoOn, HistoriesRun, PlacedWereStarted, ThreadsAreInOnePlace, MountedAreInNoDeque, DequesHaveLiveThreads, NoWakeUpIsLost, ListsHaveTheirThreads, PinnedAreMounted, PinnedStayMounted, OthersLeaveMounted, OthersLeaveOwed, UnmountsStayAllowed};
 ghost use Rattle.schedule_soundness.specs.StallLaws.{PlacesTell, StallsByPlaces, MountsStarveNobody, StepsPutWhoIsEnabled, TicksPutWhoIsEnabled};
 ghost use Rattle.schedule_soundness.specs.HandLaws.{EntriesLeaveHands, HandsOutlastEntries, OwedOutlastsEntries, UnmountsOutlastEntries, HandsGoOn, RowsAreEntries};
 ghost use Rattle.schedule_soundness.specs.TypedLaws.{HistoriesAreTyped, FramesAreTyped, LinkedProgramsAreSuch};
-ghost use Rattle.schedule_soundness.specs.AloneLaws.{StepsAreOfMain, MainRunsAlone};
+ghost use Rattle.schedule_soundness.specs.AloneLaws.{StepsAreOfMain, MainRunsAlone, MainGoesOn};
+ghost use Rattle.schedule_soundness.specs.PutLaws.{QuietStepsPutNobody, EndsPutJoiners, StartsPutTheStarted};
+ghost use Rattle.schedule_soundness.specs.PinLaws.{NobodyIsPinned, StepsPinNobody, RowsPinNobody, NamesTellCalls, TestsTellNames, LinkedHoldIsStatic};
+ghost use Rattle.schedule_soundness.specs.EntryLaws.{YieldsAreNext, StepsAreEntries};
 
 /// A step of a thread makes, starts, tells or wakes other threads, and does nothing else to them; nor does time (JLS 17.2). Only one that
 /// asks for a start starts any.
@@ -40,11 +43,12 @@ pub fn histories_run()
     ensures same { HistoriesRun }
 {}
 
-/// A thread is in one place at most. Who is in a deque is live, and who is mounted is in none.
+/// A thread is in one place at most. Who is in a deque is live, who is mounted is in none, and who was never started is in no place.
 pub fn threads_are_in_one_place()
     ensures once { ThreadsAreInOnePlace }
     ensures mounted { MountedAreInNoDeque }
     ensures deques { DequesHaveLiveThreads }
+    ensures started { PlacedWereStarted }
 {}
 
 /// No wake-up is lost: a thread that may step will be taken up, and the lists of monitors have those who wait there.
@@ -57,6 +61,16 @@ pub fn no_wake_up_is_lost()
 pub fn pinned_threads_stay_mounted()
     ensures mounted { PinnedAreMounted }
     ensures stay { PinnedStayMounted }
+{}
+
+/// Where no instruction calls jvt.Native.hold nobody is ever pinned (JEP 444). None does where none names it.
+pub fn nobody_is_pinned()
+    ensures histories { NobodyIsPinned }
+    ensures steps { StepsPinNobody }
+    ensures rows { RowsPinNobody }
+    ensures names { NamesTellCalls }
+    ensures tests { TestsTellNames }
+    ensures linked { LinkedHoldIsStatic }
 {}
 
 /// The entries of other carriers leave what a carrier has mounted, and what it may unmount. So it freezes frames outside the lock.
@@ -79,6 +93,21 @@ pub fn puts_are_seen_afterwards()
     ensures ticks { TicksPutWhoIsEnabled }
 {}
 
+/// Whom a step puts into a deque is seen by the threads that it changes: nobody where only its own thread changes, and goes on; with its
+/// end those that join it; with a start the thread that is started.
+pub fn puts_are_seen_by_threads()
+    ensures nobody { QuietStepsPutNobody }
+    ensures joiners { EndsPutJoiners }
+    ensures started { StartsPutTheStarted }
+{}
+
+/// Local instructions that a carrier made ahead, and a step after them, are one entry, and the state before the step says whether the entry
+/// ends with a yield.
+pub fn steps_ahead_are_entries()
+    ensures yields { YieldsAreNext }
+    ensures entries { StepsAreEntries }
+{}
+
 /// Local instructions that a carrier makes ahead, outside the lock, are those of its thread's next entry: what others enter in between
 /// doesn't touch them, nor what the carrier owes and may unmount.
 pub fn hands_stay()
@@ -98,8 +127,10 @@ pub fn histories_are_typed()
 {}
 
 /// While no other thread was started each step is main's. Where time hasn't gone on, and `alone` is defined for as many steps, the state is
-/// the one that it gives, and no other thread was started.
+/// the one that it gives, and no other thread was started. Where `alone` ends the program the history has ended so, or main goes on, in a
+/// history of at most three entries a step.
 pub fn main_runs_alone()
     ensures steps { StepsAreOfMain }
     ensures alone { MainRunsAlone }
+    ensures on { MainGoesOn }
 {}

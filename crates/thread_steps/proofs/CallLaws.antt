@@ -24,12 +24,12 @@ use Rattle.ref_model.specs.declared.exception.Exception.TheVariants as exception
 use Rattle.continuation.specs.Continuation.{Continuation}
 use Rattle.frames.specs.Frames.{with_stack, top_stack, top_room}
 use Rattle.heap_instructions.specs.declared.outcome.Outcome.{Outcome}
-use Rattle.heap_instructions.specs.declared.outcome.Outcome.TheVariants.{Done, Throws, ThrowsObject, Undefined}
+use Rattle.heap_instructions.specs.declared.outcome.Outcome.TheVariants.{Done, Throws, ThrowsObject, Asks, Undefined}
 use Rattle.heap_instructions.specs.Operands.{operands, ChangesOperands}
 use Rattle.heap_instructions.specs.Outcomes.{Acts, IsEffect, KeptUnlessDone, with_heap}
 use Rattle.native_methods.specs.declared.state.NativeState.{NativeState}
 use Rattle.native_methods.specs.Arguments.{native_effect}
-use Rattle.native_methods.specs.NativeStates.{with_natives, StaysIfThrown}
+use Rattle.native_methods.specs.NativeStates.{with_natives, StaysIfThrownOrAsked}
 use Rattle.invocation.specs.FrameSteps.{HasBegun}
 use Rattle.invocation.specs.declared.target.Callee.{Callee}
 use Rattle.invocation.specs.declared.target.Target.{Target}
@@ -42,9 +42,9 @@ use Rattle.ref_model.specs.Step.{after_effect, row_or_event}
 use Rattle.invocation.specs.Targets.{row_invoked, begins, IsInvoked}
 use Rattle.thread_steps.specs.declared.parts.Parts.{Parts}
 use Rattle.thread_steps.specs.States.{Stage, memory_of, state_of, IsRunStep}
-use Rattle.thread_steps.specs.Concluding.{Concludes, EffectSteps, Leads, Raises, Steps}
+use Rattle.thread_steps.specs.Concluding.{Concludes, EffectSteps, IsQuietStep, Leads, Raises, Steps}
 use Rattle.thread_steps.proofs.StageLaws.{own_frames}
-use Rattle.thread_steps.proofs.StepLaws.{effect_step, event_is_run}
+use Rattle.thread_steps.proofs.StepLaws.{effect_step, event_is_run, quiet_effect}
 use Rattle.thread_steps.proofs.EventLaws.{concluded, frames_kept}
 
 -- ---- a static call that is local is what it is as an event
@@ -90,6 +90,18 @@ entered_so w r m f below fs e =
     unset true x = absurd cc
     unset false x = refl
 
+-- the frames after it, and its effect
+pub static_so : (w : World) (i : Instruction) (r : Memory) (f : Frame) (below fs : List Frame) → (named_method w i.resolution >>= λ m. static_called w m f below) ≡ Some fs
+    → (g : Frame) × (slots : ℕ) × (fs ≡ g ∷ caller f slots ∷ below) × (invoked w i.resolution static r (suc (length below)) f.stack ≡ Some (invokes g (drop slots f.stack)))
+static_so w i r f below fs made =
+    let m = some_is (named_method w i.resolution) (λ m. static_called w m f below) fs made in
+    let so = entered_so w r m.0 f below fs m.2 in
+    let slots = argument_slots m.0.method.signature in
+    let begins : Option Effect = Some (invokes so.0 (drop slots f.stack)) in
+    let called : invoked w i.resolution static r (suc (length below)) f.stack ≡ begins =
+    bind_is (named_method w i.resolution) (λ n. native_entered w r (suc (length below)) n (native_at w n.number) (argument_slots n.method.signature) f.stack) m.0 begins m.1 so.2 in
+    (so.0, slots, so.1, called)
+
 -- what an invocation leads to, where it is a local instruction
 row_agrees : (w : World) (i : Instruction) (invocation : Invocation) (index : ℕ) (r : State) (t : ℕ) (f : Frame) (below fs : List Frame) (x : Effect) → local_act w i (invoke invocation index) f below ≡ Some fs
     → invoked w i.resolution invocation r.memory (suc (length below)) f.stack ≡ Some x → after_effect w r t i.instr.next f below x ≡ Some (with_frames r t fs)
@@ -98,15 +110,9 @@ row_agrees w i special index r t f below fs x made effect = absurd cc
 row_agrees w i (interface count) index r t f below fs x made effect = absurd cc
 row_agrees w i dynamic index r t f below fs x made effect = absurd cc
 row_agrees w i static index r t f below fs x made effect =
-    let m = some_is (named_method w i.resolution) (λ m. static_called w m f below) fs made in
-    let so = entered_so w r.memory m.0 f below fs m.2 in
-    let slots = argument_slots m.0.method.signature in
-    let begins : Option Effect = Some (invokes so.0 (drop slots f.stack)) in
-    let called : invoked w i.resolution static r.memory (suc (length below)) f.stack ≡ begins =
-    bind_is (named_method w i.resolution) (λ n. native_entered w r.memory (suc (length below)) n (native_at w n.number) (argument_slots n.method.signature) f.stack) m.0 begins m.1 so.2 in
-    let same : invokes so.0 (drop slots f.stack) ≡ x = let e = sym called ∙ effect in cc in
-    let after : Option State = Some (with_frames r t fs) in
-    ap (after_effect w r t i.instr.next f below) (sym same) ∙ ap (λ (gs : List Frame). Some (with_frames r t gs)) (sym so.1)
+    let so = static_so w i r.memory f below fs made in
+    let same : invokes so.0 (drop so.1 f.stack) ≡ x = let e = sym so.3 ∙ effect in cc in
+    ap (after_effect w r t i.instr.next f below) (sym same) ∙ ap (λ (gs : List Frame). Some (with_frames r t gs)) (sym so.2)
 
 -- ---- the step of an invocation
 
@@ -126,11 +132,14 @@ invocation_run w i invocation index stage a b f below after at is x = by (row w 
         ap (row_or_event w r stage.number (f ∷ below)) e ∙ sym (row_agrees w i invocation index r stage.number f below fs x.effect_is (sym by_row ∙ e) x.is) ∙ x.leads
 
 pub invoked_stepped : (w : World) (i : Instruction) (stage : Stage) (a b : Parts) (f : Frame) (below after : List Frame) → fetched w f ≡ Some i
-    → Leads w stage a b f below after i.instr.next (row_invoked w i.resolution (row_of i.instr.op) (memory_of a) (suc (length below)) f.stack) → IsRunStep w stage.number (state_of stage a (f ∷ below)) (f ∷ below) (state_of stage b after)
+    → Leads w stage a b f below after i.instr.next (row_invoked w i.resolution (row_of i.instr.op) (memory_of a) (suc (length below)) f.stack) → IsQuietStep w stage.number (state_of stage a (f ∷ below)) (f ∷ below) (state_of stage b after)
 invoked_stepped w i stage a b f below after at x = by (row_of i.instr.op) refl x
   where
-    by : (act : Row) → row_of i.instr.op ≡ act → Leads w stage a b f below after i.instr.next (row_invoked w i.resolution act (memory_of a) (suc (length below)) f.stack) → IsRunStep w stage.number (state_of stage a (f ∷ below)) (f ∷ below) (state_of stage b after)
-    by (invoke invocation index) is x = invocation_run w i invocation index stage a b f below after at is x
+    by : (act : Row) → row_of i.instr.op ≡ act → Leads w stage a b f below after i.instr.next (row_invoked w i.resolution act (memory_of a) (suc (length below)) f.stack) → IsQuietStep w stage.number (state_of stage a (f ∷ below)) (f ∷ below) (state_of stage b after)
+    by (invoke invocation index) is x = record {
+      step = invocation_run w i invocation index stage a b f below after at is x;
+      quiet = quiet_effect w i (invoke invocation index) (memory_of a) f below x.effect_is at is x.is x.quiet;
+    }
     by (local act) is x = absurd (let e = x.is in cc)
     by (constant index) is x = absurd (let e = x.is in cc)
     by (wide_constant index) is x = absurd (let e = x.is in cc)
@@ -142,19 +151,19 @@ invoked_stepped w i stage a b f below after at x = by (row_of i.instr.op) refl x
 
 -- an effect that is another one
 pub leads_too : (w : World) (stage : Stage) (a b : Parts) (f : Frame) (below after : List Frame) (next : ℕ) (effect other : Option Effect) → other ≡ effect → Leads w stage a b f below after next effect → Leads w stage a b f below after next other
-leads_too w stage a b f below after next effect other same x = record { effect_is = x.effect_is; is = same ∙ x.is; leads = x.leads }
+leads_too w stage a b f below after next effect other same x = record { effect_is = x.effect_is; is = same ∙ x.is; quiet = x.quiet; leads = x.leads }
 
 -- an exception of the machine, where the frames are as they were
 pub thrown_leads : (w : World) (stage : Stage) (a b : Parts) (f : Frame) (below after : List Frame) (next : ℕ) (e : Exception) → Raises w e a b → after ≡ f ∷ below
     → Leads w stage a b f below after next (Some (throws e))
-thrown_leads w stage a b f below after next e raise same = record { effect_is = throws e; is = refl; leads = raise stage (f ∷ below) ∙ ap (λ (fs : List Frame). Some (state_of stage b fs)) (sym same) }
+thrown_leads w stage a b f below after next e raise same = record { effect_is = throws e; is = refl; quiet = refl; leads = raise stage (f ∷ below) ∙ ap (λ (fs : List Frame). Some (state_of stage b fs)) (sym same) }
 
 -- the frame of a method that begins
 pub begun_leads : (w : World) (a : Parts) (c : Callee) (next : ℕ) (m new : Continuation) → HasBegun c m new → EffectSteps w next (λ r depth stack. begins depth c stack) a m.stack.frames a new.stack.frames
 begun_leads w a c next m new has stage f below top =
     let effect : begins (suc (length below)) c f.stack ≡ Some (invokes has.callee has.rest) = sym (ap (λ (fs : List Frame). begins (length fs) c (top_stack fs)) top) ∙ has.effect in
     let frames : new.stack.frames ≡ has.callee ∷ record f { stack = has.rest } ∷ below = has.frames ∙ ap (λ (fs : List Frame). has.callee ∷ with_stack has.rest fs) top in
-    record { effect_is = invokes has.callee has.rest; is = effect; leads = ap (λ (q : State). Some q) (own_frames stage a (f ∷ below) (has.callee ∷ record f { stack = has.rest } ∷ below) ∙ ap (state_of stage a) (sym frames)) }
+    record { effect_is = invokes has.callee has.rest; is = effect; quiet = refl; leads = ap (λ (q : State). Some q) (own_frames stage a (f ∷ below) (has.callee ∷ record f { stack = has.rest } ∷ below) ∙ ap (state_of stage a) (sym frames)) }
 
 pub deep_leads : (w : World) (a b : Parts) (c : Callee) (next : ℕ) (m : Continuation) (after : List Frame) (e : Exception) → begins (length m.stack.frames) c (operands m) ≡ Some (throws e) → after ≡ m.stack.frames
     → Raises w e a b → EffectSteps w next (λ r depth stack. begins depth c stack) a m.stack.frames b after
@@ -164,7 +173,7 @@ deep_leads w a b c next m after e effect same raise stage f below top =
 
 -- a native method
 pub native_leads : (w : World) (a b : Parts) (s : NativeState) (native : Native) (next : ℕ) (m new : Continuation) (after : List Frame) (o : Outcome) → Acts (native_effect w native) (with_natives a.natives) m (with_natives s) new o
-    → KeptUnlessDone o m new → StaysIfThrown o a.natives s → ChangesOperands m new → length (top_stack new.stack.frames) ≤ top_room new.stack.frames → Concludes w next o (record a { natives = s }) new.stack.frames b after
+    → KeptUnlessDone o m new → StaysIfThrownOrAsked o a.natives s → ChangesOperands m new → length (top_stack new.stack.frames) ≤ top_room new.stack.frames → Concludes w next o (record a { natives = s }) new.stack.frames b after
     → EffectSteps w next (λ r depth stack. native_effect w native r stack) a m.stack.frames b after
 native_leads w a b s native next m new after o acts kept stays only held ends stage f below top =
     concluded w stage a (record a { natives = s }) b f below new.stack.frames after (operands new) next o (native_effect w native (memory_of a) f.stack) (λ x fs. refl)
@@ -174,10 +183,11 @@ native_leads w a b s native next m new after o acts kept stays only held ends st
     frames : new.stack.frames ≡ with_stack (operands new) (f ∷ below)
     frames = only.frames ∙ ap (with_stack (operands new)) top
 
-    memory_kept : (o : Outcome) → StaysIfThrown o a.natives s → Concludes w next o (record a { natives = s }) new.stack.frames b after → KeptUnlessDone o (memory_of a) (memory_of (record a { natives = s }))
+    memory_kept : (o : Outcome) → StaysIfThrownOrAsked o a.natives s → Concludes w next o (record a { natives = s }) new.stack.frames b after → KeptUnlessDone o (memory_of a) (memory_of (record a { natives = s }))
     memory_kept Done x y = tt
     memory_kept (Throws e) x y = ap (λ (t : NativeState). memory_of (record a { natives = t })) x
     memory_kept (ThrowsObject n) x y = ap (λ (t : NativeState). memory_of (record a { natives = t })) x
+    memory_kept (Asks asked count) x y = absurd y.0
     memory_kept Undefined x y = absurd y.0
 
 -- ---- the step by what the invocation comes to
@@ -190,7 +200,7 @@ gives_stepped w i a b m after other given effects stage f below top at =
     let same : row_invoked w i.resolution (row_of i.instr.op) r (suc (length below)) f.stack ≡ other r (suc (length below)) f.stack =
     subst (λ (fs : List Frame). row_invoked w i.resolution (row_of i.instr.op) r (suc (length below)) (top_stack fs) ≡ other r (suc (length below)) (top_stack fs)) top (given r (suc (length below))) in
     let step = invoked_stepped w i stage a b f below after at (leads_too w stage a b f below after i.instr.next _ _ same (effects stage f below top)) in
-    subst (λ (fs : List Frame). IsRunStep w stage.number (state_of stage a fs) fs (state_of stage b after)) (sym top) step
+    subst (λ (fs : List Frame). IsQuietStep w stage.number (state_of stage a fs) fs (state_of stage b after)) (sym top) step
 
 -- it comes to this target
 abbrev pub ComesTo : World → Instruction → Parts → Continuation → Target → Type 0

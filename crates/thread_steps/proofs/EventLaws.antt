@@ -28,15 +28,15 @@ use Rattle.ref_model.specs.Effects.{Effect, done, throws, throws_object}
 use Rattle.ref_model.specs.Throwing.{raised, throwing}
 use Rattle.ref_model.specs.Step.{after_effect, division_effect}
 use Rattle.heap_instructions.specs.declared.outcome.Outcome.{Outcome}
-use Rattle.heap_instructions.specs.declared.outcome.Outcome.TheVariants.{Done, Throws, ThrowsObject, Undefined}
+use Rattle.heap_instructions.specs.declared.outcome.Outcome.TheVariants.{Done, Throws, ThrowsObject, Asks, Undefined}
 use Rattle.heap_instructions.specs.Outcomes.{IsEffect, KeptUnlessDone, with_heap, with_statics}
 use Rattle.heap_instructions.specs.Operands.{operands}
 use Rattle.heap_instructions.specs.Dispatch as events
 use Rattle.thread_steps.specs.declared.parts.Parts.{Parts}
-use Rattle.thread_steps.specs.States.{Stage, memory_of, state_of, IsRunStep}
-use Rattle.thread_steps.specs.Concluding.{Concludes, EndsOtherwise, Leads, Steps}
+use Rattle.thread_steps.specs.States.{Stage, memory_of, state_of}
+use Rattle.thread_steps.specs.Concluding.{Concludes, EndsOtherwise, IsQuietStep, Leads, Steps}
 use Rattle.thread_steps.proofs.StageLaws.{own_frames}
-use Rattle.thread_steps.proofs.StepLaws.{effect_step, event_is_run, no_row}
+use Rattle.thread_steps.proofs.StepLaws.{effect_step, event_is_run, no_row, quiet_effect}
 
 -- ---- what is concluded from an effect
 
@@ -45,6 +45,7 @@ pub ended_otherwise : (w : World) (next : ℕ) (outcome : Outcome) (a b : Parts)
 ended_otherwise w next Done a b frames is = absurd is
 ended_otherwise w next (Throws e) a b frames is = (is, refl)
 ended_otherwise w next (ThrowsObject o) a b frames is = (is, refl)
+ended_otherwise w next (Asks asked count) a b frames is = absurd is
 ended_otherwise w next Undefined a b frames is = absurd is
 
 -- the frame goes on, where its operand stack has room
@@ -79,18 +80,20 @@ concluded w stage a mid b f below left after stack next Done effect thread is he
     record {
       effect_is = done (memory_of mid) stack;
       is = is;
+      quiet = refl;
       leads = goes ∙ ap (λ (fs : List Frame). Some (state_of stage mid fs)) (sym top) ∙ ap (λ (p : Parts). Some (state_of stage p after)) (sym ends.0);
     }
 concluded w stage a mid b f below left after stack next (Throws e) effect thread is held frames kept same ends =
     let t = stage.number in
     let before : raised w (state_of stage a (f ∷ below)) t e ≡ raised w (state_of stage mid left) t e =
     ap (λ (r : State). raised w r t e) (same_state stage a mid (f ∷ below) thread kept) ∙ ap (λ (fs : List Frame). raised w (state_of stage mid fs) t e) (sym same) in
-    record { effect_is = throws e; is = is; leads = before ∙ ends.0 stage left ∙ ap (λ (fs : List Frame). Some (state_of stage b fs)) (sym ends.1) }
+    record { effect_is = throws e; is = is; quiet = refl; leads = before ∙ ends.0 stage left ∙ ap (λ (fs : List Frame). Some (state_of stage b fs)) (sym ends.1) }
 concluded w stage a mid b f below left after stack next (ThrowsObject n) effect thread is held frames kept same ends =
     let t = stage.number in
     let before : throwing (state_of stage a (f ∷ below)) t n ≡ throwing (state_of stage mid left) t n =
     ap (λ (r : State). throwing r t n) (same_state stage a mid (f ∷ below) thread kept) ∙ ap (λ (fs : List Frame). throwing (state_of stage mid fs) t n) (sym same) in
-    record { effect_is = throws_object n; is = is; leads = ap Some (before ∙ ends.0 stage left ∙ ap (state_of stage b) (sym ends.1)) }
+    record { effect_is = throws_object n; is = is; quiet = refl; leads = ap Some (before ∙ ends.0 stage left ∙ ap (state_of stage b) (sym ends.1)) }
+concluded w stage a mid b f below left after stack next (Asks asked count) effect thread is held frames kept same ends = absurd ends.0
 concluded w stage a mid b f below left after stack next Undefined effect thread is held frames kept same ends = absurd ends.0
 
 -- ---- the instructions on fields, arrays and objects, and divisions by 0
@@ -107,23 +110,29 @@ by_zero true x e = refl
 by_zero false x e = absurd cc
 
 division_stepped : (w : World) (i : Instruction) (act : LocalRow) (stage : Stage) (a b : Parts) (f : Frame) (below after : List Frame) → fetched w f ≡ Some i → row_of i.instr.op ≡ local act
-    → Leads w stage a b f below after i.instr.next (division_effect act (events.frame_with f.stack)) → IsRunStep w stage.number (state_of stage a (f ∷ below)) (f ∷ below) (state_of stage b after)
+    → Leads w stage a b f below after i.instr.next (division_effect act (events.frame_with f.stack)) → IsQuietStep w stage.number (state_of stage a (f ∷ below)) (f ∷ below) (state_of stage b after)
 division_stepped w i act stage a b f below after at row x =
     let zero : divides_by_zero act (contents f) ≡ true = divides_same act f ∙ by_zero (divides_by_zero act (contents (events.frame_with f.stack))) x.effect_is x.is in
     let no : local_act w i (local act) f below ≡ None = ap (λ o. o >>= λ m. moved f i.instr.next m >>= λ g. Some (g ∷ below)) (undefined_by_zero act (contents f) zero) in
     let effect : division_effect act f ≡ Some x.effect_is = ap (λ (z : Bool). if z then Some (throws exceptions.ArithmeticException) else None) (divides_same act f) ∙ x.is in
-    event_is_run w (state_of stage a (f ∷ below)) (state_of stage b after) stage.number (f ∷ below) (no_row w i (local act) f below at row no)
-    (effect_step w i (local act) (state_of stage a (f ∷ below)) (state_of stage b after) stage.number f below x.effect_is at row tt effect x.leads)
+    record {
+      step = event_is_run w (state_of stage a (f ∷ below)) (state_of stage b after) stage.number (f ∷ below) (no_row w i (local act) f below at row no)
+          (effect_step w i (local act) (state_of stage a (f ∷ below)) (state_of stage b after) stage.number f below x.effect_is at row tt effect x.leads);
+      quiet = quiet_effect w i (local act) (memory_of a) f below x.effect_is at row effect x.quiet;
+    }
 
 pub event_stepped : (w : World) (i : Instruction) (stage : Stage) (a mid b : Parts) (f : Frame) (below left after : List Frame) (stack : List Slot) (o : Outcome) → fetched w f ≡ Some i
     → HasSameThread a mid → IsEffect f.room o (events.row_effect w i.resolution (row_of i.instr.op) (memory_of a) f.stack) (memory_of mid) stack → length stack ≤ f.room → left ≡ with_stack stack (f ∷ below)
-    → KeptUnlessDone o (memory_of a) (memory_of mid) → KeptUnlessDone o (f ∷ below) left → Concludes w i.instr.next o mid left b after → IsRunStep w stage.number (state_of stage a (f ∷ below)) (f ∷ below) (state_of stage b after)
+    → KeptUnlessDone o (memory_of a) (memory_of mid) → KeptUnlessDone o (f ∷ below) left → Concludes w i.instr.next o mid left b after → IsQuietStep w stage.number (state_of stage a (f ∷ below)) (f ∷ below) (state_of stage b after)
 event_stepped w i stage a mid b f below left after stack o at thread is held frames kept same ends = by (row_of i.instr.op) refl (concluded w stage a mid b f below left after stack i.instr.next o _ thread is held frames kept same ends)
   where
-    by : (act : Row) → row_of i.instr.op ≡ act → Leads w stage a b f below after i.instr.next (events.row_effect w i.resolution act (memory_of a) f.stack) → IsRunStep w stage.number (state_of stage a (f ∷ below)) (f ∷ below) (state_of stage b after)
+    by : (act : Row) → row_of i.instr.op ≡ act → Leads w stage a b f below after i.instr.next (events.row_effect w i.resolution act (memory_of a) f.stack) → IsQuietStep w stage.number (state_of stage a (f ∷ below)) (f ∷ below) (state_of stage b after)
     by (event e) row x =
-        event_is_run w (state_of stage a (f ∷ below)) (state_of stage b after) stage.number (f ∷ below) (no_row w i (event e) f below at row refl)
-        (effect_step w i (event e) (state_of stage a (f ∷ below)) (state_of stage b after) stage.number f below x.effect_is at row tt x.is x.leads)
+        record {
+          step = event_is_run w (state_of stage a (f ∷ below)) (state_of stage b after) stage.number (f ∷ below) (no_row w i (event e) f below at row refl)
+              (effect_step w i (event e) (state_of stage a (f ∷ below)) (state_of stage b after) stage.number f below x.effect_is at row tt x.is x.leads);
+          quiet = quiet_effect w i (event e) (memory_of a) f below x.effect_is at row x.is x.quiet;
+        }
     by (local act) row x = division_stepped w i act stage a b f below after at row x
     by (constant index) row x = absurd (let e = x.is in cc)
     by (wide_constant index) row x = absurd (let e = x.is in cc)
@@ -153,6 +162,7 @@ values_kept a h statics o size heap values = by o heap values
     by Done x y = tt
     by (Throws e) x y = same x y
     by (ThrowsObject n) x y = same x y
+    by (Asks asked count) x y = same x y
     by Undefined x y = same x y
 
 -- where the thread stays, its frames do
@@ -166,6 +176,7 @@ frames_kept m next frames o top kept = by o kept
     by Done x = tt
     by (Throws e) x = same x
     by (ThrowsObject n) x = same x
+    by (Asks asked count) x = same x
     by Undefined x = same x
 
 pub event_done : (w : World) (i : Instruction) (a b : Parts) (h : Heap) (given statics : List Value) (m next : Continuation) (after : List Frame) (o : Outcome) → length statics ≡ a.statics.len → given ≡ a.statics.items
@@ -179,9 +190,9 @@ event_done w i a b h given statics m next after o size same ran held ends stage 
     let first : events.row_effect w i.resolution (row_of i.instr.op) (with_heap a.natives.heap (with_statics given (memory_of a))) (operands m) ≡ events.row_effect w i.resolution (row_of i.instr.op) (memory_of a) f.stack =
     ap (λ (s : List Value). events.row_effect w i.resolution (row_of i.instr.op) (with_statics s (memory_of a)) (operands m)) same ∙ ap (λ (fs : List Frame). events.row_effect w i.resolution (row_of i.instr.op) (memory_of a) (top_stack fs)) top in
     let kept_statics = subst (λ (s : List Value). KeptUnlessDone o s statics) same ran.kept_statics in
-    let step : IsRunStep w stage.number (state_of stage a (f ∷ below)) (f ∷ below) (state_of stage b after) =
+    let step : IsQuietStep w stage.number (state_of stage a (f ∷ below)) (f ∷ below) (state_of stage b after) =
     event_stepped w i stage a (with_values a h statics) b f below next.stack.frames after (operands next) o at (λ x fs. refl)
     (subst (λ (n : ℕ). IsEffect n o (events.row_effect w i.resolution (row_of i.instr.op) (memory_of a) f.stack) (memory_of (with_values a h statics)) (operands next)) (ap top_room top)
     (subst (λ (x : Option Effect). IsEffect (top_room m.stack.frames) o x (memory_of (with_values a h statics)) (operands next)) first effect))
     (subst (λ (n : ℕ). length (operands next) ≤ n) room held) frames (values_kept a h statics o size ran.kept_heap kept_statics) (frames_kept m next (f ∷ below) o top ran.kept) ends in
-    subst (λ (fs : List Frame). IsRunStep w stage.number (state_of stage a fs) fs (state_of stage b after)) (sym top) step
+    subst (λ (fs : List Frame). IsQuietStep w stage.number (state_of stage a fs) fs (state_of stage b after)) (sym top) step

@@ -4,3 +4,4 @@ pub mod ThrowLaws
 pub mod EventLaws
 pub mod CallLaws
 pub mod ReturnLaws
+pub mod AskingLaws

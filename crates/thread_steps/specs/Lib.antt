@@ -2,3 +2,4 @@ pub mod States
 pub mod Concluding
 pub mod Operands
 pub mod Returning
+pub mod Asking

@@ -33,13 +33,13 @@ own_thread stage a frames = record stage.thread {
   frames = frames;
 }
 
--- The state of the stage with these parts, in which its thread has these frames. The other threads and the time are the stage's own.
+-- The state of the stage with these parts, in which its thread has these frames. The other threads, their limit and the time are the
+-- stage's own.
 abbrev pub state_of : Stage → Parts → List Frame → State
 state_of stage a frames = record stage.state {
   memory = memory_of a;
   threads = slice_set stage.state.threads stage.number (own_thread stage a frames);
   main_threw = a.main_threw;
-  most_threads = a.most_threads;
 }
 
 -- The instruction at the top frame's pc of a thread leads from one state to the other.

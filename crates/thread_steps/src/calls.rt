@@ -1,17 +1,19 @@
 //! Invocations and returns, as steps of a thread.
 
-ghost use Rattle.std.specs.Prelude.{◌<◌, ◌≤◌, ℕ, length, OnOk};
+ghost use Rattle.std.specs.Prelude.{◌<◌, ◌≤◌, ℕ, length, IfOk, OnOk};
 ghost use Rattle.instruction_rows.specs.Table.{row};
 ghost use Rattle.ref_model.specs.Operands.{FindsArguments, FindsOperands};
 ghost use Rattle.heap_instructions.specs.Operands.{operands};
 ghost use Rattle.native_methods.specs.Arguments.{native_effect};
 ghost use Rattle.invocation.specs.InvocationCache.{AreSelected};
 ghost use Rattle.invocation.specs.Targets.{begins};
-ghost use Rattle.thread_steps.specs.Concluding.{EffectSteps, Steps};
+ghost use Rattle.thread_steps.specs.Asking.{EffectProceeds, IsProgress, StaysIfAsked};
+ghost use Rattle.thread_steps.specs.Concluding.{EffectSteps};
 ghost use Rattle.thread_steps.specs.Operands.{FindsNatives};
 
-use crate::concluding::{conclude, raise};
+use crate::concluding::{conclude_or_ask, raise};
 use crate::parts::Parts;
+use crate::progress::Progress;
 use crate::world::MachineWorld;
 use continuation::Mounted;
 use invocation::{Callee, Entered, InvocationCache, Target, enter, invoke};
@@ -22,7 +24,7 @@ use native_methods::run_native;
 use opcodes::Instr;
 use std::alloc::Global;
 
-// A native method runs in one step, and the frame goes on at the next instruction.
+// A native method runs in one step, and the frame goes on at the next instruction, or the method asks something.
 #[inline(never)]
 fn native_step<W: MachineWorld>(
     alloc: Global,
@@ -31,17 +33,18 @@ fn native_step<W: MachineWorld>(
     mounted: &mut Mounted,
     next: u32,
     native: Native,
-) -> Result<(), NoMemory>
+) -> Result<Progress, NoMemory>
     requires frame { 0 < length mounted.old.stack.frames }
     requires arguments { FindsArguments (W.world world.now) native (operands mounted.old) }
-    ensures { OnOk result (EffectSteps (W.world world.now) next
-        (λ r depth stack. native_effect (W.world world.now) native r stack)
+    ensures progress { IfOk result (λ progress. EffectProceeds (W.world world.now) next
+        (λ r depth stack. native_effect (W.world world.now) native r stack) progress
         parts.old mounted.old.stack.frames parts.new mounted.new.stack.frames) }
+    ensures stays { IfOk result (λ progress. StaysIfAsked progress mounted.old mounted.new) }
 {
     mounted.operands_fit();
     let outcome = run_native(alloc, world, native, &mut parts.natives, mounted)?;
     mounted.operands_fit();
-    conclude(world, parts, mounted, next, outcome)
+    conclude_or_ask(world, parts, mounted, next, outcome)
 }
 
 // A method with code begins, or there are too many frames.
@@ -75,16 +78,17 @@ pub(crate) fn invocation_step<W: MachineWorld>(
     mounted: &mut Mounted,
     instr: &Instr,
     resolution: &Resolution,
-) -> Result<(), NoMemory>
+) -> Result<Progress, NoMemory>
     requires frame { 0 < length mounted.old.stack.frames }
     requires operands { FindsOperands (W.world world.now) resolution.now (row instr.now.op)
         (operands mounted.old) }
     requires natives { FindsNatives (W.world world.now) resolution.now (row instr.now.op)
         parts.old.natives.heap mounted.old }
     requires selected { AreSelected (W.world world.now) cache.old }
-    ensures steps { OnOk result (Steps (W.world world.now)
-        (record { instr = instr.now; resolution = resolution.now })
+    ensures progress { IfOk result (λ progress. IsProgress (W.world world.now)
+        (record { instr = instr.now; resolution = resolution.now }) progress
         parts.old mounted.old.stack.frames parts.new mounted.new.stack.frames) }
+    ensures stays { IfOk result (λ progress. StaysIfAsked progress mounted.old mounted.new) }
     ensures cache { AreSelected (W.world world.now) cache.new }
 {
     mounted.operands_fit();
@@ -99,8 +103,14 @@ pub(crate) fn invocation_step<W: MachineWorld>(
     )?;
     match target {
         Target::Native(native) => native_step(alloc, world, parts, mounted, instr.next, native),
-        Target::Code(callee) => code_step(world, parts, mounted, callee),
-        Target::Throws(exception) => raise(world, parts, exception),
+        Target::Code(callee) => {
+            code_step(world, parts, mounted, callee)?;
+            Ok(Progress::Stepped)
+        }
+        Target::Throws(exception) => {
+            raise(world, parts, exception)?;
+            Ok(Progress::Stepped)
+        }
         Target::Undefined => Err(NoMemory),
     }
 }

@@ -1,9 +1,11 @@
 //! What the outcome of an instruction makes of the thread that had it.
 
-ghost use Rattle.std.specs.Prelude.{OnOk};
+ghost use Rattle.std.specs.Prelude.{IfOk, OnOk};
+ghost use Rattle.thread_steps.specs.Asking.{Proceeds};
 ghost use Rattle.thread_steps.specs.Concluding.{Concludes, EndsOtherwise, Raises};
 
 use crate::parts::Parts;
+use crate::progress::{PendingRequest, Progress};
 use crate::world::MachineWorld;
 use continuation::Mounted;
 use heap_instructions::{Outcome, make_object};
@@ -14,7 +16,7 @@ use vthread_state::{Phase, Status};
 
 /// Throws a new exception of the machine: an object without a message, or the OutOfMemoryError of the start if there is no room for it.
 #[inline(never)]
-pub(crate) fn raise<W: MachineWorld>(
+pub fn raise<W: MachineWorld>(
     world: &W,
     parts: &mut Parts,
     exception: Exception,
@@ -29,7 +31,7 @@ pub(crate) fn raise<W: MachineWorld>(
     Ok(())
 }
 
-// What an outcome makes of the thread that had it, where it isn't done.
+// What an outcome makes of the thread that had it, where it isn't done and asks nothing.
 #[inline(never)]
 fn conclude_otherwise<W: MachineWorld>(
     world: &W,
@@ -44,11 +46,11 @@ fn conclude_otherwise<W: MachineWorld>(
             parts.status = Status::Live(Phase::Throwing(o));
             Ok(())
         }
-        Outcome::Done | Outcome::Undefined => Err(NoMemory),
+        Outcome::Done | Outcome::Asks { .. } | Outcome::Undefined => Err(NoMemory),
     }
 }
 
-/// What an outcome makes of the thread that had it, whose next instruction is at a pc.
+/// What an outcome that asks nothing makes of the thread that had it, whose next instruction is at a pc.
 #[inline(always)]
 pub(crate) fn conclude<W: MachineWorld>(
     world: &W,
@@ -66,5 +68,31 @@ pub(crate) fn conclude<W: MachineWorld>(
             Ok(())
         }
         other => conclude_otherwise(world, parts, other),
+    }
+}
+
+/// What any outcome makes of the thread that had it.
+pub(crate) fn conclude_or_ask<W: MachineWorld>(
+    world: &W,
+    parts: &mut Parts,
+    mounted: &mut Mounted,
+    next: u32,
+    outcome: Outcome,
+) -> Result<Progress, NoMemory>
+    ensures { IfOk result (λ progress. Proceeds (W.world world.now) next outcome progress
+        parts.old mounted.old parts.new mounted.new) }
+{
+    match outcome {
+        Outcome::Asks { request, operands } => {
+            Ok(Progress::Asks(PendingRequest {
+                request,
+                next,
+                operands,
+            }))
+        }
+        other => {
+            conclude(world, parts, mounted, next, other)?;
+            Ok(Progress::Stepped)
+        }
     }
 }

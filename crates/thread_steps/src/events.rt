@@ -1,20 +1,23 @@
-//! The instructions on fields, arrays and objects, and divisions by 0, as steps of a thread.
+//! The instructions on fields, arrays and objects, and divisions by 0, as steps of a thread. Those on monitors ask, or throw.
 
-ghost use Rattle.std.specs.Prelude.{◌<◌, ◌≡◌, length, true, OnOk};
+ghost use Rattle.std.specs.Prelude.{◌<◌, ◌≡◌, length, true, IfOk, OnOk};
+ghost use Rattle.opcodes.specs.declared.op.Op.TheVariants as ops;
 ghost use Rattle.instruction_rows.specs.Table.{row};
 ghost use Rattle.ref_model.specs.Operands.{FindsOperands};
 ghost use Rattle.heap_instructions.specs.Dispatch.{is_on_field, is_plain};
 ghost use Rattle.heap_instructions.specs.Operands.{operands};
+ghost use Rattle.thread_steps.specs.Asking.{IsProgress, StaysIfAsked};
 ghost use Rattle.thread_steps.specs.Concluding.{Steps};
 
-use crate::concluding::conclude;
+use crate::concluding::{conclude, conclude_or_ask};
 use crate::parts::Parts;
+use crate::progress::Progress;
 use crate::world::MachineWorld;
 use continuation::Mounted;
-use heap_instructions::{run_event, run_field, run_plain};
+use heap_instructions::{enter_monitor, exit_monitor, run_event, run_field, run_plain};
 use items::NoMemory;
 use link_model::Resolution;
-use opcodes::{Instr, Op};
+use opcodes::{Instr, Op, Simple};
 use std::alloc::Global;
 
 // The step of a thread whose top frame is at an instruction on a field.
@@ -108,7 +111,44 @@ fn other_step<W: MachineWorld>(
     conclude(world, parts, mounted, instr.next, outcome)
 }
 
-/// The step of a thread whose top frame is at such an instruction. Instructions on fields and those without operands in the code have
+// The step of a thread whose top frame is at one without operands in the code; or what it asks.
+#[inline(always)]
+fn simple_step<W: MachineWorld>(
+    world: &W,
+    parts: &mut Parts,
+    mounted: &mut Mounted,
+    instr: &Instr,
+    resolution: &Resolution,
+    simple: Simple,
+) -> Result<Progress, NoMemory>
+    requires simple { instr.now.op ≡ ops.Simple simple }
+    requires frame { 0 < length mounted.old.stack.frames }
+    requires operands { FindsOperands (W.world world.now) resolution.now (row instr.now.op)
+        (operands mounted.old) }
+    ensures progress { IfOk result (λ progress. IsProgress (W.world world.now)
+        (record { instr = instr.now; resolution = resolution.now }) progress
+        parts.old mounted.old.stack.frames parts.new mounted.new.stack.frames) }
+    ensures stays { IfOk result (λ progress. StaysIfAsked progress mounted.old mounted.new) }
+{
+    match simple {
+        Simple::MonitorEnter => {
+            mounted.operands_fit();
+            let outcome = enter_monitor(mounted);
+            conclude_or_ask(world, parts, mounted, instr.next, outcome)
+        }
+        Simple::MonitorExit => {
+            mounted.operands_fit();
+            let outcome = exit_monitor(mounted);
+            conclude_or_ask(world, parts, mounted, instr.next, outcome)
+        }
+        _ => {
+            plain_step(world, parts, mounted, instr, resolution)?;
+            Ok(Progress::Stepped)
+        }
+    }
+}
+
+/// The step of a thread whose top frame is at such an instruction; or what it asks. Instructions on fields and those without operands in the code have
 /// functions of their own, since they are short and frequent.
 #[inline(always)]
 pub(crate) fn event_step<W: MachineWorld>(
@@ -118,19 +158,24 @@ pub(crate) fn event_step<W: MachineWorld>(
     mounted: &mut Mounted,
     instr: &Instr,
     resolution: &Resolution,
-) -> Result<(), NoMemory>
+) -> Result<Progress, NoMemory>
     requires frame { 0 < length mounted.old.stack.frames }
     requires operands { FindsOperands (W.world world.now) resolution.now (row instr.now.op)
         (operands mounted.old) }
-    ensures { OnOk result (Steps (W.world world.now)
-        (record { instr = instr.now; resolution = resolution.now }) parts.old mounted.old.stack.frames
-        parts.new mounted.new.stack.frames) }
+    ensures progress { IfOk result (λ progress. IsProgress (W.world world.now)
+        (record { instr = instr.now; resolution = resolution.now }) progress
+        parts.old mounted.old.stack.frames parts.new mounted.new.stack.frames) }
+    ensures stays { IfOk result (λ progress. StaysIfAsked progress mounted.old mounted.new) }
 {
     match instr.op {
         Op::GetStatic(_) | Op::PutStatic(_) | Op::GetField(_) | Op::PutField(_) => {
-            field_step(world, parts, mounted, instr, resolution)
+            field_step(world, parts, mounted, instr, resolution)?;
+            Ok(Progress::Stepped)
         }
-        Op::Simple(_) => plain_step(world, parts, mounted, instr, resolution),
-        _ => other_step(alloc, world, parts, mounted, instr, resolution),
+        Op::Simple(simple) => simple_step(world, parts, mounted, instr, resolution, simple),
+        _ => {
+            other_step(alloc, world, parts, mounted, instr, resolution)?;
+            Ok(Progress::Stepped)
+        }
     }
 }

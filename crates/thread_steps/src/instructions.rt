@@ -1,16 +1,17 @@
 //! The step of a thread that runs, by the instruction at hand.
 
-ghost use Rattle.std.specs.Prelude.{◌<◌, length, OnOk};
+ghost use Rattle.std.specs.Prelude.{◌<◌, length, IfOk};
 ghost use Rattle.instruction_rows.specs.Table.{row};
 ghost use Rattle.ref_model.specs.Operands.{FindsOperands};
 ghost use Rattle.heap_instructions.specs.Operands.{operands};
 ghost use Rattle.invocation.specs.InvocationCache.{AreSelected};
-ghost use Rattle.thread_steps.specs.Concluding.{Steps};
+ghost use Rattle.thread_steps.specs.Asking.{IsProgress, StaysIfAsked};
 ghost use Rattle.thread_steps.specs.Operands.{FindsNatives};
 
 use crate::calls::invocation_step;
 use crate::events::event_step;
 use crate::parts::Parts;
+use crate::progress::Progress;
 use crate::returns::{return_at, return_step};
 use crate::world::MachineWorld;
 use continuation::Mounted;
@@ -20,7 +21,7 @@ use link_model::Resolution;
 use opcodes::{Instr, Op};
 use std::alloc::Global;
 
-/// The step of a thread whose top frame is at this instruction, which isn't one that stays in its frame.
+/// The step of a thread whose top frame is at this instruction, which isn't one that stays in its frame; or what it asks.
 #[inline(always)]
 pub fn instruction_step<W: MachineWorld>(
     alloc: Global,
@@ -30,20 +31,22 @@ pub fn instruction_step<W: MachineWorld>(
     mounted: &mut Mounted,
     instr: &Instr,
     resolution: &Resolution,
-) -> Result<(), NoMemory>
+) -> Result<Progress, NoMemory>
     requires frame { 0 < length mounted.old.stack.frames }
     requires operands { FindsOperands (W.world world.now) resolution.now (row instr.now.op)
         (operands mounted.old) }
     requires natives { FindsNatives (W.world world.now) resolution.now (row instr.now.op)
         parts.old.natives.heap mounted.old }
     requires selected { AreSelected (W.world world.now) cache.old }
-    ensures steps { OnOk result (Steps (W.world world.now)
-        (record { instr = instr.now; resolution = resolution.now })
+    ensures progress { IfOk result (λ progress. IsProgress (W.world world.now)
+        (record { instr = instr.now; resolution = resolution.now }) progress
         parts.old mounted.old.stack.frames parts.new mounted.new.stack.frames) }
+    ensures stays { IfOk result (λ progress. StaysIfAsked progress mounted.old mounted.new) }
     ensures cache { AreSelected (W.world world.now) cache.new }
 {
     if let Some(returns) = return_at(&instr.op) {
-        return return_step(world, parts, mounted, returns.kind);
+        return_step(world, parts, mounted, returns.kind)?;
+        return Ok(Progress::Stepped);
     }
     match instr.op {
         Op::InvokeVirtual(_)

@@ -1,5 +1,5 @@
 //! The steps of a thread: invocations, returns, instructions on fields, arrays and objects, and exceptions on their way, on each state and
-//! each of its threads.
+//! each of its threads; and what instructions ask of the threads.
 #![tactic(auto)]
 
 mod calls;
@@ -7,12 +7,15 @@ mod concluding;
 mod events;
 mod instructions;
 mod parts;
+mod progress;
 mod returns;
 mod throwing;
 mod world;
 
+pub use concluding::raise;
 pub use instructions::instruction_step;
 pub use parts::Parts;
+pub use progress::{PendingRequest, Progress};
 pub use returns::{Return, return_at};
 pub use throwing::throwing_step;
 pub use world::MachineWorld;

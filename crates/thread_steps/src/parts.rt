@@ -13,6 +13,4 @@ pub struct Parts {
     pub status: Status,
     /// Whether an exception that nothing caught ended the main thread.
     pub main_threw: bool,
-    /// How many threads there may be.
-    pub most_threads: u32,
 }

@@ -70,7 +70,7 @@ fn end_uncaught<W: MachineWorld>(
     push_text(&mut parts.natives.err, &line)?;
     parts.main_threw |= thread == 0;
     parts.status = Status::Done;
-    *mounted = Mounted::new(alloc, 0);
+    *mounted = Mounted::new(alloc, thread);
     Ok(())
 }
 

@@ -1,10 +1,10 @@
 use Rattle.std.proofs.Common.{ℕ, ℤ, List, Some, ap, rules, subst, to_z-of_z, ◌∙◌}
-use Rattle.std.specs.Prelude.{FitsSigned, IfOk, not, true, unsigned_abs, ◌==◌}
+use Rattle.std.specs.Prelude.{FitsSigned, IfOk, true}
 use Rattle.std.specs.Int.{w32}
 use Rattle.opcodes.specs.declared.op.ValueKind.TheVariants as kinds
 use Rattle.ref_model.specs.Printing.{written}
-use Rattle.ref_model.specs.Requests.{sets_daemon}
 use Rattle.ref_model.specs.StringNatives.{string_char_at}
+use Rattle.ref_model.specs.ThreadNatives.{thread_set_daemon}
 use Rattle.ref_model.specs.Texts.{char_text}
 use Rattle.native_methods.specs.Arguments.{to_two}
 use Rattle.native_methods.specs.NativeStates.{Answers, printed}
@@ -25,4 +25,6 @@ returns-in-PrintStreamPrintlnChar-clause-answer g c =
 
 pub returns-in-ThreadSetDaemon-clause-answer : goal.returns-in-ThreadSetDaemon-clause-answer
 returns-in-ThreadSetDaemon-clause-answer g c =
-    rw c.in-ThreadSetDaemon.is (c.thread_asked.ensures (λ t. sets_daemon t (not (unsigned_abs c.args.n == 0))))
+    let fits : FitsSigned w32 c.args.n = search rules in
+    let P : ℤ → Type 0 = λ n. Answers (λ r. to_two kinds.Int n c.args.this (Some (thread_set_daemon r))) c.args.state.now c.args.state.now c.daemon_set.result in
+    rw c.in-ThreadSetDaemon.is (subst P (to_z-of_z fits) c.daemon_set.ensures)

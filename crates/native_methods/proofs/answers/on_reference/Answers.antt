@@ -1,12 +1,7 @@
-use Rattle.std.specs.Prelude.{None}
-use Rattle.ref_model.specs.Requests.{notifies, notifies_all, waits_on}
 use Rattle.native_methods.proofs.answers.on_reference.Goals as goal
 
 pub returns-in-ObjectWait-clause-answer : goal.returns-in-ObjectWait-clause-answer
-returns-in-ObjectWait-clause-answer g c = rw c.in-ObjectWait.is (c.monitor_asked.ensures (λ o. waits_on o None))
+returns-in-ObjectWait-clause-answer g c = c.monitor_asked.ensures (g.W.EventWorld.world c.args.world.now) c.args.state.now
 
-pub returns-in-ObjectNotify-clause-answer : goal.returns-in-ObjectNotify-clause-answer
-returns-in-ObjectNotify-clause-answer g c = rw c.in-ObjectNotify.is (c.monitor_asked-in-ObjectNotify.ensures notifies)
-
-pub returns-in-ObjectNotifyAll-clause-answer : goal.returns-in-ObjectNotifyAll-clause-answer
-returns-in-ObjectNotifyAll-clause-answer g c = rw c.in-ObjectNotifyAll.is (c.monitor_asked-in-ObjectNotifyAll.ensures notifies_all)
+pub returns-in-ThreadStart-clause-answer : goal.returns-in-ThreadStart-clause-answer
+returns-in-ThreadStart-clause-answer g c = c.thread_asked.ensures (g.W.EventWorld.world c.args.world.now)

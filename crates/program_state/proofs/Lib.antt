@@ -1,0 +1,9 @@
+pub mod StateLaws
+pub mod StepLaws
+pub mod ReplyLaws
+pub mod RowLaws
+pub mod ChangeLaws
+pub mod CreateLaws
+pub mod StartLaws
+pub mod RequestLaws
+pub mod WaitLaws

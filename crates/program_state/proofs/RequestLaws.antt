@@ -1,0 +1,176 @@
+-- From what an instruction asks to the step of its thread.
+use Rattle.std.proofs.Common.{◌≡◌, ℕ, suc, ◌<◌, arith, Bool, true, false, List, [], ◌∷◌, length, drop, Option, Some, refl, ap, sym, subst, ◌∙◌}
+use Rattle.std.specs.Prelude.{map, not, slice_set, ◌&&◌}
+use Rattle.std.proofs.Math.ListN.{length-set}
+use Rattle.items.specs.Options.{◌>>=◌}
+use Rattle.items.proofs.Binds.{bind_is, some_is}
+use Rattle.instruction_rows.specs.Rows.{Row, returns}
+use Rattle.instruction_rows.specs.Table.{row as row_of}
+use Rattle.vthread_state.specs.declared.phase.Phase.TheVariants.{Run}
+use Rattle.vthread_state.specs.declared.thread.ThreadKind.{ThreadKind}
+use Rattle.link_model.specs.World.{World}
+use Rattle.verify_types.specs.Environment.{Instruction}
+use Rattle.state_model.specs.Frames.{Frame}
+use Rattle.continuation.specs.Continuation.{Continuation}
+use Rattle.frames.specs.Frames.{top_stack}
+use Rattle.ref_model.specs.declared.exception.Exception.{Exception}
+use Rattle.ref_model.specs.Asking.{Asking, goes}
+use Rattle.ref_model.specs.Effects.{Effect, done, invokes, throws, throws_object, asks}
+use Rattle.ref_model.specs.Fetch.{fetched}
+use Rattle.ref_model.specs.Looks.{is_create}
+use Rattle.ref_model.specs.Requesting.{asked}
+use Rattle.ref_model.specs.Requests.{Request, request_of}
+use Rattle.ref_model.specs.Resuming.{asking_by, asking_in}
+use Rattle.ref_model.specs.State.{JavaThread, State}
+use Rattle.ref_model.specs.Step.{after_effect, event_step, phase_step, row_effect, row_event, row_or_event}
+use Rattle.ref_model.specs.declared.request.ThreadRequest.TheVariants as requests
+use Rattle.schedule_soundness.specs.PutLaws.{OthersStay}
+use Rattle.thread_steps.specs.declared.parts.Parts.{Parts}
+use Rattle.thread_steps.specs.declared.progress.PendingRequest.{PendingRequest}
+use Rattle.thread_steps.specs.Asking.{asking_of, AsksAt}
+use Rattle.thread_steps.specs.States.{memory_of}
+use Rattle.program_state.specs.declared.reply.Reply.{Reply}
+use Rattle.program_state.specs.declared.reply.Reply.TheVariants as replies
+use Rattle.program_state.specs.declared.starting.Start.TheVariants.{Begins, Throws}
+use Rattle.program_state.specs.declared.state.ProgramState.{ProgramState}
+use Rattle.program_state.specs.Creating.{has_room}
+use Rattle.program_state.specs.Replies.{Answers, Concludes, GoesOn, GoesOnWithout}
+use Rattle.program_state.specs.Requests.{IsPending, LacksThreads, lacks_room}
+use Rattle.program_state.specs.Running.{StandsAt}
+use Rattle.program_state.specs.Starting.{IsBegun, IsStart}
+use Rattle.program_state.specs.States.{IsState}
+use Rattle.program_state.specs.Steps.{Starts, StepsTo}
+use Rattle.program_state.proofs.StateLaws.{others_same, others_then}
+use Rattle.program_state.proofs.CreateLaws.{room_there}
+use Rattle.program_state.proofs.ReplyLaws.{gone_on}
+use Rattle.program_state.proofs.StartLaws.{begun_is, begun_runs, begun_state, begun_thread, starts_then}
+
+-- ---- the step of an instruction that asks is what its request makes of the state
+
+inner_pair : (x y : Request × Asking) → Some x ≡ Some y → x ≡ y
+inner_pair x y e = cc
+
+effect_asks : (w : World) (r : State) (t next : ℕ) (f : Frame) (below : List Frame) (e : Effect) (x : Request × Asking) → asking_by f below next e ≡ Some x
+    → after_effect w r t next f below e ≡ asked w r t x.1 x.0
+effect_asks w r t next f below (done m stack) x e = absurd cc
+effect_asks w r t next f below (invokes g stack) x e = absurd cc
+effect_asks w r t next f below (throws k) x e = absurd cc
+effect_asks w r t next f below (throws_object o) x e = absurd cc
+effect_asks w r t next f below (asks q stack) x e =
+    ap (λ (y : Request × Asking). asked w r t y.1 y.0) (inner_pair (q, record { frame = f; below = below; next = next; stack = stack }) x e)
+
+row_asks : (w : World) (i : Instruction) (act : Row) (r : State) (t : ℕ) (f : Frame) (below : List Frame) (x : Request × Asking)
+    → (row_effect w i act r.memory (length (f ∷ below)) f >>= asking_by f below i.instr.next) ≡ Some x → row_event w i act r t f below ≡ asked w r t x.1 x.0
+row_asks w i (returns kind) r t f below x e = absurd cc
+row_asks w i act r t f below x e =
+    let y = some_is (row_effect w i act r.memory (length (f ∷ below)) f) (asking_by f below i.instr.next) x e in
+    bind_is (row_effect w i act r.memory (length (f ∷ below)) f) (after_effect w r t i.instr.next f below) y.0 (asked w r t x.1 x.0) y.1
+    (effect_asks w r t i.instr.next f below y.0 x y.2)
+
+event_asks : (w : World) (r : State) (t : ℕ) (f : Frame) (below : List Frame) (x : Request × Asking) → asking_in w r.memory (f ∷ below) ≡ Some x
+    → event_step w r t (f ∷ below) ≡ asked w r t x.1 x.0
+event_asks w r t f below x e =
+    let i = some_is (fetched w f) (λ i. row_effect w i (row_of i.instr.op) r.memory (length (f ∷ below)) f >>= asking_by f below i.instr.next) x e in
+    bind_is (fetched w f) (λ i. row_event w i (row_of i.instr.op) r t f below) i.0 (asked w r t x.1 x.0) i.1 (row_asks w i.0 (row_of i.0.instr.op) r t f below x i.2)
+
+pub pending_step : (w : World) (q : PendingRequest) (a : Parts) (frames : List Frame) (r : State) (t : ℕ) (p : IsPending w q a frames) → memory_of a ≡ r.memory
+    → phase_step w r t frames Run ≡ asked w r t (asking_of q p.frame p.below) (request_of q.request)
+pending_step w q a frames r t p same =
+    let asking : asking_in w r.memory (p.frame ∷ p.below) ≡ Some (request_of q.request, asking_of q p.frame p.below) =
+    ap (λ m. asking_in w m (p.frame ∷ p.below)) (sym same) ∙ ap (asking_in w (memory_of a)) (sym p.top) ∙ p.asks.asking in
+    ap (row_or_event w r t frames) p.asks.event ∙ ap (event_step w r t) p.top ∙ event_asks w r t p.frame p.below (request_of q.request, asking_of q p.frame p.below) asking
+
+-- ---- a request that was answered, and whose reply was concluded
+
+pub request_done : (w : World) (q : PendingRequest) (t : ℕ) (a mid new : ProgramState) (before after : List Frame) (reply : Reply) → IsPending w q a.memory before
+    → Answers w q.request (OthersStay t) t a mid reply → Concludes w q t reply mid before new after → StepsTo w (OthersStay t) Run t a before new after
+request_done w q t a mid new before after reply p answers concludes r out is here at =
+    let h = answers r out before is at in
+    let l = concludes h.state out p.frame p.below h.is here h.runs p.top in
+    record {
+      next = l.next;
+      makes = pending_step w q a.memory before r t p is.memory ∙ h.same (asking_of q p.frame p.below) ∙ l.makes;
+      is = l.is;
+      has = l.has;
+      others = others_then t r h.state l.next h.others l.others;
+    }
+
+-- ---- starts
+
+pub start_throws : (w : World) (t u : ℕ) (a : ProgramState) (e : Exception) → IsStart w u a (Throws e) → Answers w (requests.Starts u) (OthersStay t) t a a (replies.Throws e)
+start_throws w t u a e start r out frames is at =
+    record {
+      state = r;
+      same = λ k. (start r out is).gives t k;
+      is = is;
+      runs = at;
+      others = others_same t r r (λ u ne. refl) refl refl;
+    }
+
+rows_length : (xs : List JavaThread) → length (map (λ (y : JavaThread). y.thread) xs) ≡ length xs
+rows_length [] = refl
+rows_length (x ∷ xs) = ap suc (rows_length xs)
+
+same_count : (a : ProgramState) (r q : State) (out : ℕ → Bool) → IsState a r out → IsState a q out → length q.threads ≡ length r.threads
+same_count a r q out x y = sym (rows_length q.threads) ∙ ap length (sym y.rows ∙ x.rows) ∙ rows_length r.threads
+
+pub request_starts : (w : World) (q : PendingRequest) (t u : ℕ) (a new : ProgramState) (k : Continuation) (before after : List Frame) → IsPending w q a.memory before
+    → q.request ≡ requests.Starts u → IsStart w u a (Begins k) → IsBegun u k a new → GoesOnWithout q before after → StepsTo w (Starts t u) Run t a before new after
+request_starts w q t u a new k before after p starts start begun goes_on r out is here at =
+    let s = start r out is in
+    let g = s.gives in
+    let f : Frame = p.frame in
+    let asking : Asking = asking_of q p.frame p.below in
+    let between : State = record r { threads = slice_set r.threads u (begun_thread s.new.thread g.frame) } in
+    let now = begun_state a new r out u k g.frame s.new is begun g.thread_is g.frames in
+    let runs = begun_runs r t u g.frame before s.new at in
+    let l = gone_on new between out t q.next before after p.frame p.below (drop q.operands f.stack) now here runs p.top
+    (subst (λ fs. GoesOn q.next (drop q.operands (top_stack fs)) before after) p.top goes_on) in
+    let count : length l.next.threads ≡ length r.threads = same_count new between l.next out now l.is ∙ length-set r.threads u (begun_thread s.new.thread g.frame) in
+    record {
+      next = l.next;
+      makes = pending_step w q a.memory before r t p is.memory ∙ ap (λ x. asked w r t asking (request_of x)) starts ∙ g.begins t asking
+          ∙ ap (λ (x : State). goes x t asking) (begun_is r u s.new.thread g.frame s.new.there) ∙ l.makes;
+      is = l.is;
+      has = l.has;
+      others = starts_then t u r l.next g.frame s.new before at l.others count;
+    }
+
+-- ---- a thread is to be made where there may be no more
+
+both_true : (a b : Bool) → (a && b) ≡ true → (a ≡ true) × (b ≡ true)
+both_true true b e = (refl, e)
+both_true false b e = absurd cc
+
+not_true : (b : Bool) → not b ≡ true → b ≡ false
+not_true true e = absurd cc
+not_true false e = refl
+
+not_false : (b : Bool) → not b ≡ false → b ≡ true
+not_false true e = refl
+not_false false e = absurd cc
+
+pub threads_lacking : (q : PendingRequest) (a : ProgramState) (m : Continuation) → lacks_room a q.request ≡ true → LacksThreads q a m a m
+threads_lacking q a m e =
+    let b = both_true (is_create (request_of q.request)) (not (has_room a)) e in
+    record {
+      creates = b.0;
+      full = λ r out is. room_there a r out is ∙ not_true (has_room a) b.1;
+      state = refl;
+      mounted = refl;
+    }
+
+-- where it isn't so, a thread may be made
+pub room_for : (a : ProgramState) (kind : ThreadKind) (object : ℕ) (name : Option ℕ) → lacks_room a (requests.Creates kind object name) ≡ false → has_room a ≡ true
+room_for a kind object name e = not_false (has_room a) e
+
+-- ---- an instruction that asks
+
+pub first_of : (frames : List Frame) → 0 < length frames → (f : Frame) × (below : List Frame) × (frames ≡ f ∷ below)
+first_of [] some = absurd (omega arith)
+first_of (f ∷ below) some = (f, below, refl)
+
+pub asks_pending : (w : World) (i : Instruction) (q : PendingRequest) (a : Parts) (frames : List Frame) → 0 < length frames → StandsAt w i frames → AsksAt w i q a frames → IsPending w q a frames
+asks_pending w i q a frames some at asking =
+    let x = first_of frames some in
+    record { frame = x.0; below = x.1; top = x.2; asks = asking x.0 x.1 x.2 (at x.0 x.1 x.2) }

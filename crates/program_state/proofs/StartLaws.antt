@@ -1,0 +1,255 @@
+-- A thread is started.
+use Rattle.std.proofs.Common.{◌≡◌, ◌≢◌, ◌⊎◌, inl, inr, eqb, ℕ, zero, suc, ◌<◌, ◌-◌, Bool, true, false, List, [], ◌∷◌, length, Option, Some, None, refl, ap, sym, subst, ◌∙◌, arith}
+use Rattle.std.specs.Prelude.{nat_le, replicate, slice_get, slice_set, if◌then◌else◌}
+use Rattle.std.specs.Option.{option_map_or}
+use Rattle.std.proofs.lemmas.Bool.{le-leb}
+use Rattle.std.proofs.lemmas.Bool.Decides.{eqb_tells}
+use Rattle.items.specs.Options.{◌>>=◌}
+use Rattle.items.proofs.Binds.{bind_is}
+use Rattle.instruction_rows.specs.declared.value.Value.TheVariants as values
+use Rattle.instruction_rows.specs.declared.value.Slot.{Slot}
+use Rattle.instruction_rows.specs.declared.value.Slot.TheVariants.{One, Second}
+use Rattle.vthread_state.specs.declared.phase.Phase.TheVariants.{Run, Entering}
+use Rattle.vthread_state.specs.declared.thread.Status.{Status}
+use Rattle.vthread_state.specs.declared.thread.Status.TheVariants.{New, Live, Done}
+use Rattle.vthread_state.specs.declared.thread.Thread.{Thread}
+use Rattle.vthread_state.specs.Threads.{Threads, thread_at}
+use Rattle.link_rules.specs.declared.choice.Choice.{Choice}
+use Rattle.link_model.specs.World.{World}
+use Rattle.link_model.specs.Decoded.{code_at}
+use Rattle.link_model.specs.Initializers.{is_synchronized}
+use Rattle.link_model.specs.declared.members.MethodCode.{MethodCode}
+use Rattle.link_model.specs.declared.members.MethodInfo.{MethodInfo}
+use Rattle.link_model.specs.Methods.{choice_of}
+use Rattle.state_model.specs.Frames.{Frame}
+use Rattle.continuation.specs.Continuation.{Continuation}
+use Rattle.frames.specs.Frames.{entered, with_local}
+use Rattle.ref_model.specs.declared.exception.Exception.TheVariants as exceptions
+use Rattle.ref_model.specs.Asking.{Asking, goes}
+use Rattle.ref_model.specs.Ending.{is_live}
+use Rattle.ref_model.specs.Frames.{first_frame}
+use Rattle.ref_model.specs.Heap.{class_at}
+use Rattle.ref_model.specs.Monitors.{with_monitor}
+use Rattle.ref_model.specs.Starting.{begun_by, begun_with, first_phase, run_choice, run_frame, run_method, started, started_in, with_begun}
+use Rattle.ref_model.specs.State.{JavaThread, State}
+use Rattle.ref_model.specs.Throwing.{raised}
+use Rattle.ref_model.proofs.StateLaws.{get_set}
+use Rattle.heap_instructions.specs.HeapReads.{class_number}
+use Rattle.schedule_soundness.specs.PutLaws.{Stays, no_thread, is_new, is_kept, IsNew, OthersStay}
+use Rattle.schedule_soundness.proofs.ThreadLists.{set_other, same_some, not_none}
+use Rattle.thread_steps.specs.declared.parts.Parts.{Parts}
+use Rattle.thread_steps.specs.States.{memory_of}
+use Rattle.program_state.specs.declared.starting.Start.{Start}
+use Rattle.program_state.specs.declared.starting.Start.TheVariants.{Begins, Throws}
+use Rattle.program_state.specs.declared.state.ProgramState.{ProgramState}
+use Rattle.program_state.specs.Starting.{IsBegun, IsFirst, IsRun, IsStart, StartGives, StartsSo}
+use Rattle.program_state.specs.States as places
+use Rattle.program_state.specs.States.{IsInPhase, IsKept, IsPlain, IsState}
+use Rattle.program_state.specs.Steps.{IsRunning, Starts}
+use Rattle.program_state.proofs.StateLaws.{row_back, rows_set, set_each}
+
+-- ---- the first frame
+
+-- the frame of a method on an object
+abbrev pub object_frame : ℕ → MethodCode → ℕ → Frame
+object_frame method code object = record {
+  method = method;
+  pc = 0;
+  locals = One (values.Ref object) ∷ replicate (code.max_locals - 1) Second;
+  stack = [];
+  room = code.max_stack;
+}
+
+first_is : (method : ℕ) (code : MethodCode) (object : ℕ) → 0 < code.max_locals
+    → first_frame method code (One (values.Ref object) ∷ []) ≡ Some (object_frame method code object)
+first_is method code object some = by (nat_le 1 code.max_locals) (le-leb 1 code.max_locals some)
+  where
+    found : Option Frame
+    found = Some (object_frame method code object)
+
+    by : (b : Bool) → b ≡ true → (if b then found else None) ≡ found
+    by true e = refl
+    by false e = absurd cc
+
+set_first : (n : ℕ) (slot : Slot) → 0 < n → slice_set (replicate n Second) 0 slot ≡ slot ∷ replicate (n - 1) Second
+set_first zero slot some = absurd (omega arith)
+set_first (suc n) slot some = let less : suc n - 1 ≡ n = omega arith in ap (λ k. slot ∷ replicate k Second) (sym less)
+
+-- a frame that was entered with no operands, and its first local variable set
+pub first_made : (thread method : ℕ) (code : MethodCode) (object : ℕ) (k : Continuation) (frames : List Frame) → 0 < code.max_locals → k.thread ≡ thread
+    → frames ≡ entered method code.max_locals code.max_stack 0 [] → k.stack.frames ≡ with_local 0 (One (values.Ref object)) frames → IsFirst thread method code object k
+first_made thread method code object k frames some thread_is pushed set =
+    let whole : code.max_locals - 0 ≡ code.max_locals = omega arith in
+    let locals : slice_set (replicate (code.max_locals - 0) Second) 0 (One (values.Ref object)) ≡ One (values.Ref object) ∷ replicate (code.max_locals - 1) Second =
+    ap (λ n. slice_set (replicate n Second) 0 (One (values.Ref object))) whole ∙ set_first code.max_locals (One (values.Ref object)) some in
+    record {
+      thread_is = thread_is;
+      frame = object_frame method code object;
+      is = first_is method code object some;
+      frames = set ∙ ap (with_local 0 (One (values.Ref object))) pushed ∙ ap (λ slots. record (object_frame method code object) { locals = slots } ∷ []) locals;
+    }
+
+-- ---- the method that begins
+
+pub no_code : (w : World) (thread object method : ℕ) → code_at w method ≡ None → IsRun w thread object method (Throws exceptions.AbstractMethodError)
+no_code w thread object method none r t a = ap (λ o. begun_with w r t a thread object method o) none
+
+phase_is : (m : MethodInfo) (object : ℕ) → is_synchronized m ≡ false → first_phase m object ≡ Run
+phase_is m object plain = ap (λ b. if b then Entering object else Run) plain
+
+frame_is : (m : MethodInfo) (object : ℕ) (f : Frame) → is_synchronized m ≡ false → run_frame m object f ≡ f
+frame_is m object f plain = ap (λ b. if b then with_monitor f object else f) plain
+
+pub run_begins : (w : World) (thread object method : ℕ) (code : MethodCode) (m : MethodInfo) (k : Continuation) → code_at w method ≡ Some code → slice_get w.methods method ≡ Some m
+    → is_synchronized m ≡ false → IsFirst thread method code object k → IsRun w thread object method (Begins k)
+run_begins w thread object method code m k there at plain first r =
+    record {
+      thread_is = first.thread_is;
+      frame = first.frame;
+      frames = first.frames;
+      begins = λ t a. ap (λ o. begun_with w r t a thread object method o) there
+          ∙ bind_is (slice_get w.methods method) (λ m. first_frame method code (One (values.Ref object) ∷ []) >>= λ f. goes (with_begun r thread (first_phase m object) (run_frame m object f)) t a)
+          m (goes (with_begun r thread Run first.frame) t a) at
+          (bind_is (first_frame method code (One (values.Ref object) ∷ [])) (λ f. goes (with_begun r thread (first_phase m object) (run_frame m object f)) t a) first.frame
+          (goes (with_begun r thread Run first.frame) t a) first.is
+          (λ i. goes (with_begun r thread (phase_is m object plain i) (frame_is m object first.frame plain i)) t a));
+    }
+
+-- ---- what a start comes to
+
+-- only a new thread is started
+pub not_new : (w : World) (u : ℕ) (a : ProgramState) (row : Thread) → thread_at a.threads u ≡ Some row → (row.status ≡ New → ⊥) → IsStart w u a (Throws exceptions.IllegalThreadStateException)
+not_new w u a row there other r out is =
+    let x = row_back a.threads r u row is.rows there in
+    record {
+      new = tt;
+      gives = λ t k. bind_is (slice_get r.threads u) (λ x. started_in w r t k u x.thread.object x.thread.status) x.0 (raised w r t exceptions.IllegalThreadStateException) x.1
+          (by t k x.0.thread.object x.0.thread.status (λ e. other (ap (λ (z : Thread). z.status) (sym x.2) ∙ e)));
+    }
+  where
+    by : (t : ℕ) (k : Asking) (object : ℕ) (status : Status) → (status ≡ New → ⊥) → started_in w r t k u object status ≡ raised w r t exceptions.IllegalThreadStateException
+    by t k object New differs = absurd (differs refl)
+    by t k object (Live phase) differs = refl
+    by t k object Done differs = refl
+
+-- What is selected as the run of a new thread begins.
+pub is_selected : (w : World) (u : ℕ) (a : ProgramState) (row : Thread) (run class : ℕ) (choice : Choice) (start : Start) → thread_at a.threads u ≡ Some row → row.status ≡ New
+    → run_method w ≡ Some run → class_number w a.memory.natives.heap.objects row.object ≡ Some class → choice_of w class run ≡ Some choice
+    → ((r : State) → StartGives w u r start (λ t k. begun_by w r t k u row.object choice)) → IsStart w u a start
+is_selected w u a row run class choice start there new run_is class_is chosen gives r out is =
+    let x = row_back a.threads r u row is.rows there in
+    by x.0 x.1 x.2 start (gives r)
+  where
+    selected : run_choice w r.memory row.object ≡ Some choice
+    selected =
+        bind_is (run_method w) (λ n. class_at w r.memory row.object >>= λ class. choice_of w class n) run (Some choice) run_is
+        (bind_is (class_at w r.memory row.object) (λ class. choice_of w class run) class (Some choice) (ap (λ m. class_at w m row.object) (sym is.memory) ∙ class_is) chosen)
+
+    same : (x : JavaThread) → slice_get r.threads u ≡ Some x → x.thread ≡ row → (t : ℕ) (k : Asking) → started w r t k u ≡ begun_by w r t k u row.object choice
+    same x at row_is t k =
+        bind_is (slice_get r.threads u) (λ x. started_in w r t k u x.thread.object x.thread.status) x (begun_by w r t k u row.object choice) at
+        (ap (λ (z : Thread). started_in w r t k u z.object z.status) row_is ∙ ap (started_in w r t k u row.object) new
+        ∙ bind_is (run_choice w r.memory row.object) (begun_by w r t k u row.object) choice (begun_by w r t k u row.object choice) selected refl)
+
+    by : (x : JavaThread) → slice_get r.threads u ≡ Some x → x.thread ≡ row → (start : Start) → StartGives w u r start (λ t k. begun_by w r t k u row.object choice) → StartsSo w u r start
+    by x at row_is (Begins k) g =
+        record {
+          new = record { thread = x; there = at; status = ap (λ (z : Thread). z.status) row_is ∙ new };
+          gives = record { thread_is = g.thread_is; frame = g.frame; frames = g.frames; begins = λ t a. same x at row_is t a ∙ g.begins t a };
+        }
+    by x at row_is (Throws e) g = record { new = tt; gives = λ t a. same x at row_is t a ∙ g t a }
+
+-- ---- the thread has begun
+
+-- a new thread has no frames yet
+new_idle : (u : ℕ) (out : Bool) (x : JavaThread) (o : Option (Option Continuation)) → x.thread.status ≡ New → IsKept u out (Some x) o → (out ≡ false) × (o ≡ Some None)
+new_idle u out x o new (places.absent e f g) = absurd cc
+new_idle u out x o new (places.mounted z e f g s) =
+    let same : x ≡ z = cc in let no : false ≡ true = ap places.is_started (sym new ∙ ap (λ (k : JavaThread). k.thread.status) same) ∙ s in absurd cc
+new_idle u out x o new (places.waiting z c e f g live t fs) =
+    let same : x ≡ z = cc in let no : false ≡ true = ap is_live (sym new ∙ ap (λ (k : JavaThread). k.thread.status) same) ∙ live in absurd cc
+new_idle u out x o new (places.idle z e f g live) = (e, g)
+
+abbrev pub begun_thread : JavaThread → Frame → JavaThread
+begun_thread x f = record x { thread = record x.thread { status = Live Run }; frames = f ∷ [] }
+
+pub begun_is : (r : State) (u : ℕ) (x : JavaThread) (f : Frame) → slice_get r.threads u ≡ Some x
+    → with_begun r u Run f ≡ record r { threads = slice_set r.threads u (begun_thread x f) }
+begun_is r u x f at = ap (λ o. option_map_or (λ y. record r { threads = slice_set r.threads u (begun_thread y f) }) o r) at
+
+-- each place after one was set
+set_place : (P : ℕ → Option JavaThread → Option (Option Continuation) → Type 0) (xs : List JavaThread) (ks : List (Option Continuation)) (u : ℕ) (x y : JavaThread) (c d : Option Continuation)
+    → slice_get xs u ≡ Some x → slice_get ks u ≡ Some c → ((v : ℕ) → P v (slice_get xs v) (slice_get ks v)) → P u (Some y) (Some d)
+    → (v : ℕ) → P v (slice_get (slice_set xs u y) v) (slice_get (slice_set ks u d) v)
+set_place P xs ks u x y c d at here all own v = by (eqb_tells v u)
+  where
+    by : ((eqb v u ≡ true) × (v ≡ u)) ⊎ ((eqb v u ≡ false) × (v ≢ u)) → P v (slice_get (slice_set xs u y) v) (slice_get (slice_set ks u d) v)
+    by (inl me) =
+        subst (λ n. P n (slice_get (slice_set xs u y) n) (slice_get (slice_set ks u d) n)) (sym me.1)
+        (subst (λ o. P u o (slice_get (slice_set ks u d) u)) (sym (get_set xs u x y at)) (subst (P u (Some y)) (sym (get_set ks u c d here)) own))
+    by (inr other) =
+        subst (λ o. P v o (slice_get (slice_set ks u d) v)) (sym (set_other xs u v y other.1)) (subst (P v (slice_get xs v)) (sym (set_other ks u v d other.1)) (all v))
+
+pub begun_state : (a new : ProgramState) (r : State) (out : ℕ → Bool) (u : ℕ) (k : Continuation) (f : Frame) (idle : IsNew r u) → IsState a r out → IsBegun u k a new → k.thread ≡ u
+    → k.stack.frames ≡ f ∷ [] → IsState new (record r { threads = slice_set r.threads u (begun_thread idle.thread f) }) out
+begun_state a new r out u k f idle is begun thread frames =
+    let x : JavaThread = idle.thread in
+    let y : JavaThread = begun_thread x f in
+    let plain = is.plain u x idle.there in
+    let place = new_idle u (out u) x (slice_get a.frozen.items u) idle.status (subst (λ o. IsKept u (out u) o (slice_get a.frozen.items u)) idle.there (is.kept u)) in
+    record {
+      status = ap (λ (p : Parts). p.status) begun.memory ∙ is.status;
+      memory = ap memory_of begun.memory ∙ is.memory;
+      main_threw = ap (λ (p : Parts). p.main_threw) begun.memory ∙ is.main_threw;
+      most_threads = begun.most_threads ∙ is.most_threads;
+      rows = ap (λ (ts : Threads). ts.threads) begun.threads ∙ rows_set a.threads r u x y (λ thread. record thread { status = Live Run }) is.rows idle.there refl;
+      limit = ap (λ (ts : Threads). ts.limit) begun.threads ∙ is.limit;
+      plain = set_each (λ v o. (z : JavaThread) → o ≡ Some z → IsPlain z) r u x y idle.there is.plain
+          (λ z e. let same : y ≡ z = cc in subst IsPlain same (record { status = refl; permit = plain.permit; interrupted = plain.interrupted }));
+      unnamed = begun.unnamed ∙ is.unnamed;
+      owners = is.owners;
+      now = is.now;
+      kept = λ v. subst (λ ks. IsKept v (out v) (slice_get (slice_set r.threads u y) v) (slice_get ks v)) (sym begun.frozen)
+          (set_place (λ n o c. IsKept n (out n) o c) r.threads a.frozen.items u x y None (Some k) idle.there place.1 is.kept (places.waiting y k place.0 refl refl refl thread frames) v);
+    }
+
+pub begun_runs : (r : State) (t u : ℕ) (f : Frame) (frames : List Frame) (idle : IsNew r u) → IsInPhase r t Run frames
+    → IsInPhase (record r { threads = slice_set r.threads u (begun_thread idle.thread f) }) t Run frames
+begun_runs r t u f frames idle at = by (eqb_tells t u)
+  where
+    by : ((eqb t u ≡ true) × (t ≡ u)) ⊎ ((eqb t u ≡ false) × (t ≢ u)) → IsInPhase (record r { threads = slice_set r.threads u (begun_thread idle.thread f) }) t Run frames
+    by (inl me) =
+        let same : at.thread ≡ idle.thread = same_some (slice_get r.threads t) at.thread idle.thread at.at (ap (slice_get r.threads) me.1 ∙ idle.there) in
+        let no : Live Run ≡ New = sym at.status ∙ ap (λ (z : JavaThread). z.thread.status) same ∙ idle.status in absurd cc
+    by (inr other) = record { thread = at.thread; at = set_other r.threads u t (begun_thread idle.thread f) other.1 ∙ at.at; status = at.status; has = at.has }
+
+-- Then the thread that starts it makes its step.
+pub starts_then : (t u : ℕ) (r q : State) (f : Frame) (idle : IsNew r u) (frames : List Frame) → IsInPhase r t Run frames
+    → OthersStay t (record r { threads = slice_set r.threads u (begun_thread idle.thread f) }) q → length q.threads ≡ length r.threads → Starts t u r q
+starts_then t u r q f idle frames at stay count =
+    let y : JavaThread = begun_thread idle.thread f in
+    record {
+      others = record {
+        threads = λ v ne other. subst (λ o. Stays o (slice_get q.threads v)) (set_other r.threads u v y other) (stay.threads v ne);
+        owners = stay.owners;
+        now = stay.now;
+      };
+      new = idle;
+      runs = by (stay.threads u differ);
+      count = count;
+    }
+  where
+    differ : u ≢ t
+    differ same =
+        let own : at.thread ≡ idle.thread = same_some (slice_get r.threads t) at.thread idle.thread at.at (ap (slice_get r.threads) (sym same) ∙ idle.there) in
+        let no : Live Run ≡ New = sym at.status ∙ ap (λ (z : JavaThread). z.thread.status) own ∙ idle.status in absurd cc
+
+    there : slice_get (slice_set r.threads u (begun_thread idle.thread f)) u ≡ Some (begun_thread idle.thread f)
+    there = get_set r.threads u idle.thread (begun_thread idle.thread f) idle.there
+
+    by : Stays (slice_get (slice_set r.threads u (begun_thread idle.thread f)) u) (slice_get q.threads u) → IsRunning q u
+    by (no_thread e z) = absurd (not_none (slice_get (slice_set r.threads u (begun_thread idle.thread f)) u) (begun_thread idle.thread f) e there)
+    by (is_new z e g n) = absurd (not_none (slice_get (slice_set r.threads u (begun_thread idle.thread f)) u) (begun_thread idle.thread f) e there)
+    by (is_kept x z e g status permit interrupted) =
+        let same : x ≡ begun_thread idle.thread f = same_some (slice_get (slice_set r.threads u (begun_thread idle.thread f)) u) x (begun_thread idle.thread f) e there in
+        record { thread = z; there = g; status = status ∙ ap (λ (k : JavaThread). k.thread.status) same }

@@ -1,0 +1,46 @@
+use Rattle.std.proofs.Common.{◌≡◌, ℕ, Some, ap, subst, sym}
+use Rattle.vthread_state.specs.declared.phase.Phase.TheVariants.{Run}
+use Rattle.vthread_state.specs.declared.thread.Status.TheVariants.{Live}
+use Rattle.vthread_state.specs.Threads.{status_at}
+use Rattle.verify_types.specs.Environment.{Instruction}
+use Rattle.thread_steps.specs.declared.parts.Parts.{Parts}
+use Rattle.thread_steps.specs.declared.progress.Progress.{Progress}
+use Rattle.thread_steps.specs.Asking.{StaysIfAsked}
+use Rattle.thread_steps.specs.Asking as asking
+use Rattle.program_state.specs.Running.{IsProgress}
+use Rattle.program_state.specs.Settling.{IsSettled}
+use Rattle.program_state.proofs.RequestLaws.{asks_pending, first_of}
+use Rattle.program_state.proofs.StepLaws.{has_stepped}
+use Rattle.program_state.proofs.running.run_step.Goals as goal
+
+pub returns-in_ok-settle_running-in-Stepped-clause-progress : goal.returns-in_ok-settle_running-in-Stepped-clause-progress
+returns-in_ok-settle_running-in-Stepped-clause-progress g c =
+    let w = g.W.EventWorld.world c.args.world.now in
+    let i : Instruction = record { instr = c.args.instr.now; resolution = c.args.resolution.now } in
+    let a = c.args.state.now in
+    let m = c.args.mounted.now in
+    let b = c.instruction_step.new.parts in
+    let n = c.instruction_step.new.mounted in
+    let new = c.settle_running.new.state in
+    let steps = subst (λ (x : Progress). asking.IsProgress w i x a.memory m.stack.frames b n.stack.frames) c.in-Stepped.is c.in_ok-progress.ensures.progress in
+    let top = first_of m.stack.frames c.requires.frame in
+    subst (λ (x : Progress). IsProgress w x a m new n) (sym c.in-Stepped.is)
+    (has_stepped w i a new b m n top.0 top.1 top.2 c.requires.at steps
+    (subst (λ (t : ℕ). status_at a.threads t ≡ Some (Live Run) → IsSettled t (record a { memory = b }) new) c.thread-t.ensures (c.in_ok-settle_running-in-Stepped).ensures))
+
+pub returns-in-Asks-clause-progress : goal.returns-in-Asks-clause-progress
+returns-in-Asks-clause-progress g c =
+    let w = g.W.EventWorld.world c.args.world.now in
+    let i : Instruction = record { instr = c.args.instr.now; resolution = c.args.resolution.now } in
+    let a = c.args.state.now in
+    let m = c.args.mounted.now in
+    let b = c.instruction_step.new.parts in
+    let n = c.instruction_step.new.mounted in
+    let asked = subst (λ (x : Progress). asking.IsProgress w i x a.memory m.stack.frames b n.stack.frames) c.in-Asks.is c.in_ok-progress.ensures.progress in
+    subst (λ (x : Progress). IsProgress w x a m (record a { memory = b }) n) (sym c.in-Asks.is) (
+      asks_pending w i c.in-Asks.field-0 a.memory m.stack.frames c.requires.frame c.requires.at asked.0,
+      record {
+        state = ap (λ (p : Parts). record a { memory = p }) asked.1;
+        mounted = subst (λ (x : Progress). StaysIfAsked x m n) c.in-Asks.is c.in_ok-progress.ensures.stays;
+      },
+    )

@@ -1,0 +1,18 @@
+use Rattle.std.proofs.Common.{ℕ, refl, subst}
+use Rattle.vthread_state.specs.declared.phase.Phase.TheVariants.{Throwing}
+use Rattle.schedule_soundness.specs.PutLaws.{OthersStay}
+use Rattle.program_state.specs.Steps.{StepsTo}
+use Rattle.program_state.proofs.StepLaws.{on_ok, throw_steps}
+use Rattle.program_state.proofs.throwing.throwing_step.Goals as goal
+
+pub returns-clause-steps : goal.returns-clause-steps
+returns-clause-steps g c =
+    let w = g.W.EventWorld.world c.args.world.now in
+    let a = c.args.state.now in
+    let own = c.in_ok-name.field-0 in
+    let frames = c.args.mounted.now.stack.frames in
+    let new = c.settle_status.new.state in
+    let after = c.throwing_step.new.mounted.stack.frames in
+    on_ok c.settle_status.result c.settle_status.ensures (λ settled.
+    subst (λ (t : ℕ). StepsTo w (OthersStay t) (Throwing c.args.o) t a frames new after) c.thread-t.ensures
+    (throw_steps w a new c.throwing_step.new.parts c.thread-t.result own.name c.args.o own frames after c.in_ok-name.ensures refl c.in_ok-throwing_step.ensures settled))

@@ -1,0 +1,10 @@
+pub mod States
+pub mod Steps
+pub mod Settling
+pub mod Replies
+pub mod Replying
+pub mod Creating
+pub mod Starting
+pub mod Requests
+pub mod Running
+pub mod Waiting

@@ -1,0 +1,25 @@
+//! The state of a program with many threads, and the steps of one thread over it: its instructions, exceptions on their way, what it asks
+//! of other threads, and the ends of its waits. Carriers and run deques come above.
+#![tactic(auto)]
+
+mod creating;
+mod endings;
+mod replies;
+mod reply;
+mod request_changes;
+mod request_rows;
+mod requests;
+mod running;
+mod starting;
+mod state;
+mod throwing;
+mod waits;
+mod world;
+
+pub use endings::ending;
+pub use requests::{RequestOutcome, make_request};
+pub use running::run_step;
+pub use state::ProgramState;
+pub use throwing::throwing_step;
+pub use waits::{finish_wait, is_enabled, woken_by_end};
+pub use world::ThreadWorld;

@@ -1,0 +1,15 @@
+use instruction_rows::Value;
+use ref_model::Exception;
+
+/// What is answered to a request.
+#[derive(Clone, Copy)]
+pub(crate) enum Reply {
+    /// The thread goes on at its next instruction.
+    Goes,
+    /// The same, with a value on the operand stack.
+    Gives(Value),
+    /// It throws a new exception.
+    Throws(Exception),
+    /// It waits for the end of a thread.
+    Joins(u32),
+}

@@ -1,0 +1,182 @@
+-- Instructions on monitors and native methods that ask something of the threads.
+use Rattle.std.proofs.Common.{◌≡◌, ℕ, suc, ◌≤◌, List, ◌∷◌, length, drop, Option, Some, None, refl, ap, sym, ◌∙◌, subst}
+use Rattle.items.specs.Options.{◌>>=◌}
+use Rattle.items.proofs.Binds.{bind_is}
+use Rattle.lib_table.specs.declared.native.Native.{Native}
+use Rattle.instruction_rows.specs.declared.value.Slot.{Slot}
+use Rattle.instruction_rows.specs.Rows.{Row, Event, Invocation, local, constant, wide_constant, returns, invoke, event, refused, virtual, special, static, interface, dynamic}
+use Rattle.instruction_rows.specs.Table.{row as row_of}
+use Rattle.link_model.specs.World.{World}
+use Rattle.verify_types.specs.Environment.{Instruction}
+use Rattle.state_model.specs.Frames.{Frame}
+use Rattle.continuation.specs.Continuation.{Continuation}
+use Rattle.frames.specs.Frames.{top_stack, top_room}
+use Rattle.ref_model.specs.Asking.{Asking}
+use Rattle.ref_model.specs.Calls.{invoked}
+use Rattle.ref_model.specs.Effects.{Effect, asks}
+use Rattle.ref_model.specs.Fetch.{fetched}
+use Rattle.ref_model.specs.LocalRows.{local_act}
+use Rattle.ref_model.specs.Memory.{Memory}
+use Rattle.ref_model.specs.Requests.{Request, request_of}
+use Rattle.ref_model.specs.Resuming.{asking_by, asking_in}
+use Rattle.ref_model.specs.RowEffects.{event_effect, monitor_asked, row_effect}
+use Rattle.heap_instructions.specs.declared.outcome.Outcome.{Outcome}
+use Rattle.heap_instructions.specs.Dispatch as events
+use Rattle.heap_instructions.specs.Operands.{operands, ChangesOperands}
+use Rattle.heap_instructions.specs.Outcomes.{Acts, ActsAlone, IsEffect, KeptUnlessDone}
+use Rattle.heap_instructions.proofs.DispatchLaws.{kept_same}
+use Rattle.native_methods.specs.declared.state.NativeState.{NativeState}
+use Rattle.native_methods.specs.Arguments.{native_effect}
+use Rattle.native_methods.specs.NativeStates.{with_natives, StaysIfThrownOrAsked}
+use Rattle.invocation.specs.declared.target.Target.TheVariants as targets
+use Rattle.invocation.specs.Targets.{row_invoked}
+use Rattle.thread_steps.specs.declared.parts.Parts.{Parts}
+use Rattle.thread_steps.specs.declared.progress.PendingRequest.{PendingRequest}
+use Rattle.thread_steps.specs.declared.progress.Progress.{Progress}
+use Rattle.thread_steps.specs.declared.progress.Progress.TheVariants.{Stepped, Asks}
+use Rattle.thread_steps.specs.Asking.{AsksAt, AsksSo, EffectAsks, EffectProceeds, IsAsking, IsPending, IsProgress, Proceeds, StaysIfAsked, asking_of}
+use Rattle.thread_steps.specs.Concluding.{Concludes, IsQuietStep, Steps}
+use Rattle.thread_steps.specs.States.{memory_of, state_of}
+use Rattle.thread_steps.proofs.CallLaws.{ComesTo, native_leads, native_stepped, static_so}
+use Rattle.thread_steps.proofs.EventLaws.{event_stepped}
+use Rattle.thread_steps.proofs.StepLaws.{no_row}
+
+-- ---- what an instruction asks, by its effect
+
+asks_by : (w : World) (i : Instruction) (q : PendingRequest) (a : Parts) (f : Frame) (below : List Frame) → fetched w f ≡ Some i → q.next ≡ i.instr.next
+    → row_effect w i (row_of i.instr.op) (memory_of a) (suc (length below)) f ≡ Some (asks (request_of q.request) (drop q.operands f.stack))
+    → asking_in w (memory_of a) (f ∷ below) ≡ Some (request_of q.request, asking_of q f below)
+asks_by w i q a f below at next effect =
+    let asked : Option (Request × Asking) = Some (request_of q.request, asking_of q f below) in
+    let pending : ℕ → Asking = λ n. record { frame = f; below = below; next = n; stack = drop q.operands f.stack } in
+    bind_is (fetched w f) (λ j. row_effect w j (row_of j.instr.op) (memory_of a) (suc (length below)) f >>= asking_by f below j.instr.next) i asked at
+    (bind_is (row_effect w i (row_of i.instr.op) (memory_of a) (suc (length below)) f) (asking_by f below i.instr.next) (asks (request_of q.request) (drop q.operands f.stack)) asked effect
+    (ap (λ (n : ℕ). Some (request_of q.request, pending n)) (sym next)))
+
+-- ---- instructions on monitors
+
+-- the effect of such an instruction, on a stack
+abbrev IsMonitorEvent : World → Instruction → Event → (ℕ → Request) → Type 0
+IsMonitorEvent w i e ask = (r : Memory) (stack : List Slot) → event_effect w i.resolution e r stack ≡ monitor_asked ask stack
+
+-- what it does in the top frame
+on_top : (o : Outcome) (ask : ℕ → Request) (a : Parts) (m : Continuation) (f : Frame) (below : List Frame) → ActsAlone (monitor_asked ask) m o → m.stack.frames ≡ f ∷ below
+    → IsEffect f.room o (monitor_asked ask f.stack) (memory_of a) f.stack
+on_top o ask a m f below acts top =
+    subst (λ (fs : List Frame). IsEffect (top_room fs) o (monitor_asked ask (top_stack fs)) (memory_of a) (top_stack fs)) top (acts (memory_of a))
+
+monitor_steps : (w : World) (i : Instruction) (e : Event) (ask : ℕ → Request) (o : Outcome) (a b : Parts) (m : Continuation) (after : List Frame)
+    → row_of i.instr.op ≡ event e → IsMonitorEvent w i e ask → ActsAlone (monitor_asked ask) m o → length (top_stack m.stack.frames) ≤ top_room m.stack.frames
+    → Concludes w i.instr.next o a m.stack.frames b after → Steps w i a m.stack.frames b after
+monitor_steps w i e ask o a b m after is does acts held ends stage f below top at =
+    let same : events.row_effect w i.resolution (row_of i.instr.op) (memory_of a) f.stack ≡ monitor_asked ask f.stack =
+    ap (λ (act : Row). events.row_effect w i.resolution act (memory_of a) f.stack) is ∙ does (memory_of a) f.stack in
+    let step : IsQuietStep w stage.number (state_of stage a (f ∷ below)) (f ∷ below) (state_of stage b after) =
+    event_stepped w i stage a a b f below m.stack.frames after f.stack o at (λ x fs. refl)
+    (subst (λ (x : Option Effect). IsEffect f.room o x (memory_of a) f.stack) (sym same) (on_top o ask a m f below acts top))
+    (subst (λ (fs : List Frame). length (top_stack fs) ≤ top_room fs) top held) top (kept_same o (memory_of a))
+    (subst (λ (fs : List Frame). KeptUnlessDone o (f ∷ below) fs) (sym top) (kept_same o (f ∷ below))) ends in
+    subst (λ (fs : List Frame). IsQuietStep w stage.number (state_of stage a fs) fs (state_of stage b after)) (sym top) step
+
+monitor_asks : (w : World) (i : Instruction) (e : Event) (ask : ℕ → Request) (o : Outcome) (q : PendingRequest) (a : Parts) (m : Continuation)
+    → row_of i.instr.op ≡ event e → IsMonitorEvent w i e ask → ActsAlone (monitor_asked ask) m o → IsPending i.instr.next o q → AsksAt w i q a m.stack.frames
+monitor_asks w i e ask o q a m is does acts pending f below top at =
+    let so = subst (λ (x : Outcome). IsEffect f.room x (monitor_asked ask f.stack) (memory_of a) f.stack) pending.asks (on_top o ask a m f below acts top) in
+    let effect = ap (λ (act : Row). row_effect w i act (memory_of a) (suc (length below)) f) is ∙ does (memory_of a) f.stack ∙ so.0 in
+    subst (λ (fs : List Frame). IsAsking w q a fs f below) (sym top) (record {
+      asking = asks_by w i q a f below at pending.goes_on effect;
+      takes = so.1;
+      event = no_row w i (event e) f below at is refl;
+    })
+
+pub monitor_proceeds : (w : World) (i : Instruction) (e : Event) (ask : ℕ → Request) (o : Outcome) (progress : Progress) (a b : Parts) (m n : Continuation)
+    → row_of i.instr.op ≡ event e → IsMonitorEvent w i e ask → ActsAlone (monitor_asked ask) m o → length (top_stack m.stack.frames) ≤ top_room m.stack.frames
+    → Proceeds w i.instr.next o progress a m b n → IsProgress w i progress a m.stack.frames b n.stack.frames
+monitor_proceeds w i e ask o Stepped a b m n is does acts held ends = monitor_steps w i e ask o a b m n.stack.frames is does acts held ends
+monitor_proceeds w i e ask o (Asks q) a b m n is does acts held ends =
+    (monitor_asks w i e ask o q a m is does acts ends.0, ends.1, ap (λ (x : Continuation). x.stack.frames) ends.2)
+
+-- whatever was asked, the thread stays
+pub stays_asked : (w : World) (next : ℕ) (o : Outcome) (progress : Progress) (a b : Parts) (m n : Continuation) → Proceeds w next o progress a m b n → StaysIfAsked progress m n
+stays_asked w next o Stepped a b m n ends = tt
+stays_asked w next o (Asks q) a b m n ends = ends.2
+
+-- ---- native methods
+
+native_asks : (w : World) (a : Parts) (s : NativeState) (native : Native) (next : ℕ) (m new : Continuation) (o : Outcome) (q : PendingRequest)
+    → Acts (native_effect w native) (with_natives a.natives) m (with_natives s) new o → new ≡ m → IsPending next o q
+    → EffectAsks (λ r depth stack. native_effect w native r stack) q a m.stack.frames
+native_asks w a s native next m new o q acts same pending f below top =
+    let here = subst (λ (x : Continuation). IsEffect (top_room m.stack.frames) o (native_effect w native (memory_of a) (operands m)) (with_natives s (memory_of a)) (operands x)) same (acts (memory_of a)) in
+    let asked = subst (λ (x : Outcome). IsEffect (top_room m.stack.frames) x (native_effect w native (memory_of a) (operands m)) (with_natives s (memory_of a)) (operands m)) pending.asks here in
+    subst (λ (fs : List Frame). AsksSo q (record f { stack = top_stack fs }) (native_effect w native (memory_of a) (top_stack fs))) top (record { is = asked.0; takes = asked.1 })
+
+-- where it asks, nothing has changed
+native_same : (o : Outcome) (next : ℕ) (q : PendingRequest) (m new : Continuation) → IsPending next o q → KeptUnlessDone o m new → new ≡ m
+native_same o next q m new pending kept = subst (λ (x : Outcome). KeptUnlessDone x m new) pending.asks kept
+
+state_same : (o : Outcome) (next : ℕ) (q : PendingRequest) (s t : NativeState) → IsPending next o q → StaysIfThrownOrAsked o s t → t ≡ s
+state_same o next q s t pending stays = subst (λ (x : Outcome). StaysIfThrownOrAsked x s t) pending.asks stays
+
+pub native_proceeds : (w : World) (a b : Parts) (s : NativeState) (native : Native) (next : ℕ) (m new last : Continuation) (o : Outcome) (progress : Progress)
+    → Acts (native_effect w native) (with_natives a.natives) m (with_natives s) new o → KeptUnlessDone o m new → StaysIfThrownOrAsked o a.natives s → ChangesOperands m new
+    → length (top_stack new.stack.frames) ≤ top_room new.stack.frames → Proceeds w next o progress (record a { natives = s }) new b last
+    → EffectProceeds w next (λ r depth stack. native_effect w native r stack) progress a m.stack.frames b last.stack.frames
+native_proceeds w a b s native next m new last o Stepped acts kept stays only held ends = native_leads w a b s native next m new last.stack.frames o acts kept stays only held ends
+native_proceeds w a b s native next m new last o (Asks q) acts kept stays only held ends =
+    let same = native_same o next q m new ends.0 kept in (
+      native_asks w a s native next m new o q acts same ends.0,
+      ends.0.goes_on,
+      ends.1 ∙ ap (λ (t : NativeState). record a { natives = t }) (state_same o next q a.natives s ends.0 stays),
+      ap (λ (x : Continuation). x.stack.frames) (ends.2 ∙ same),
+    )
+
+pub native_stays : (w : World) (a b : Parts) (next : ℕ) (m new last : Continuation) (o : Outcome) (progress : Progress) → KeptUnlessDone o m new → Proceeds w next o progress a new b last
+    → StaysIfAsked progress m last
+native_stays w a b next m new last o Stepped kept ends = tt
+native_stays w a b next m new last o (Asks q) kept ends = ends.2 ∙ native_same o next q m new ends.0 kept
+
+-- ---- an invocation that comes to a native method
+
+-- what asks is no local call
+no_local_call : (w : World) (i : Instruction) (invocation : Invocation) (index : ℕ) (r : Memory) (f : Frame) (below : List Frame) (q : Request) (rest : List Slot)
+    → invoked w i.resolution invocation r (suc (length below)) f.stack ≡ Some (asks q rest) → local_act w i (invoke invocation index) f below ≡ None
+no_local_call w i virtual index r f below q rest effect = refl
+no_local_call w i special index r f below q rest effect = refl
+no_local_call w i (interface count) index r f below q rest effect = refl
+no_local_call w i dynamic index r f below q rest effect = refl
+no_local_call w i static index r f below q rest effect = by (local_act w i (invoke static index) f below) refl
+  where
+    by : (found : Option (List Frame)) → local_act w i (invoke static index) f below ≡ found → local_act w i (invoke static index) f below ≡ None
+    by None made = made
+    by (Some fs) made = absurd (let e = sym (static_so w i r f below fs made).3 ∙ effect in cc)
+
+call_asks : (w : World) (i : Instruction) (q : PendingRequest) (a : Parts) (f : Frame) (below : List Frame) → fetched w f ≡ Some i → q.next ≡ i.instr.next → q.operands ≤ length f.stack
+    → row_invoked w i.resolution (row_of i.instr.op) (memory_of a) (suc (length below)) f.stack ≡ Some (asks (request_of q.request) (drop q.operands f.stack)) → IsAsking w q a (f ∷ below) f below
+call_asks w i q a f below at next takes effect = by (row_of i.instr.op) refl effect
+  where
+    by : (act : Row) → row_of i.instr.op ≡ act → row_invoked w i.resolution act (memory_of a) (suc (length below)) f.stack ≡ Some (asks (request_of q.request) (drop q.operands f.stack)) → IsAsking w q a (f ∷ below) f below
+    by (invoke invocation index) is x = record {
+      asking = asks_by w i q a f below at next (ap (λ (act : Row). row_effect w i act (memory_of a) (suc (length below)) f) is ∙ x);
+      takes = takes;
+      event = no_row w i (invoke invocation index) f below at is (no_local_call w i invocation index (memory_of a) f below (request_of q.request) (drop q.operands f.stack) x);
+    }
+    by (local act) is x = absurd cc
+    by (constant index) is x = absurd cc
+    by (wide_constant index) is x = absurd cc
+    by (returns kind) is x = absurd cc
+    by (event e) is x = absurd cc
+    by refused is x = absurd cc
+
+pub invocation_proceeds : (w : World) (i : Instruction) (a b : Parts) (m : Continuation) (after : List Frame) (native : Native) (progress : Progress) → ComesTo w i a m (targets.Native native)
+    → EffectProceeds w i.instr.next (λ r depth stack. native_effect w native r stack) progress a m.stack.frames b after → IsProgress w i progress a m.stack.frames b after
+invocation_proceeds w i a b m after native Stepped comes effects = native_stepped w i a b m after native comes effects
+invocation_proceeds w i a b m after native (Asks q) comes effects = (
+  λ f below top at.
+      let x = effects.0 f below top in
+      let same : row_invoked w i.resolution (row_of i.instr.op) (memory_of a) (suc (length below)) f.stack ≡ native_effect w native (memory_of a) f.stack =
+      subst (λ (fs : List Frame). row_invoked w i.resolution (row_of i.instr.op) (memory_of a) (suc (length below)) (top_stack fs) ≡ native_effect w native (memory_of a) (top_stack fs)) top (comes (memory_of a) (suc (length below))) in
+      subst (λ (fs : List Frame). IsAsking w q a fs f below) (sym top) (call_asks w i q a f below at effects.1 x.takes (same ∙ x.is)),
+  effects.2,
+  effects.3,
+)
