@@ -3,3 +3,4 @@ pub mod TraceText
 pub mod Parsing
 pub mod FirstBadLine
 pub mod Reading
+pub mod Carriers

@@ -5,6 +5,7 @@ mod entry;
 mod error;
 mod java_part;
 mod kept;
+mod kept_box;
 mod laws;
 mod line_parser;
 mod printer;
