@@ -22,6 +22,8 @@ pub mod AloneLaws
 pub mod Filters
 pub mod Placed
 pub mod PutLaws
+pub mod DeadlineOrder
+pub mod TimeLaws
 pub mod Ahead
 pub mod Creations
 pub mod MainGoes

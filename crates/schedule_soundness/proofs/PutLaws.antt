@@ -1,9 +1,10 @@
 -- Whom a step puts into a deque.
-use Rattle.std.proofs.Common.{◌≡◌, ◌≢◌, ◌⊎◌, inl, inr, eqb, ◌==◌, ◌<◌, ℕ, Bool, true, false, List, length, map, Option, Some, None, refl, ap, sym, ◌∙◌, ◌&&◌, ◌||◌, not, arith}
-use Rattle.std.specs.Prelude.{Contains, is_none, is_some, slice_get}
-use Rattle.std.proofs.lemmas.Bool.{and_from, and_left, and_parts, and_right, eq-eqb, eqb-true, or_left, or_right}
+use Rattle.std.proofs.Common.{◌≡◌, ◌≢◌, ◌⊎◌, inl, inr, eqb, ◌==◌, ◌<◌, ℕ, Bool, true, false, List, [], ◌∷◌, length, map, Option, Some, None, refl, ap, sym, ◌∙◌, ◌&&◌, ◌||◌, not, arith}
+use Rattle.std.specs.Prelude.{Contains, if◌then◌else◌, is_none, is_some, slice_get}
+use Rattle.std.proofs.lemmas.Bool.{and_from, and_left, and_parts, and_right, cases_Bool, eq-eqb, eqb-true, or_from, or_left, or_right}
 use Rattle.std.proofs.lemmas.Bool.Decides.{eqb_tells}
 use Rattle.std.proofs.lemmas.Option.{slice_get_within}
+use mathlib.Core.Bool.{and-true, or-false}
 use Rattle.items.specs.Options.{◌>>=◌}
 use Rattle.vthread_state.specs.declared.phase.Phase.TheVariants.{Run, Throwing, Entering, Waiting, Reenter, Parked, Asleep, Joining}
 use Rattle.vthread_state.specs.declared.thread.Status.{Status}
@@ -14,23 +15,26 @@ use Rattle.schedule_model.specs.Look.{Look, Spot, absent, unstarted, in_no_list,
 use Rattle.schedule_model.specs.Schedule.{Schedule, places}
 use Rattle.schedule_model.specs.Puts.{all_threads, is_first, is_made_enabled, is_moved_to_free, is_next_in_line, is_started, is_to_run}
 use Rattle.schedule_model.specs.Entries.{has_mounted}
+use Rattle.schedule_model.specs.Run.{Scheduled}
 use Rattle.schedule_model.proofs.EntryLaws.{on_there}
 use Rattle.schedule_model.proofs.ListLaws.{all_in_order}
 use Rattle.schedule_model.proofs.WordLaws.{nobody_is_put, one_is_put}
+use Rattle.ref_model.specs.Setting.{Setting}
 use Rattle.ref_model.specs.State.{JavaThread, State}
 use Rattle.ref_model.specs.Ending.{ending, is_live}
 use Rattle.ref_model.specs.Waiting.{is_reached}
-use Rattle.ref_model.specs.Enabled.{is_done, has_ended, is_ready}
+use Rattle.ref_model.specs.Enabled.{enabled, is_done, has_ended, is_ready}
 use Rattle.ref_model.specs.Looks.{spot_of, look_of}
 use Rattle.schedule_soundness.specs.Started.{was_started}
-use Rattle.schedule_soundness.specs.PutLaws.{Stays, no_thread, is_new, is_kept, EndsNoWait, QuietStepsPutNobody, EndsPutJoiners, StartsPutTheStarted}
+use Rattle.schedule_soundness.specs.HistoryLaws.{IsProgramAfter}
+use Rattle.schedule_soundness.specs.PutLaws.{Stays, no_thread, is_new, is_kept, OthersStayBeside, EndsNoWait, QuietStepsPutNobody, EndsPutJoiners, StartsPutTheStarted, WakesPutTheWoken}
 use Rattle.schedule_soundness.proofs.ThreadLists.{map_none, map_there}
 use Rattle.schedule_soundness.proofs.OtherMoves.{phase_live}
 use Rattle.schedule_soundness.proofs.LookLaws.{ready_at, spot_at}
 use Rattle.schedule_soundness.proofs.Changes.{ended_by}
 use Rattle.schedule_soundness.proofs.Filters.{filter_below}
 use Rattle.schedule_soundness.proofs.Histories.{no_wake_up_is_lost}
-use Rattle.schedule_soundness.proofs.Placed.{dead_off, off_all, placed_were_started}
+use Rattle.schedule_soundness.proofs.Placed.{dead_off, placed_were_started}
 
 no_both : (b : Bool) → b ≡ true → b ≡ false → ⊥
 no_both b i j = absurd cc
@@ -126,21 +130,33 @@ record Quiet (r q : State) (u : ℕ) : Type 0 where
   pub now : q.now ≡ r.now
   pub ends : (v : ℕ) → joined (slice_get r.threads u) ≡ Some v → is_none (ending q) ≡ true → has_ended q v ≡ true → has_ended r v ≡ true
 
+only_made : (a b c d : Bool) → a ≡ false → c ≡ false → d ≡ false → (a || (b || (c || d))) ≡ b
+only_made a b c d e g h = ap (λ x. x || (b || (c || d))) e ∙ ap (λ x. b || x) (or_from c d g h) ∙ or-false b
+
+-- A thread whose status stays is put, while the owners of monitors stay, exactly where it is made enabled.
+pub kept_runs : (w : World) (r q : State) (lists : ℕ → List ℕ) (u : ℕ) (x y : JavaThread) → q.owners ≡ r.owners
+    → slice_get r.threads u ≡ Some x → slice_get q.threads u ≡ Some y → y.thread.status ≡ x.thread.status
+    → is_to_run (look_of w r) (look_of w q) lists u ≡ is_made_enabled (look_of w r) (look_of w q) u
+kept_runs w r q lists u x y owners was now status =
+    let before = look_of w r in
+    let after = look_of w q in
+    let spot = spot_of x.thread.status in
+    let spot_was : before.spot u ≡ spot = ap spot_at was in
+    let spot_is : after.spot u ≡ spot = ap spot_at now ∙ ap spot_of status in
+    only_made (is_started (before.spot u) (after.spot u)) (is_made_enabled before after u)
+    (is_moved_to_free after (before.spot u) (after.spot u)) (is_next_in_line before after lists u (after.spot u))
+    (ap (λ z. is_started z (after.spot u)) spot_was ∙ ap (is_started spot) spot_is ∙ no_start spot)
+    (ap (λ z. is_moved_to_free after z (after.spot u)) spot_was ∙ ap (is_moved_to_free after spot) spot_is ∙ no_move after spot)
+    (no_next before after lists u (after.spot u) (λ o. ap (λ f. is_some (f o)) owners))
+
 kept_off : (w : World) (r q : State) (lists : ℕ → List ℕ) (u : ℕ) (x y : JavaThread) → Quiet r q u → slice_get r.threads u ≡ Some x
     → slice_get q.threads u ≡ Some y → y.thread.status ≡ x.thread.status → y.permit ≡ x.permit → y.interrupted ≡ x.interrupted
     → is_to_run (look_of w r) (look_of w q) lists u ≡ false
 kept_off w r q lists u x y h was now status permit told =
     let before = look_of w r in
     let after = look_of w q in
-    let spot = spot_of x.thread.status in
-    let spot_was : before.spot u ≡ spot = ap spot_at was in
-    let spot_is : after.spot u ≡ spot = ap spot_at now ∙ ap spot_of status in
-    off_all (is_started (before.spot u) (after.spot u)) (is_made_enabled before after u)
-    (is_moved_to_free after (before.spot u) (after.spot u)) (is_next_in_line before after lists u (after.spot u))
-    (ap (λ z. is_started z (after.spot u)) spot_was ∙ ap (is_started spot) spot_is ∙ no_start spot)
-    (not_made (before.enabled u) (after.enabled u) (not (is_in_line (after.spot u))) back)
-    (ap (λ z. is_moved_to_free after z (after.spot u)) spot_was ∙ ap (is_moved_to_free after spot) spot_is ∙ no_move after spot)
-    (no_next before after lists u (after.spot u) (λ o. ap (λ f. is_some (f o)) h.owners))
+    kept_runs w r q lists u x y h.owners was now status
+    ∙ not_made (before.enabled u) (after.enabled u) (not (is_in_line (after.spot u))) back
   where
     back : (look_of w q).enabled u ≡ true → (look_of w r).enabled u ≡ true
     back on =
@@ -184,6 +200,15 @@ mounted_off s c t b mounts = and_right b (places t s == 0) (by (eqb_tells (place
 unplaced_off : (s : Schedule) (u : ℕ) (b : Bool) → b ≡ false → (b && (places u s == 0)) ≡ false
 unplaced_off s u b off = and_left b (places u s == 0) off
 
+-- who is in no place, and in no line, may not step: no wake-up is lost
+pub unplaced_waits : (p : Setting) (first : State) (v : Scheduled State) (u : ℕ) → IsProgramAfter p first v → ending v.state ≡ None
+    → places u v.schedule ≡ 0 → is_in_line ((look_of p.world v.state).spot u) ≡ false → enabled v.state u ≡ false
+unplaced_waits p first v u a goes none free = by (enabled v.state u) refl
+  where
+    by : (b : Bool) → enabled v.state u ≡ b → enabled v.state u ≡ false
+    by false off = off
+    by true on = absurd (omega (arith, none, (no_wake_up_is_lost p first v a (ap is_some goes)).ready u on free))
+
 -- ---- nobody
 
 pub quiet_steps_put_nobody : QuietStepsPutNobody
@@ -223,11 +248,9 @@ ends_put_joiners p first v q c t lists joiners a mounts goes on others ended ris
 
     -- who waits for the end, and is in no place, wasn't enabled
     was_off : (u : ℕ) (x : JavaThread) (deadline : Option ℕ) → places u v.schedule ≡ 0 → slice_get v.state.threads u ≡ Some x
-        → x.thread.status ≡ Live (Joining t deadline) → (b : Bool) → (look_of w v.state).enabled u ≡ b → (look_of w v.state).enabled u ≡ false
-    was_off u x deadline none was joins false off = off
-    was_off u x deadline none was joins true run =
-        let loose : is_in_line ((look_of w v.state).spot u) ≡ false = ap (λ o. is_in_line (spot_at o)) was ∙ ap (λ s. is_in_line (spot_of s)) joins in
-        absurd (omega (arith, none, (no_wake_up_is_lost p first v a (ap is_some goes)).ready u run loose))
+        → x.thread.status ≡ Live (Joining t deadline) → enabled v.state u ≡ false
+    was_off u x deadline none was joins =
+        unplaced_waits p first v u a goes none (ap (λ o. is_in_line (spot_at o)) was ∙ ap (λ s. is_in_line (spot_of s)) joins)
 
     -- it is made enabled
     put : (u : ℕ) (x y : JavaThread) (deadline : Option ℕ) → places u v.schedule ≡ 0 → slice_get v.state.threads u ≡ Some x
@@ -242,7 +265,7 @@ ends_put_joiners p first v q c t lists joiners a mounts goes on others ended ris
         or_right (is_started (before.spot u) (after.spot u)) _
         (or_left (is_made_enabled before after u) _
         (and_from (not (before.enabled u)) (after.enabled u && not (is_in_line (after.spot u)))
-        (ap not (was_off u x deadline none was joins (before.enabled u) refl))
+        (ap not (was_off u x deadline none was joins))
         (and_from (after.enabled u) (not (is_in_line (after.spot u))) ready (ap not loose))))
 
     these : (u : ℕ) → places u v.schedule ≡ 0 → joined (slice_get v.state.threads u) ≡ Some t
@@ -295,6 +318,35 @@ ends_put_joiners p first v q c t lists joiners a mounts goes on others ended ris
         let parts = and_parts (runs u) (places u v.schedule == 0) e in
         by u (eqb-true (places u v.schedule) 0 parts.1) parts.0 (joined (slice_get v.state.threads u)) refl
 
+-- ---- a step that changes two threads
+
+-- nobody but the second is put, where that one hasn't ended just now
+beside_off : (w : World) (v : Scheduled State) (q : State) (c t u : ℕ) (lists : ℕ → List ℕ) → has_mounted v.schedule c t ≡ true
+    → ending v.state ≡ None → OthersStayBeside t u v.state q → EndsNoWait q t → (has_ended q u ≡ true → has_ended v.state u ≡ true)
+    → (x : ℕ) → x ≢ u → (is_to_run (look_of w v.state) (look_of w q) lists x && (places x v.schedule == 0)) ≡ false
+beside_off w v q c t u lists mounts goes others ends old x other = by (eqb_tells x t)
+  where
+    runs : Bool
+    runs = is_to_run (look_of w v.state) (look_of w q) lists x
+
+    over : (y : ℕ) → is_none (ending q) ≡ true → has_ended q y ≡ true → ((eqb y t ≡ true) × (y ≡ t)) ⊎ ((eqb y t ≡ false) × (y ≢ t))
+        → ((eqb y u ≡ true) × (y ≡ u)) ⊎ ((eqb y u ≡ false) × (y ≢ u)) → has_ended v.state y ≡ true
+    over y none e (inl me) beside = absurd (no_end q t ends none (ap (has_ended q) (sym me.1) ∙ e))
+    over y none e (inr apart) (inl it) = ap (has_ended v.state) it.1 ∙ old (ap (has_ended q) (sym it.1) ∙ e)
+    over y none e (inr apart) (inr beside) =
+        ended_back (slice_get v.state.threads y) (slice_get q.threads y) (others.threads y apart.1 beside.1) e
+
+    by : ((eqb x t ≡ true) × (x ≡ t)) ⊎ ((eqb x t ≡ false) × (x ≢ t)) → (runs && (places x v.schedule == 0)) ≡ false
+    by (inl me) = ap (λ n. runs && (places n v.schedule == 0)) me.1 ∙ mounted_off v.schedule c t runs mounts
+    by (inr apart) =
+        let quiet : Quiet v.state q x = record {
+          goes = goes;
+          owners = others.owners;
+          now = others.now;
+          ends = λ y j none e. over y none e (eqb_tells y t) (eqb_tells y u);
+        } in
+        unplaced_off v.schedule x runs (stays_off w v.state q lists x quiet (others.threads x apart.1 other))
+
 -- ---- the start of a thread
 
 live_spot : (status : Status) → is_live status ≡ true → is_live_spot (spot_of status) ≡ true
@@ -338,27 +390,71 @@ starts_put_the_started p first v q c t u lists a mounts goes others ends fresh l
         (ap (λ s. not (is_live_spot s)) spot_was)
         (ap (λ o. is_live_spot (spot_at o)) live.there ∙ live_spot live.thread.thread.status live.status))
 
-    over : (x : ℕ) → is_none (ending q) ≡ true → has_ended q x ≡ true → ((eqb x t ≡ true) × (x ≡ t)) ⊎ ((eqb x t ≡ false) × (x ≢ t))
-        → ((eqb x u ≡ true) × (x ≡ u)) ⊎ ((eqb x u ≡ false) × (x ≢ u)) → has_ended v.state x ≡ true
-    over x none e (inl me) other = absurd (no_end q t ends none (ap (has_ended q) (sym me.1) ∙ e))
-    over x none e (inr apart) (inl it) =
-        absurd (live_goes live.thread.thread.status live.status (sym (ap ended_by live.there) ∙ ap (has_ended q) (sym it.1) ∙ e))
-    over x none e (inr apart) (inr other) =
-        ended_back (slice_get v.state.threads x) (slice_get q.threads x) (others.threads x apart.1 other.1) e
-
-    beside : (x : ℕ) → x ≢ u → ((eqb x t ≡ true) × (x ≡ t)) ⊎ ((eqb x t ≡ false) × (x ≢ t)) → (runs x && (places x v.schedule == 0)) ≡ false
-    beside x other (inl me) = ap (λ n. runs x && (places n v.schedule == 0)) me.1 ∙ mounted_off v.schedule c t (runs x) mounts
-    beside x other (inr apart) =
-        let quiet : Quiet v.state q x = record {
-          goes = goes;
-          owners = others.owners;
-          now = others.now;
-          ends = λ y j none e. over y none e (eqb_tells y t) (eqb_tells y u);
-        } in
-        unplaced_off v.schedule x (runs x) (stays_off w v.state q lists x quiet (others.threads x apart.1 other))
+    old : has_ended q u ≡ true → has_ended v.state u ≡ true
+    old e = absurd (live_goes live.thread.thread.status live.status (sym (ap ended_by live.there) ∙ e))
 
     by : (x : ℕ) → ((eqb x u ≡ true) × (x ≡ u)) ⊎ ((eqb x u ≡ false) × (x ≢ u)) → (runs x && (places x v.schedule == 0)) ≡ (x == u)
     by x (inl me) =
         ap (λ n. runs n && (places n v.schedule == 0)) me.1
         ∙ and_from (runs u) (places u v.schedule == 0) starts (unplaced (places u v.schedule == 0) refl) ∙ sym me.0
-    by x (inr other) = beside x other.1 (eqb_tells x t) ∙ sym other.0
+    by x (inr other) = beside_off w v q c t u lists mounts goes others ends old x other.1 ∙ sym other.0
+
+-- ---- a permit, or an interrupt
+
+pub wakes_put_the_woken : WakesPutTheWoken
+wakes_put_the_woken p first v q c t u lists a mounts goes others ends woken free =
+    elim (cases_Bool alone) [
+      | inl puts ↦
+          one_is_put before after lists v.schedule (all_threads after) u (λ x. one puts x (eqb_tells x u))
+          ((all_in_order after).once u (slice_get_within q.threads u woken.new woken.is)) ∙ sym (ap (λ b. if b then u ∷ [] else []) puts)
+      | inr stays ↦
+          nobody_is_put before after lists v.schedule (all_threads after) (λ x. none stays x (eqb_tells x u))
+          ∙ sym (ap (λ b. if b then u ∷ [] else []) stays)
+    ]
+  where
+    before : Look
+    before = look_of p.world v.state
+
+    after : Look
+    after = look_of p.world q
+
+    runs : ℕ → Bool
+    runs = is_to_run before after lists
+
+    alone : Bool
+    alone = (places u v.schedule == 0) && enabled q u
+
+    loose : is_in_line (after.spot u) ≡ false
+    loose =
+        ap (λ o. is_in_line (spot_at o)) woken.is ∙ ap (λ s. is_in_line (spot_of s)) woken.status
+        ∙ sym (ap (λ o. is_in_line (spot_at o)) woken.was) ∙ free
+
+    -- it wasn't enabled, so it is put where it is now
+    runs_now : places u v.schedule ≡ 0 → runs u ≡ enabled q u
+    runs_now unplaced =
+        kept_runs p.world v.state q lists u woken.old woken.new others.owners woken.was woken.is woken.status
+        ∙ ap (λ b. not b && (enabled q u && not (is_in_line (after.spot u)))) (unplaced_waits p first v u a goes unplaced free)
+        ∙ ap (λ b. enabled q u && not b) loose ∙ and-true (enabled q u)
+
+    here : ((eqb (places u v.schedule) 0 ≡ true) × (places u v.schedule ≡ 0))
+        ⊎ ((eqb (places u v.schedule) 0 ≡ false) × (places u v.schedule ≢ 0)) → (runs u && (places u v.schedule == 0)) ≡ alone
+    here (inl unplaced) =
+        ap (λ b. runs u && b) unplaced.0 ∙ and-true (runs u) ∙ runs_now unplaced.1 ∙ sym (ap (λ b. b && enabled q u) unplaced.0)
+    here (inr placed) =
+        ap (λ b. runs u && b) placed.0 ∙ and_right (runs u) false refl ∙ sym (ap (λ b. b && enabled q u) placed.0)
+
+    at : (x : ℕ) → x ≡ u → (runs x && (places x v.schedule == 0)) ≡ alone
+    at x me = ap (λ n. runs n && (places n v.schedule == 0)) me ∙ here (eqb_tells (places u v.schedule) 0)
+
+    old : has_ended q u ≡ true → has_ended v.state u ≡ true
+    old e = ap ended_by woken.was ∙ sym (ap is_done woken.status) ∙ sym (ap ended_by woken.is) ∙ e
+
+    one : alone ≡ true → (x : ℕ) → ((eqb x u ≡ true) × (x ≡ u)) ⊎ ((eqb x u ≡ false) × (x ≢ u))
+        → (runs x && (places x v.schedule == 0)) ≡ (x == u)
+    one puts x (inl me) = at x me.1 ∙ puts ∙ sym me.0
+    one puts x (inr other) = beside_off p.world v q c t u lists mounts goes others ends old x other.1 ∙ sym other.0
+
+    none : alone ≡ false → (x : ℕ) → ((eqb x u ≡ true) × (x ≡ u)) ⊎ ((eqb x u ≡ false) × (x ≢ u))
+        → (runs x && (places x v.schedule == 0)) ≡ false
+    none stays x (inl me) = at x me.1 ∙ stays
+    none stays x (inr other) = beside_off p.world v q c t u lists mounts goes others ends old x other.1

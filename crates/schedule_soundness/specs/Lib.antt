@@ -8,5 +8,6 @@ pub mod HandLaws
 pub mod TypedLaws
 pub mod AloneLaws
 pub mod PutLaws
+pub mod TimeLaws
 pub mod EntryLaws
 pub mod PinLaws

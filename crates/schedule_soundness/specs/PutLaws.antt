@@ -1,9 +1,10 @@
 -- Whom a step puts into the deque of its carrier, by what it does to the threads.
-use Rattle.std.specs.Prelude.{◌≡◌, ◌≢◌, ◌⊎◌, ◌↔◌, ℕ, true, false, Contains, List, [], ◌∷◌, Option, None, Some, map, slice_get}
+use Rattle.std.specs.Prelude.{◌≡◌, ◌≢◌, ◌⊎◌, ◌↔◌, ◌==◌, ◌&&◌, ℕ, true, false, Contains, List, [], ◌∷◌, Option, None, Some, if◌then◌else◌, map, slice_get}
 use Rattle.std.specs.List.Sorted.{IsStrictlyIncreasing}
 use Rattle.vthread_state.specs.declared.thread.Status.TheVariants.{New}
 use Rattle.vthread_state.specs.declared.thread.Thread.{Thread}
 use Rattle.vthread_state.specs.Threads.{joins_in}
+use Rattle.schedule_model.specs.Look.{is_in_line}
 use Rattle.schedule_model.specs.Schedule.{places}
 use Rattle.schedule_model.specs.Puts.{all_threads, put_by}
 use Rattle.schedule_model.specs.Entries.{has_mounted}
@@ -12,7 +13,7 @@ use Rattle.ref_model.specs.declared.ending.Ending.{Ending}
 use Rattle.ref_model.specs.Setting.{Setting}
 use Rattle.ref_model.specs.State.{JavaThread, State}
 use Rattle.ref_model.specs.Ending.{ending, is_live}
-use Rattle.ref_model.specs.Enabled.{has_ended}
+use Rattle.ref_model.specs.Enabled.{enabled, has_ended}
 use Rattle.ref_model.specs.Looks.{look_of}
 use Rattle.schedule_soundness.specs.HistoryLaws.{IsProgramAfter}
 
@@ -52,6 +53,14 @@ pub record IsLive (r : State) (u : ℕ) : Type 0 where
   pub there : slice_get r.threads u ≡ Some thread
   pub status : is_live thread.thread.status ≡ true
 
+-- it is there and has the status that it had, whatever became of its permit and its interrupt status
+pub record IsWoken (before after : State) (u : ℕ) : Type 0 where
+  pub old : JavaThread
+  pub new : JavaThread
+  pub was : slice_get before.threads u ≡ Some old
+  pub is : slice_get after.threads u ≡ Some new
+  pub status : new.thread.status ≡ old.thread.status
+
 -- the threads of a state, as the table of threads has them
 abbrev pub rows_of : State → List Thread
 rows_of r = map (λ (x : JavaThread). x.thread) r.threads
@@ -78,3 +87,12 @@ StartsPutTheStarted = (p : Setting) (first : State) (v : Scheduled State) (q : S
     IsProgramAfter p first v → has_mounted v.schedule c t ≡ true → ending v.state ≡ None → OthersStayBeside t u v.state q →
     EndsNoWait q t → IsNew v.state u → IsLive q u →
     put_by (look_of p.world v.state) (look_of p.world q) entry_list v.schedule (all_threads (look_of p.world q)) ≡ u ∷ []
+
+-- Where a thread that is in no line gets a permit or an interrupt (LockSupport.unpark, Thread.interrupt) it is put if it is in no place and
+-- may step then, and nobody else is.
+abbrev pub WakesPutTheWoken : Type 0
+WakesPutTheWoken = (p : Setting) (first : State) (v : Scheduled State) (q : State) (c t u : ℕ) (entry_list : ℕ → List ℕ) →
+    IsProgramAfter p first v → has_mounted v.schedule c t ≡ true → ending v.state ≡ None → OthersStayBeside t u v.state q →
+    EndsNoWait q t → IsWoken v.state q u → is_in_line ((look_of p.world v.state).spot u) ≡ false →
+    put_by (look_of p.world v.state) (look_of p.world q) entry_list v.schedule (all_threads (look_of p.world q)) ≡
+    (if (places u v.schedule == 0) && enabled q u then u ∷ [] else [])

@@ -10,7 +10,8 @@ ghost use Rattle.schedule_soundness.specs.StallLaws.{PlacesTell, StallsByPlaces,
 ghost use Rattle.schedule_soundness.specs.HandLaws.{EntriesLeaveHands, HandsOutlastEntries, OwedOutlastsEntries, UnmountsOutlastEntries, HandsGoOn, RowsAreEntries};
 ghost use Rattle.schedule_soundness.specs.TypedLaws.{HistoriesAreTyped, FramesAreTyped, LinkedProgramsAreSuch};
 ghost use Rattle.schedule_soundness.specs.AloneLaws.{StepsAreOfMain, MainRunsAlone, MainGoesOn};
-ghost use Rattle.schedule_soundness.specs.PutLaws.{QuietStepsPutNobody, EndsPutJoiners, StartsPutTheStarted};
+ghost use Rattle.schedule_soundness.specs.PutLaws.{QuietStepsPutNobody, EndsPutJoiners, StartsPutTheStarted, WakesPutTheWoken};
+ghost use Rattle.schedule_soundness.specs.TimeLaws.{TicksLeaveThreads, TicksPutWhoIsDue};
 ghost use Rattle.schedule_soundness.specs.PinLaws.{NobodyIsPinned, StepsPinNobody, RowsPinNobody, NamesTellCalls, TestsTellNames, LinkedHoldIsStatic};
 ghost use Rattle.schedule_soundness.specs.EntryLaws.{YieldsAreNext, StepsAreEntries};
 
@@ -94,11 +95,20 @@ pub fn puts_are_seen_afterwards()
 {}
 
 /// Whom a step puts into a deque is seen by the threads that it changes: nobody where only its own thread changes, and goes on; with its
-/// end those that join it; with a start the thread that is started.
+/// end those that join it; with a start the thread that is started; with a permit or an interrupt the thread that gets it, where that may
+/// step then.
 pub fn puts_are_seen_by_threads()
     ensures nobody { QuietStepsPutNobody }
     ensures joiners { EndsPutJoiners }
     ensures started { StartsPutTheStarted }
+    ensures woken { WakesPutTheWoken }
+{}
+
+/// Where no thread waits on a monitor a tick leaves the threads as they are, and puts those whose deadline it reaches, by their deadlines
+/// and then by their numbers.
+pub fn puts_are_seen_by_time()
+    ensures threads { TicksLeaveThreads }
+    ensures due { TicksPutWhoIsDue }
 {}
 
 /// Local instructions that a carrier made ahead, and a step after them, are one entry, and the state before the step says whether the entry
