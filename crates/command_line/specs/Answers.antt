@@ -1,6 +1,7 @@
 -- The exit status of each answer, as sysexits has it from 64 on, and its line on the error output.
 use Rattle.std.specs.Prelude.{ℕ, List, [], ◌∷◌, ◌++◌, Option, Some, None, codes, map, unwrap_or, slice_get}
 use Rattle.std.specs.Fmt.{decimal}
+use Rattle.std.specs.List.{flat_map}
 use Rattle.std.specs.Str.{encode_utf8_all}
 use Rattle.std.specs.Char.Utf16.{utf16_chars}
 use Rattle.jvm_words.specs.Words.{low_bits}
@@ -11,9 +12,9 @@ use Rattle.link_rules.specs.declared.why.LinkWhy.TheVariants as link_whys
 use Rattle.verify_types.specs.declared.why.VerifyWhy.{VerifyWhy}
 use Rattle.verify_types.specs.declared.why.VerifyWhy.TheVariants as verify_whys
 use Rattle.command_line.specs.declared.answer.Which.{Which}
-use Rattle.command_line.specs.declared.answer.Which.TheVariants.{Files, FileSize, Events}
+use Rattle.command_line.specs.declared.answer.Which.TheVariants.{Files, FileSize, Threads, Events}
 use Rattle.command_line.specs.declared.answer.Why.{Why}
-use Rattle.command_line.specs.declared.answer.Why.TheVariants.{Ended, MainThrew, Exited, Usage, Limit, Missing, SourceFault, BadClass, NoMain, LinkFault, VerifyFault, SinkFault, NoMemory}
+use Rattle.command_line.specs.declared.answer.Why.TheVariants.{Ended, MainThrew, Exited, Stalled, Usage, Limit, Missing, SourceFault, BadClass, NoMain, LinkFault, VerifyFault, SinkFault, NoMemory}
 use Rattle.command_line.specs.Commands.{Command}
 
 -- This table and those of names and lines list every case, so that a new answer is refused until it has a row.
@@ -29,6 +30,7 @@ status_of (LinkFault class why) = 68
 status_of (VerifyFault class method pc why) = 69
 status_of NoMain = 70
 status_of (Limit which number) = 71
+status_of (Stalled threads) = 72
 status_of (SinkFault which written) = 74
 status_of NoMemory = 75
 
@@ -78,6 +80,7 @@ verify_why_name verify_whys.End = codes "End"
 abbrev pub which_name : Which → List ℕ
 which_name Files = codes "Files"
 which_name FileSize = codes "FileSize"
+which_name Threads = codes "Threads"
 which_name Events = codes "Events"
 
 -- units of UTF-16 as UTF-8, with `?` for a surrogate without its partner
@@ -94,6 +97,13 @@ line_with text name = text ++ name ++ 10 ∷ []
 
 abbrev pub limit_line : Which → ℕ → List ℕ
 limit_line which number = codes "jvt: limit " ++ which_name which ++ codes " " ++ decimal number ++ 10 ∷ []
+
+-- a space and a number
+abbrev pub after_space : ℕ → List ℕ
+after_space n = codes " " ++ decimal n
+
+abbrev pub stalled_line : List ℕ → List ℕ
+stalled_line threads = codes "jvt: stalled: threads" ++ flat_map after_space threads ++ 10 ∷ []
 
 abbrev pub bad_class_line : List ℕ → ℕ → ClassWhy → List ℕ
 bad_class_line file at why = codes "jvt: bad class " ++ file ++ codes " at " ++ decimal at ++ codes ": " ++ class_why_name why ++ 10 ∷ []
@@ -121,6 +131,7 @@ line_of c MainThrew = []
 line_of c (Exited n) = []
 line_of c Usage = usage_line
 line_of c (Limit which number) = limit_line which number
+line_of c (Stalled threads) = stalled_line threads
 line_of c (Missing file) = line_with (codes "jvt: missing ") (file_name c file)
 line_of c (SourceFault file) = line_with (codes "jvt: cannot read ") (file_name c file)
 line_of c (BadClass file at why) = bad_class_line (file_name c file) at why
@@ -138,6 +149,7 @@ line_for (Some c) why = line_of c why
 -- the line of this answer names something, so memory is taken for it; that of no other answer may want memory
 abbrev pub NamesSomething : Why → Type 0
 NamesSomething (Limit which number) = Unit {0}
+NamesSomething (Stalled threads) = Unit {0}
 NamesSomething (Missing file) = Unit {0}
 NamesSomething (SourceFault file) = Unit {0}
 NamesSomething (BadClass file at why) = Unit {0}

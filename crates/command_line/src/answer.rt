@@ -23,6 +23,8 @@ pub enum Which {
     Files,
     /// The bytes of a file.
     FileSize,
+    /// The threads that a program makes.
+    Threads,
     /// The entries of the history.
     Events,
 }
@@ -36,6 +38,10 @@ pub enum Why {
     MainThrew,
     /// The program called `System.exit` with this status.
     Exited(i32),
+    /// No thread can go on. `threads` are the live ones, by rising number.
+    Stalled {
+        threads: Items<u32>,
+    },
     /// The arguments are no command.
     Usage,
     /// A limit is passed. `number` is the limit.
@@ -106,6 +112,7 @@ impl Why {
             Why::VerifyFault { .. } => 69,
             Why::NoMain => 70,
             Why::Limit { .. } => 71,
+            Why::Stalled { .. } => 72,
             Why::SinkFault { .. } => 74,
             Why::NoMemory => 75,
         }

@@ -1,7 +1,8 @@
 //! The line that an answer writes to the error output.
 
-ghost use Rattle.std.specs.Prelude.{◌≡◌, IfOk, OnErr};
-ghost use Rattle.command_line.specs.Answers.{line_of, line_with, limit_line, bad_class_line, link_line, verify_line, NamesSomething, class_why_name as class_why_name_of, link_why_name as link_why_name_of, verify_why_name as verify_why_name_of, which_name as which_name_of, file_name as file_name_of};
+ghost use Rattle.std.specs.Prelude.{◌≡◌, ◌++◌, IfOk, OnErr, OnOk};
+ghost use Rattle.std.specs.List.{flat_map};
+ghost use Rattle.command_line.specs.Answers.{line_of, line_with, limit_line, stalled_line, after_space, bad_class_line, link_line, verify_line, NamesSomething, class_why_name as class_why_name_of, link_why_name as link_why_name_of, verify_why_name as verify_why_name_of, which_name as which_name_of, file_name as file_name_of};
 ghost use Rattle.command_line.specs.Commands.{command_texts};
 ghost use Rattle.command_line.specs.Lines.{bytes_of};
 
@@ -56,6 +57,7 @@ pub fn make_line(alloc: Global, why: &Why, command: &Command) -> Result<Line, Al
         Why::SinkFault { .. } => return Ok(Line::Fixed(CANNOT_WRITE)),
         Why::NoMemory => return Ok(Line::Fixed(NO_MEMORY)),
         Why::Limit { which, number } => limit(alloc, *which, *number)?,
+        Why::Stalled { threads } => stalled(alloc, threads.as_slice())?,
         Why::Missing { file } => line_with_name(
             alloc,
             b"jvt: missing ",
@@ -106,6 +108,34 @@ fn limit(alloc: Global, which: Which, number: u32) -> Result<Vec<u8>, AllocError
     line.extend_from_slice(which_name(which))?;
     line.extend_from_slice(b" ")?;
     line.extend_from_slice(buffer.format(number).as_bytes())?;
+    line.push(b'\n')?;
+    Ok(line)
+}
+
+// Adds a space and a number.
+fn push_number(line: &mut Vec<u8>, number: u32) -> Result<(), AllocError>
+    ensures { OnOk result (line.new.items ≡ line.old.items ++ after_space number) }
+{
+    let mut buffer = Buffer::new();
+    line.extend_from_slice(b" ")?;
+    line.extend_from_slice(buffer.format(number).as_bytes())
+}
+
+// Adds each number after a space.
+fn push_numbers(line: &mut Vec<u8>, numbers: &[u32]) -> Result<(), AllocError>
+    ensures { OnOk result (line.new.items ≡ line.old.items ++ flat_map after_space numbers.now) }
+{
+    for number in numbers {
+        push_number(line, *number)?;
+    }
+    Ok(())
+}
+
+fn stalled(alloc: Global, threads: &[u32]) -> Result<Vec<u8>, AllocError>
+    ensures { IfOk result (λ line. line.items ≡ stalled_line threads.now) }
+{
+    let mut line = Vec::from_slice(alloc, b"jvt: stalled: threads")?;
+    push_numbers(&mut line, threads)?;
     line.push(b'\n')?;
     Ok(line)
 }
@@ -166,6 +196,7 @@ fn which_name(which: Which) -> &'static [u8]
     match which {
         Which::Files => b"Files",
         Which::FileSize => b"FileSize",
+        Which::Threads => b"Threads",
         Which::Events => b"Events",
     }
 }

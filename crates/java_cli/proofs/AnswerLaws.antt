@@ -21,11 +21,11 @@ use Rattle.program_files.specs.declared.errors.AcceptError.{AcceptError}
 use Rattle.program_files.specs.declared.errors.AcceptError.TheVariants as accept
 use Rattle.program_files.specs.declared.errors.StartError.{StartError}
 use Rattle.program_files.specs.declared.errors.StartError.TheVariants as start
-use Rattle.command_line.specs.declared.answer.Which.TheVariants.{Files, FileSize, Events}
+use Rattle.command_line.specs.declared.answer.Which.TheVariants.{Files, FileSize, Threads, Events}
 use Rattle.command_line.specs.declared.answer.Why.{Why}
 use Rattle.command_line.specs.declared.answer.Why.TheVariants.{Usage, Limit, Missing, SourceFault, BadClass, NoMain, LinkFault, VerifyFault, SinkFault, NoMemory}
-use Rattle.program_files.specs.Limits.{most_files}
-use Rattle.program_files.specs.Programs.{has_main, IsStarted, IsProgram}
+use Rattle.program_files.specs.Limits.{most_files, run_limits}
+use Rattle.program_files.specs.Programs.{has_main, world_of_files, IsStarted, IsProgram}
 use Rattle.program_files.specs.Errors.{load_answer, accept_answer, start_answer}
 use Rattle.command_line.specs.Commands.{Command}
 use Rattle.program_files.specs.MainClass.{class_named}
@@ -35,9 +35,11 @@ use Rattle.program_files.specs.LinkCauses.{CannotRun, NotAccepted, NotStarted}
 use Rattle.java_cli.specs.Causes.{Due, answered, runs, IsProgramRefusal, IsProgramDue, IsDue, too_many, wrong, by_linking, HasCause, HasRun, IsReached, IsOfRun, IsDueOrFault, contents_of, IsExact, IsRefusal}
 use Rattle.program_files.specs.LoadCauses.{IsRead, IsWrongFile, NotRead, IsStopped}
 use Rattle.program_files.specs.StoreFaults.{StoreFaults}
-use Rattle.machine.specs.declared.execution.Execution.{Execution}
-use Rattle.machine.specs.Runs.{IsRun}
-use Rattle.java_cli.specs.Runs.{IsRunDue, RanCommand}
+use Rattle.link_soundness.specs.Library.{HasLibrary}
+use Rattle.schedule_soundness.specs.PinLaws.{NamesNoHold}
+use Rattle.step_soundness.specs.OpeningLaws.{IsMain}
+use Rattle.java_cli.specs.declared.runnable.Runnable.{Runnable}
+use Rattle.java_cli.specs.Runs.{IsRunDue, HasRead}
 use Rattle.java_cli.specs.Headline.{OnRun, OutFaults, IsSameOrNoMemory}
 
 -- ---- the contents of files
@@ -407,15 +409,27 @@ pub run_due : (known : Option store.Files) (c : Command) (classes : List ClassFi
     → IsRunDue known c
 run_due known c classes p few all is files due told it = (p, program_due known c classes (runs p) few (all_read known c.files classes all) is files due told it)
 
-pub ran_command : (known : Option store.Files) (c : Command) (classes : List ClassFile) (p : Setting) (x : Execution) → length c.files ≤ most_files → AllZip (IsRead known) c.files classes
-    → IsProgram (class_named c.main) classes p → IsRun p x.history.items x.out.items x.err.items x.ending → RanCommand known c x
-ran_command known c classes p x few all is run_is =
+-- and these are what was read
+pub has_read : (known : Option store.Files) (c : Command) (classes : List ClassFile) (x : Runnable) → length c.files ≤ most_files → AllZip (IsRead known) c.files classes → AreAccepted classes → IsStarted (class_named c.main) classes x.main
+    → x.checked ≡ world_of_files classes → HasLibrary x.checked.program → IsMain x.checked x.main → NamesNoHold x.checked → HasRead known c x
+has_read known c classes x few all accepted started world library main unpinned =
     let read = all_read known c.files classes all in
-    record { program = p; given = record { contents = read.contents; classes = classes; few = few; holds = read.holds; read = read.read; accepted = is }; run_is = run_is }
+    let p : Setting = record { world = x.checked; main = x.main; limits = run_limits } in
+    let is : IsProgram (class_named c.main) classes p = record { accepted = accepted; main = started; world = world; limits = refl } in
+    record {
+      given = record { contents = read.contents; classes = classes; few = few; holds = read.holds; read = read.read; accepted = is };
+      library = library;
+      has_main = main;
+      unpinned = unpinned;
+    }
 
-pub has_run : (known : Option store.Files) (c : Command) (x : Execution) → RanCommand known c x → HasRun known c
-has_run known c x ran =
-    record { program = ran.program; cause = record { contents = ran.given.contents; holds = ran.given.holds; due = by_linking ran.given.few ran.given.classes ran.given.read ran.given.accepted } }
+pub has_run : (known : Option store.Files) (c : Command) (x : Runnable) → HasRead known c x → HasRun known c
+has_run known c x read =
+    let given = read.given in
+    record {
+      program = record { world = x.checked; main = x.main; limits = run_limits };
+      cause = record { contents = given.contents; holds = given.holds; due = by_linking given.few given.classes given.read given.accepted };
+    }
 
 -- ---- the answer of the call
 
@@ -444,6 +458,7 @@ kept_refusal before after (inr e) is = subst IsRefusal (sym e.1) tt
 pub refusal_or_run : (why : Why) → IsRefusal why → IsOfRun why → ⊥
 refusal_or_run (Limit Files number) is run = run
 refusal_or_run (Limit FileSize number) is run = run
+refusal_or_run (Limit Threads number) is run = is
 refusal_or_run (Limit Events number) is run = is
 refusal_or_run (Missing file) is run = run
 refusal_or_run (SourceFault file) is run = run

@@ -6,25 +6,29 @@ use Rattle.std.proofs.lemmas.List.{take_all}
 use Rattle.jvm_edges.specs.Bytes.{Appends}
 use Rattle.jvm_edges.specs.Causes.{Rose}
 use Rattle.jvm_edges.specs.Files as store
+use Rattle.history.specs.declared.entry.Entry.{Entry}
+use Rattle.schedule_model.specs.Run.{Scheduled}
 use Rattle.ref_model.specs.declared.ending.Ending.{Ending}
 use Rattle.ref_model.specs.declared.ending.Ending.TheVariants as endings
-use Rattle.ref_model.specs.declared.ending.Which.TheVariants as machine
+use Rattle.ref_model.specs.declared.ending.Which.TheVariants as limits
+use Rattle.ref_model.specs.declared.limits.Limits.{Limits}
+use Rattle.link_model.specs.World.{World}
 use Rattle.ref_model.specs.Setting.{Setting}
 use Rattle.ref_model.specs.State.{State}
 use Rattle.ref_model.specs.Ending.{ending, exit_or, keeps_going, threads_ending}
-use Rattle.machine.specs.declared.execution.Execution.{Execution}
-use Rattle.machine.specs.Runs.{IsRun, entries_left}
-use Rattle.machine.specs.Runs as machine_runs
+use Rattle.carrier.specs.Runs.{IsCause, IsEndingOf, own, caused, limited, IsRun, live_threads}
 use Rattle.java_cli.specs.declared.report.Report.{Report}
-use Rattle.command_line.specs.declared.answer.Which.TheVariants.{Events}
+use Rattle.java_cli.specs.declared.runnable.Runnable.{Runnable}
+use Rattle.command_line.specs.declared.answer.Which.TheVariants.{Threads, Events}
 use Rattle.command_line.specs.declared.answer.Why.{Why}
-use Rattle.command_line.specs.declared.answer.Why.TheVariants.{Ended, MainThrew, Exited, Usage, Limit, SinkFault, NoMemory}
+use Rattle.command_line.specs.declared.answer.Why.TheVariants.{Ended, MainThrew, Exited, Stalled, Usage, Limit, SinkFault, NoMemory}
 use Rattle.command_line.specs.Commands.{Command}
-use Rattle.command_line.specs.Answers.{line_of, line_for}
+use Rattle.command_line.specs.Answers.{line_of, line_for, memory_line}
+use Rattle.program_files.specs.Limits.{run_limits}
 use Rattle.java_cli.specs.Causes.{HasRun, IsOfRun, Due, runs, IsDueOrFault, IsCaused, IsExact}
 use Rattle.program_files.specs.StoreFaults.{StoreFaults}
-use Rattle.java_cli.specs.Runs.{IsRunDue, RanCommand}
-use Rattle.java_cli.specs.Headline.{IsEndingAnswer, IsRunAnswer, IsOutTaken, IsErrTaken, TakesLine, Ran, IsIdle, OnRun, OnNoRun, OutFaults, Takes, answer_with, line_after, taken_of, ending_answer, Wrote, Unwritten}
+use Rattle.java_cli.specs.Runs.{HasRead, IsRunDue}
+use Rattle.java_cli.specs.Headline.{IsEndingAnswer, IsRunAnswer, IsOutTaken, IsErrTaken, TakesLine, RanProgram, Ran, IsIdle, IsRunOrNoMemory, OnRun, OnNoRun, OutFaults, Takes, answer_with, line_after, no_command, taken_of, ending_answer, Wrote, Unwritten}
 use Rattle.java_cli.proofs.AnswerLaws.{has_run, memory_exact}
 use Rattle.java_cli.proofs.LineLaws.{answer_told}
 
@@ -41,7 +45,7 @@ own_ending : (r : State) (e : Ending) → ending r ≡ Some e → IsOwnEnding e
 own_ending r e is = by_exit r.memory.exited is
   where
     same : (a b : Ending) → IsOwnEnding a → Some a ≡ Some b → IsOwnEnding b
-    same a b own is = subst IsOwnEnding (let e : a ≡ b = cc in e) own
+    same a b of is = subst IsOwnEnding (let e : a ≡ b = cc in e) of
 
     by_threads : (goes threw : Bool) → (if goes then None else if threw then Some endings.MainThrew else Some endings.Ended) ≡ Some e → IsOwnEnding e
     by_threads true threw is = absurd cc
@@ -53,34 +57,45 @@ own_ending r e is = by_exit r.memory.exited is
     by_exit (Some status) is = same (endings.Exited status) e tt is
 
 -- the answer is that of the ending
-ending_told : (p : Setting) (entries : ℕ) (told : Ending) (o : Option Ending) → ((e : Ending) → o ≡ Some e → IsOwnEnding e) → machine_runs.IsEndingOf p entries o told → IsEndingAnswer p entries o (ending_answer told)
-ending_told p entries told None own is = subst (λ (e : Ending). IsEndingAnswer p entries None (ending_answer e)) (sym is.0) (refl, refl, is.1)
-ending_told p entries told (Some e) own is = subst (λ (x : Ending). IsEndingAnswer p entries (Some e) (ending_answer x)) (sym is) (by e (own e refl))
-  where
-    by : (e : Ending) → IsOwnEnding e → IsEndingAnswer p entries (Some e) (ending_answer e)
-    by endings.Ended own = refl
-    by endings.MainThrew own = refl
-    by (endings.Exited status) own = refl
-    by e own = absurd own
+own_told : (p : Setting) (entries : ℕ) (v : Scheduled State) (live : List ℕ) (told : Ending) → IsOwnEnding told → ending v.state ≡ Some told → IsEndingAnswer p entries v (ending_answer live told)
+own_told p entries v live endings.Ended of is = is
+own_told p entries v live endings.MainThrew of is = is
+own_told p entries v live (endings.Exited status) of is = is
+own_told p entries v live told of is = absurd of
+
+cause_told : (p : Setting) (entries : ℕ) (v : Scheduled State) (live : List ℕ) (told : Ending) → IsCause p v told → (told ≡ endings.Halted → ⊥) → (told ≡ endings.Stalled → live ≡ live_threads v.state)
+    → IsEndingAnswer p entries v (ending_answer live told)
+cause_told p entries v live endings.Stalled cause not_given_up is_live = (cause, is_live refl)
+cause_told p entries v live (endings.Limit limits.Threads n) cause not_given_up is_live = cause
+cause_told p entries v live endings.Halted cause not_given_up is_live = absurd (not_given_up refl)
+cause_told p entries v live told cause not_given_up is_live = absurd cause
+
+ending_told : (p : Setting) (entries : ℕ) (v : Scheduled State) (live : List ℕ) (told : Ending) → IsEndingOf p v entries told → (told ≡ endings.Stalled → live ≡ live_threads v.state)
+    → IsEndingAnswer p entries v (ending_answer live told)
+ending_told p entries v live told (own is) is_live = own_told p entries v live told (own_ending v.state told is) is
+ending_told p entries v live told (caused cause not_given_up) is_live = cause_told p entries v live told cause not_given_up is_live
+ending_told p entries v live told (limited going is few) is_live = subst (λ (e : Ending). IsEndingAnswer p entries v (ending_answer live e)) (sym is) (going, refl, few)
 
 -- it is an answer to the run
-ending_or_fault : (p : Setting) (entries : ℕ) (o : Option Ending) (why : Why) → IsEndingAnswer p entries o why → IsRunAnswer p entries o why
-ending_or_fault p entries o (SinkFault which written) is = absurd is
-ending_or_fault p entries o why is = is
+ending_or_fault : (p : Setting) (entries : ℕ) (v : Scheduled State) (why : Why) → IsEndingAnswer p entries v why → IsRunAnswer p entries v why
+ending_or_fault p entries v (SinkFault which written) is = absurd is
+ending_or_fault p entries v why is = is
 
-fault_or_ending : (p : Setting) (entries : ℕ) (o : Option Ending) (why : Why) (out_fault err_fault : Option ℕ) → IsEndingAnswer p entries o why → IsRunAnswer p entries o (answer_with why out_fault err_fault)
-fault_or_ending p entries o why (Some n) err_fault is = (why, is)
-fault_or_ending p entries o why None (Some n) is = (why, is)
-fault_or_ending p entries o why None None is = ending_or_fault p entries o why is
+fault_or_ending : (p : Setting) (entries : ℕ) (v : Scheduled State) (why : Why) (out_fault err_fault : Option ℕ) → IsEndingAnswer p entries v why → IsRunAnswer p entries v (answer_with why out_fault err_fault)
+fault_or_ending p entries v why (Some n) err_fault is = (why, is)
+fault_or_ending p entries v why None (Some n) is = (why, is)
+fault_or_ending p entries v why None None is = ending_or_fault p entries v why is
 
 -- it is the answer to a run, and no other
-answer_of_run : (p : Setting) (entries : ℕ) (o : Option Ending) (why : Why) → IsRunAnswer p entries o why → IsOfRun why
-answer_of_run p entries o Ended is = tt
-answer_of_run p entries o MainThrew is = tt
-answer_of_run p entries o (Exited status) is = tt
-answer_of_run p entries o (Limit Events number) is = tt
-answer_of_run p entries o (SinkFault which written) is = tt
-answer_of_run p entries o why is = absurd is
+answer_of_run : (p : Setting) (entries : ℕ) (v : Scheduled State) (why : Why) → IsRunAnswer p entries v why → IsOfRun why
+answer_of_run p entries v Ended is = tt
+answer_of_run p entries v MainThrew is = tt
+answer_of_run p entries v (Exited status) is = tt
+answer_of_run p entries v (Stalled threads) is = tt
+answer_of_run p entries v (Limit Threads number) is = tt
+answer_of_run p entries v (Limit Events number) is = tt
+answer_of_run p entries v (SinkFault which written) is = tt
+answer_of_run p entries v why is = absurd is
 
 -- ---- what the sinks took
 
@@ -89,12 +104,14 @@ abbrev NamesNoSink : Why → Type 0
 NamesNoSink (SinkFault which written) = ⊥
 NamesNoSink why = Unit {0}
 
-names_no_sink : (told : Ending) → NamesNoSink (ending_answer told)
-names_no_sink endings.Ended = tt
-names_no_sink endings.MainThrew = tt
-names_no_sink (endings.Exited status) = tt
-names_no_sink (endings.Limit machine.Events number) = tt
-names_no_sink told = tt
+names_no_sink : (live : List ℕ) (told : Ending) → NamesNoSink (ending_answer live told)
+names_no_sink live endings.Ended = tt
+names_no_sink live endings.MainThrew = tt
+names_no_sink live (endings.Exited status) = tt
+names_no_sink live endings.Stalled = tt
+names_no_sink live (endings.Limit limits.Threads number) = tt
+names_no_sink live (endings.Limit limits.Events number) = tt
+names_no_sink live told = tt
 
 taken_is : (why : Why) (out_fault err_fault : Option ℕ) (size : ℕ) → NamesNoSink why → ((n : ℕ) → out_fault ≡ Some n → n < size) → IsOutTaken (answer_with why out_fault err_fault) (taken_of out_fault size) size
 taken_is why (Some n) err_fault size none short = (refl, short n refl)
@@ -136,95 +153,155 @@ unwrapped : (o : Option ℕ) (size : ℕ) → unwrap_or o size ≡ taken_of o si
 unwrapped None size = refl
 unwrapped (Some n) size = refl
 
--- a run as it was written, by what the sinks took
-pub wrote_is : {O E : Type 0} (bytes : O → Option (List ℕ)) (counts : O → ℕ) (old_out new_out : O) (contents : E → Option (List ℕ)) (faults : E → ℕ) (old new : E) (c : Command) (x : Execution) (why : Why) (line last out err : List ℕ)
-    (out_fault err_fault : Option ℕ) (out_size err_size : ℕ) (r : Report) → out ≡ x.out.items → err ≡ x.err.items → line ≡ line_of c why → last ≡ line_after out_fault line → r.history.items ≡ x.history.items → r.why ≡ answer_with why out_fault err_fault
-    → out_size ≡ length x.out.items → err_size ≡ length x.err.items → r.out_written ≡ unwrap_or out_fault out_size → r.err_written ≡ unwrap_or err_fault err_size → Takes bytes counts old_out new_out out out_fault
-    → ((n : ℕ) → err_fault ≡ Some n → n < length err) → TakesLine contents faults old new last err (taken_of err_fault (length err)) → Wrote bytes counts old_out new_out contents faults old new c x why r
-wrote_is bytes counts old_out new_out contents faults old new c x why line last out err out_fault err_fault out_size err_size r out_is err_is line_is last_is history why_is outs errs out_written err_written takes short told =
-    let written : r.err_written ≡ taken_of err_fault (length x.err.items) = err_written ∙ unwrapped err_fault err_size ∙ ap (taken_of err_fault) errs in
-    let told_of : TakesLine contents faults old new (line_after out_fault line) err (taken_of err_fault (length err)) = subst (λ (l : List ℕ). TakesLine contents faults old new l err (taken_of err_fault (length err))) last_is told in
-    let answer : TakesLine contents faults old new (line_of c (answer_with why out_fault err_fault)) err (taken_of err_fault (length err)) = answer_told contents faults old new c why line err out_fault err_fault line_is short told_of in
-    let whys : TakesLine contents faults old new (line_of c r.why) err (taken_of err_fault (length err)) = subst (λ (w : Why). TakesLine contents faults old new (line_of c w) err (taken_of err_fault (length err))) (sym why_is) answer in
-    let texts : TakesLine contents faults old new (line_of c r.why) x.err.items (taken_of err_fault (length x.err.items)) = subst (λ (t : List ℕ). TakesLine contents faults old new (line_of c r.why) t (taken_of err_fault (length t))) err_is whys in
-    record {
-      out_fault = out_fault;
-      err_fault = err_fault;
-      history = history;
-      why_is = why_is;
-      out = subst (λ (t : List ℕ). Takes bytes counts old_out new_out t out_fault) out_is takes;
-      out_written = out_written ∙ unwrapped out_fault out_size ∙ ap (taken_of out_fault) outs;
-      err_written = written;
-      err_size = subst (λ (t : List ℕ). (n : ℕ) → err_fault ≡ Some n → n < length t) err_is short;
-      err = subst (λ (n : ℕ). TakesLine contents faults old new (line_of c r.why) x.err.items n) (sym written) texts;
-    }
+module _ {O E : Type 0} (bytes : O → Option (List ℕ)) (counts : O → ℕ) (old_out new_out : O) (contents : E → Option (List ℕ)) (faults : E → ℕ) (old new : E) where
+  -- what the err sink took of this error output, and of the line of the report's answer to a command
+  abbrev Told : Command → Report → List ℕ → Type 0
+  Told c r text = TakesLine contents faults old new (line_of c r.why) text r.err_written
 
--- the report of a run that was written
-ran_is : {O E : Type 0} (bytes : O → Option (List ℕ)) (counts : O → ℕ) (old_out new_out : O) (contents : E → Option (List ℕ)) (faults : E → ℕ) (old new : E) (c : Command) (known : Option store.Files) (x : Execution) (r : Report)
-    → RanCommand known c x → Wrote bytes counts old_out new_out contents faults old new c x (ending_answer x.ending) r
-    → Ran c known (bytes old_out) (bytes new_out) (λ text. TakesLine contents faults old new (line_of c r.why) text r.err_written) r
-ran_is bytes counts old_out new_out contents faults old new c known x r ran wrote =
-    let run_is = ran.run_is in
-    let none = names_no_sink x.ending in
-    let short = fault_short bytes counts old_out new_out x.out.items wrote.out_fault wrote.out in
-    let told = ending_told ran.program (length x.history.items) x.ending (ending run_is.state) (own_ending run_is.state) run_is.ended in
-    let answer = fault_or_ending ran.program (length x.history.items) (ending run_is.state) (ending_answer x.ending) wrote.out_fault wrote.err_fault told in
-    record {
-      program = ran.program;
-      state = run_is.state;
-      given = ran.given;
-      runs = rw wrote.history run_is.runs;
-      answer = rw (wrote.history, wrote.why_is) answer;
-      entries = rw wrote.history run_is.entries;
-      grouped = rw wrote.history run_is.grouped;
-      few = rw wrote.history run_is.few;
-      complete = run_is.complete;
-      out = rw (run_is.prints, wrote.out_written) (takes_front bytes counts old_out new_out x.out.items wrote.out_fault wrote.out);
-      out_taken = rw (wrote.why_is, run_is.prints, wrote.out_written) (taken_is (ending_answer x.ending) wrote.out_fault wrote.err_fault (length x.out.items) none short);
-      err_taken = rw (wrote.why_is, run_is.tells, wrote.err_written) (err_taken_is (ending_answer x.ending) wrote.out_fault wrote.err_fault (length x.err.items) none wrote.err_size);
-      err = subst (λ (text : List ℕ). TakesLine contents faults old new (line_of c r.why) text r.err_written) (sym run_is.tells) wrote.err;
-    }
+  -- a run as it was written, by what the sinks took
+  pub wrote_is : (c : Command) (history : List Entry) (text errors : List ℕ) (why : Why) (line last : List ℕ) (out_fault err_fault : Option ℕ) (r : Report) → line ≡ line_of c why → last ≡ line_after out_fault line
+      → r.history.items ≡ history → r.why ≡ answer_with why out_fault err_fault → r.out_written ≡ unwrap_or out_fault (length text) → r.err_written ≡ unwrap_or err_fault (length errors)
+      → Takes bytes counts old_out new_out text out_fault → ((n : ℕ) → err_fault ≡ Some n → n < length errors) → TakesLine contents faults old new last errors (taken_of err_fault (length errors))
+      → Wrote bytes counts old_out new_out contents faults old new c history text errors why r
+  wrote_is c history text errors why line last out_fault err_fault r line_is last_is history_is why_is out_written err_written takes short told =
+      let written : r.err_written ≡ taken_of err_fault (length errors) = err_written ∙ unwrapped err_fault (length errors) in
+      let told_of : TakesLine contents faults old new (line_after out_fault line) errors (taken_of err_fault (length errors)) =
+      subst (λ (l : List ℕ). TakesLine contents faults old new l errors (taken_of err_fault (length errors))) last_is told in
+      let answer : TakesLine contents faults old new (line_of c (answer_with why out_fault err_fault)) errors (taken_of err_fault (length errors)) =
+      answer_told contents faults old new c why line errors out_fault err_fault line_is short told_of in
+      let whys : TakesLine contents faults old new (line_of c r.why) errors (taken_of err_fault (length errors)) =
+      subst (λ (w : Why). TakesLine contents faults old new (line_of c w) errors (taken_of err_fault (length errors))) (sym why_is) answer in
+      record {
+        out_fault = out_fault;
+        err_fault = err_fault;
+        history = history_is;
+        why_is = why_is;
+        out = takes;
+        out_written = out_written ∙ unwrapped out_fault (length text);
+        err_written = written;
+        err_size = short;
+        err = subst (λ (n : ℕ). TakesLine contents faults old new (line_of c r.why) errors n) (sym written) whys;
+      }
 
--- its answer is that of a run
-run_answered : {O E : Type 0} (bytes : O → Option (List ℕ)) (counts : O → ℕ) (old_out new_out : O) (contents : E → Option (List ℕ)) (faults : E → ℕ) (old new : E) (c : Command) (known : Option store.Files) (x : Execution) (r : Report)
-    → RanCommand known c x → Wrote bytes counts old_out new_out contents faults old new c x (ending_answer x.ending) r → IsOfRun r.why
-run_answered bytes counts old_out new_out contents faults old new c known x r ran wrote =
-    let is = ran_is bytes counts old_out new_out contents faults old new c known x r ran wrote in
-    answer_of_run is.program (length r.history.items) (ending is.state) r.why is.answer
+  -- what a run left was written, or memory ran out before
+  abbrev pub Delivered : List Entry → List ℕ → List ℕ → Why → Report → Type 0
+  Delivered history text errors why r =
+      Unwritten old_out new_out contents faults old new r ⊎ Wrote bytes counts old_out new_out contents faults old new no_command history text errors why r
 
--- what a run left was written, or there was no memory for its line
-abbrev pub Delivered : {O E : Type 0} (bytes : O → Option (List ℕ)) (counts : O → ℕ) (old_out new_out : O) (contents : E → Option (List ℕ)) (faults : E → ℕ) (old new : E) (c : Command) (x : Execution) (r : Report) → Type 0
-Delivered bytes counts old_out new_out contents faults old new c x r =
-    Unwritten old_out new_out contents faults old new r ⊎ Wrote bytes counts old_out new_out contents faults old new c x (ending_answer x.ending) r
+  -- the report of a run that was written
+  ran_is : (p : Setting) (carriers : ℕ) (history : List Entry) (text errors live : List ℕ) (told : Ending) (r : Report) → IsRun p carriers history text errors live told
+      → Wrote bytes counts old_out new_out contents faults old new no_command history text errors (ending_answer live told) r
+      → RanProgram p carriers (bytes old_out) (bytes new_out) (Told no_command r) r
+  ran_is p carriers history text errors live told r run_is wrote =
+      let none = names_no_sink live told in
+      let short = fault_short bytes counts old_out new_out text wrote.out_fault wrote.out in
+      let ended = ending_told p (length history) run_is.after live told run_is.ended run_is.live in
+      let answer = fault_or_ending p (length history) run_is.after (ending_answer live told) wrote.out_fault wrote.err_fault ended in
+      record {
+        first = run_is.first;
+        last = run_is.after;
+        begins = run_is.begins;
+        legal = rw wrote.history run_is.legal;
+        runs = rw wrote.history run_is.runs;
+        answer = rw (wrote.history, wrote.why_is) answer;
+        few = rw wrote.history run_is.few;
+        complete = run_is.complete;
+        out = rw (run_is.prints, wrote.out_written) (takes_front bytes counts old_out new_out text wrote.out_fault wrote.out);
+        out_taken = rw (wrote.why_is, run_is.prints, wrote.out_written) (taken_is (ending_answer live told) wrote.out_fault wrote.err_fault (length text) none short);
+        err_taken = rw (wrote.why_is, run_is.tells, wrote.err_written) (err_taken_is (ending_answer live told) wrote.out_fault wrote.err_fault (length errors) none wrote.err_size);
+        err = subst (Told no_command r) (sym run_is.tells) wrote.err;
+      }
 
-no_memory_of_run : (why : Why) → why ≡ NoMemory → IsOfRun why → ⊥
-no_memory_of_run why is run = subst IsOfRun is run
+  -- a run of main in this world was delivered: so much is known of its report
+  pub record IsDelivered (w : World) (main : ℕ) (most : Limits) (carriers : ℕ) (r : Report) : Type 0 where
+    pub headline : OnRun r.why ((p : Setting) → p.world ≡ w → p.main ≡ main → p.limits ≡ most → RanProgram p carriers (bytes old_out) (bytes new_out) (Told no_command r) r)
+    pub answer : IsRunOrNoMemory r.why
+    pub idle : OnNoRun r.why (IsIdle (bytes old_out) (bytes new_out) r)
+    pub out_faults : OutFaults r.why (counts old_out) (counts new_out)
+    pub line : OnNoRun r.why (Told no_command r [])
 
-pub headline_is : {O E : Type 0} (bytes : O → Option (List ℕ)) (counts : O → ℕ) (old_out new_out : O) (contents : E → Option (List ℕ)) (faults : E → ℕ) (old new : E) (command : Option Command) (c : Command) (known : Option store.Files) (x : Execution) (r : Report)
-    → Some c ≡ command → RanCommand known c x → Delivered bytes counts old_out new_out contents faults old new c x r
-    → OnRun r.why (IsSomeAnd command (λ d. Ran d known (bytes old_out) (bytes new_out) (λ text. TakesLine contents faults old new (line_of d r.why) text r.err_written) r))
-headline_is bytes counts old_out new_out contents faults old new command c known x r is ran (inl none) of = absurd (no_memory_of_run r.why none.why of)
-headline_is bytes counts old_out new_out contents faults old new command c known x r is ran (inr wrote) of = rw (← is) (ran_is bytes counts old_out new_out contents faults old new c known x r ran wrote)
+  -- where memory ran out, nothing was run
+  pub unwritten_is : (w : World) (main : ℕ) (most : Limits) (carriers : ℕ) (r : Report) → Unwritten old_out new_out contents faults old new r → IsDelivered w main most carriers r
+  unwritten_is w main most carriers r none = record {
+    headline = λ of. absurd (subst IsOfRun none.why of);
+    answer = inr none.why;
+    idle = λ idle. record { history = none.history; out_written = none.out_written; err_written = none.err_written; same = ap bytes none.same };
+    out_faults = rw (none.why, none.same) refl;
+    line = λ idle.
+        subst (λ (why : Why). TakesLine contents faults old new (line_of no_command why) [] r.err_written) (sym none.why)
+        (subst (λ (n : ℕ). TakesLine contents faults old new memory_line [] n) (sym none.err_written) none.line);
+  }
 
-pub idle_is : {O E : Type 0} (bytes : O → Option (List ℕ)) (counts : O → ℕ) (old_out new_out : O) (contents : E → Option (List ℕ)) (faults : E → ℕ) (old new : E) (c : Command) (known : Option store.Files) (x : Execution) (r : Report)
-    → RanCommand known c x → Delivered bytes counts old_out new_out contents faults old new c x r → OnNoRun r.why (IsIdle (bytes old_out) (bytes new_out) r)
-idle_is bytes counts old_out new_out contents faults old new c known x r ran (inl none) idle = record { history = none.history; out_written = none.out_written; err_written = none.err_written; same = ap bytes none.same }
-idle_is bytes counts old_out new_out contents faults old new c known x r ran (inr wrote) idle = absurd (idle (run_answered bytes counts old_out new_out contents faults old new c known x r ran wrote))
+  pub delivered_is : (w : World) (main : ℕ) (most : Limits) (carriers : ℕ) (history : List Entry) (text errors live : List ℕ) (told : Ending) (r : Report) → carriers ≡ 1
+      → ((p : Setting) → p.world ≡ w → p.main ≡ main → p.limits ≡ most → IsRun p 1 history text errors live told) → Delivered history text errors (ending_answer live told) r
+      → IsDelivered w main most carriers r
+  delivered_is w main most carriers history text errors live told r one run_is (inl none) = unwritten_is w main most carriers r none
+  delivered_is w main most carriers history text errors live told r one run_is (inr wrote) =
+      let ran : (p : Setting) → p.world ≡ w → p.main ≡ main → p.limits ≡ most → RanProgram p carriers (bytes old_out) (bytes new_out) (Told no_command r) r =
+      λ p in_world has_main has_limits.
+      subst (λ (k : ℕ). RanProgram p k (bytes old_out) (bytes new_out) (Told no_command r) r) (sym one) (ran_is p 1 history text errors live told r (run_is p in_world has_main has_limits) wrote) in
+      let p : Setting = record { world = w; main = main; limits = most } in
+      let first = ran p refl refl refl in
+      let of = answer_of_run p (length r.history.items) first.last r.why first.answer in
+      record {
+        headline = λ of. ran;
+        answer = inl of;
+        idle = λ idle. absurd (idle of);
+        out_faults = subst (λ (why : Why). OutFaults why (counts old_out) (counts new_out)) (sym wrote.why_is)
+            (faults_by bytes counts old_out new_out text (ending_answer live told) wrote.out_fault wrote.err_fault (names_no_sink live told) wrote.out);
+        line = λ idle. absurd (idle of);
+      }
 
-pub line_is : {O E : Type 0} (bytes : O → Option (List ℕ)) (counts : O → ℕ) (old_out new_out : O) (contents : E → Option (List ℕ)) (faults : E → ℕ) (old new : E) (command : Option Command) (c : Command) (known : Option store.Files) (x : Execution) (r : Report)
-    → Some c ≡ command → RanCommand known c x → Delivered bytes counts old_out new_out contents faults old new c x r → OnNoRun r.why (TakesLine contents faults old new (line_for command r.why) [] r.err_written)
-line_is bytes counts old_out new_out contents faults old new command c known x r is ran (inl none) idle =
-    subst (λ (why : Why). TakesLine contents faults old new (line_for command why) [] r.err_written) (sym none.why)
-    (subst (λ (n : ℕ). TakesLine contents faults old new (line_for command NoMemory) [] n) (sym none.err_written)
-    (subst (λ (o : Option Command). TakesLine contents faults old new (line_for o NoMemory) [] 0) is none.line))
-line_is bytes counts old_out new_out contents faults old new command c known x r is ran (inr wrote) idle = absurd (idle (run_answered bytes counts old_out new_out contents faults old new c known x r ran wrote))
+-- ---- the report of a command
 
-pub out_faults_is : {O E : Type 0} (bytes : O → Option (List ℕ)) (counts : O → ℕ) (old_out new_out : O) (contents : E → Option (List ℕ)) (faults : E → ℕ) (old new : E) (c : Command) (x : Execution) (r : Report)
-    → Delivered bytes counts old_out new_out contents faults old new c x r → OutFaults r.why (counts old_out) (counts new_out)
-out_faults_is bytes counts old_out new_out contents faults old new c x r (inl none) = rw (none.why, none.same) refl
-out_faults_is bytes counts old_out new_out contents faults old new c x r (inr wrote) =
-    subst (λ (why : Why). OutFaults why (counts old_out) (counts new_out)) (sym wrote.why_is)
-    (faults_by bytes counts old_out new_out x.out.items (ending_answer x.ending) wrote.out_fault wrote.err_fault (names_no_sink x.ending) wrote.out)
+-- the line of an answer to a run names no argument of the command
+same_line : (c d : Command) (why : Why) → IsRunOrNoMemory why → line_of c why ≡ line_of d why
+same_line c d why (inl of) = by why of
+  where
+    by : (why : Why) → IsOfRun why → line_of c why ≡ line_of d why
+    by Ended of = refl
+    by MainThrew of = refl
+    by (Exited status) of = refl
+    by (Stalled threads) of = refl
+    by (Limit which number) of = refl
+    by (SinkFault which written) of = refl
+    by why of = absurd of
+same_line c d why (inr is) = subst (λ (why : Why). line_of c why ≡ line_of d why) (sym is) refl
+
+module _ {E : Type 0} (contents : E → Option (List ℕ)) (faults : E → ℕ) (old new : E) (command : Option Command) (c : Command) (r : Report) (is : Some c ≡ command) (answer : IsRunOrNoMemory r.why) where
+  -- the err sink took the line of this command's answer too
+  of_line : (text : List ℕ) (written : ℕ) → TakesLine contents faults old new (line_of no_command r.why) text written → TakesLine contents faults old new (line_of c r.why) text written
+  of_line text written = subst (λ (line : List ℕ). TakesLine contents faults old new line text written) (same_line no_command c r.why answer)
+
+  pub line_is : OnNoRun r.why (TakesLine contents faults old new (line_of no_command r.why) [] r.err_written) → OnNoRun r.why (TakesLine contents faults old new (line_for command r.why) [] r.err_written)
+  line_is line idle = subst (λ (o : Option Command). TakesLine contents faults old new (line_for o r.why) [] r.err_written) is (of_line [] r.err_written (line idle))
+
+  ran_for : (known : Option store.Files) (before after : Option (List ℕ)) (x : Runnable) → HasRead known c x
+      → RanProgram (record { world = x.checked; main = x.main; limits = run_limits }) 1 before after (λ text. TakesLine contents faults old new (line_of no_command r.why) text r.err_written) r
+      → Ran c known before after (λ text. TakesLine contents faults old new (line_of c r.why) text r.err_written) r
+  ran_for known before after x read ran = record {
+    program = record { world = x.checked; main = x.main; limits = run_limits };
+    given = read.given;
+    ran = record {
+      first = ran.first;
+      last = ran.last;
+      begins = ran.begins;
+      legal = ran.legal;
+      runs = ran.runs;
+      answer = ran.answer;
+      few = ran.few;
+      complete = ran.complete;
+      out = ran.out;
+      out_taken = ran.out_taken;
+      err = of_line ran.last.state.memory.err r.err_written ran.err;
+      err_taken = ran.err_taken;
+    };
+  }
+
+  pub headline_is : (known : Option store.Files) (before after : Option (List ℕ)) (x : Runnable) → HasRead known c x
+      → OnRun r.why ((p : Setting) → p.world ≡ x.checked → p.main ≡ x.main → p.limits ≡ run_limits → RanProgram p 1 before after (λ text. TakesLine contents faults old new (line_of no_command r.why) text r.err_written) r)
+      → OnRun r.why (IsSomeAnd command (λ d. Ran d known before after (λ text. TakesLine contents faults old new (line_of d r.why) text r.err_written) r))
+  headline_is known before after x read ran of = rw (← is) (ran_for known before after x read (ran of (record { world = x.checked; main = x.main; limits = run_limits }) refl refl refl))
 
 -- ---- its cause
 
@@ -232,6 +309,8 @@ run_cause : (known : Option store.Files) (faulty : Type 0) (c : Command) (why : 
 run_cause known faulty c Ended of run = run
 run_cause known faulty c MainThrew of run = run
 run_cause known faulty c (Exited status) of run = run
+run_cause known faulty c (Stalled threads) of run = run
+run_cause known faulty c (Limit Threads number) of run = run
 run_cause known faulty c (Limit Events number) of run = run
 run_cause known faulty c (SinkFault which written) of run = run
 run_cause known faulty c why of run = absurd of
@@ -240,6 +319,8 @@ run_is_due : (p : Setting) (why : Why) → IsOfRun why → IsDueOrFault (runs p)
 run_is_due p Ended of = tt
 run_is_due p MainThrew of = tt
 run_is_due p (Exited status) of = tt
+run_is_due p (Stalled threads) of = tt
+run_is_due p (Limit Threads number) of = tt
 run_is_due p (Limit Events number) of = tt
 run_is_due p (SinkFault which written) of = tt
 run_is_due p why of = absurd of
@@ -247,33 +328,26 @@ run_is_due p why of = absurd of
 run_exact : (known : Option store.Files) (faulty : Type 0) (c : Command) (why : Why) → IsOfRun why → HasRun known c → IsRunDue known c → IsExact known faulty c why
 run_exact known faulty c why of run due = record {
   cause = run_cause known faulty c why of run;
-  due = λ files d told it. let is = due files d told it in subst (λ (x : Due). IsDueOrFault x why) (sym is.1) (run_is_due is.0 why of);
+  due = λ files d told it. let is = due files d told it in subst (λ (x : Due). IsDueOrFault x why) (sym (is.1)) (run_is_due is.0 why of);
 }
 
-pub delivered_exact : {O E : Type 0} (bytes : O → Option (List ℕ)) (counts : O → ℕ) (old_out new_out : O) (contents : E → Option (List ℕ)) (faults : E → ℕ) (old new : E) (c : Command) (known : Option store.Files) (faulty : Type 0) (x : Execution) (r : Report)
-    → RanCommand known c x → IsRunDue known c → Delivered bytes counts old_out new_out contents faults old new c x r → IsExact known faulty c r.why
-delivered_exact bytes counts old_out new_out contents faults old new c known faulty x r ran due (inl none) = subst (λ (why : Why). IsExact known faulty c why) (sym none.why) (memory_exact known faulty c)
-delivered_exact bytes counts old_out new_out contents faults old new c known faulty x r ran due (inr wrote) =
-    run_exact known faulty c r.why (run_answered bytes counts old_out new_out contents faults old new c known x r ran wrote) (has_run known c x ran) due
+pub answer_exact : (known : Option store.Files) (faulty : Type 0) (c : Command) (x : Runnable) (why : Why) → HasRead known c x → IsRunDue known c → IsRunOrNoMemory why → IsExact known faulty c why
+answer_exact known faulty c x why read due (inl of) = run_exact known faulty c why of (has_run known c x read) due
+answer_exact known faulty c x why read due (inr is) = subst (λ (why : Why). IsExact known faulty c why) (sym is) (memory_exact known faulty c)
 
 of_run_faults : (why : Why) (before now : ℕ) → IsOfRun why → now ≡ before → StoreFaults why before now
 of_run_faults Ended before now of kept = kept
 of_run_faults MainThrew before now of kept = kept
 of_run_faults (Exited status) before now of kept = kept
-of_run_faults (Limit Events number) before now of kept = kept
+of_run_faults (Stalled threads) before now of kept = kept
+of_run_faults (Limit which number) before now of kept = kept
 of_run_faults (SinkFault which written) before now of kept = kept
 of_run_faults why before now of kept = absurd of
 
-pub delivered_store : {O E : Type 0} (bytes : O → Option (List ℕ)) (counts : O → ℕ) (old_out new_out : O) (contents : E → Option (List ℕ)) (faults : E → ℕ) (old new : E) (c : Command) (known : Option store.Files) (x : Execution) (r : Report) (before now : ℕ)
-    → RanCommand known c x → now ≡ before → Delivered bytes counts old_out new_out contents faults old new c x r → StoreFaults r.why before now
-delivered_store bytes counts old_out new_out contents faults old new c known x r before now ran kept (inl none) = subst (λ (why : Why). StoreFaults why before now) (sym none.why) tt
-delivered_store bytes counts old_out new_out contents faults old new c known x r before now ran kept (inr wrote) =
-    of_run_faults r.why before now (run_answered bytes counts old_out new_out contents faults old new c known x r ran wrote) kept
+pub answer_store : (why : Why) (before now : ℕ) → IsRunOrNoMemory why → now ≡ before → StoreFaults why before now
+answer_store why before now (inl of) kept = of_run_faults why before now of kept
+answer_store why before now (inr is) kept = subst (λ (why : Why). StoreFaults why before now) (sym is) tt
 
-no_usage : (why : Why) → IsOfRun why → why ≡ Usage → ⊥
-no_usage why of is = subst IsOfRun is of
-
-pub delivered_usage : {O E : Type 0} (bytes : O → Option (List ℕ)) (counts : O → ℕ) (old_out new_out : O) (contents : E → Option (List ℕ)) (faults : E → ℕ) (old new : E) (c : Command) (known : Option store.Files) (x : Execution) (r : Report)
-    → RanCommand known c x → Delivered bytes counts old_out new_out contents faults old new c x r → r.why ≡ Usage → ⊥
-delivered_usage bytes counts old_out new_out contents faults old new c known x r ran (inl none) is = let no : NoMemory ≡ Usage = sym none.why ∙ is in absurd cc
-delivered_usage bytes counts old_out new_out contents faults old new c known x r ran (inr wrote) is = no_usage r.why (run_answered bytes counts old_out new_out contents faults old new c known x r ran wrote) is
+pub answer_usage : (why : Why) → IsRunOrNoMemory why → why ≡ Usage → ⊥
+answer_usage why (inl of) is = subst IsOfRun is of
+answer_usage why (inr none) is = let same : NoMemory ≡ Usage = sym none ∙ is in absurd cc

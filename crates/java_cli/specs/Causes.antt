@@ -7,9 +7,9 @@ use Rattle.class_model.specs.declared.class_file.ClassFile.{ClassFile}
 use Rattle.link_rules.specs.declared.why.LinkWhy.TheVariants.{Unsupported}
 use Rattle.ref_model.specs.Setting.{Setting}
 use Rattle.command_line.specs.Commands.{Command}
-use Rattle.command_line.specs.declared.answer.Which.TheVariants.{Files, FileSize, Events}
+use Rattle.command_line.specs.declared.answer.Which.TheVariants.{Files, FileSize, Threads, Events}
 use Rattle.command_line.specs.declared.answer.Why.{Why}
-use Rattle.command_line.specs.declared.answer.Why.TheVariants.{Ended, MainThrew, Exited, Usage, Limit, Missing, SourceFault, BadClass, NoMain, LinkFault, VerifyFault, SinkFault, NoMemory}
+use Rattle.command_line.specs.declared.answer.Why.TheVariants.{Ended, MainThrew, Exited, Stalled, Usage, Limit, Missing, SourceFault, BadClass, NoMain, LinkFault, VerifyFault, SinkFault, NoMemory}
 use Rattle.program_files.specs.declared.errors.LoadError.{LoadError}
 use Rattle.program_files.specs.Contents.{Contents, HaveContents, AreClasses, FirstWrong}
 use Rattle.program_files.specs.Errors.{load_answer}
@@ -75,6 +75,8 @@ IsCaused known faulty c (SourceFault file) = faulty × IsReached known c file
 IsCaused known faulty c Ended = HasRun known c
 IsCaused known faulty c MainThrew = HasRun known c
 IsCaused known faulty c (Exited status) = HasRun known c
+IsCaused known faulty c (Stalled threads) = HasRun known c
+IsCaused known faulty c (Limit Threads number) = HasRun known c
 IsCaused known faulty c (Limit Events number) = HasRun known c
 IsCaused known faulty c (SinkFault which written) = HasRun known c
 IsCaused known faulty c Usage = ⊥
@@ -87,7 +89,9 @@ IsOfRun MainThrew = Unit {0}
 IsOfRun (Exited status) = Unit {0}
 IsOfRun (Limit Files number) = ⊥
 IsOfRun (Limit FileSize number) = ⊥
+IsOfRun (Limit Threads number) = Unit {0}
 IsOfRun (Limit Events number) = Unit {0}
+IsOfRun (Stalled threads) = Unit {0}
 IsOfRun (SinkFault which written) = Unit {0}
 IsOfRun why = ⊥
 
@@ -112,6 +116,7 @@ pub record IsExact (known : Option store.Files) (faulty : Type 0) (c : Command) 
 abbrev pub IsRefusal : Why → Type 0
 IsRefusal (Limit Files number) = Unit {0}
 IsRefusal (Limit FileSize number) = Unit {0}
+IsRefusal (Limit Threads number) = ⊥
 IsRefusal (Limit Events number) = ⊥
 IsRefusal (Missing file) = Unit {0}
 IsRefusal (SourceFault file) = Unit {0}

@@ -1,44 +1,49 @@
 -- What a call of the machine did, from the words to what the sinks took.
-use Rattle.std.specs.Prelude.{◌≡◌, ◌⊎◌, ℕ, ◌+◌, ◌<◌, ◌≤◌, List, [], ◌++◌, Option, Some, None, length, take}
-use Rattle.std.specs.List.{AllByRecursion}
+use Rattle.std.specs.Prelude.{◌≡◌, ◌⊎◌, ℕ, ◌+◌, ◌<◌, ◌≤◌, true, List, [], ◌++◌, Option, Some, None, length, take}
 use Rattle.jvm_edges.specs.Bytes.{Appends}
 use Rattle.jvm_edges.specs.Causes.{Rose}
 use Rattle.jvm_edges.specs.Files.{Files}
+use Rattle.history.specs.declared.entry.Entry.{Entry}
 use Rattle.history.specs.Java.{java}
+use Rattle.schedule_model.specs.Run.{Scheduled, schedule_of}
 use Rattle.ref_model.specs.declared.ending.Ending.{Ending}
 use Rattle.ref_model.specs.declared.ending.Ending.TheVariants as endings
+use Rattle.ref_model.specs.declared.ending.Which.TheVariants as limits
 use Rattle.ref_model.specs.Setting.{Setting}
 use Rattle.ref_model.specs.State.{State}
+use Rattle.ref_model.specs.Opening.{opening}
 use Rattle.ref_model.specs.Ending.{ending}
 use Rattle.ref_model.specs.Run.{run}
-use Rattle.machine.specs.Runs.{AreGrouped, IsComplete, IsMainEntry, entries_left, most_entries}
-use Rattle.ref_model.specs.declared.ending.Which.TheVariants as machine
+use Rattle.ref_model.specs.Looks.{is_stalled, machine_from}
+use Rattle.carrier.specs.Runs.{IsComplete, LacksThreads, entries_left, live_threads}
 use Rattle.java_cli.specs.declared.report.Report.{Report}
 use Rattle.command_line.specs.declared.answer.SinkName.TheVariants.{Out, Err}
-use Rattle.command_line.specs.declared.answer.Which.TheVariants.{Events}
+use Rattle.command_line.specs.declared.answer.Which.TheVariants.{Threads, Events}
 use Rattle.command_line.specs.declared.answer.Why.{Why}
-use Rattle.command_line.specs.declared.answer.Why.TheVariants.{Ended, MainThrew, Exited, Limit, SinkFault, NoMemory}
+use Rattle.command_line.specs.declared.answer.Why.TheVariants.{Ended, MainThrew, Exited, Stalled, Limit, SinkFault, NoMemory}
 use Rattle.command_line.specs.Commands.{Command}
 use Rattle.java_cli.specs.Runs.{IsGiven}
-use Rattle.machine.specs.declared.execution.Execution.{Execution}
 use Rattle.command_line.specs.Answers.{NamesSomething, line_of, fault_line, memory_line}
 use Rattle.java_cli.specs.Causes.{IsOfRun}
 
 -- ---- the answer to a run
 
--- The answer says how the program has ended; or, that it hasn't, and the history had room for fewer entries than one more step needs.
-abbrev pub IsEndingAnswer : Setting → ℕ → Option Ending → Why → Type 0
-IsEndingAnswer p entries ended Ended = ended ≡ Some endings.Ended
-IsEndingAnswer p entries ended MainThrew = ended ≡ Some endings.MainThrew
-IsEndingAnswer p entries ended (Exited status) = ended ≡ Some (endings.Exited status)
-IsEndingAnswer p entries ended (Limit Events number) =
-    (ended ≡ None) × (number ≡ p.limits.events) × (p.limits.events < entries + entries_left)
-IsEndingAnswer p entries ended why = ⊥
+-- The answer says how the program has ended; or, that it hasn't, and that no thread can go on, where it names the live ones; that a thread
+-- would make one more than there may be; or that the history had room for fewer entries than a turn may make.
+abbrev pub IsEndingAnswer : Setting → ℕ → Scheduled State → Why → Type 0
+IsEndingAnswer p entries last Ended = ending last.state ≡ Some endings.Ended
+IsEndingAnswer p entries last MainThrew = ending last.state ≡ Some endings.MainThrew
+IsEndingAnswer p entries last (Exited status) = ending last.state ≡ Some (endings.Exited status)
+IsEndingAnswer p entries last (Stalled threads) = (is_stalled p.world last.state ≡ true) × (threads ≡ live_threads last.state)
+IsEndingAnswer p entries last (Limit Threads number) = (number ≡ p.limits.threads) × LacksThreads p last
+IsEndingAnswer p entries last (Limit Events number) =
+    (ending last.state ≡ None) × (number ≡ p.limits.events) × (p.limits.events < entries + entries_left)
+IsEndingAnswer p entries last why = ⊥
 
 -- It is such an answer; or it names a sink that failed in place of one, which the run had all the same.
-abbrev pub IsRunAnswer : Setting → ℕ → Option Ending → Why → Type 0
-IsRunAnswer p entries ended (SinkFault which written) = (why : Why) × IsEndingAnswer p entries ended why
-IsRunAnswer p entries ended why = IsEndingAnswer p entries ended why
+abbrev pub IsRunAnswer : Setting → ℕ → Scheduled State → Why → Type 0
+IsRunAnswer p entries last (SinkFault which written) = (why : Why) × IsEndingAnswer p entries last why
+IsRunAnswer p entries last why = IsEndingAnswer p entries last why
 
 -- ---- what the sinks took
 
@@ -63,25 +68,33 @@ pub record TakesLine {E : Type 0} (contents : E → Option (List ℕ)) (faults :
   pub whole : length text ≤ written → taken < length line → Rose (faults old) (faults new)
   pub kept : length text ≤ written → length line ≤ taken → faults new ≡ faults old
 
--- The history of the report, without its mount and unmount entries, is a history of the reference machine for the program that the
--- command's files are; the answer says how that history ends; and what the sinks took is that history's output and error output, or
--- their fronts after a fault of the sink. Of the err sink, `Errs` says what it took where the error output is this. In each entry all steps
--- but the last are local instructions; the history has no more entries than the limit allows; and a program whose main thread alone ends in
--- time has ended.
+-- Each entry of the report's history may stand where it stands, under the schedule of so many carriers; without its mounts and unmounts the
+-- history is one of the reference machine for the program; the answer says how it ends; and what the sinks took is its output and error
+-- output, or their fronts after a fault of the sink. Of the err sink, `Errs` says what it took where the error output is this. The history
+-- has no more entries than the limit allows; and a program whose main thread alone ends in time has ended.
+pub record RanProgram (p : Setting) (carriers : ℕ) (before after : Option (List ℕ)) (Errs : List ℕ → Type 0) (r : Report) : Type 0 where
+  pub first : State
+  pub last : Scheduled State
+  pub begins : opening p ≡ Some first
+  pub legal : schedule_of (machine_from p first) carriers r.history.items ≡ Some last
+  pub runs : run p (java r.history.items) ≡ Some last.state
+  pub answer : IsRunAnswer p (length r.history.items) last r.why
+  pub few : length r.history.items ≤ p.limits.events
+  pub complete : IsComplete p last.state
+  pub out : Appends before (take r.out_written last.state.memory.out) after
+  pub out_taken : IsOutTaken r.why r.out_written (length last.state.memory.out)
+  pub err : Errs last.state.memory.err
+  pub err_taken : IsErrTaken r.why r.err_written (length last.state.memory.err)
+
+-- so it is for the program that the command's files are, on one carrier
 pub record Ran (c : Command) (known : Option Files) (before after : Option (List ℕ)) (Errs : List ℕ → Type 0) (r : Report) : Type 0 where
   pub program : Setting
-  pub state : State
   pub given : IsGiven known c program
-  pub runs : run program (java r.history.items) ≡ Some state
-  pub answer : IsRunAnswer program (length r.history.items) (ending state) r.why
-  pub entries : AllByRecursion IsMainEntry r.history.items
-  pub grouped : AreGrouped program (java r.history.items)
-  pub few : length r.history.items ≤ most_entries program
-  pub complete : IsComplete program state
-  pub out : Appends before (take r.out_written state.memory.out) after
-  pub out_taken : IsOutTaken r.why r.out_written (length state.memory.out)
-  pub err : Errs state.memory.err
-  pub err_taken : IsErrTaken r.why r.err_written (length state.memory.err)
+  pub ran : RanProgram program 1 before after Errs r
+
+-- a command without arguments, for the lines that name none
+abbrev pub no_command : Command
+no_command = record { main = []; files = [] }
 
 -- Nothing was run: the history is empty, and neither sink took any output of a program.
 pub record IsIdle (before after : Option (List ℕ)) (r : Report) : Type 0 where
@@ -127,28 +140,30 @@ abbrev pub taken_of : Option ℕ → ℕ → ℕ
 taken_of None size = size
 taken_of (Some n) size = n
 
--- the answer to a program that ended so
-abbrev pub ending_answer : Ending → Why
-ending_answer endings.Ended = Ended
-ending_answer endings.MainThrew = MainThrew
-ending_answer (endings.Exited status) = Exited status
-ending_answer (endings.Limit machine.Events number) = Limit Events number
-ending_answer other = NoMemory
+-- the answer to a program that ended so, with the threads that are live where it is stalled
+abbrev pub ending_answer : List ℕ → Ending → Why
+ending_answer live endings.Ended = Ended
+ending_answer live endings.MainThrew = MainThrew
+ending_answer live (endings.Exited status) = Exited status
+ending_answer live endings.Stalled = Stalled live
+ending_answer live (endings.Limit limits.Threads number) = Limit Threads number
+ending_answer live (endings.Limit limits.Events number) = Limit Events number
+ending_answer live other = NoMemory
 
--- A run was written: its answer, and what the sinks took.
+-- A run was written: its history, its answer, and what the sinks took of these two outputs.
 pub record Wrote {O E : Type 0} (bytes : O → Option (List ℕ)) (counts : O → ℕ) (old_out new_out : O) (contents : E → Option (List ℕ))
-    (faults : E → ℕ) (old new : E) (c : Command) (x : Execution) (why : Why) (r : Report) : Type 0 where
+    (faults : E → ℕ) (old new : E) (c : Command) (entries : List Entry) (text errors : List ℕ) (why : Why) (r : Report) : Type 0 where
   pub out_fault : Option ℕ
   pub err_fault : Option ℕ
-  pub history : r.history.items ≡ x.history.items
+  pub history : r.history.items ≡ entries
   pub why_is : r.why ≡ answer_with why out_fault err_fault
-  pub out : Takes bytes counts old_out new_out x.out.items out_fault
-  pub out_written : r.out_written ≡ taken_of out_fault (length x.out.items)
-  pub err_written : r.err_written ≡ taken_of err_fault (length x.err.items)
-  pub err_size : (n : ℕ) → err_fault ≡ Some n → n < length x.err.items
-  pub err : TakesLine contents faults old new (line_of c r.why) x.err.items r.err_written
+  pub out : Takes bytes counts old_out new_out text out_fault
+  pub out_written : r.out_written ≡ taken_of out_fault (length text)
+  pub err_written : r.err_written ≡ taken_of err_fault (length errors)
+  pub err_size : (n : ℕ) → err_fault ≡ Some n → n < length errors
+  pub err : TakesLine contents faults old new (line_of c r.why) errors r.err_written
 
--- Memory ran out for the line before anything was written.
+-- Memory ran out before anything was written.
 pub record Unwritten {O E : Type 0} (old_out new_out : O) (contents : E → Option (List ℕ)) (faults : E → ℕ) (old new : E) (r : Report)
     : Type 0 where
   pub why : r.why ≡ NoMemory
@@ -157,6 +172,10 @@ pub record Unwritten {O E : Type 0} (old_out new_out : O) (contents : E → Opti
   pub err_written : r.err_written ≡ 0
   pub same : new_out ≡ old_out
   pub line : TakesLine contents faults old new memory_line [] 0
+
+-- it is the answer to a run, or memory ran out
+abbrev pub IsRunOrNoMemory : Why → Type 0
+IsRunOrNoMemory why = IsOfRun why ⊎ (why ≡ NoMemory)
 
 -- an answer is as before, or its line names something and there was no memory for it
 abbrev pub IsSameOrNoMemory : Why → Why → Type 0

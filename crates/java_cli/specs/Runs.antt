@@ -1,15 +1,17 @@
--- What a run of a command leaves.
+-- The program of a command, which is to be run.
 use Rattle.std.specs.Prelude.{◌≡◌, ◌≤◌, List, Option, Some, length}
 use Rattle.class_model.specs.declared.class_file.ClassFile.{ClassFile}
 use Rattle.jvm_edges.specs.Files.{Files}
+use Rattle.link_soundness.specs.Library.{HasLibrary}
+use Rattle.schedule_soundness.specs.PinLaws.{NamesNoHold}
+use Rattle.step_soundness.specs.OpeningLaws.{IsMain}
 use Rattle.ref_model.specs.Setting.{Setting}
-use Rattle.machine.specs.declared.execution.Execution.{Execution}
-use Rattle.machine.specs.Runs.{IsRun}
-use Rattle.program_files.specs.Limits.{most_files}
+use Rattle.program_files.specs.Limits.{most_files, run_limits}
 use Rattle.command_line.specs.Commands.{Command}
 use Rattle.program_files.specs.MainClass.{class_named}
 use Rattle.program_files.specs.Programs.{IsProgram}
 use Rattle.program_files.specs.Contents.{Contents, HaveContents, AreClasses}
+use Rattle.java_cli.specs.declared.runnable.Runnable.{Runnable}
 use Rattle.java_cli.specs.Causes.{Due, runs, IsDue, contents_of}
 
 -- the program that the files of a command are, by the store's files
@@ -21,11 +23,12 @@ pub record IsGiven (known : Option Files) (c : Command) (p : Setting) : Type 0 w
   pub read : AreClasses contents classes
   pub accepted : IsProgram (class_named c.main) classes p
 
--- the program that the store gave ran so
-pub record RanCommand (known : Option Files) (c : Command) (x : Execution) : Type 0 where
-  pub program : Setting
-  pub given : IsGiven known c program
-  pub run_is : IsRun program x.history.items x.out.items x.err.items x.ending
+-- the program that was read, with the limits of a run, is the one that the files are
+pub record HasRead (known : Option Files) (c : Command) (x : Runnable) : Type 0 where
+  pub given : IsGiven known c (record { world = x.checked; main = x.main; limits = run_limits })
+  pub library : HasLibrary x.checked.program
+  pub has_main : IsMain x.checked x.main
+  pub unpinned : NamesNoHold x.checked
 
 -- where the store's files are known, what is due is a run
 abbrev pub IsRunDue : Option Files → Command → Type 0

@@ -1,147 +1,84 @@
--- Runs of local instructions, and where they end.
-use Rattle.std.proofs.Common.{◌≡◌, ℕ, zero, suc, ◌+◌, ◌≤◌, Bool, true, false, not, List, [], ◌∷◌, Option, Some, None, refl, ap, sym, ◌∙◌, arith}
-use Rattle.std.specs.Prelude.{is_some, nat_le, ◌==◌, ◌&&◌, ◌||◌, if◌then◌else◌}
-use Rattle.std.specs.Option.{option_map_or}
-use Rattle.std.proofs.lemmas.Bool.{le-leb}
+-- A local instruction asks nothing.
+use Rattle.std.proofs.Common.{◌≡◌, ℕ, Bool, true, false, List, [], ◌∷◌, Option, None, Some, length, drop, refl, ap, sym, ◌∙◌, cond, not, ◌&&◌}
+use Rattle.std.specs.Prelude.{is_none, nat_lt}
+use Rattle.std.proofs.lemmas.Bool.{and_parts, not-true}
 use Rattle.items.specs.Options.{◌>>=◌}
-use Rattle.items.proofs.Binds.{some_is, bind_is}
-use Rattle.opcodes.specs.declared.op.ValueKind.{ValueKind}
-use Rattle.instruction_rows.specs.Marks.{has_zero_divisor}
-use Rattle.instruction_rows.specs.Rows.{Row, LocalRow, local, constant, wide_constant, returns, invoke, event, refused, virtual, special, static, interface, dynamic}
+use Rattle.items.proofs.Binds.{bind_is, some_is}
+use Rattle.instruction_rows.specs.Rows.{LocalRow, Row, Invocation, local, constant, wide_constant, returns, invoke, event, refused, virtual, special, static, interface, dynamic}
 use Rattle.instruction_rows.specs.Table.{row as row_of}
-use Rattle.instruction_rows.proofs.DivisionLaws.{undefined_by_zero, zero_divisors}
+use Rattle.lib_table.specs.declared.native.Native.{Native}
+use Rattle.link_model.specs.Initializers.{is_synchronized}
+use Rattle.link_model.specs.Decoded.{code_at}
 use Rattle.link_model.specs.World.{World}
 use Rattle.verify_types.specs.Environment.{Instruction}
 use Rattle.state_model.specs.Frames.{Frame}
-use Rattle.ref_model.specs.State.{State}
-use Rattle.ref_model.specs.Fetch.{fetched}
-use Rattle.ref_model.specs.Frames.{contents, moved, is_guarded_frame, is_root, returned}
-use Rattle.ref_model.specs.LocalRows.{row, rows, local_act}
-use Rattle.ref_model.specs.Entries.{frames_at, ends_behind, are_grouped_steps, is_grouped, is_static_call, may_be_last, most_local_steps, stands_at_static_call}
-use Rattle.interp_local.specs.FrameRows.{stays, stays_by}
-use Rattle.interp_local.specs.Runs.{stays_on}
-use Rattle.thread_steps.specs.Returning.{returned_kind}
-use Rattle.machine.specs.LocalRuns.{ends_run, IsLocalRun}
+use Rattle.schedule_model.proofs.RunLaws.{under_is}
+use Rattle.ref_model.specs.Asking.{Asking}
+use Rattle.ref_model.specs.Calls.{called, code_entered, frame_entered, method_entered, native_entered, receiver_of}
+use Rattle.ref_model.specs.declared.exception.Exception.TheVariants as exceptions
+use Rattle.ref_model.specs.Effects.{Effect, asks, invokes, throws}
+use Rattle.ref_model.specs.Fetch.{Named, fetched, named_method}
+use Rattle.ref_model.specs.Frames.{callee, contents}
+use Rattle.ref_model.specs.Kinds.{argument_slots}
+use Rattle.ref_model.specs.LocalRows.{frames_called, has_local_call, local_act, most_frames, row, static_called}
+use Rattle.ref_model.specs.Members.{is_hold, native_at}
+use Rattle.ref_model.specs.Memory.{Memory}
+use Rattle.ref_model.specs.Requests.{Request, calls}
+use Rattle.ref_model.specs.Resuming.{asking_by, asking_in}
+use Rattle.instruction_rows.specs.SlotEffect.{divides_by_zero}
+use Rattle.ref_model.specs.Monitors.{method_monitor, with_monitor}
+use Rattle.ref_model.specs.RowEffects.{division_effect, row_effect}
 
--- ---- rows after rows
+none_is : {A : Type 0} (o : Option A) → is_none o ≡ true → o ≡ None
+none_is None e = refl
+none_is (Some x) e = absurd cc
 
-pub rows_join : (w : World) (a b c : ℕ) (x y z : List Frame) → c ≡ b + a → rows w a x ≡ Some y → rows w b y ≡ Some z → rows w c x ≡ Some z
-rows_join w a zero c x y z e first behind =
-    let same : y ≡ z = cc in
-    ap (λ n. rows w n x) (e ∙ none_more a) ∙ first ∙ ap Some same
-  where
-    none_more : (n : ℕ) → 0 + n ≡ n
-    none_more n = omega arith
-rows_join w a (suc b) c x y z e first behind =
-    let parts = some_is (rows w b y) (row w) z behind in
-    let mid = rows_join w a b (b + a) x y parts.0 refl first parts.1 in
-    ap (λ n. rows w n x) (e ∙ one_more b a) ∙ bind_is (rows w (b + a) x) (row w) parts.0 (Some z) mid parts.2
-  where
-    one_more : (b a : ℕ) → suc b + a ≡ suc (b + a)
-    one_more b a = omega arith
+-- a call of a method of a class
+static_effect : (w : World) (i : Instruction) (memory : Memory) (f : Frame) (below after : List Frame) (m : Named) → static_called w m f below ≡ Some after
+    → (called w i.resolution static m memory (length (f ∷ below)) f.stack >>= asking_by f below i.instr.next) ≡ None
+static_effect w i memory f below after m e =
+    let slots = argument_slots m.method.signature in
+    let depth = length (f ∷ below) in
+    let begins = under_is (has_local_call w m && nat_lt depth most_frames) (frames_called w m f below) after e in
+    let may = and_parts (has_local_call w m) (nat_lt depth most_frames) begins.0 in
+    let plain = and_parts (is_none (native_at w m.number) && not (is_synchronized m.method)) (not (is_hold w m.method)) may.0 in
+    let own = and_parts (is_none (native_at w m.number)) (not (is_synchronized m.method)) plain.0 in
+    let code = some_is (code_at w m.number) _ after begins.1 in
+    let g = some_is (callee m.number code.0 slots f.stack) _ after code.2 in
+    let effect : called w i.resolution static m memory depth f.stack ≡ Some (invokes g.0 (drop slots f.stack)) =
+    ap (λ o. native_entered w memory depth m o slots f.stack) (none_is (native_at w m.number) own.0)
+    ∙ ap (λ o. code_entered w depth m o slots f.stack) code.1
+    ∙ ap (λ b. cond b (callee m.number code.0 slots f.stack >>= λ h. frame_entered m.method h (drop slots f.stack)) (Some (throws exceptions.StackOverflowError))) may.1
+    ∙ bind_is (callee m.number code.0 slots f.stack) (λ h. frame_entered m.method h (drop slots f.stack)) g.0 (Some (invokes g.0 (drop slots f.stack))) g.1
+    (ap (λ b. cond b (method_monitor m.method (receiver_of g.0) >>= λ o. Some (asks (calls o (with_monitor g.0 o)) (drop slots f.stack))) (Some (invokes g.0 (drop slots f.stack)))) (not-true (is_synchronized m.method) own.1)) in
+    ap (λ o. o >>= asking_by f below i.instr.next) effect
 
--- with one more, which was made
-pub row_behind : (w : World) (a c : ℕ) (x y z : List Frame) → c ≡ 1 + a → rows w a x ≡ Some y → row w y ≡ Some z → rows w c x ≡ Some z
-row_behind w a c x y z e first one = rows_join w a 1 c x y z e first one
+division_quiet : (act : LocalRow) (f : Frame) (below : List Frame) (next : ℕ) (b : Bool) → divides_by_zero act (contents f) ≡ b
+    → (division_effect act f >>= asking_by f below next) ≡ None
+division_quiet act f below next true e = ap (λ b. cond b (Some (throws exceptions.ArithmeticException)) None >>= asking_by f below next) e
+division_quiet act f below next false e = ap (λ b. cond b (Some (throws exceptions.ArithmeticException)) None >>= asking_by f below next) e
 
--- ---- where a run ends
+act_quiet : (w : World) (i : Instruction) (act : Row) (memory : Memory) (f : Frame) (below after : List Frame) → local_act w i act f below ≡ Some after
+    → (row_effect w i act memory (length (f ∷ below)) f >>= asking_by f below i.instr.next) ≡ None
+act_quiet w i (local act) memory f below after e = division_quiet act f below i.instr.next (divides_by_zero act (contents f)) refl
+act_quiet w i (constant index) memory f below after e = refl
+act_quiet w i (wide_constant index) memory f below after e = refl
+act_quiet w i (returns kind) memory f below after e = refl
+act_quiet w i (event x) memory f below after e = absurd cc
+act_quiet w i refused memory f below after e = absurd cc
+act_quiet w i (invoke virtual index) memory f below after e = absurd cc
+act_quiet w i (invoke special index) memory f below after e = absurd cc
+act_quiet w i (invoke (interface count) index) memory f below after e = absurd cc
+act_quiet w i (invoke dynamic index) memory f below after e = absurd cc
+act_quiet w i (invoke static index) memory f below after e =
+    let m = some_is (named_method w i.resolution) (λ m. static_called w m f below) after e in
+    ap (λ o. o >>= (λ m. called w i.resolution static m memory (length (f ∷ below)) f.stack) >>= asking_by f below i.instr.next) m.1
+    ∙ static_effect w i memory f below after m.0 m.2
 
-or_left : (a b : Bool) → a ≡ true → (a || b) ≡ true
-or_left true b e = refl
-or_left false b e = absurd cc
-
-or_right : (a b : Bool) → b ≡ true → (a || b) ≡ true
-or_right true b e = refl
-or_right false b e = e
-
-not_none : {A : Type 0} (o : Option A) → o ≡ None → not (is_some o) ≡ true
-not_none None e = refl
-not_none (Some x) e = absurd cc
-
-not_false : (b : Bool) → not b ≡ false → b ≡ true
-not_false true e = refl
-not_false false e = absurd cc
-
--- no instruction is local
-pub no_row_ends : (w : World) (frames : List Frame) → row w frames ≡ None → ends_run w frames ≡ true
-no_row_ends w frames e = or_left (not (is_some (row w frames))) (stands_at_static_call w frames) (not_none (row w frames) e)
-
--- after a run that ends, an entry may end with the next step
-pub ends_may : (w : World) (n : ℕ) (frames : List Frame) → ends_run w frames ≡ true → may_be_last w n frames ≡ true
-ends_may w n frames ends = or_left (ends_run w frames) (n == most_local_steps) ends
-
-pub most_may : (w : World) (frames : List Frame) → may_be_last w 10000 frames ≡ true
-most_may w frames = or_right (ends_run w frames) true refl
-
--- the row of the instruction that is fetched
-fetched_row : (w : World) (f : Frame) (below : List Frame) (i : Instruction) (act : Row) → fetched w f ≡ Some i → row_of i.instr.op ≡ act
-    → local_act w i act f below ≡ None → ends_run w (f ∷ below) ≡ true
-fetched_row w f below i act at is none =
-    let nothing : Option (List Frame) = None in
-    no_row_ends w (f ∷ below) (bind_is (fetched w f) (λ j. local_act w j (row_of j.instr.op) f below) i nothing at
-    (ap (λ (a : Row). local_act w i a f below) is ∙ none))
-
-pub static_ends : (w : World) (f : Frame) (below : List Frame) (i : Instruction) → fetched w f ≡ Some i → is_static_call (row_of i.instr.op) ≡ true
-    → ends_run w (f ∷ below) ≡ true
-static_ends w f below i at is =
-    or_right (not (is_some (row w (f ∷ below)))) (stands_at_static_call w (f ∷ below))
-    (ap (λ o. option_map_or (λ (j : Instruction). is_static_call (row_of j.instr.op)) o false) at ∙ is)
-
--- it doesn't stay in its frame
-leaves_frame : (w : World) (f : Frame) (i : Instruction) → fetched w f ≡ Some i → stays_on w (f ∷ []) ≡ false → stays i.instr.op f.stack ≡ false
-leaves_frame w f i at leaves = sym (ap (λ o. option_map_or (λ (j : Instruction). stays j.instr.op f.stack) o false) at) ∙ leaves
-
--- An instruction that doesn't stay in its frame, and is no return, ends a run.
-pub not_back : (w : World) (f : Frame) (below : List Frame) (i : Instruction) → fetched w f ≡ Some i → stays_on w (f ∷ below) ≡ false
-    → returned_kind (row_of i.instr.op) ≡ None → ends_run w (f ∷ below) ≡ true
-not_back w f below i at leaves none = by (row_of i.instr.op) refl none
-  where
-    away : stays i.instr.op f.stack ≡ false
-    away = leaves_frame w f i at leaves
-
-    divides : (r : LocalRow) → row_of i.instr.op ≡ local r → has_zero_divisor i.instr.op f.stack ≡ true
-    divides r is =
-        not_false (has_zero_divisor i.instr.op f.stack) (sym (ap (λ (a : Row). stays_by a (has_zero_divisor i.instr.op f.stack)) is) ∙ away)
-
-    undefined : (r : LocalRow) → row_of i.instr.op ≡ local r → local_act w i (local r) f below ≡ None
-    undefined r is =
-        ap (λ o. o >>= λ m. moved f i.instr.next m >>= λ g. Some (g ∷ below))
-        (undefined_by_zero r (contents f) (zero_divisors i.instr.op r (contents f) is ∙ divides r is))
-
-    by : (act : Row) → row_of i.instr.op ≡ act → returned_kind act ≡ None → ends_run w (f ∷ below) ≡ true
-    by (local r) is none = fetched_row w f below i (local r) at is (undefined r is)
-    by (constant index) is none =
-        absurd (let x = ap (λ (a : Row). stays_by a (has_zero_divisor i.instr.op f.stack)) (sym is) ∙ away in cc)
-    by (wide_constant index) is none =
-        absurd (let x = ap (λ (a : Row). stays_by a (has_zero_divisor i.instr.op f.stack)) (sym is) ∙ away in cc)
-    by (returns kind) is none = absurd cc
-    by (invoke static index) is none = static_ends w f below i at (ap is_static_call is)
-    by (invoke virtual index) is none = fetched_row w f below i (invoke virtual index) at is refl
-    by (invoke special index) is none = fetched_row w f below i (invoke special index) at is refl
-    by (invoke (interface count) index) is none = fetched_row w f below i (invoke (interface count) index) at is refl
-    by (invoke dynamic index) is none = fetched_row w f below i (invoke dynamic index) at is refl
-    by (event e) is none = fetched_row w f below i (event e) at is refl
-    by refused is none = fetched_row w f below i refused at is refl
-
--- A return from a root frame ends a run.
-pub root_ends : (w : World) (f : Frame) (below : List Frame) (i : Instruction) (kind : Option ValueKind) → fetched w f ≡ Some i
-    → row_of i.instr.op ≡ returns kind → is_root w f below ≡ true → ends_run w (f ∷ below) ≡ true
-root_ends w f below i kind at is root =
-    fetched_row w f below i (returns kind) at is
-    (ap (λ (b : Bool). if b || is_guarded_frame w f then None else returned w kind f below) root)
-
--- ---- an entry of such a run and one more step
-
-true_and : (a b : Bool) → a ≡ true → b ≡ true → (a && b) ≡ true
-true_and true b e g = g
-true_and false b e g = absurd cc
-
-pub run_grouped : (w : World) (r : State) (n : ℕ) (old new : List Frame) → frames_at r 0 ≡ Some old → IsLocalRun w n old new
-    → is_grouped w r 0 (suc n) ≡ true
-run_grouped w r n old new at run =
-    ap (are_grouped_steps w n) at ∙ grouped n run.rows run.few run.last
-  where
-    grouped : (n : ℕ) → rows w n old ≡ Some new → n ≤ most_local_steps → may_be_last w n new ≡ true → are_grouped_steps w n (Some old) ≡ true
-    grouped zero made few last = ap (ends_behind w zero) made ∙ true_and (nat_le zero most_local_steps) (may_be_last w zero new) (le-leb zero most_local_steps few) last
-    grouped (suc n) made few last =
-        ap (ends_behind w (suc n)) made ∙ true_and (nat_le (suc n) most_local_steps) (may_be_last w (suc n) new) (le-leb (suc n) most_local_steps few) last
+pub row_quiet : (w : World) (memory : Memory) (frames after : List Frame) → row w frames ≡ Some after → asking_in w memory frames ≡ None
+row_quiet w memory [] after e = absurd cc
+row_quiet w memory (f ∷ below) after e =
+    let i = some_is (fetched w f) (λ i. local_act w i (row_of i.instr.op) f below) after e in
+    let nothing : Option (Request × Asking) = None in
+    bind_is (fetched w f) (λ i. row_effect w i (row_of i.instr.op) memory (length (f ∷ below)) f >>= asking_by f below i.instr.next) i.0 nothing i.1
+    (act_quiet w i.0 (row_of i.0.instr.op) memory f below after i.2)

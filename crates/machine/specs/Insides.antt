@@ -1,37 +1,54 @@
 -- What the parts of a machine have to do with its history.
-use Rattle.std.specs.Prelude.{◌≡◌, ◌-◌, Bool, false, List, [], ◌∷◌, None, length, vec_capacity}
+use Rattle.std.specs.Prelude.{◌≡◌, ◌-◌, ◌≤◌, ◌<◌, ℕ, Bool, List, Option, Some, length, nat_lt, slice_get, vec_capacity}
+use Rattle.continuation.specs.Continuation.{Continuation}
+use Rattle.std.specs.Option.{ForSome}
 use Rattle.history.specs.declared.entry.Entry.{Entry}
-use Rattle.state_model.specs.Frames.{Frame}
-use Rattle.ref_model.specs.Opening.{opening_owners}
+use Rattle.thread_lists.specs.Lists.{Lists}
+use Rattle.schedule_model.specs.Schedule.{Schedule, on_carriers}
+use Rattle.schedule_model.specs.Run.{Scheduled, schedule_of}
+use Rattle.ref_model.specs.declared.ending.Ending.{Ending}
+use Rattle.ref_model.specs.declared.ending.Ending.TheVariants.{Halted}
 use Rattle.ref_model.specs.Setting.{Setting}
 use Rattle.ref_model.specs.State.{State}
-use Rattle.startup.specs.Openings.{setting}
-use Rattle.frame_soundness.specs.TypedStates.{IsTypedState}
-use Rattle.invocation.specs.InvocationCache.{AreSelected, Kept}
-use Rattle.machine.specs.declared.machine_state.Machine.TheInside.{Inside}
-use Rattle.machine.specs.declared.main_parts.MainParts.{MainParts}
-use Rattle.machine.specs.Machines.{IsLegal, Known}
-use Rattle.machine.specs.Ready.{IsReady}
-use Rattle.thread_steps.specs.States.{memory_of}
-use Rattle.machine.specs.States.{main_thread}
+use Rattle.ref_model.specs.Opening.{opening}
+use Rattle.ref_model.specs.Looks.{machine_from}
+pub use Rattle.startup.specs.Openings.{setting}
+use Rattle.program_state.specs.declared.state.ProgramState.{ProgramState}
+use Rattle.program_state.specs.States.{IsState}
+use Rattle.machine.specs.declared.machine.Machine.TheInside.{Inside}
+use Rattle.machine.specs.Legal.{HasNoTicks, IsAccepted, IsCause}
+use Rattle.machine.specs.Machines.{Known}
 
--- These parts and frames are those of a state of the reference machine.
-pub record AreParts (a : MainParts) (frames : List Frame) (q : State) : Type 0 where
-  pub memory : memory_of a.steps ≡ q.memory
-  pub threads : main_thread a.steps.status frames ∷ [] ≡ q.threads
-  pub most_threads : a.most_threads ≡ q.most_threads
-  pub unnamed : 0 ≡ q.unnamed
-  pub owners : opening_owners None ≡ q.owners
-  pub now : 0 ≡ q.now
-  pub main_threw : a.steps.main_threw ≡ q.main_threw
+-- some carrier has the thread mounted
+abbrev pub is_out : Schedule → ℕ → Bool
+is_out s t = nat_lt 0 (on_carriers t s)
 
--- The history is one of the reference machine, and the parts and frames are those of the state that it gives, unless the machine gave up.
-pub record IsConsistent (p : Setting) (a : MainParts) (frames : List Frame) (cache : Kept) (history : List Entry) (given_up : Bool) : Type 0 where
-  pub ready : IsReady p.world
-  pub legal : IsLegal p history
-  pub typed : IsTypedState p.world legal.state
-  pub parts : given_up ≡ false → AreParts a frames legal.state
-  pub selected : AreSelected p.world cache
+-- the frames of the thread lie with those that no carrier runs
+pub record IsFrozen (frozen : List (Option Continuation)) (t : ℕ) : Type 0 where
+  pub kept : Continuation
+  pub at : slice_get frozen t ≡ Some (Some kept)
+
+-- These parts are those of the program and its schedule, which has so many carriers.
+pub record AreParts (n : ℕ) (a : ProgramState) (d : Lists) (on : List (Option ℕ)) (v : Scheduled State) : Type 0 where
+  pub state : IsState a v.state (is_out v.schedule)
+  pub deques : d.lists ≡ v.schedule.deques
+  pub room : length v.state.threads ≤ d.threads
+  pub mounted : on ≡ v.schedule.mounted
+  pub carriers : length v.schedule.deques ≡ n
+
+-- The history is legal, and unless the run was given up the parts are those of what it gives.
+pub record IsConsistent (p : Setting) (carriers : ℕ) (state : ProgramState) (deques : Lists) (mounted : List (Option ℕ)) (history : List Entry)
+    (told : Option Ending) : Type 0 where
+  pub accepted : IsAccepted p
+  pub some : 0 < carriers
+  pub first : State
+  pub begins : opening p ≡ Some first
+  pub after : Scheduled State
+  pub runs : schedule_of (machine_from p first) carriers history ≡ Some after
+  pub timeless : HasNoTicks history
+  pub few : length history ≤ p.limits.events
+  pub cause : ForSome told (IsCause p after)
+  pub parts : (told ≡ Some Halted → ⊥) → AreParts carriers state deques mounted after
 
 -- ---- a machine by its fields
 
@@ -41,10 +58,11 @@ setting_in a = setting a.program.now a.main a.limits
 abbrev pub known : Inside → Known
 known a = record {
   setting = setting_in a;
+  carriers = a.carriers;
   history = a.history.items;
   spare = vec_capacity a.history - length a.history.items;
-  given_up = a.given_up;
+  told = a.told;
 }
 
 abbrev pub IsSound : Inside → Type 0
-IsSound a = IsConsistent (setting_in a) a.parts a.mounted.stack.frames a.cache a.history.items a.given_up
+IsSound a = IsConsistent (setting_in a) a.carriers a.state a.deques a.mounted.items a.history.items a.told

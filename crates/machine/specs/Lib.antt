@@ -1,7 +1,13 @@
-pub mod Runs
 pub mod Machines
+pub mod Hands
+pub mod Legal
+pub mod Turns
+pub mod Begin
 pub mod Insides
-pub mod Steps
-pub mod LocalRuns
-pub mod States
 pub mod Ready
+pub mod AtHand
+pub mod Moves
+pub mod Puts
+pub mod Steps
+pub mod Stalls
+pub mod Live

@@ -1,39 +1,92 @@
--- Steps of the main thread that leave a state which keeps to the typing.
-use Rattle.std.specs.Prelude.{◌≡◌, ℕ, suc, ◌<◌, true, List, [], ◌∷◌, ◌++◌, Some, slice_get}
-use Rattle.vthread_state.specs.declared.phase.Phase.TheVariants.{Run}
-use Rattle.vthread_state.specs.declared.thread.Status.TheVariants.{Live}
+-- The step of a mounted thread as an entry of the history.
+use Rattle.std.specs.Prelude.{◌≡◌, ◌++◌, ◌∷◌, [], ℕ, suc, Bool, true, false, List, Option, Some, None, Result, Ok, Err}
+use Rattle.items.specs.declared.no_memory.NoMemory.{NoMemory}
+use Rattle.history.specs.declared.entry.Entry.{Entry}
+use Rattle.history.specs.declared.entry.What.{What}
+use Rattle.ref_model.specs.declared.ending.Ending.{Ending}
+use Rattle.ref_model.specs.declared.ending.Ending.TheVariants.{Limit, Halted}
+use Rattle.ref_model.specs.declared.ending.Which.TheVariants.{Threads}
+use Rattle.history.specs.declared.entry.What.TheVariants.{Step}
+use Rattle.thread_lists.specs.Lists.{Lists}
 use Rattle.link_model.specs.World.{World}
 use Rattle.state_model.specs.Frames.{Frame}
-use Rattle.frame_soundness.specs.TypedStates.{IsTypedState}
-use Rattle.ref_model.specs.State.{JavaThread, State, with_frames}
-use Rattle.ref_model.specs.LocalRows.{rows}
+use Rattle.schedule_model.specs.Run.{Scheduled, scheduled_after}
+use Rattle.ref_model.specs.Setting.{Setting}
+use Rattle.ref_model.specs.State.{State, with_frames}
+use Rattle.ref_model.specs.Enabled.{has_ended}
+use Rattle.ref_model.specs.Ending.{ending}
 use Rattle.ref_model.specs.Entries.{is_grouped}
-use Rattle.history.specs.declared.entry.Entry.{Entry}
-use Rattle.machine.specs.Runs.{main_entry}
-use Rattle.machine.specs.States.{IsStep}
+use Rattle.ref_model.specs.Step.{enabled}
+use Rattle.ref_model.specs.Looks.{lacks_threads_next, machine_from}
+use Rattle.schedule_soundness.specs.HistoryLaws.{IsProgramAfter}
+use Rattle.program_state.specs.declared.state.ProgramState.{ProgramState}
+use Rattle.machine.specs.declared.after.After.{After}
+use Rattle.machine.specs.declared.after.After.TheVariants.{Goes, Leaves, Ends, Halts}
+use Rattle.machine.specs.Hands.{HasHand, IsLive}
+use Rattle.machine.specs.Insides.{AreParts}
+use Rattle.machine.specs.Legal.{IsAccepted}
 
--- The frames of a thread after local instructions that the history doesn't have yet.
--- One that isn't in phase Run has made none.
-pub record IsAhead (w : World) (r : State) (t n : ℕ) (frames : List Frame) : Type 0 where
-  pub thread : JavaThread
-  pub at : slice_get r.threads t ≡ Some thread
-  pub running : 0 < n → thread.thread.status ≡ Live Run
-  pub ahead : rows w n thread.frames ≡ Some frames
+-- A history of a program, after which thread t may step on carrier c, with these frames after local instructions that it doesn't have yet.
+pub record StepsFrom (w : World) (carriers : ℕ) (state : ProgramState) (deques : Lists) (on : List (Option ℕ)) (c t n : ℕ) (frames : List Frame) : Type 0 where
+  pub setting : Setting
+  pub world : setting.world ≡ w
+  pub accepted : IsAccepted setting
+  pub first : State
+  pub before : Scheduled State
+  pub after : IsProgramAfter setting first before
+  pub parts : AreParts carriers state deques on before
+  pub hand : HasHand setting before c t n frames
+  pub owes : before.schedule.owes t ≡ false
+  pub may : enabled before.state t ≡ true
+  pub grouped : is_grouped w before.state t (suc n) ≡ true
 
--- a step
-pub record IsTypedStep (w : World) (r q : State) : Type 0 where
-  pub step : IsStep w r q
-  pub typed : IsTypedState w q
-
--- a number of local instructions, and one more step, with which an entry may end
-pub record Advances (w : World) (n : ℕ) (r q : State) : Type 0 where
-  pub frames : List Frame
-  pub ahead : IsAhead w r 0 n frames
-  pub grouped : is_grouped w r 0 (suc n) ≡ true
-  pub kept : IsTypedStep w (with_frames r 0 frames) q
-
--- an entry was appended to the history, which led from one state to the other
-pub record IsMade (w : World) (r : State) (old new : List Entry) (q : State) : Type 0 where
+-- there is such a history
+pub record MayBeMade (w : World) (state : ProgramState) (deques : Lists) (c t : ℕ) (frames : List Frame) : Type 0 where
+  pub carriers : ℕ
+  pub on : List (Option ℕ)
   pub local : ℕ
-  pub entries : new ≡ old ++ main_entry local ∷ []
-  pub advances : Advances w local r q
+  pub from : StepsFrom w carriers state deques on c t local frames
+
+-- whether the thread goes on after its step, has to leave, or has ended
+abbrev pub outcome_of : Bool → Bool → Bool → After
+outcome_of true yields goes_on = Ends
+outcome_of false true goes_on = Leaves
+outcome_of false false true = Goes
+outcome_of false false false = Leaves
+
+-- what is told of it holds
+abbrev pub IsTold : After → Scheduled State → ℕ → Type 0
+IsTold Goes v t = v.schedule.owes t ≡ false
+IsTold Leaves v t = (v.schedule.owes t ≡ true) × IsLive v.state t
+IsTold Ends v t = (v.schedule.owes t ≡ true) × (has_ended v.state t ≡ true)
+IsTold Halts v t = ⊥
+
+-- The history goes on with the step, after which these are the parts, and the thread has these frames.
+pub record Enters (w : World) (carriers : ℕ) (state : ProgramState) (deques : Lists) (on : List (Option ℕ)) (c t n : ℕ) (frames : List Frame)
+    (from : StepsFrom w carriers state deques on c t n frames) (told : After) (new : ProgramState) (left : Lists) (after : List Frame) : Type 0 where
+  pub then : Scheduled State
+  pub makes : scheduled_after (machine_from from.setting from.first) from.before c (Step t (suc n) None) ≡ Some then
+  pub parts : AreParts carriers new left on then
+  pub hand : HasHand from.setting then c t 0 after
+  pub outcome : IsTold told then t
+
+-- No step was made, since it would make one more thread than there may be.
+pub record Lacks (w : World) (carriers : ℕ) (state : ProgramState) (deques : Lists) (on : List (Option ℕ)) (c t n : ℕ) (frames : List Frame)
+    (from : StepsFrom w carriers state deques on c t n frames) (new : ProgramState) (left : Lists) : Type 0 where
+  pub parts : AreParts carriers new left on from.before
+  pub lacks : lacks_threads_next w (with_frames from.before.state t frames) t ≡ true
+
+abbrev pub EntersOrLacks : (w : World) (carriers : ℕ) (state : ProgramState) (deques : Lists) (on : List (Option ℕ)) (c t n : ℕ) (frames : List Frame) →
+    StepsFrom w carriers state deques on c t n frames → Option After → ProgramState → Lists → List Frame → Type 0
+EntersOrLacks w carriers state deques on c t n frames from (Some told) new left after = Enters w carriers state deques on c t n frames from told new left after
+EntersOrLacks w carriers state deques on c t n frames from None new left after = Lacks w carriers state deques on c t n frames from new left
+
+-- ---- the history after a step
+
+-- the entry comes last to it; or nothing was made, and the run has ended so
+abbrev pub IsEntered : Result (Option After) NoMemory → List Entry → Option Ending → ℕ → What → ℕ → List Entry → Option Ending → After → Type 0
+IsEntered (Ok (Some after)) history told c step most entries tells result =
+    (entries ≡ history ++ record { carrier = c; what = step } ∷ []) × (tells ≡ told) × (result ≡ after)
+IsEntered (Ok None) history told c step most entries tells result =
+    (entries ≡ history) × (tells ≡ Some (Limit Threads most)) × (result ≡ Halts)
+IsEntered (Err e) history told c step most entries tells result = (entries ≡ history) × (tells ≡ Some Halted) × (result ≡ Halts)

@@ -1,149 +1,118 @@
-//! Entries of the history: local instructions, and one more step after them.
+//! The step of a mounted thread, with what it does to the deque of its carrier.
 
-ghost use Rattle.std.specs.Prelude.{◌≡◌, ◌≤◌, ◌+◌, ◌-◌, None, length, vec_capacity, IfOk, OnErr, OnOk};
-ghost use Rattle.ref_model.specs.Ending.{ending};
-ghost use Rattle.frame_soundness.specs.TypedStates.{IsTypedState};
-ghost use Rattle.vthread_state.specs.declared.phase.Phase.TheVariants.{Run, Throwing};
-ghost use Rattle.vthread_state.specs.declared.thread.Status.TheVariants.{Live};
+ghost use Rattle.std.specs.Prelude.{◌≡◌, ◌<◌, ℕ, Bool, List, Option, length, vec_capacity, IfOk, OnOk};
+ghost use Rattle.ref_model.specs.Enabled.{has_ended};
+ghost use Rattle.ref_model.specs.State.{State};
+ghost use Rattle.ref_model.specs.Step.{enabled};
 ghost use Rattle.invocation.specs.InvocationCache.{AreSelected};
+ghost use Rattle.program_state.specs.States.{IsState};
+ghost use Rattle.machine.specs.AtHand.{AreTyped, HasNext};
 ghost use Rattle.machine.specs.Ready.{IsReady};
-ghost use Rattle.machine.specs.States.{state_of};
-ghost use Rattle.machine.specs.Runs.{main_entry};
-ghost use Rattle.machine.specs.Steps.{Advances, IsMade};
+ghost use Rattle.machine.specs.Steps.{EntersOrLacks, IsEntered, MayBeMade, StepsFrom, outcome_of};
 
-use crate::last_steps::{fetched_step, unwinding_step};
-use crate::local::{MOST_STEPS, run_local};
-use crate::main_parts::MainParts;
+use crate::after::After;
+use crate::endings::may_step;
+use crate::moves::thread_move;
+use crate::puts::{is_done, put_woken};
 use continuation::Mounted;
 use history::{Entry, What};
+use interp_local::Fetched;
 use invocation::InvocationCache;
 use items::NoMemory;
-use jvm_edges::Gate;
-use runtime_program::ReadyProgram;
+use program_state::ProgramState;
+use ref_model::{Ending, Which};
+use run_deques::Deques;
+use startup::ReadyProgram;
 use std::alloc::Global;
-use vthread_state::{Phase, Status};
 
-// The local instructions of a thread that runs, and one more step. The answer is how many local ones there were.
+// What becomes of a thread after its step, which was a yield or not.
 #[inline(always)]
-fn running_entry(
+fn outcome(state: &ProgramState, t: u32, yields: bool) -> After
+    requires { t < length state.now.threads.threads }
+    ensures { (r : State) (out : ℕ → Bool) → IsState state.now r out
+        → result ≡ outcome_of (has_ended r t) yields (enabled r t) }
+{
+    if is_done(&state.threads, t) {
+        return After::Ends;
+    }
+    if yields {
+        return After::Leaves;
+    }
+    if may_step(state, t) {
+        After::Goes
+    } else {
+        After::Leaves
+    }
+}
+
+/// Makes the step of a thread that carrier c has mounted. `None`: it makes a thread where there may be no more, and nothing has changed.
+#[inline(always)]
+pub(crate) fn make_step(
     alloc: Global,
     program: &ReadyProgram,
     cache: &mut InvocationCache,
-    parts: &mut MainParts,
+    state: &mut ProgramState,
+    deques: &mut Deques,
     mounted: &mut Mounted,
-) -> Result<u32, NoMemory>
+    c: u32,
+    next: Option<Fetched<'_>>,
+) -> Result<Option<After>, NoMemory>
+    requires from { MayBeMade program.now state.old deques.old c mounted.old.thread
+        mounted.old.stack.frames }
     requires ready { IsReady program.now }
-    requires typed { IsTypedState program.now (state_of parts.old mounted.old.stack.frames) }
-    requires running { parts.old.steps.status ≡ Live Run }
-    requires going { ending (state_of parts.old mounted.old.stack.frames) ≡ None }
+    requires typed { AreTyped program.now state.old mounted.old.thread mounted.old.stack.frames }
+    requires next { HasNext program.now state.old mounted.old.thread mounted.old.stack.frames next }
     requires selected { AreSelected program.now cache.old }
-    ensures advances { IfOk result (λ n. Advances program.now n
-        (state_of parts.old mounted.old.stack.frames)
-        (state_of parts.new mounted.new.stack.frames)) }
-    ensures few { IfOk result (λ n. n ≤ 10000) }
+    ensures made { (carriers n : ℕ) (on : List (Option ℕ))
+        (from : StepsFrom program.now carriers state.old deques.old on c
+        mounted.old.thread n mounted.old.stack.frames) →
+        IfOk result (λ told. EntersOrLacks program.now carriers state.old deques.old on c
+        mounted.old.thread n mounted.old.stack.frames from told
+        state.new deques.new mounted.new.stack.frames) }
+    ensures thread { OnOk result (mounted.new.thread ≡ mounted.old.thread) }
     ensures cache { AreSelected program.now cache.new }
 {
-    let stop = run_local(program, cache, mounted)?;
-    if stop.steps == MOST_STEPS {
-        return Ok(MOST_STEPS - 1);
-    }
-    fetched_step(alloc, program, cache, parts, mounted, stop.next)?;
-    Ok(stop.steps)
+    let t = mounted.thread();
+    let Some(made) = thread_move(alloc, program, cache, state, mounted, next)? else {
+        return Ok(None);
+    };
+    put_woken(alloc, state, deques, c, t, made.started)?;
+    Ok(Some(outcome(state, t, made.yields)))
 }
 
-// One step of a thread that throws an object. There are no local ones before it.
-#[inline(never)]
-fn throwing_entry(
-    alloc: Global,
-    program: &ReadyProgram,
-    parts: &mut MainParts,
-    mounted: &mut Mounted,
-    o: u32,
-) -> Result<u32, NoMemory>
-    requires ready { IsReady program.now }
-    requires typed { IsTypedState program.now (state_of parts.old mounted.old.stack.frames) }
-    requires throws { parts.old.steps.status ≡ Live (Throwing o) }
-    requires going { ending (state_of parts.old mounted.old.stack.frames) ≡ None }
-    ensures advances { IfOk result (λ n. Advances program.now n
-        (state_of parts.old mounted.old.stack.frames)
-        (state_of parts.new mounted.new.stack.frames)) }
-    ensures few { IfOk result (λ n. n ≤ 10000) }
-{
-    unwinding_step(alloc, program, parts, mounted, o)?;
-    Ok(0)
-}
+/// How many steps an entry has at most.
+pub(crate) const MOST_STEPS: u32 = 10_001;
 
-// Makes the steps of the main thread's next entry, and returns how many local instructions come before the last one. The gate is passed
-// before them.
+/// What becomes of the run after a step: the entry goes to the history, or nothing was made, and the run halts.
 #[inline(always)]
-fn advance<G: Gate>(
-    alloc: Global,
-    program: &ReadyProgram,
-    cache: &mut InvocationCache,
-    parts: &mut MainParts,
-    mounted: &mut Mounted,
-    gate: &G,
-) -> Result<u32, NoMemory>
-    requires ready { IsReady program.now }
-    requires typed { IsTypedState program.now (state_of parts.old mounted.old.stack.frames) }
-    requires going { ending (state_of parts.old mounted.old.stack.frames) ≡ None }
-    requires selected { AreSelected program.now cache.old }
-    ensures advances { IfOk result (λ n. Advances program.now n
-        (state_of parts.old mounted.old.stack.frames)
-        (state_of parts.new mounted.new.stack.frames)) }
-    ensures few { IfOk result (λ n. n ≤ 10000) }
-    ensures cache { AreSelected program.now cache.new }
-{
-    match parts.steps.status {
-        Status::Live(Phase::Run) => {
-            gate.local(0, 0);
-            running_entry(alloc, program, cache, parts, mounted)
-        }
-        Status::Live(Phase::Throwing(o)) => { throwing_entry(alloc, program, parts, mounted, o) }
-        _ => Err(NoMemory),
-    }
-}
-
-// An entry of carrier 0: a run of local instructions of thread 0, and one more step.
-#[inline(always)]
-fn entry(local: u32) -> Entry
-    requires { local ≤ 10000 }
-    ensures { result ≡ main_entry local }
-{
-    Entry {
-        carrier: 0,
-        what: What::Step {
-            thread: 0,
-            steps: local + 1,
-            pick: None,
-        },
-    }
-}
-
-/// Makes the next entry of the main thread, and appends it to the history. The gate is passed before its local instructions.
-#[inline(always)]
-pub(crate) fn make_entry<G: Gate>(
-    alloc: Global,
-    program: &ReadyProgram,
-    cache: &mut InvocationCache,
-    parts: &mut MainParts,
-    mounted: &mut Mounted,
+pub(crate) fn enter_step(
     history: &mut Vec<Entry>,
-    gate: &G,
-) -> Result<(), NoMemory>
-    requires ready { IsReady program.now }
-    requires typed { IsTypedState program.now (state_of parts.old mounted.old.stack.frames) }
-    requires going { ending (state_of parts.old mounted.old.stack.frames) ≡ None }
-    requires selected { AreSelected program.now cache.old }
-    ensures made { OnOk result (IsMade program.now
-        (state_of parts.old mounted.old.stack.frames) history.old.items history.new.items
-        (state_of parts.new mounted.new.stack.frames)) }
-    ensures kept { OnErr result (history.new.items ≡ history.old.items) }
-    ensures spare { vec_capacity history.old - length history.old.items
-        ≤ vec_capacity history.new - length history.new.items + 1 }
-    ensures cache { AreSelected program.now cache.new }
+    told: &mut Option<Ending>,
+    c: u32,
+    step: What,
+    made: Result<Option<After>, NoMemory>,
+    most_threads: u32,
+) -> After
+    requires { length history.old.items < vec_capacity history.old }
+    ensures entered { IsEntered made history.old.items told.old c step most_threads history.new.items
+        told.new result }
+    ensures capacity { vec_capacity history.new ≡ vec_capacity history.old }
 {
-    let local = advance(alloc, program, cache, parts, mounted, gate)?;
-    history.push(entry(local))?;
-    Ok(())
+    match made {
+        Ok(Some(after)) => {
+            history.push_reserved(Entry {
+                carrier: c,
+                what: step,
+            });
+            after
+        }
+        Ok(None) => {
+            *told = Some(Ending::Limit(Which::Threads, most_threads));
+            After::Halts
+        }
+        Err(NoMemory) => {
+            *told = Some(Ending::Halted);
+            After::Halts
+        }
+    }
 }

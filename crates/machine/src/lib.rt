@@ -1,15 +1,19 @@
-//! The machine: runs the main method of a linked program, and keeps the history of the run.
+//! The machine: a program of many threads on carriers, with the history that gives its state.
 #![tactic(auto)]
 
+mod after;
+mod begin;
+mod carriers;
 mod endings;
 mod entries;
-mod execution;
-mod last_steps;
-mod local;
-mod machine_state;
-mod main_parts;
-mod program_run;
+mod laws;
+mod live;
+mod machine;
+mod made;
+mod moves;
+mod puts;
+mod stalls;
 
-pub use execution::Execution;
-pub use machine_state::Machine;
-pub use program_run::run;
+pub use after::After;
+pub use machine::{Machine, Written};
+pub use startup::ReadyProgram;

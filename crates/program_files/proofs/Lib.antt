@@ -1,4 +1,5 @@
 pub mod LoadLaws
+pub mod HoldLaws
 pub mod LinkLaws
 pub mod SupportLaws
 pub mod StartLaws

@@ -1,5 +1,5 @@
--- What the machine has no step for: monitors, threads, parking, sleeping, clocks and pins.
-use Rattle.std.specs.Prelude.{ℕ, Bool, true, false, not, List, [], codes, get_or, length, nat_le, slice_get, ◌&&◌, ◌||◌}
+-- What the machine has no step for: monitors, interruption, parking, waits for a time, clocks and pins.
+use Rattle.std.specs.Prelude.{ℕ, Bool, true, false, not, List, [], codes, get_or, length, nat_le, nat_lt, slice_get, ◌&&◌, ◌||◌}
 use Rattle.std.specs.Option.{option_map_or}
 use Rattle.std.specs.List.{list_any, range_with_len}
 use Rattle.class_grammar.specs.Text.{same_text}
@@ -16,13 +16,7 @@ use Rattle.link_model.specs.declared.sites.Site.TheVariants as sites
 use Rattle.link_model.specs.World.{World}
 use Rattle.link_model.specs.Decoded.{code_at}
 use Rattle.ref_model.specs.Members.{is_synchronized}
-
--- whether the machine has a step for no method of the built-in class of this name
-abbrev pub is_unsupported_class : List ℕ → Bool
-is_unsupported_class class =
-    same_text class (codes "java/lang/Thread") || same_text class (codes "java/lang/Thread$Builder")
-    || same_text class (codes "java/lang/Thread$Builder$OfVirtual") || same_text class (codes "java/lang/Thread$Builder$OfPlatform")
-    || same_text class (codes "java/util/concurrent/locks/LockSupport") || same_text class (codes "jvt/Native")
+use Rattle.schedule_soundness.specs.PinLaws.{names_hold}
 
 -- whether the machine has no step for the method of this name of java.lang.Object, or of java.lang.System
 abbrev pub is_unsupported_of_object : List ℕ → Bool
@@ -31,12 +25,26 @@ is_unsupported_of_object name = same_text name (codes "wait") || same_text name 
 abbrev pub is_unsupported_of_system : List ℕ → Bool
 is_unsupported_of_system name = same_text name (codes "nanoTime") || same_text name (codes "currentTimeMillis")
 
--- whether the machine has no step for the method of this name of the built-in class of that name
-abbrev pub is_unsupported_name : List ℕ → List ℕ → Bool
-is_unsupported_name class name =
-    is_unsupported_class class
-    || (same_text class (codes "java/lang/Object") && is_unsupported_of_object name)
-    || (same_text class (codes "java/lang/System") && is_unsupported_of_system name)
+abbrev pub is_interruption : List ℕ → Bool
+is_interruption name =
+    same_text name (codes "interrupt") || same_text name (codes "isInterrupted") || same_text name (codes "interrupted")
+
+-- whether it has a descriptor with arguments, as `join(J)V` is one of the methods `join`
+abbrev pub has_arguments : MethodInfo → Bool
+has_arguments m = nat_lt 0 (length m.signature.args)
+
+-- whether the machine has no step for this method of java.lang.Thread: interruption, and waits for a time
+abbrev pub is_unsupported_of_thread : MethodInfo → Bool
+is_unsupported_of_thread m =
+    is_interruption m.name || same_text m.name (codes "sleep") || (same_text m.name (codes "join") && has_arguments m)
+
+-- whether the machine has no step for this method of the built-in class of that name
+abbrev pub is_unsupported_method : List ℕ → MethodInfo → Bool
+is_unsupported_method class m =
+    same_text class (codes "java/util/concurrent/locks/LockSupport")
+    || (same_text class (codes "java/lang/Object") && is_unsupported_of_object m.name)
+    || (same_text class (codes "java/lang/System") && is_unsupported_of_system m.name)
+    || (same_text class (codes "java/lang/Thread") && is_unsupported_of_thread m)
 
 abbrev pub class_name : World → ℕ → List ℕ
 class_name w class = class_at own_name [] w.program class
@@ -47,7 +55,7 @@ is_from_file w m = nat_le w.program.built_in m.class
 
 -- whether it is a method of a built-in class that the machine has no step for
 abbrev pub is_unsupported_builtin : World → MethodInfo → Bool
-is_unsupported_builtin w m = not (is_from_file w m) && is_unsupported_name (class_name w m.class) m.name
+is_unsupported_builtin w m = not (is_from_file w m) && is_unsupported_method (class_name w m.class) m
 
 abbrev pub method_is_unsupported : World → ℕ → Bool
 method_is_unsupported w n = option_map_or (is_unsupported_builtin w) (slice_get w.methods n) false
@@ -77,8 +85,9 @@ abbrev pub is_unsupported : World → ℕ → MethodInfo → Bool
 is_unsupported w n m =
     is_from_file w m && (is_synchronized m || code_has_monitor w n || list_any (names_unsupported w) (get_or w.resolutions n []))
 
+-- whether the method of this number is such a one, or calls jvt.Native.hold, whose frame pins its thread
 abbrev pub unsupported_at : World → ℕ → Bool
-unsupported_at w n = option_map_or (is_unsupported w n) (slice_get w.methods n) false
+unsupported_at w n = list_any (names_hold w) (get_or w.resolutions n []) || option_map_or (is_unsupported w n) (slice_get w.methods n) false
 
 -- whether the machine has a step for all that the classes of the files do
 abbrev pub is_supported : World → Bool

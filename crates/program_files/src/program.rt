@@ -7,6 +7,7 @@ ghost use Rattle.link_model.specs.Worlds.{world_of};
 ghost use Rattle.step_soundness.specs.OpeningLaws.{IsMain};
 ghost use Rattle.lib_table.specs.Spelled.{IsSpelled};
 ghost use Rattle.link_soundness.specs.Library.{HasLibrary};
+ghost use Rattle.schedule_soundness.specs.PinLaws.{NamesNoHold};
 ghost use Rattle.verify_types.specs.Faults.{IsWellTyped};
 ghost use Rattle.program_files.specs.Linking.{built_in, program_of, AreAccepted};
 ghost use Rattle.program_files.specs.Errors.{verify_fault};
@@ -82,6 +83,7 @@ pub fn start(alloc: Global, main: &str, world: &World) -> Result<u32, StartError
     ensures started { IfOk result (λ n. (classes : List class_files.ClassFile)
         → world.now ≡ program_of classes → IsStarted (class_named_by main.now) classes n) }
     ensures main { IfOk result (IsMain (world_of world.now)) }
+    ensures unpinned { IfOk result (λ n. NamesNoHold (world_of world.now)) }
     ensures refused { IfErr result (λ error. (classes : List class_files.ClassFile)
         → world.now ≡ program_of classes → NotStarted (class_named_by main.now) classes error) }
 {

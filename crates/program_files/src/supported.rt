@@ -1,8 +1,12 @@
-//! Whether the machine has a step for all that the classes of the files do. It has none for monitors, threads, parking, sleeping, clocks
-//! and pins.
+//! Whether the machine has a step for all that the classes of the files do. It has none for monitors, interruption, parking, waits for a
+//! time, clocks and pins.
 
-ghost use Rattle.std.specs.Prelude.{◌≡◌};
+ghost use Rattle.std.specs.Prelude.{◌≡◌, false, codes};
+ghost use Rattle.class_grammar.specs.Text.{same_text};
 ghost use Rattle.link_model.specs.Resolutions.{meanings};
+ghost use Rattle.link_rules.specs.Program.{class_at, own_name as name_of};
+ghost use Rattle.ref_model.specs.Members.{is_hold as is_hold_method};
+ghost use Rattle.schedule_soundness.specs.PinLaws.{names_hold as names_hold_method};
 ghost use Rattle.std.specs.List.{list_any};
 ghost use Rattle.program_files.specs.Supported as spec;
 
@@ -11,18 +15,6 @@ use link_model::{MethodInfo, Resolution, Resolutions, Site, is_synchronized};
 use link_resolution::own_name;
 use link_tables::Tables;
 use opcodes::{Instr, Op, Simple};
-
-// Whether the machine has a step for no method of the built-in class of this name.
-fn is_unsupported_class(class: &[u16]) -> bool
-    ensures { result ≡ spec.is_unsupported_class class.now }
-{
-    is_same(class, b"java/lang/Thread")
-        || is_same(class, b"java/lang/Thread$Builder")
-        || is_same(class, b"java/lang/Thread$Builder$OfVirtual")
-        || is_same(class, b"java/lang/Thread$Builder$OfPlatform")
-        || is_same(class, b"java/util/concurrent/locks/LockSupport")
-        || is_same(class, b"jvt/Native")
-}
 
 // Whether the machine has no step for the method of this name of java.lang.Object.
 fn is_unsupported_of_object(name: &[u16]) -> bool
@@ -38,13 +30,39 @@ fn is_unsupported_of_system(name: &[u16]) -> bool
     is_same(name, b"nanoTime") || is_same(name, b"currentTimeMillis")
 }
 
-// Whether the machine has no step for the method of this name of the built-in class of that name.
-fn is_unsupported_name(class: &[u16], name: &[u16]) -> bool
-    ensures { result ≡ spec.is_unsupported_name class.now name.now }
+// Whether this is the name of one of the methods on the interrupt status of a thread.
+fn is_interruption(name: &[u16]) -> bool
+    ensures { result ≡ spec.is_interruption name.now }
 {
-    is_unsupported_class(class)
+    is_same(name, b"interrupt") || is_same(name, b"isInterrupted") || is_same(name, b"interrupted")
+}
+
+// Whether a method has a descriptor with arguments.
+fn has_arguments(method: &MethodInfo) -> bool
+    ensures { result ≡ spec.has_arguments method.now }
+{
+    method.signature.args.len() > 0
+}
+
+// Whether the machine has no step for this method of java.lang.Thread.
+fn is_unsupported_of_thread(method: &MethodInfo) -> bool
+    ensures { result ≡ spec.is_unsupported_of_thread method.now }
+{
+    let name = method.name.as_slice();
+    is_interruption(name)
+        || is_same(name, b"sleep")
+        || is_same(name, b"join") && has_arguments(method)
+}
+
+// Whether the machine has no step for this method of the built-in class of that name.
+fn is_unsupported_method(class: &[u16], method: &MethodInfo) -> bool
+    ensures { result ≡ spec.is_unsupported_method class.now method.now }
+{
+    let name = method.name.as_slice();
+    is_same(class, b"java/util/concurrent/locks/LockSupport")
         || is_same(class, b"java/lang/Object") && is_unsupported_of_object(name)
         || is_same(class, b"java/lang/System") && is_unsupported_of_system(name)
+        || is_same(class, b"java/lang/Thread") && is_unsupported_of_thread(method)
 }
 
 // The name of a class.
@@ -68,8 +86,7 @@ fn is_from_file(world: &Tables, method: &MethodInfo) -> bool
 fn is_unsupported_builtin(world: &Tables, method: &MethodInfo) -> bool
     ensures { result ≡ spec.is_unsupported_builtin world.now method.now }
 {
-    !is_from_file(world, method)
-        && is_unsupported_name(class_name(world, method.class), method.name.as_slice())
+    !is_from_file(world, method) && is_unsupported_method(class_name(world, method.class), method)
 }
 
 // Whether an instruction names such a method.
@@ -131,10 +148,56 @@ fn is_unsupported(world: &Tables, n: u32, method: &MethodInfo) -> bool
             || any_unsupported(world, &world.resolutions(n)))
 }
 
-// The same of the method of this number.
+// Whether a class is jvt.Native.
+fn is_native_class(world: &Tables, class: u32) -> bool
+    ensures { result ≡ class_at (λ f. same_text (name_of f) (codes "jvt/Native")) false
+        world.now.program class }
+{
+    match world.hierarchy().classes().file(class) {
+        Some(file) => is_same(own_name(file), b"jvt/Native"),
+        None => false,
+    }
+}
+
+// Whether a method is jvt.Native.hold.
+fn is_hold(world: &Tables, method: &MethodInfo) -> bool
+    ensures { result ≡ is_hold_method world.now method.now }
+{
+    is_native_class(world, method.class) && is_same(method.name.as_slice(), b"hold")
+}
+
+// Whether an instruction names jvt.Native.hold.
+fn names_hold(world: &Tables, resolution: Resolution) -> bool
+    ensures { result ≡ names_hold_method world.now resolution }
+{
+    match resolution.site {
+        Site::Method(n) => match world.method(n) {
+            Some(method) => is_hold(world, method),
+            None => false,
+        },
+        Site::Plain | Site::Field(_) | Site::Class(_) | Site::Value(_) => false,
+    }
+}
+
+// Whether one of the instructions of a method does.
+fn any_names_hold(world: &Tables, resolutions: &Resolutions<'_>) -> bool
+    ensures { result ≡ list_any (names_hold_method world.now) (meanings resolutions.now) }
+{
+    for index in 0..resolutions.len() {
+        if names_hold(world, *resolutions.at(index)) {
+            return true;
+        }
+    }
+    false
+}
+
+// Whether it is the number of a method of a file with such things, or of a method that calls jvt.Native.hold.
 fn is_unsupported_at(world: &Tables, n: u32) -> bool
     ensures { result ≡ spec.unsupported_at world.now n }
 {
+    if any_names_hold(world, &world.resolutions(n)) {
+        return true;
+    }
     match world.method(n) {
         Some(method) => is_unsupported(world, n, method),
         None => false,

@@ -11,4 +11,5 @@ mod library;
 mod typed;
 
 pub use begin::{Opened, open};
+pub use runtime_program::ReadyProgram;
 pub use typed::open_typed;

@@ -1,31 +1,25 @@
 use Rattle.command_line.specs.Commands.{command_texts}
 use Rattle.java_cli.proofs.AnswerLaws.{of_command, refused_headline, refused_out, refused_store}
 use Rattle.java_cli.proofs.LineLaws.{takes, line_named, line_of_none}
-use Rattle.java_cli.proofs.RunLaws.{headline_is, idle_is, line_is, out_faults_is, delivered_exact, delivered_store}
+use Rattle.java_cli.proofs.RunLaws.{headline_is, line_is, answer_exact, answer_store}
 use Rattle.java_cli.proofs.top_call.jvt.Goals as goal
 
 pub returns-in-Ok-clause-headline : goal.returns-in-Ok-clause-headline
 returns-in-Ok-clause-headline g c =
-    headline_is _ _ _ _ _ _ _ _ _ (command_texts c.in-Some.command) _ c.in-Ok.execution c.deliver.result c.in-Some.ensures c.in-Ok.ensures.ran c.deliver.ensures
-
-pub returns-in-Ok-clause-idle : goal.returns-in-Ok-clause-idle
-returns-in-Ok-clause-idle g c = idle_is _ _ _ _ _ _ _ _ (command_texts c.in-Some.command) _ c.in-Ok.execution c.deliver.result c.in-Ok.ensures.ran c.deliver.ensures
+    headline_is g.E.Sink.contents g.E.Sink.faults c.args.err.now c.run_checked.new.err _ (command_texts c.in-Some.command) c.run_checked.result c.in-Some.ensures c.run_checked.ensures.answer
+    _ _ _ c.in-Ok.runnable c.in-Ok.ensures.read c.run_checked.ensures.headline
 
 pub returns-in-Ok-clause-exact : goal.returns-in-Ok-clause-exact
 returns-in-Ok-clause-exact g c =
     of_command _ (command_texts c.in-Some.command) _ c.in-Some.ensures
-    (delivered_exact _ _ _ _ _ _ _ _ (command_texts c.in-Some.command) _ _ c.in-Ok.execution c.deliver.result c.in-Ok.ensures.ran c.in-Ok.ensures.due c.deliver.ensures)
+    (answer_exact _ _ (command_texts c.in-Some.command) c.in-Ok.runnable c.run_checked.result.why c.in-Ok.ensures.read c.in-Ok.ensures.due c.run_checked.ensures.answer)
 
 pub returns-in-Ok-clause-store_faults : goal.returns-in-Ok-clause-store_faults
-returns-in-Ok-clause-store_faults g c =
-    delivered_store _ _ _ _ _ _ _ _ (command_texts c.in-Some.command) _ c.in-Ok.execution c.deliver.result _ _ c.in-Ok.ensures.ran c.in-Ok.ensures.kept c.deliver.ensures
-
-pub returns-in-Ok-clause-out_faults : goal.returns-in-Ok-clause-out_faults
-returns-in-Ok-clause-out_faults g c = out_faults_is _ _ _ _ _ _ _ _ (command_texts c.in-Some.command) c.in-Ok.execution c.deliver.result c.deliver.ensures
+returns-in-Ok-clause-store_faults g c = answer_store c.run_checked.result.why _ _ c.run_checked.ensures.answer c.in-Ok.ensures.kept
 
 pub returns-in-Ok-clause-line : goal.returns-in-Ok-clause-line
 returns-in-Ok-clause-line g c =
-    line_is _ _ _ _ _ _ _ _ _ (command_texts c.in-Some.command) _ c.in-Ok.execution c.deliver.result c.in-Some.ensures c.in-Ok.ensures.ran c.deliver.ensures
+    line_is g.E.Sink.contents g.E.Sink.faults c.args.err.now c.run_checked.new.err _ (command_texts c.in-Some.command) c.run_checked.result c.in-Some.ensures c.run_checked.ensures.answer c.run_checked.ensures.line
 
 pub returns-in-Err-clause-headline : goal.returns-in-Err-clause-headline
 returns-in-Err-clause-headline g c = refused_headline _ _ c.refuse.result.why c.refuse.ensures.why c.in-Err.ensures.refusal

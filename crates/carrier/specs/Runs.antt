@@ -1,0 +1,49 @@
+-- What a run of a program leaves.
+use Rattle.std.specs.Prelude.{◌≡◌, ◌+◌, ◌*◌, ◌<◌, ◌≤◌, ℕ, List, Some, None, length}
+use Rattle.history.specs.declared.entry.Entry.{Entry}
+use Rattle.history.specs.Java.{java}
+use Rattle.schedule_model.specs.Run.{Scheduled, schedule_of}
+use Rattle.ref_model.specs.declared.ending.Ending.{Ending}
+use Rattle.ref_model.specs.declared.ending.Ending.TheVariants.{Limit, Stalled, Halted}
+use Rattle.ref_model.specs.declared.ending.Which.TheVariants.{Events}
+use Rattle.ref_model.specs.Setting.{Setting}
+use Rattle.ref_model.specs.State.{State}
+use Rattle.ref_model.specs.Opening.{opening}
+use Rattle.ref_model.specs.Ending.{ending}
+use Rattle.ref_model.specs.Alone.{alone}
+use Rattle.ref_model.specs.Run.{run}
+use Rattle.ref_model.specs.Looks.{machine_from}
+pub use Rattle.machine.specs.Machines.{entries_left}
+pub use Rattle.machine.specs.Legal.{HasNoTicks, IsCause, LacksThreads}
+pub use Rattle.machine.specs.Live.{live_threads}
+
+-- How a run ended after so many entries: as the program did; or the program went on, and no thread could go on, or the next step of a thread
+-- would have made a thread too many; or fewer entries were left than a turn may make.
+pub data IsEndingOf (p : Setting) (v : Scheduled State) (entries : ℕ) (told : Ending) : Type 0 where
+  own : ending v.state ≡ Some told → IsEndingOf p v entries told
+  caused : IsCause p v told → (told ≡ Halted → ⊥) → IsEndingOf p v entries told
+  limited : ending v.state ≡ None → told ≡ Limit Events p.limits.events → p.limits.events < entries + entries_left →
+      IsEndingOf p v entries told
+
+-- A program that ends in a number of steps of the main thread alone, which the limit of events allows, has ended in that state: an
+-- entry has one step at least, and a step of a thread that is mounted and unmounted again takes three entries.
+abbrev pub IsComplete : Setting → State → Type 0
+IsComplete p last = (n : ℕ) (q : State) (e : Ending) → alone p n ≡ Some q → ending q ≡ Some e → 3 * n + 3 ≤ p.limits.events → last ≡ q
+
+-- Each entry of the history may stand where it stands, on so many carriers; without its mount and unmount entries it is a history of the
+-- reference machine. The run ended so, and what the program wrote to its two streams is the output of that history; where no thread can go on,
+-- the live ones are listed. The history has no more entries than the limit allows, none is of time that goes on, and a program that ends in
+-- time has ended.
+pub record IsRun (p : Setting) (carriers : ℕ) (history : List Entry) (out err numbers : List ℕ) (told : Ending) : Type 0 where
+  pub first : State
+  pub begins : opening p ≡ Some first
+  pub after : Scheduled State
+  pub legal : schedule_of (machine_from p first) carriers history ≡ Some after
+  pub runs : run p (java history) ≡ Some after.state
+  pub ended : IsEndingOf p after (length history) told
+  pub prints : after.state.memory.out ≡ out
+  pub tells : after.state.memory.err ≡ err
+  pub live : told ≡ Stalled → numbers ≡ live_threads after.state
+  pub timeless : HasNoTicks history
+  pub few : length history ≤ p.limits.events
+  pub complete : IsComplete p after.state

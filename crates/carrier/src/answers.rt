@@ -1,0 +1,72 @@
+//! What a turn answers after its entry.
+
+ghost use Rattle.std.specs.Prelude.{◌≡◌};
+ghost use Rattle.machine.specs.Hands.{Lives};
+ghost use Rattle.machine.specs.Legal.{Works};
+ghost use Rattle.carrier.specs.Steps.{AnswersUnlessOver, AnswersUnlessStalled, GoesOnBy, IsGivenUp};
+ghost use Rattle.carrier.specs.Turns.{asked_by};
+
+use crate::ask::{Ask, Turn};
+use machine::Machine;
+use vthread_state::Phase;
+
+/// What a turn asks for.
+#[inline(always)]
+pub(crate) fn asked(answer: Turn) -> Ask
+    ensures { result ≡ asked_by answer }
+{
+    match answer {
+        Turn::Run(ask) => ask,
+        Turn::Nap(_) | Turn::Over => Ask::Nothing,
+    }
+}
+
+/// This answer, unless the run has ended.
+#[inline(always)]
+pub(crate) fn unless_over(machine: &Machine<'_>, ask: Ask) -> Turn
+    ensures { AnswersUnlessOver machine.now ask result }
+{
+    if machine.ending().is_some() {
+        return Turn::Over;
+    }
+    Turn::Run(ask)
+}
+
+/// This answer, unless the run has ended. That no thread can go on is told.
+#[inline(always)]
+pub(crate) fn unless_stalled(machine: &mut Machine<'_>, ask: Ask) -> Turn
+    ensures { AnswersUnlessStalled machine.old machine.new ask result }
+{
+    if machine.ending().is_some() {
+        return Turn::Over;
+    }
+    if machine.stall() {
+        return Turn::Over;
+    }
+    Turn::Run(ask)
+}
+
+/// How a thread goes on that was mounted or made a step: it is to execute local instructions, if it runs.
+#[inline(always)]
+pub(crate) fn way_on(machine: &Machine<'_>, thread: u32) -> Turn
+    requires works { Works machine.now }
+    requires live { Lives machine.now thread }
+    ensures { GoesOnBy machine.now thread result }
+{
+    if machine.ending().is_some() {
+        return Turn::Over;
+    }
+    match machine.phase(thread) {
+        Phase::Run => Turn::Run(Ask::Local(thread)),
+        _ => Turn::Run(Ask::Nothing),
+    }
+}
+
+/// Gives the run up, unless it has ended.
+pub(crate) fn give_up(machine: &mut Machine<'_>)
+    ensures { IsGivenUp machine.old machine.new }
+{
+    if machine.ending().is_none() {
+        machine.fail();
+    }
+}

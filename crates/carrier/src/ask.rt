@@ -1,0 +1,23 @@
+//! What a turn answers.
+
+/// What a turn asks its carrier for, before the next one.
+#[derive(Clone, Copy, Debug, PartialEq, Eq)]
+pub enum Ask {
+    /// Nothing.
+    Nothing,
+    /// A run of local instructions of the thread with this number.
+    Local(u32),
+    /// That the continuation of its thread is frozen.
+    Freeze,
+}
+
+/// What a turn answers its carrier.
+#[derive(Clone, Copy, Debug, PartialEq, Eq)]
+pub enum Turn {
+    /// The carrier does what it is asked for, and then has its next turn.
+    Run(Ask),
+    /// There is nothing to do until another carrier has had its turn, or until this time.
+    Nap(Option<u64>),
+    /// The run has ended.
+    Over,
+}

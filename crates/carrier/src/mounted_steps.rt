@@ -1,0 +1,82 @@
+//! The step of a mounted thread.
+
+ghost use Rattle.std.specs.Prelude.{◌≡◌, false, IsTrue};
+ghost use Rattle.machine.specs.Hands.{MayStep};
+ghost use Rattle.carrier.specs.Hands.{HasThread};
+ghost use Rattle.carrier.specs.Steps.{HasGone, MayAct, MayGoOn, steps_of, stop_of};
+ghost use Rattle.carrier.specs.Turns.{MayNotStep};
+
+use crate::hand::Hand;
+use crate::local::{LocalRun, MOST_STEPS};
+use interp_local::Fetched;
+use machine::{After, Machine};
+use std::alloc::Global;
+
+// How many local instructions were executed ahead of the history.
+#[inline(always)]
+fn steps_ahead(local: Option<LocalRun<'_>>) -> u32
+    ensures { result ≡ steps_of local.entry }
+{
+    match local {
+        Some(run) => run.steps,
+        None => 0,
+    }
+}
+
+// The instruction before which they stopped.
+#[inline(always)]
+fn next_of<'p>(local: Option<LocalRun<'p>>) -> Option<Fetched<'p>>
+    ensures { result ≡ stop_of local.entry }
+{
+    match local {
+        Some(run) => Some(run.next),
+        None => None,
+    }
+}
+
+/// Whether the mounted thread can't step now. One that has executed local instructions can.
+#[inline(always)]
+pub(crate) fn is_off(machine: &Machine<'_>, hand: &Hand<'_>, carrier: u32, thread: u32) -> bool
+    requires may { MayAct machine.now carrier hand.now }
+    requires mounted { HasThread hand.now thread }
+    ensures off { IsTrue result → MayNotStep machine.now thread }
+    ensures on { result ≡ false → MayStep machine.now thread }
+{
+    let _ = carrier;
+    if hand.local.is_some() {
+        return false;
+    }
+    !machine.is_enabled(thread)
+}
+
+/// Makes the step of the mounted thread, with the local instructions that were executed.
+#[inline(always)]
+pub(crate) fn make_step<'p>(
+    alloc: Global,
+    machine: &mut Machine<'p>,
+    hand: &mut Hand<'p>,
+    carrier: u32,
+    thread: u32,
+) -> After
+    requires { MayGoOn machine.old carrier hand.old thread }
+    ensures { HasGone result machine.old machine.new carrier thread hand.new }
+{
+    let _ = thread;
+    let local = hand.local.take();
+    let Some(mounted) = &mut hand.mounted else {
+        return After::Halts;
+    };
+    let steps = steps_ahead(local);
+    if steps == MOST_STEPS {
+        machine.slice(carrier, mounted);
+        return After::Goes;
+    }
+    machine.step(
+        alloc,
+        &mut hand.cache,
+        mounted,
+        carrier,
+        steps,
+        next_of(local),
+    )
+}

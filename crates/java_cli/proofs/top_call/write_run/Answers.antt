@@ -1,9 +1,0 @@
-use Rattle.std.proofs.Common.{refl, rules}
-use Rattle.java_cli.proofs.RunLaws.{wrote_is}
-use Rattle.java_cli.proofs.top_call.write_run.Goals as goal
-
-pub returns : goal.returns
-returns g c text is =
-    wrote_is g.O.Sink.contents g.O.Sink.faults c.args.out.now c.put_part-out_fault.new.sink g.E.Sink.contents g.E.Sink.faults c.args.err.now c.put_faults-err_fault.new.err text c.args.execution c.args.why c.args.line.now
-    c.line_after.result.now c.deref.result.now c.deref-2.result.now c.put_part-out_fault.result c.put_faults-err_fault.result c.len.result c.len-2.result _ c.deref.ensures.value c.deref-2.ensures.value is c.line_after.ensures refl
-    c.answer_with.ensures (search rules) (search rules) c.unwrap_or.ensures c.unwrap_or-2.ensures c.put_part-out_fault.ensures c.put_faults-err_fault.ensures.short c.put_faults-err_fault.ensures.taken

@@ -1,0 +1,191 @@
+//! The run of a checked program, and the writing of what came of it.
+
+ghost use Rattle.std.specs.Prelude.{◌≡◌, ◌⊎◌, ◌<◌, [], ℕ, Some, length};
+ghost use Rattle.link_soundness.specs.Library.{HasLibrary};
+ghost use Rattle.schedule_soundness.specs.PinLaws.{NamesNoHold};
+ghost use Rattle.step_soundness.specs.OpeningLaws.{IsMain};
+ghost use Rattle.ref_model.specs.Setting.{Setting};
+ghost use Rattle.command_line.specs.Answers.{line_of};
+ghost use Rattle.command_line.specs.Commands.{Command as Text};
+ghost use Rattle.java_cli.specs.Headline as spec;
+ghost use Rattle.java_cli.specs.Headline.{IsIdle, IsRunOrNoMemory, OnNoRun, OnRun, OutFaults, RanProgram, Takes, TakesLine, Unwritten, Wrote, ending_answer, no_command};
+
+use crate::report::Report;
+use crate::top_call::no_memory;
+use carrier::{Execution, run};
+use class_world::World;
+use command_line::{CANNOT_WRITE, Command, SinkName, Which, Why, make_line};
+use history::Entry;
+use items::Items;
+use jvm_edges::{Clock, Gate, Sink, put_all};
+use ref_model::{Ending, Limits, Which as Limited};
+use std::alloc::Global;
+use verify_code::Checked;
+
+/// Runs the main method with this number of a checked program, with these limits. Writes the program's output to `out`, and its error
+/// output and then the answer's line to `err`. For now there is one carrier, and `trace` has no effect.
+pub fn run_checked<O: Sink, E: Sink, C: Clock + Sync, G: Gate + Sync>(
+    alloc: Global,
+    checked: Checked<World>,
+    main: u32,
+    limits: Limits,
+    carriers: u32,
+    trace: bool,
+    out: &mut O,
+    err: &mut E,
+    clock: &C,
+    gate: &G,
+) -> Report
+    requires library { HasLibrary checked.program }
+    requires main { IsMain checked main }
+    requires unpinned { NamesNoHold checked }
+    requires carriers { carriers ≡ 1 }
+    requires threads { 0 < limits.threads }
+    // Where the program ran, its history is legal, the answer is how it ends, and what is written is its output.
+    ensures headline { OnRun result.why ((p : Setting) → p.world ≡ checked → p.main ≡ main
+        → p.limits ≡ limits → RanProgram p carriers (O.contents out.old) (O.contents out.new)
+        (λ text. TakesLine E.contents E.faults err.old err.new (line_of no_command result.why)
+        text result.err_written) result) }
+    // Otherwise memory ran out; the history is empty, and neither sink took any output of a program.
+    ensures answer { IsRunOrNoMemory result.why }
+    ensures idle { OnNoRun result.why (IsIdle (O.contents out.old) (O.contents out.new) result) }
+    // No fault of `out` goes unanswered.
+    ensures out_faults { OutFaults result.why (O.faults out.old) (O.faults out.new) }
+    ensures line { OnNoRun result.why (TakesLine E.contents E.faults err.old err.new
+        (line_of no_command result.why) [] result.err_written) }
+{
+    match run(alloc, checked, main, limits, gate) {
+        Ok(execution) => deliver(alloc, execution, out, err),
+        Err(_) => no_memory(alloc, err),
+    }
+}
+
+// Puts all the bytes. The result is how many the sink took, where it fails.
+fn put_part<S: Sink>(sink: &mut S, bytes: &[u8]) -> Option<u64>
+    ensures { Takes S.contents S.faults sink.old sink.new bytes.now result }
+{
+    match put_all(sink, bytes) {
+        Ok(()) => None,
+        Err(part) => Some(part.taken),
+    }
+}
+
+// The answer to a program with this ending, whose threads are live where it is stalled. A run has no other ending than the first six.
+fn answer_to(ending: Ending, live: Vec<u32>) -> Why
+    ensures { result ≡ ending_answer live.items ending }
+{
+    match ending {
+        Ending::Ended => Why::Ended,
+        Ending::MainThrew => Why::MainThrew,
+        Ending::Exited(status) => Why::Exited(status),
+        Ending::Stalled => Why::Stalled {
+            threads: Items::from(live),
+        },
+        Ending::Limit(Limited::Threads, number) => Why::Limit {
+            which: Which::Threads,
+            number,
+        },
+        Ending::Limit(Limited::Events, number) => Why::Limit {
+            which: Which::Events,
+            number,
+        },
+        Ending::Limit(Limited::Files | Limited::FileSize, _) | Ending::Starved | Ending::Halted =>
+            Why::NoMemory,
+    }
+}
+
+// The answer to a run, where a sink that failed took the bytes of its number.
+fn answer_with(why: Why, out_fault: Option<u64>, err_fault: Option<u64>) -> Why
+    ensures { result ≡ spec.answer_with why out_fault err_fault }
+{
+    match (out_fault, err_fault) {
+        (Some(written), _) => Why::SinkFault {
+            which: SinkName::Out,
+            written,
+        },
+        (None, Some(written)) => Why::SinkFault {
+            which: SinkName::Err,
+            written,
+        },
+        (None, None) => why,
+    }
+}
+
+// The line of the answer: that of the program's ending, unless the out sink failed.
+fn line_after<'a>(out_fault: Option<u64>, line: &'a [u8]) -> &'a [u8]
+    ensures { result.now ≡ spec.line_after out_fault line.now }
+{
+    match out_fault {
+        None => line,
+        Some(_) => CANNOT_WRITE,
+    }
+}
+
+// Puts the program's error output, and after all of it the line. The result is how many bytes of the error output the sink took, where it
+// fails there.
+fn put_faults<E: Sink>(err: &mut E, text: &[u8], line: &[u8]) -> Option<u64>
+    ensures taken { TakesLine E.contents E.faults err.old err.new line.now text.now
+        (spec.taken_of result (length text.now)) }
+    ensures short { (n : ℕ) → result ≡ Some n → n < length text.now }
+{
+    match put_part(err, text) {
+        Some(taken) => Some(taken),
+        None => {
+            let _ = put_part(err, line);
+            None
+        }
+    }
+}
+
+// Writes what a run left, and the line.
+fn write_run<O: Sink, E: Sink>(
+    history: Vec<Entry>,
+    text: &[u8],
+    error_text: &[u8],
+    why: Why,
+    line: &[u8],
+    out: &mut O,
+    err: &mut E,
+) -> Report
+    ensures { (c : Text) → line.now ≡ line_of c why → Wrote O.contents O.faults out.old out.new
+        E.contents E.faults err.old err.new c history.items text.now error_text.now why result }
+{
+    let out_fault = put_part(out, text);
+    let err_fault = put_faults(err, error_text, line_after(out_fault, line));
+    Report {
+        why: answer_with(why, out_fault, err_fault),
+        history,
+        out_written: out_fault.unwrap_or(text.len() as u64),
+        err_written: err_fault.unwrap_or(error_text.len() as u64),
+    }
+}
+
+// Writes what a run left, and the line, which names no argument. Takes the memory for the line before anything is written.
+fn deliver<O: Sink, E: Sink>(
+    alloc: Global,
+    execution: Execution,
+    out: &mut O,
+    err: &mut E,
+) -> Report
+    ensures { Unwritten out.old out.new E.contents E.faults err.old err.new result
+        ⊎ Wrote O.contents O.faults out.old out.new E.contents E.faults err.old err.new
+        no_command execution.history.items execution.out.items execution.err.items
+        (ending_answer execution.live.items execution.ending) result }
+{
+    let Execution {
+        history,
+        out: text,
+        err: error_text,
+        live,
+        ending,
+    } = execution;
+    let why = answer_to(ending, live);
+    let command = Command {
+        main: "",
+        files: &[],
+    };
+    match make_line(alloc, &why, &command) {
+        Ok(line) => write_run(history, &text, &error_text, why, line.as_slice(), out, err),
+        Err(_) => no_memory(alloc, err),
+    }
+}

@@ -1,0 +1,79 @@
+-- A machine that begins.
+use Rattle.std.proofs.Common.{◌≡◌, ◌≤◌, ◌<◌, ◌-◌, ℕ, zero, suc, Bool, true, false, List, [], ◌∷◌, Option, None, Some, length, slice_get, refl, ap, sym, subst, ◌∙◌, arith}
+use Rattle.std.specs.Prelude.{replicate}
+use Rattle.std.proofs.lemmas.List.{length-replicate}
+use Rattle.history.specs.declared.entry.Entry.{Entry}
+use Rattle.vthread_state.specs.declared.phase.Phase.TheVariants.{Run}
+use Rattle.vthread_state.specs.declared.thread.Status.TheVariants.{Live}
+use Rattle.vthread_state.specs.Threads.{Threads}
+use Rattle.thread_lists.specs.Lists.{Lists, push}
+use Rattle.schedule_model.specs.Schedule.{on_carriers, opening_schedule}
+use Rattle.schedule_model.specs.Run.{Scheduled, with_schedule}
+use Rattle.ref_model.specs.declared.limits.Limits.{Limits}
+use Rattle.ref_model.specs.Memory.{Memory}
+use Rattle.ref_model.specs.Setting.{Setting}
+use Rattle.ref_model.specs.State.{JavaThread, State}
+use Rattle.ref_model.specs.Opening.{opening, opening_thread}
+use Rattle.startup.specs.declared.begin.Opened.{Opened}
+use Rattle.startup.specs.Openings.{opened_state}
+use Rattle.thread_steps.specs.States.{memory_of}
+use Rattle.schedule_soundness.proofs.Placed.{none_on}
+use Rattle.program_state.specs.declared.state.ProgramState.{ProgramState}
+use Rattle.program_state.specs.States.{IsKept, IsPlain, IsState, absent, waiting}
+use Rattle.machine.specs.Begin.{main_row}
+use Rattle.machine.specs.Insides.{AreParts, IsConsistent, is_out}
+use Rattle.machine.specs.Legal.{IsAccepted}
+use Rattle.machine.proofs.PlaceLaws.{in_from, push_length}
+use Rattle.machine.proofs.StateLaws.{others_out}
+
+module _ (a : ProgramState) (limits : Limits) (o : Opened) (frozen : a.frozen.items ≡ Some o.mounted ∷ []) (number : o.mounted.thread ≡ 0) where
+  first_plain : (t : ℕ) (x : JavaThread) → slice_get (opening_thread o.mounted.stack.frames ∷ []) t ≡ Some x → IsPlain x
+  first_plain zero x at =
+      let same : opening_thread o.mounted.stack.frames ≡ x = cc in
+      subst IsPlain same (record { status = refl; permit = refl; interrupted = refl })
+  first_plain (suc t) x at = absurd cc
+
+  first_kept : (u : ℕ) → IsKept u false (slice_get (opening_thread o.mounted.stack.frames ∷ []) u) (slice_get a.frozen.items u)
+  first_kept zero =
+      waiting (opening_thread o.mounted.stack.frames) o.mounted refl refl (ap (λ fs. slice_get fs 0) frozen) refl number refl
+  first_kept (suc u) = absent refl refl (ap (λ fs. slice_get fs (suc u)) frozen)
+
+  pub first_is : a.memory.status ≡ Live Run → memory_of a.memory ≡ (opened_state limits o).memory → a.memory.main_threw ≡ false
+      → a.threads ≡ record { threads = main_row ∷ []; limit = limits.threads } → a.most_threads ≡ limits.threads → a.unnamed ≡ 0
+      → IsState a (opened_state limits o) (λ t. false)
+  first_is status memory main threads most unnamed = record {
+    status = status;
+    memory = memory;
+    main_threw = main;
+    rows = ap (λ (x : Threads). x.threads) threads;
+    most_threads = most;
+    limit = ap (λ (x : Threads). x.limit) threads;
+    plain = first_plain;
+    unnamed = unnamed;
+    owners = refl;
+    now = refl;
+    kept = first_kept;
+  }
+
+module _ (p : Setting) (n : ℕ) (first : State) (state : ProgramState) (deques : Lists) (mounted : List (Option ℕ)) where
+  pub first_consistent : IsAccepted p → 0 < n → opening p ≡ Some first → length first.threads ≡ 1 → IsState state first (λ t. false)
+      → deques ≡ record { lists = push (replicate n []) 0 (0 ∷ []); threads = 1 } → mounted ≡ replicate n None
+      → IsConsistent p n state deques mounted [] None
+  first_consistent accepted some begins one is lists nobody = record {
+    accepted = accepted;
+    some = some;
+    first = first;
+    begins = begins;
+    after = with_schedule first (opening_schedule n);
+    runs = refl;
+    timeless = tt;
+    few = omega arith;
+    cause = λ e there. absurd cc;
+    parts = λ works. record {
+      state = others_out state first (λ t. false) (is_out (opening_schedule n)) is (λ u. in_from (opening_schedule n) u (none_on u n));
+      deques = ap (λ (d : Lists). d.lists) lists;
+      room = let most = ap (λ (d : Lists). d.threads) lists in omega arith;
+      mounted = nobody;
+      carriers = push_length (replicate n []) 0 (0 ∷ []) ∙ length-replicate n [];
+    };
+  }

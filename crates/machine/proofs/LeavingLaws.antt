@@ -1,0 +1,36 @@
+-- The live threads of a machine, by what its history gives.
+use Rattle.std.proofs.Common.{◌≡◌, ℕ, List, length, Option, Some, None, Result, Ok, Err, refl, ap, sym, ◌∙◌}
+use Rattle.std.specs.Prelude.{IfOk}
+use Rattle.items.proofs.Binds.{bind_is}
+use Rattle.schedule_model.specs.Run.{Scheduled, schedule_of}
+use Rattle.ref_model.specs.Opening.{opening}
+use Rattle.ref_model.specs.State.{State}
+use Rattle.ref_model.specs.Looks.{machine_from}
+use Rattle.machine.specs.declared.machine.Machine.TheInside.{Inside}
+use Rattle.machine.specs.Insides.{AreParts, IsSound, known}
+use Rattle.machine.specs.Legal.{Works}
+use Rattle.machine.specs.Live.{ListsLive, live_below, live_threads}
+use Rattle.machine.specs.Machines.{Known, scheduled}
+use Rattle.machine.proofs.LiveLaws.{live_of_state}
+
+pub if_ok : {A E : Type 0} (r : Result A E) (P Q : A → Type 0) → ((x : A) → P x → Q x) → IfOk r P → IfOk r Q
+if_ok (Ok x) P Q f p = f x p
+if_ok (Err e) P Q f p = p
+
+inner : (v w : Scheduled State) → ◌≡◌ {A = Option (Scheduled State)} (Some v) (Some w) → v ≡ w
+inner v w e = cc
+
+-- what the history gives
+given : (a : Inside) (m : Known) → known a ≡ m → (x : IsSound a) → scheduled m ≡ Some x.after
+given a m same x =
+    ap scheduled (sym same)
+    ∙ bind_is (opening (known a).setting) (λ first. schedule_of (machine_from (known a).setting first) a.carriers a.history.items) x.first (Some x.after) x.begins x.runs
+
+parts_of : (a : Inside) (m : Known) → known a ≡ m → (x : IsSound a) → Works m → AreParts a.carriers a.state a.deques a.mounted.items x.after
+parts_of a m same x works = x.parts (λ halted. works (sym (ap (λ (k : Known). k.told) same) ∙ halted))
+
+pub lists_live : (a : Inside) (m : Known) (live : List ℕ) → known a ≡ m → IsSound a → Works m
+    → live ≡ live_below a.state.threads.threads (length a.state.threads.threads) → ListsLive m live
+lists_live a m live same x works is = λ v at.
+    is ∙ live_of_state a.state.threads.threads x.after.state (parts_of a m same x works).state.rows
+    ∙ ap (λ (w : Scheduled State). live_threads w.state) (inner x.after v (sym (given a m same x) ∙ at))

@@ -1,0 +1,113 @@
+-- The step of a thread, by what the crate of its state says of it in its phase.
+use Rattle.std.proofs.Common.{◌≡◌, ℕ, Bool, true, false, List, [], ◌∷◌, Option, None, Some, refl, ap, sym, subst, ◌∙◌, not, ◌&&◌}
+use Rattle.std.specs.Prelude.{slice_get}
+use Rattle.std.specs.Option.{option_map_or}
+use Rattle.items.specs.Options.{◌>>=◌}
+use Rattle.items.proofs.Binds.{bind_is}
+use Rattle.vthread_state.specs.declared.phase.Phase.{Phase}
+use Rattle.vthread_state.specs.declared.phase.Phase.TheVariants.{Run, Throwing, Joining}
+use Rattle.vthread_state.specs.declared.thread.Status.{Status}
+use Rattle.vthread_state.specs.declared.thread.Status.TheVariants.{Live}
+use Rattle.vthread_state.specs.Threads.{phase_at}
+use Rattle.link_model.specs.World.{World}
+use Rattle.state_model.specs.Frames.{Frame}
+use Rattle.continuation.specs.Continuation.{Continuation}
+use Rattle.frames.specs.Frames.{top_method, top_pc}
+use Rattle.ref_model.specs.State.{JavaThread, State, frames_at, is_interrupted, running_frames}
+use Rattle.ref_model.specs.Asking.{Asking}
+use Rattle.ref_model.specs.Requests.{Request, request_of}
+use Rattle.ref_model.specs.Resuming.{asking_at, asking_in, next_asks}
+use Rattle.ref_model.specs.Starting.{may_create}
+use Rattle.ref_model.specs.Step.{phase_step, status_step, thread_step}
+use Rattle.ref_model.specs.Looks.{is_create, is_yield, lacks_threads_next, yields_next}
+use Rattle.interp_local.specs.declared.fetched.Fetched.{Fetched}
+use Rattle.interp_local.specs.Fetched.{IsTopAt, instruction_at, instruction_of}
+use Rattle.thread_steps.specs.States.{memory_of}
+use Rattle.thread_steps.specs.declared.progress.PendingRequest.{PendingRequest}
+use Rattle.program_state.specs.declared.state.ProgramState.{ProgramState}
+use Rattle.program_state.specs.Requests.{IsPending, LacksThreads}
+use Rattle.program_state.specs.Running.{StandsAt}
+use Rattle.program_state.specs.States.{HasFrames, IsInPhase, IsState}
+use Rattle.program_state.specs.Steps.{StepsTo}
+use Rattle.machine.specs.declared.made.Move.{Move}
+use Rattle.machine.specs.Moves.{LacksRoom, Moves, others_of}
+use Rattle.machine.proofs.AheadLaws.{frames_running}
+use Rattle.machine.proofs.StateLaws.{status_is}
+
+-- the instruction at hand is the one that is fetched
+pub stands : (w : World) (frames : List Frame) (x : Fetched) → IsTopAt w frames x → StandsAt w (instruction_of x) frames
+stands w frames x at f below top = subst (λ (fs : List Frame). instruction_at w (top_method fs) (top_pc fs) ≡ Some (instruction_of x)) top at.at
+
+-- ---- a step in a phase
+
+in_phase : (a : ProgramState) (r : State) (out : ℕ → Bool) (t : ℕ) (phase : Phase) (before : List Frame) → IsState a r out → phase_at a.threads t ≡ Some phase
+    → HasFrames r t before → IsInPhase r t phase before
+in_phase a r out t phase before is at has =
+    record { thread = has.thread; at = has.at; status = status_is a r out t has.thread phase is has.at at; has = has.has }
+
+phase_steps : (w : World) (r : State) (t : ℕ) (phase : Phase) (before : List Frame) → IsInPhase r t phase before → thread_step w r t ≡ phase_step w r t before phase
+phase_steps w r t phase before h =
+    ap (λ o. o >>= λ (x : JavaThread). status_step w r t x.frames x.thread.status) h.at ∙ ap (λ s. status_step w r t h.thread.frames s) h.status
+    ∙ ap (λ fs. phase_step w r t fs phase) h.has
+
+pub moves_by : (w : World) (made : Move) (t : ℕ) (phase : Phase) (old new : ProgramState) (before after : List Frame) → phase_at old.threads t ≡ Some phase
+    → StepsTo w (others_of t made.started) phase t old before new after
+    → ((r : State) (out : ℕ → Bool) → IsState old r out → IsInPhase r t phase before → yields_next w r t ≡ made.yields)
+    → Moves w made t old before new after
+moves_by w made t phase old new before after at steps yields r out is on has =
+    let h = in_phase old r out t phase before is at has in
+    let l = steps r out is on h in
+    record {
+      leads = record { next = l.next; makes = phase_steps w r t phase before h ∙ l.makes; is = l.is; has = l.has; others = l.others };
+      yields = yields r out is h;
+    }
+
+-- ---- what the instruction asks
+
+frames_there : (r : State) (t : ℕ) (before : List Frame) → IsInPhase r t Run before → frames_at r t ≡ Some before
+frames_there r t before h = frames_running r t h.thread h.at h.status ∙ ap Some h.has
+
+asks_there : (w : World) (a : ProgramState) (r : State) (out : ℕ → Bool) (t : ℕ) (before : List Frame) → IsState a r out → IsInPhase r t Run before
+    → asking_at w r t ≡ asking_in w (memory_of a.memory) before
+asks_there w a r out t before is h =
+    ap (λ o. o >>= asking_in w r.memory) (frames_there r t before h) ∙ ap (λ m. asking_in w m before) (sym is.memory)
+
+pub quiet_yields : (w : World) (a : ProgramState) (r : State) (out : ℕ → Bool) (t : ℕ) (before : List Frame) → IsState a r out → IsInPhase r t Run before
+    → asking_in w (memory_of a.memory) before ≡ None → yields_next w r t ≡ false
+quiet_yields w a r out t before is h quiet =
+    ap (λ o. option_map_or (λ (x : Request × Asking). is_yield (is_interrupted r t) x.0) o false) (asks_there w a r out t before is h ∙ quiet)
+
+uninterrupted : (a : ProgramState) (r : State) (out : ℕ → Bool) (t : ℕ) (before : List Frame) → IsState a r out → IsInPhase r t Run before → is_interrupted r t ≡ false
+uninterrupted a r out t before is h =
+    ap (λ o. option_map_or (λ (x : JavaThread). x.interrupted) o false) h.at ∙ (is.plain t h.thread h.at).interrupted
+
+pub pending_yields : (w : World) (q : PendingRequest) (a : ProgramState) (r : State) (out : ℕ → Bool) (t : ℕ) (before : List Frame) → IsState a r out
+    → IsInPhase r t Run before → IsPending w q a.memory before → yields_next w r t ≡ is_yield false (request_of q.request)
+pending_yields w q a r out t before is h asks =
+    ap (λ o. option_map_or (λ (x : Request × Asking). is_yield (is_interrupted r t) x.0) o false) (asks_there w a r out t before is h ∙ asks.asks.asking)
+    ∙ ap (λ b. is_yield b (request_of q.request)) (uninterrupted a r out t before is h)
+
+pub throwing_yields : (w : World) (r : State) (t o : ℕ) (before : List Frame) → IsInPhase r t (Throwing o) before → yields_next w r t ≡ false
+throwing_yields w r t o before h =
+    ap (λ fs. option_map_or (λ (x : Request × Asking). is_yield (is_interrupted r t) x.0) (fs >>= asking_in w r.memory) false)
+    (ap (λ x. x >>= λ (y : JavaThread). running_frames y.frames y.thread.status) h.at ∙ ap (running_frames h.thread.frames) h.status)
+
+pub joining_yields : (w : World) (r : State) (t target : ℕ) (deadline : Option ℕ) (before : List Frame) → IsInPhase r t (Joining target deadline) before → yields_next w r t ≡ false
+joining_yields w r t target deadline before h =
+    ap (λ fs. option_map_or (λ (x : Request × Asking). is_yield (is_interrupted r t) x.0) (fs >>= asking_in w r.memory) false)
+    (ap (λ x. x >>= λ (y : JavaThread). running_frames y.frames y.thread.status) h.at ∙ ap (running_frames h.thread.frames) h.status)
+
+-- ---- one thread too many
+
+and_true : (a b : Bool) → a ≡ true → b ≡ true → (a && b) ≡ true
+and_true a b e f = ap (λ x. x && b) e ∙ f
+
+pub lacks_room : (w : World) (q : PendingRequest) (t : ℕ) (old new : ProgramState) (m n : Continuation) → phase_at old.threads t ≡ Some Run
+    → IsPending w q old.memory m.stack.frames → LacksThreads q old m new n → LacksRoom w t old m.stack.frames new
+lacks_room w q t old new m n at asks lacks = record {
+  same = lacks.state;
+  lacks = λ r out is has.
+      let h = in_phase old r out t Run m.stack.frames is at has in
+      and_true (not (may_create r)) (next_asks w r t is_create) (ap not (lacks.full r out is))
+      (ap (λ o. option_map_or (λ (x : Request × Asking). is_create x.0) o false) (asks_there w old r out t m.stack.frames is h ∙ asks.asks.asking) ∙ lacks.creates);
+}

@@ -1,0 +1,82 @@
+-- A machine that looks whether its program can go on.
+use Rattle.std.proofs.Common.{◌≡◌, ◌<◌, ◌==◌, ℕ, Bool, true, false, List, [], ◌∷◌, Option, None, Some, length, slice_get, refl, ap, sym, subst, ◌∙◌, arith}
+use Rattle.std.specs.Prelude.{is_some}
+use Rattle.std.specs.List.{list_any}
+use Rattle.std.proofs.lemmas.Bool.{eq-eqb}
+use Rattle.history.specs.declared.entry.Entry.{Entry}
+use Rattle.thread_lists.specs.Lists.{Lists}
+use Rattle.run_deques.specs.Take.{next}
+use Rattle.schedule_model.specs.Entries.{holds}
+use Rattle.ref_model.specs.declared.ending.Ending.{Ending}
+use Rattle.ref_model.specs.declared.ending.Ending.TheVariants.{Halted, Stalled}
+use Rattle.ref_model.specs.Setting.{Setting}
+use Rattle.ref_model.specs.State.{State}
+use Rattle.ref_model.specs.Looks.{is_stalled}
+use Rattle.program_state.specs.declared.state.ProgramState.{ProgramState}
+use Rattle.program_state.specs.States.{IsState}
+use Rattle.machine.specs.Insides.{AreParts, IsConsistent, is_out}
+use Rattle.machine.specs.Legal.{HasNotStalled, IsCause}
+use Rattle.machine.specs.Machines.{Known, machine_ending}
+use Rattle.machine.specs.Stalls.{AreBelow, goes_on}
+use Rattle.machine.proofs.EntryLaws.{given, program_after}
+use Rattle.machine.proofs.NextLaws.{known_of, none_there, parts_there}
+use Rattle.machine.proofs.PlaceLaws.{mounted_out}
+use Rattle.machine.proofs.StallLaws.{deque_goes, mounted_goes, none_goes}
+use Rattle.machine.proofs.StateLaws.{out_below}
+
+same_ending : (a b : Ending) → ◌≡◌ {A = Option Ending} (Some a) (Some b) → a ≡ b
+same_ending a b e = cc
+
+some_found : (o : Option (ℕ × ℕ)) → is_some o ≡ true → (found : ℕ × ℕ) × (o ≡ Some found)
+some_found None e = absurd cc
+some_found (Some found) e = (found, refl)
+
+none_found : (o : Option (ℕ × ℕ)) → is_some o ≡ false → o ≡ None
+none_found None e = refl
+none_found (Some found) e = absurd cc
+
+module _ (p : Setting) (n : ℕ) (state : ProgramState) (deques : Lists) (mounted : List (Option ℕ)) (h : List Entry) (told : Option Ending) (spare : ℕ) (x : IsConsistent p n state deques mounted h told)
+    (none : machine_ending (known_of p n h spare told) ≡ None) where
+  parts : AreParts n state deques mounted x.after
+  parts = parts_there p n state deques mounted h told spare x none
+
+  pub mounted_below_all : AreBelow mounted (length state.threads.threads)
+  mounted_below_all c t at =
+      let there : slice_get x.after.schedule.mounted c ≡ Some (Some t) = ap (λ ms. slice_get ms c) (sym parts.mounted) ∙ at in
+      out_below state x.after.state (is_out x.after.schedule) t parts.state
+      (mounted_out x.after.schedule c t (ap (holds t) there ∙ eq-eqb t t refl))
+
+  not_stalled : is_stalled p.world x.after.state ≡ false → HasNotStalled (known_of p n h spare told) (known_of p n h spare told)
+  not_stalled goes = record {
+    same = refl;
+    going = given (known_of p n h spare told) x.first x.after (λ v. is_stalled p.world v.state ≡ false) x.begins x.runs goes;
+  }
+
+  pub by_deque : (o : Option (ℕ × ℕ)) → o ≡ next deques.lists 0 → is_some o ≡ true → HasNotStalled (known_of p n h spare told) (known_of p n h spare told)
+  by_deque o is some =
+      let found = some_found o some in
+      not_stalled (deque_goes p x.first x.after found.0 (program_after p n state deques mounted h told x) (none_there p n state deques mounted h told spare x none).going
+      parts.state.plain (ap (λ ls. next ls 0) (sym parts.deques) ∙ sym is ∙ found.1))
+
+  pub by_mounted : (b : Bool) → ((r : State) (out : ℕ → Bool) → IsState state r out → b ≡ list_any (goes_on r) mounted) → b ≡ true
+      → HasNotStalled (known_of p n h spare told) (known_of p n h spare told)
+  by_mounted b tells some =
+      not_stalled (mounted_goes p x.after.state mounted (sym (tells x.after.state (is_out x.after.schedule) parts.state) ∙ some))
+
+  pub stalled_kept : (o : Option (ℕ × ℕ)) (b : Bool) → o ≡ next deques.lists 0 → is_some o ≡ false
+      → ((r : State) (out : ℕ → Bool) → IsState state r out → b ≡ list_any (goes_on r) mounted) → b ≡ false → IsConsistent p n state deques mounted h (Some Stalled)
+  stalled_kept o b is nobody tells off = record {
+    accepted = x.accepted;
+    some = x.some;
+    first = x.first;
+    begins = x.begins;
+    after = x.after;
+    runs = x.runs;
+    timeless = x.timeless;
+    few = x.few;
+    cause = λ e there. subst (IsCause p x.after) (same_ending Stalled e there)
+        (none_goes p x.first x.after (program_after p n state deques mounted h told x) (none_there p n state deques mounted h told spare x none).going parts.state.plain
+        (ap (λ ls. next ls 0) (sym parts.deques) ∙ sym is ∙ none_found o nobody)
+        (ap (list_any (goes_on x.after.state)) (sym parts.mounted) ∙ sym (tells x.after.state (is_out x.after.schedule) parts.state) ∙ off));
+    parts = λ works. parts;
+  }

@@ -1,0 +1,193 @@
+-- When a program can go on no more, by those that are mounted and by the deques.
+use Rattle.std.proofs.Common.{◌≡◌, ◌≢◌, ◌⊎◌, ◌+◌, ◌<◌, ◌≤◌, ◌==◌, inl, inr, ℕ, zero, suc, Bool, true, false, List, [], ◌∷◌, Option, None, Some, length, slice_get, refl, ap, sym, subst, ◌∙◌, arith, cond, not, ◌&&◌, ◌||◌}
+use Rattle.std.specs.Prelude.{is_some, sum_by}
+use Rattle.std.specs.List.{list_any, range_with_len}
+use Rattle.std.specs.Option.{option_map_or}
+use Rattle.std.proofs.lemmas.Bool.Decides.{eqb_tells}
+use Rattle.std.proofs.lemmas.Bool.{and_left, and_right, cases_Bool, cases_lt, eq-eqb}
+use Rattle.std.proofs.lemmas.List.Sums.{sum_by-cons}
+use Rattle.std.proofs.lemmas.Option.{slice_get_within}
+use Rattle.vthread_state.specs.declared.phase.Phase.TheVariants.{Run, Throwing, Entering, Waiting, Reenter, Parked, Asleep, Joining}
+use Rattle.vthread_state.specs.declared.thread.Status.{Status}
+use Rattle.vthread_state.specs.declared.thread.Status.TheVariants.{New, Live, Done}
+use Rattle.thread_lists.specs.Lists.{Lists, count, total}
+use Rattle.thread_lists.proofs.CountLaws.{count-here}
+use Rattle.run_deques.specs.Take.{front, next, or}
+use Rattle.schedule_model.specs.Look.{Look, is_in_line, is_live}
+use Rattle.schedule_model.specs.Schedule.{Schedule, in_deques, on_carriers, places, times}
+use Rattle.schedule_model.specs.Entries.{has_mounted}
+use Rattle.schedule_model.specs.Puts.{all_threads}
+use Rattle.schedule_model.specs.Run.{Scheduled}
+use Rattle.schedule_model.specs.Stalled.{can_go_on, has_time, is_stalled as is_stalled_look}
+use Rattle.run_deques.proofs.TakeLaws.{AreEmpty, AreEmpty-next}
+use Rattle.schedule_model.proofs.EntryLaws.{on_there}
+use Rattle.ref_model.specs.State.{JavaThread, State}
+use Rattle.ref_model.specs.Ending.{ending}
+use Rattle.ref_model.specs.Setting.{Setting}
+use Rattle.ref_model.specs.Enabled.{is_ready}
+use Rattle.ref_model.specs.Step.{enabled}
+use Rattle.ref_model.specs.Looks.{deadline_in, is_stalled, look_of, spot_in, spot_of}
+use Rattle.schedule_soundness.specs.HistoryLaws.{IsProgramAfter}
+use Rattle.schedule_soundness.proofs.Histories.{no_wake_up_is_lost}
+use Rattle.schedule_soundness.proofs.OtherMoves.{spot_at}
+use Rattle.schedule_soundness.proofs.Stalls.{stalls_by_places}
+use Rattle.program_state.specs.States.{IsPlain, is_plain_status}
+use Rattle.machine.specs.Insides.{is_out}
+use Rattle.machine.specs.Stalls.{goes_on}
+
+no_both : (b : Bool) → b ≡ true → b ≡ false → ⊥
+no_both b i j = absurd cc
+
+-- ---- a thread that may step
+
+any_range : (f : ℕ → Bool) (n a t : ℕ) → list_any f (range_with_len a n) ≡ false → a ≤ t → t < a + n → f t ≡ false
+any_range f zero a t e le lt = absurd (omega arith)
+any_range f (suc n) a t e le lt =
+    elim (cases_Bool (f a)) [
+      | inl yes_it ↦ absurd (no_both (f a || list_any f (range_with_len (a + 1) n)) (ap (λ b. b || list_any f (range_with_len (a + 1) n)) yes_it) e)
+      | inr no_it ↦
+          let rest : list_any f (range_with_len (a + 1) n) ≡ false = sym (ap (λ b. b || list_any f (range_with_len (a + 1) n)) no_it) ∙ e in
+          elim (cases_lt a t) [
+            | inl later ↦ any_range f n (a + 1) t rest (omega arith) (omega arith)
+            | inr here ↦ let same : a ≡ t = omega arith in subst (λ u. f u ≡ false) same no_it
+          ]
+    ]
+
+enabled_there : (r : State) (t : ℕ) → enabled r t ≡ true → t < length r.threads
+enabled_there r t on = by (slice_get r.threads t) refl
+  where
+    by : (o : Option JavaThread) → slice_get r.threads t ≡ o → t < length r.threads
+    by None e = absurd (no_both (enabled r t) on (and_right _ _ (ap (λ o. option_map_or (λ (x : JavaThread). is_ready r x x.thread.status) o false) e)))
+    by (Some x) e = slice_get_within r.threads t x e
+
+pub enabled_goes : (p : Setting) (r : State) (t : ℕ) → enabled r t ≡ true → is_stalled p.world r ≡ false
+enabled_goes p r t on =
+    elim (cases_Bool (list_any (can_go_on (look_of p.world r)) (all_threads (look_of p.world r)))) [
+      | inl some_go ↦ and_right (not (is_some (ending r))) _ (ap not some_go)
+      | inr none_go ↦
+          let off = any_range (can_go_on (look_of p.world r)) (length r.threads) 0 t none_go (omega arith) (let h = enabled_there r t on in omega arith) in
+          absurd (no_both (enabled r t || has_time (look_of p.world r) t) (ap (λ b. b || has_time (look_of p.world r) t) on) off)
+    ]
+
+-- ---- a thread in a deque may step
+
+front_in : (j : ℕ) (lists : List (List ℕ)) (k t : ℕ) → front j lists ≡ Some (k, t) → 0 < total (count t) lists
+front_in j [] k t e = absurd cc
+front_in j ([] ∷ lists) k t e = let h = front_in (suc j) lists k t e in omega (arith, sum_by-cons (count t) [] lists)
+front_in j ((u ∷ us) ∷ lists) k t e =
+    let same : u ≡ t = ap thread_of e in
+    let here : 0 < count t (u ∷ us) = subst (λ v. 0 < count t (v ∷ us)) (sym same) (count-here t us) in
+    omega (arith, sum_by-cons (count t) (u ∷ us) lists)
+  where
+    thread_of : Option (ℕ × ℕ) → ℕ
+    thread_of None = 0
+    thread_of (Some found) = found.1
+
+same_pair : (x y : ℕ × ℕ) → ◌≡◌ {A = Option (ℕ × ℕ)} (Some x) (Some y) → x ≡ y
+same_pair x y g = cc
+
+first_in : (lists : List (List ℕ)) (found : ℕ × ℕ) → next lists 0 ≡ Some found → 0 < total (count found.1) lists
+first_in lists found e = by (front 0 lists) refl
+  where
+    by : (o : Option (ℕ × ℕ)) → front 0 lists ≡ o → 0 < total (count found.1) lists
+    by None f = let bad : ◌≡◌ {A = Option (ℕ × ℕ)} None (Some found) = sym (ap (λ o. or o None) f) ∙ e in absurd cc
+    by (Some x) f =
+        let same : x ≡ found = same_pair x found (sym (ap (λ o. or o None) f) ∙ e) in
+        subst (λ y. 0 < total (count y.1) lists) same (front_in 0 lists x.0 x.1 f)
+
+line_status : (status : Status) → is_plain_status status ≡ true → is_in_line (spot_of status) ≡ false
+line_status New e = refl
+line_status Done e = refl
+line_status (Live Run) e = refl
+line_status (Live (Throwing o)) e = refl
+line_status (Live (Joining u deadline)) e = refl
+line_status (Live (Entering o)) e = absurd cc
+line_status (Live (Waiting o n deadline)) e = absurd cc
+line_status (Live (Reenter o n wake)) e = absurd cc
+line_status (Live (Parked deadline)) e = absurd cc
+line_status (Live (Asleep deadline)) e = absurd cc
+
+off_line : (r : State) → ((t : ℕ) (x : JavaThread) → slice_get r.threads t ≡ Some x → IsPlain x) → (t : ℕ) → is_in_line (spot_at (slice_get r.threads t)) ≡ false
+off_line r plain t = by (slice_get r.threads t) refl
+  where
+    by : (o : Option JavaThread) → slice_get r.threads t ≡ o → is_in_line (spot_at (slice_get r.threads t)) ≡ false
+    by None e = ap (λ o. is_in_line (spot_at o)) e
+    by (Some x) e = ap (λ o. is_in_line (spot_at o)) e ∙ line_status x.thread.status (plain t x e).status
+
+or_left : (a b : Bool) → (a || b) ≡ true → b ≡ false → a ≡ true
+or_left true b e f = refl
+or_left false true e f = absurd cc
+or_left false false e f = absurd cc
+
+pub deque_goes : (p : Setting) (first : State) (v : Scheduled State) (found : ℕ × ℕ) → IsProgramAfter p first v → ending v.state ≡ None
+    → ((t : ℕ) (x : JavaThread) → slice_get v.state.threads t ≡ Some x → IsPlain x) → next v.schedule.deques 0 ≡ Some found → is_stalled p.world v.state ≡ false
+deque_goes p first v found a going plain e =
+    let woken = no_wake_up_is_lost p first v a (ap is_some going) in
+    let there = woken.deques found.1 (first_in v.schedule.deques found e) in
+    enabled_goes p v.state found.1 (or_left (enabled v.state found.1) _ there.1 (off_line v.state plain found.1))
+
+-- ---- a mounted thread may step
+
+pub mounted_goes : (p : Setting) (r : State) (mounted : List (Option ℕ)) → list_any (goes_on r) mounted ≡ true → is_stalled p.world r ≡ false
+mounted_goes p r [] e = absurd cc
+mounted_goes p r (None ∷ mounted) e = mounted_goes p r mounted e
+mounted_goes p r (Some t ∷ mounted) e =
+    elim (cases_Bool (enabled r t)) [
+      | inl on ↦ enabled_goes p r t on
+      | inr off ↦ mounted_goes p r mounted (sym (ap (λ b. b || list_any (goes_on r) mounted) off) ∙ e)
+    ]
+
+-- ---- none may step
+
+none_mounted : (r : State) (t : ℕ) (mounted : List (Option ℕ)) → list_any (goes_on r) mounted ≡ false → 0 < sum_by (times t) mounted → enabled r t ≡ false
+none_mounted r t [] e there = absurd (omega arith)
+none_mounted r t (None ∷ mounted) e there = none_mounted r t mounted e (omega (arith, sum_by-cons (times t) None mounted))
+none_mounted r t (Some u ∷ mounted) e there =
+    elim (cases_Bool (enabled r u)) [
+      | inl on ↦ absurd (no_both (enabled r u || list_any (goes_on r) mounted) (ap (λ b. b || list_any (goes_on r) mounted) on) e)
+      | inr off ↦
+          let rest : list_any (goes_on r) mounted ≡ false = sym (ap (λ b. b || list_any (goes_on r) mounted) off) ∙ e in
+          elim (eqb_tells u t) [
+            | inl here ↦ subst (λ w. enabled r w ≡ false) here.1 off
+            | inr other ↦
+                let none : ◌≡◌ {A = ℕ} (times t (Some u)) 0 = ap (λ b. cond b 1 0) other.0 in
+                none_mounted r t mounted rest (omega (arith, sum_by-cons (times t) (Some u) mounted))
+          ]
+    ]
+
+deadline_status : (status : Status) → is_plain_status status ≡ true → deadline_in status ≡ None
+deadline_status New e = refl
+deadline_status Done e = refl
+deadline_status (Live Run) e = refl
+deadline_status (Live (Throwing o)) e = refl
+deadline_status (Live (Joining u None)) e = refl
+deadline_status (Live (Joining u (Some n))) e = absurd cc
+deadline_status (Live (Entering o)) e = absurd cc
+deadline_status (Live (Waiting o n deadline)) e = absurd cc
+deadline_status (Live (Reenter o n wake)) e = absurd cc
+deadline_status (Live (Parked deadline)) e = absurd cc
+deadline_status (Live (Asleep deadline)) e = absurd cc
+
+no_time : (l : Look) (t : ℕ) → l.deadline t ≡ None → has_time l t ≡ false
+no_time l t e = rw e (and_right (is_live (l.spot t)) false refl)
+
+plain_deadline : (p : Setting) (r : State) → ((t : ℕ) (x : JavaThread) → slice_get r.threads t ≡ Some x → IsPlain x) → (t : ℕ) → (look_of p.world r).deadline t ≡ None
+plain_deadline p r plain t = by (slice_get r.threads t) refl
+  where
+    by : (o : Option JavaThread) → slice_get r.threads t ≡ o → (look_of p.world r).deadline t ≡ None
+    by None e = ap (λ o. option_map_or (λ (x : JavaThread). deadline_in x.thread.status) o None) e
+    by (Some x) e = ap (λ o. option_map_or (λ (x : JavaThread). deadline_in x.thread.status) o None) e ∙ deadline_status x.thread.status (plain t x e).status
+
+empty_total : (t : ℕ) (lists : List (List ℕ)) → AreEmpty lists → total (count t) lists ≡ 0
+empty_total t [] all = refl
+empty_total t ([] ∷ lists) all = let h = empty_total t lists (λ i d within. all (suc i) d (omega arith)) in omega (arith, sum_by-cons (count t) [] lists)
+empty_total t ((u ∷ us) ∷ lists) all = let bad = all 0 [] (omega arith) in absurd cc
+
+pub none_goes : (p : Setting) (first : State) (v : Scheduled State) → IsProgramAfter p first v → ending v.state ≡ None
+    → ((t : ℕ) (x : JavaThread) → slice_get v.state.threads t ≡ Some x → IsPlain x) → next v.schedule.deques 0 ≡ None
+    → list_any (goes_on v.state) v.schedule.mounted ≡ false → is_stalled p.world v.state ≡ true
+none_goes p first v a going plain none off =
+    stalls_by_places p first v a (ap is_some going) (λ t there.
+    let empty : in_deques t v.schedule ≡ 0 = empty_total t v.schedule.deques (AreEmpty-next v.schedule.deques 0 none) in
+    none_mounted v.state t v.schedule.mounted off (omega arith))
+    (λ t. no_time (look_of p.world v.state) t (plain_deadline p v.state plain t))

@@ -1,0 +1,343 @@
+-- The step of a thread as an entry of the history.
+use Rattle.std.proofs.Common.{◌≡◌, ◌≢◌, ◌⊎◌, ◌<◌, ◌≤◌, inl, inr, eqb, ℕ, zero, suc, Bool, true, false, List, [], ◌∷◌, Option, None, Some, length, refl, ap, sym, subst, ◌∙◌, arith, cond, not, ◌&&◌, ◌||◌}
+use Rattle.std.specs.Prelude.{is_none, is_some, map, slice_get, max}
+use Rattle.std.specs.Option.{option_map_or}
+use Rattle.std.proofs.lemmas.Bool.{and_parts, cases_lt, eq-eqb}
+use Rattle.std.proofs.lemmas.Bool.Decides.{eqb_tells}
+use Rattle.std.proofs.lemmas.Option.{slice_get_within}
+use Rattle.items.specs.Options.{◌>>=◌}
+use Rattle.history.specs.declared.entry.What.TheVariants.{Step}
+use Rattle.vthread_state.specs.declared.phase.Phase.{Phase}
+use Rattle.vthread_state.specs.declared.phase.Phase.TheVariants.{Run, Throwing, Entering, Waiting, Reenter, Parked, Asleep, Joining}
+use Rattle.vthread_state.specs.declared.thread.Status.{Status}
+use Rattle.vthread_state.specs.declared.thread.Status.TheVariants.{New, Live, Done}
+use Rattle.vthread_state.specs.declared.thread.Thread.{Thread}
+use Rattle.vthread_state.specs.Threads.{joins, joins_in, thread_at}
+use Rattle.thread_lists.specs.Lists.{Lists, count, push, total}
+use Rattle.link_model.specs.World.{World}
+use Rattle.state_model.specs.Frames.{Frame}
+use Rattle.schedule_model.specs.Look.{Look, is_done as is_done_spot, is_entering, is_live as is_live_spot}
+use Rattle.schedule_model.specs.Schedule.{Schedule, in_deques}
+use Rattle.schedule_model.specs.Puts.{all_threads, beginning_with, put_by, updated_list}
+use Rattle.schedule_model.specs.Entries.{after_step, has_mounted, has_to_leave}
+use Rattle.schedule_model.specs.Run.{Scheduled, scheduled_after, with_schedule}
+use Rattle.ref_model.specs.declared.ending.Ending.{Ending}
+use Rattle.ref_model.specs.Setting.{Setting}
+use Rattle.ref_model.specs.State.{JavaThread, State, with_frames}
+use Rattle.ref_model.specs.Enabled.{has_ended, is_done, is_ready}
+use Rattle.ref_model.specs.Entries.{is_grouped}
+use Rattle.ref_model.specs.Ending.{ending, is_live}
+use Rattle.ref_model.specs.Step.{enabled, step, thread_step}
+use Rattle.ref_model.specs.Looks.{look_of, machine_from, spot_of, yields_next}
+use Rattle.ref_model.proofs.StateLaws.{frames_is, get_set}
+use Rattle.schedule_soundness.specs.EntryLaws.{MayStep}
+use Rattle.schedule_soundness.specs.HistoryLaws.{IsProgramAfter}
+use Rattle.schedule_soundness.specs.PutLaws.{EndsNoWait, OthersStay, OthersStayBeside}
+use Rattle.schedule_soundness.proofs.Ahead.{steps_are_entries}
+use Rattle.schedule_soundness.proofs.Histories.{deques_have_live, histories_go_on, mounted_in_no_deque}
+use Rattle.schedule_soundness.proofs.OtherMoves.{spot_at}
+use Rattle.schedule_soundness.proofs.Pins.{nobody_is_pinned}
+use Rattle.schedule_soundness.proofs.PutLaws.{ends_put_joiners, quiet_steps_put_nobody, starts_put_the_started}
+use Rattle.program_state.specs.declared.state.ProgramState.{ProgramState}
+use Rattle.program_state.specs.States.{HasFrames, IsKept, IsState, absent, mounted, waiting, idle, is_started}
+use Rattle.program_state.specs.Steps.{Starts}
+use Rattle.program_state.specs.Waiting.{AreWoken, has_ended_in}
+use Rattle.program_state.proofs.StateLaws.{frames_had, other_frames}
+use Rattle.machine.specs.declared.after.After.{After}
+use Rattle.machine.specs.declared.after.After.TheVariants.{Goes, Leaves, Ends, Halts}
+use Rattle.machine.specs.declared.made.Move.{Move}
+use Rattle.machine.specs.Hands.{HasHand, IsLive}
+use Rattle.machine.specs.Insides.{AreParts, is_out}
+use Rattle.machine.specs.Moves.{IsMade, IsMoved, LacksRoom, Moves, others_of}
+use Rattle.machine.specs.Puts.{ArePut, EndsSo, HasPut, IsOver, MayBePut, nobody, started, nobody_over, joiners}
+use Rattle.machine.specs.Steps.{Enters, IsTold, Lacks, StepsFrom, outcome_of}
+use Rattle.machine.proofs.AheadLaws.{ahead_starts, ahead_stays, ahead_step, enabled_alive, enabled_going, hand_ahead}
+use Rattle.machine.proofs.PlaceLaws.{mounted_out, out_on, push_length}
+use Rattle.machine.proofs.EndingLaws.{not_ended}
+use Rattle.machine.proofs.JoinerLaws.{AtEnd, Joins, joiner_before, joiner_loose, joins_thread, put_joiners}
+use Rattle.machine.proofs.StateLaws.{rows_length}
+
+no_both : (b : Bool) → b ≡ true → b ≡ false → ⊥
+no_both b i j = absurd cc
+
+same_thread : (o : Option JavaThread) (x y : JavaThread) → o ≡ Some x → o ≡ Some y → x ≡ y
+same_thread o x y e f = cc
+
+-- the thread with other frames
+with_at : (r : State) (t : ℕ) (x : JavaThread) (frames : List Frame) → slice_get r.threads t ≡ Some x
+    → slice_get (with_frames r t frames).threads t ≡ Some (record x { frames = frames })
+with_at r t x frames at =
+    ap (λ (s : State). slice_get s.threads t) (frames_is r t x frames at) ∙ get_set r.threads t x (record x { frames = frames }) at
+
+-- a thread that runs joins none
+runs_joins : (o : Option JavaThread) (t : ℕ) (x : JavaThread) → o ≡ Some x → x.thread.status ≡ Live Run → Joins o t → ⊥
+runs_joins o t x at runs j =
+    let same : x ≡ j.thread = same_thread o x j.thread at j.at in
+    let no : Live Run ≡ Live (Joining t j.deadline) = sym runs ∙ ap (λ (z : JavaThread). z.thread.status) same ∙ j.status in
+    absurd cc
+
+-- a thread that may step was started
+never_new : (r : State) (t : ℕ) (x : JavaThread) → slice_get r.threads t ≡ Some x → enabled r t ≡ true → x.thread.status ≡ New → ⊥
+never_new r t x at on new =
+    let ready = (and_parts (is_none (ending r)) _ on).1 in
+    no_both (is_ready r x x.thread.status) (sym (ap (λ o. option_map_or (λ (y : JavaThread). is_ready r y y.thread.status) o false) at) ∙ ready)
+    (ap (is_ready r x) new)
+
+-- who isn't live is in no deque
+new_loose : (p : Setting) (first : State) (v : Scheduled State) (u : ℕ) → IsProgramAfter p first v → ending v.state ≡ None
+    → is_live_spot ((look_of p.world v.state).spot u) ≡ false → in_deques u v.schedule ≡ 0
+new_loose p first v u a going dead =
+    elim (cases_lt 0 (in_deques u v.schedule)) [
+      | inr none ↦ omega arith
+      | inl there ↦ absurd (no_both (is_live_spot ((look_of p.world v.state).spot u)) (deques_have_live p first v a (not_ended v.state going) u there).0 dead)
+    ]
+
+done_status : (status : Status) → is_done_spot (spot_of status) ≡ is_done status
+done_status New = refl
+done_status Done = refl
+done_status (Live Run) = refl
+done_status (Live (Throwing o)) = refl
+done_status (Live (Entering o)) = refl
+done_status (Live (Waiting o count deadline)) = refl
+done_status (Live (Reenter o count wake)) = refl
+done_status (Live (Parked deadline)) = refl
+done_status (Live (Asleep deadline)) = refl
+done_status (Live (Joining u deadline)) = refl
+
+done_spot_at : (o : Option JavaThread) → is_done_spot (spot_at o) ≡ option_map_or (λ (x : JavaThread). is_done x.thread.status) o false
+done_spot_at None = refl
+done_spot_at (Some x) = done_status x.thread.status
+
+done_spot : (q : State) (t : ℕ) → is_done_spot (spot_at (slice_get q.threads t)) ≡ has_ended q t
+done_spot q t = done_spot_at (slice_get q.threads t)
+
+-- a started thread that hasn't ended is live
+alive_status : (status : Status) → is_started status ≡ true → is_done status ≡ false → (phase : Phase) × (status ≡ Live phase)
+alive_status New s e = absurd cc
+alive_status (Live phase) s e = (phase, refl)
+alive_status Done s e = absurd cc
+
+live_from : (a : ProgramState) (r : State) (out : ℕ → Bool) (t : ℕ) → IsState a r out → out t ≡ true → has_ended r t ≡ false → IsLive r t
+live_from a r out t is on alive = by (is.kept t)
+  where
+    by : IsKept t (out t) (slice_get r.threads t) (slice_get a.frozen.items t) → IsLive r t
+    by (absent off there at) = absurd (no_both (out t) on off)
+    by (mounted x here there at begun) =
+        let s = alive_status x.thread.status begun (sym (ap (λ o. option_map_or (λ (y : JavaThread). is_done y.thread.status) o false) there) ∙ alive) in
+        record { phase = s.0; live = record { thread = x; at = there; status = s.1 } }
+    by (waiting x k off there at alive number frames) = absurd (no_both (out t) on off)
+    by (idle x off there at dead) = absurd (no_both (out t) on off)
+
+-- the table tells who has ended
+done_row : (xs : List JavaThread) (t : ℕ)
+    → option_map_or (λ (x : Thread). is_done x.status) (slice_get (map (λ (x : JavaThread). x.thread) xs) t) false
+    ≡ option_map_or (λ (x : JavaThread). is_done x.thread.status) (slice_get xs t) false
+done_row [] t = refl
+done_row (x ∷ xs) zero = refl
+done_row (x ∷ xs) (suc t) = done_row xs t
+
+pub ended_in : (a : ProgramState) (r : State) (out : ℕ → Bool) (t : ℕ) → IsState a r out → has_ended_in a.threads t ≡ has_ended r t
+ended_in a r out t is = ap (λ ts. option_map_or (λ (x : Thread). is_done x.status) (slice_get ts t) false) is.rows ∙ done_row r.threads t
+
+-- ---- one step, from a history in which the thread may step
+
+module _ (w : World) (n : ℕ) (state : ProgramState) (deques : Lists) (on : List (Option ℕ)) (c t k : ℕ) (frames : List Frame) (x : StepsFrom w n state deques on c t k frames) where
+  abbrev pub v : Scheduled State
+  v = x.before
+
+  abbrev pub r : State
+  r = with_frames v.state t frames
+
+  abbrev pub out : ℕ → Bool
+  out = is_out v.schedule
+
+  is_mounted : out t ≡ true
+  is_mounted = mounted_out v.schedule c t x.hand.mounted
+
+  -- the parts are those of the state with the frames of the hand
+  pub ahead_is : IsState state (with_frames x.before.state t frames) (is_out x.before.schedule)
+  ahead_is = other_frames state v.state out t frames x.parts.state is_mounted
+
+  pub ahead_out : is_out x.before.schedule t ≡ true
+  ahead_out = is_mounted
+
+  pub ahead_has : HasFrames (with_frames x.before.state t frames) t frames
+  ahead_has = frames_had v.state t x.hand.thread frames x.hand.at
+
+  going : ending v.state ≡ None
+  going = enabled_going v.state t x.may
+
+  alive : has_ended v.state t ≡ false
+  alive = enabled_alive v.state t x.hand.thread x.hand.at x.may
+
+  module _ (made : Move) (new : ProgramState) (after : List Frame) (m : IsMoved w made t new after r out) where
+    abbrev pub q : State
+    q = m.leads.next
+
+    stepped : step x.setting r t None ≡ Some q
+    stepped =
+        ahead_step x.setting v.state q t k frames (hand_ahead x.setting v c t k frames x.hand) x.may
+        (ap (λ u. thread_step u r t) x.world ∙ m.leads.makes)
+
+    abbrev pub l : State → Look
+    l s = look_of x.setting.world s
+
+    abbrev pub then_schedule : Schedule
+    then_schedule = after_step (look_of x.setting.world x.before.state) (look_of x.setting.world m.leads.next) x.before.schedule c t (yields_next x.setting.world (with_frames x.before.state t frames) t)
+
+    abbrev pub then : Scheduled State
+    then = with_schedule m.leads.next then_schedule
+
+    pub step_enters : scheduled_after (machine_from x.setting x.first) x.before c (Step t (suc k) None) ≡ Some then
+    step_enters =
+        steps_are_entries x.setting x.first v q c t k frames None (record { mounted = x.hand.mounted; owes = x.owes; may = x.may }) refl
+        (hand_ahead x.setting v c t k frames x.hand) (subst (λ u. is_grouped u v.state t (suc k) ≡ true) (sym x.world) x.grouped) stepped
+
+    pub after_then : IsProgramAfter x.setting x.first then
+    after_then = histories_go_on x.setting x.first v then x.after c (Step t (suc k) None) step_enters
+
+    -- ---- who is put
+
+    abbrev pub entry_list : ℕ → List ℕ
+    entry_list o = updated_list (is_entering o) (l v.state) (l q) (beginning_with (v.schedule.wait_list o) (l q)) (v.schedule.entry_list o)
+
+    abbrev pub puts : List ℕ
+    puts = put_by (l v.state) (l q) entry_list v.schedule (all_threads (l q))
+
+    stays : (s : Option ℕ) → s ≡ None → others_of t s r q → OthersStay t v.state q
+    stays None e h = ahead_stays v.state q t x.hand.thread frames x.hand.at h
+    stays (Some u) e h = absurd cc
+
+    others_stay : made.started ≡ None → OthersStay t v.state q
+    others_stay none = stays made.started none m.leads.others
+
+    starts : (s : Option ℕ) (u : ℕ) → s ≡ Some u → others_of t s r q → Starts t u r q
+    starts None u e h = absurd cc
+    starts (Some s) u e h = let same : s ≡ u = cc in subst (λ n. Starts t n r q) same h
+
+    ends_in : has_ended_in new.threads t ≡ has_ended q t
+    ends_in = ended_in new q out t m.leads.is
+
+    none_put : made.started ≡ None → EndsNoWait q t → puts ≡ []
+    none_put none ends = quiet_steps_put_nobody x.setting v q c t entry_list x.hand.mounted going (others_stay none) ends
+
+    -- a thread that is started is another, since it was never started before
+    started_other : (u : ℕ) → Starts t u r q → u ≢ t
+    started_other u s same =
+        let y : JavaThread = record x.hand.thread { frames = frames } in
+        let at : slice_get r.threads t ≡ Some s.new.thread = subst (λ i. slice_get r.threads i ≡ Some s.new.thread) same s.new.there in
+        let is : y ≡ s.new.thread = same_thread (slice_get r.threads t) y s.new.thread (with_at v.state t x.hand.thread frames x.hand.at) at in
+        never_new v.state t x.hand.thread x.hand.at x.may (ap (λ (z : JavaThread). z.thread.status) is ∙ s.new.status)
+
+    one_put : (u : ℕ) → Starts t u r q → has_ended q t ≡ false → puts ≡ u ∷ []
+    one_put u s goes =
+        let b = ahead_starts v.state q t u x.hand.thread frames x.hand.at (started_other u s) s in
+        starts_put_the_started x.setting x.first v q c t u entry_list x.after x.hand.mounted going
+        b.others (inl goes) b.new (record { thread = b.runs.thread; there = b.runs.there; status = ap is_live b.runs.status })
+
+    joiners_put : (ws : List ℕ) → made.started ≡ None → has_ended q t ≡ true → ending q ≡ None → AreWoken t new ws → puts ≡ ws
+    joiners_put ws none ended goes woken =
+        let h : AtEnd x.setting x.first v q new t = record {
+          after = x.after;
+          going = going;
+          out = is_mounted;
+          plain = x.parts.state.plain;
+          alive = alive;
+          others = others_stay none;
+          is = m.leads.is;
+          ended = ended;
+        } in
+        ends_put_joiners x.setting x.first v q c t entry_list ws x.after x.hand.mounted going goes (others_stay none) ended woken.rising
+        (λ u. put_joiners x.setting x.first v q new t ws h woken u)
+
+    puts_are : (ws : List ℕ) → ArePut new t made.started ws → puts ≡ ws
+    puts_are ws (nobody none goes is) = none_put none (inl (sym ends_in ∙ goes)) ∙ sym is
+    puts_are ws (started u e goes is) = one_put u (starts made.started u e m.leads.others) (sym ends_in ∙ goes) ∙ sym is
+    puts_are ws (nobody_over none over is) = none_put none (inr (over.told, sym (over.is q out m.leads.is))) ∙ sym is
+    puts_are ws (joiners none ended goes woken) = joiners_put ws none (sym ends_in ∙ ended) (sym (goes q out m.leads.is)) woken
+
+    -- who joins the thread after the step did so before
+    joined_before : (s : Option ℕ) → others_of t s r q → (u : ℕ) → u ≢ t → Joins (slice_get q.threads u) t → Joins (slice_get v.state.threads u) t
+    joined_before None h u ne j =
+        joiner_before t u (slice_get v.state.threads u) (slice_get q.threads u) ((ahead_stays v.state q t x.hand.thread frames x.hand.at h).threads u ne) j
+    joined_before (Some s) h u ne j = by (eqb_tells u s)
+      where
+        by : ((eqb u s ≡ true) × (u ≡ s)) ⊎ ((eqb u s ≡ false) × (u ≢ s)) → Joins (slice_get v.state.threads u) t
+        by (inl me) = absurd (runs_joins (slice_get q.threads u) t h.runs.thread (subst (λ i. slice_get q.threads i ≡ Some h.runs.thread) (sym me.1) h.runs.there) h.runs.status j)
+        by (inr other) =
+            let b = ahead_starts v.state q t s x.hand.thread frames x.hand.at (started_other s h) h in
+            joiner_before t u (slice_get v.state.threads u) (slice_get q.threads u) (b.others.threads u ne other.1) j
+
+    -- the thread itself may join itself only where nobody puts it: it is mounted, so it is in no deque
+    joined : (u : ℕ) → Joins (slice_get q.threads u) t → in_deques u v.schedule ≡ 0
+    joined u j = by (eqb_tells u t)
+      where
+        by : ((eqb u t ≡ true) × (u ≡ t)) ⊎ ((eqb u t ≡ false) × (u ≢ t)) → in_deques u v.schedule ≡ 0
+        by (inl me) =
+            subst (λ i. in_deques i v.schedule ≡ 0) (sym me.1)
+            (mounted_in_no_deque x.setting x.first v x.after t (out_on v.schedule t is_mounted))
+        by (inr other) =
+            let i = joined_before made.started m.leads.others u other.1 j in
+            joiner_loose x.setting x.first v u t x.after going i (x.parts.state.plain u i.thread i.at) alive
+
+    -- who is put was in no deque
+    pub put_free : (u : ℕ) → MayBePut new t made.started u → total (count u) deques.lists ≡ 0
+    put_free u may = ap (total (count u)) x.parts.deques ∙ loose may
+      where
+        loose : MayBePut new t made.started u → in_deques u v.schedule ≡ 0
+        loose (inl e) =
+            let s = starts made.started u e m.leads.others in
+            let b = ahead_starts v.state q t u x.hand.thread frames x.hand.at (started_other u s) s in
+            new_loose x.setting x.first v u x.after going (ap (λ o. is_live_spot (spot_at o)) b.new.there ∙ ap (λ i. is_live_spot (spot_of i)) b.new.status)
+        loose (inr e) = joined u (joins_thread q u t (sym (ap (λ ts. joins_in ts u) m.leads.is.rows) ∙ e))
+
+    pub put_below : (u : ℕ) → made.started ≡ Some u → u < length new.threads.threads
+    put_below u e =
+        let s = starts made.started u e m.leads.others in
+        let same = rows_length new q out m.leads.is in
+        let inside = slice_get_within q.threads u s.runs.thread s.runs.there in
+        omega arith
+
+    -- ---- afterwards
+
+    pub then_parts : (left : Lists) → HasPut new t made.started c deques.lists left.lists → length new.threads.threads ≤ left.threads
+        → AreParts n new left on then
+    then_parts left put room = record {
+      state = m.leads.is;
+      deques = put.lists ∙ ap (λ ls. push ls c put.threads) x.parts.deques ∙ ap (push v.schedule.deques c) (sym (puts_are put.threads put.who));
+      room = let same = rows_length new q out m.leads.is in omega arith;
+      mounted = x.parts.mounted;
+      carriers = push_length v.schedule.deques c puts ∙ x.parts.carriers;
+    }
+
+    pub then_hand : HasHand x.setting then c t 0 after
+    then_hand = record {
+      mounted = x.hand.mounted;
+      thread = m.leads.has.thread;
+      at = m.leads.has.at;
+      running = λ some. absurd (omega arith);
+      ahead = ap Some m.leads.has.has;
+    }
+
+    unpinned : (l q).pinned t ≡ false
+    unpinned = nobody_is_pinned x.setting x.first then after_then x.accepted.typed x.accepted.calls t
+
+    yields_is : yields_next x.setting.world r t ≡ made.yields
+    yields_is = ap (λ u. yields_next u r t) x.world ∙ m.yields
+
+    owes_is : then_schedule.owes t ≡ (has_ended q t || (made.yields || not (enabled q t)))
+    owes_is =
+        let yields = yields_next x.setting.world r t in
+        ap (λ b. cond b (has_to_leave (l q) t yields) (v.schedule.owes t)) (eq-eqb t t refl)
+        ∙ ap (λ b. b || (not ((l q).pinned t) && (yields || not (enabled q t)))) (done_spot q t)
+        ∙ ap (λ b. has_ended q t || (not b && (yields || not (enabled q t)))) unpinned
+        ∙ ap (λ b. has_ended q t || (b || not (enabled q t))) yields_is
+
+    pub then_outcome : IsTold (outcome_of (has_ended m.leads.next t) made.yields (enabled m.leads.next t)) then t
+    then_outcome = by (has_ended q t) made.yields (enabled q t) refl owes_is
+      where
+        by : (ended yields goes : Bool) → has_ended q t ≡ ended → then_schedule.owes t ≡ (ended || (yields || not goes)) → IsTold (outcome_of ended yields goes) then t
+        by true yields goes is owes = (owes, is)
+        by false true goes is owes = (owes, live_from new q out t m.leads.is is_mounted is)
+        by false false true is owes = owes
+        by false false false is owes = (owes, live_from new q out t m.leads.is is_mounted is)

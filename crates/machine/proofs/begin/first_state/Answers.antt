@@ -1,0 +1,16 @@
+use Rattle.std.proofs.Common.{refl}
+use Rattle.program_state.specs.declared.state.ProgramState.{ProgramState}
+use Rattle.machine.proofs.BeginLaws.{first_is}
+use Rattle.machine.proofs.begin.first_state.Goals as goal
+
+pub returns : goal.returns
+returns c =
+    let a : ProgramState = record {
+      memory = c.first_memory.result;
+      threads = c.in_ok-first_threads.field-0;
+      frozen = c.in_ok-first_frozen.field-0;
+      most_threads = c.args.limits.threads;
+      unnamed = 0;
+    } in
+    first_is a c.args.limits c.args.opened c.in_ok-first_frozen.ensures c.requires c.first_memory.ensures.status c.first_memory.ensures.memory
+    c.first_memory.ensures.main c.in_ok-first_threads.ensures refl refl

@@ -1,0 +1,14 @@
+use Rattle.std.proofs.Common.{◌≡◌, ◌-◌, ◌<◌, ℕ, List, None, Some, Option, ap, length, refl, subst, sym, vec_capacity, rules, ◌∙◌}
+use Rattle.machine.specs.Hands.{AreTypedInRun, HasPhase, Holds, IsMounted, Lives}
+use Rattle.machine.specs.Insides.{setting_in}
+use Rattle.machine.specs.Legal.{Works}
+use Rattle.machine.specs.Machines.{Given, Known, machine_ending}
+use Rattle.ref_model.specs.Step.{enabled}
+use Rattle.machine.proofs.StepCallLaws.{ending_there}
+use Rattle.machine.proofs.machine.Machine.ending.Goals as goal
+
+pub returns-in-None : goal.returns-in-None
+returns-in-None c =
+    let a = c.self.inside in
+    ending_there (setting_in a) a.carriers a.state a.deques a.mounted.items a.history.items a.told (vec_capacity a.history - length a.history.items) c.self.invariant
+    c.ended_within.result c.len.result c.in-None.is (c.len.ensures ∙ search rules) c.ended_within.ensures ∙ ap machine_ending c.self.view_is

@@ -1,0 +1,28 @@
+-- The thread that a carrier steps: its phase, its frames, and its instruction.
+use Rattle.std.specs.Prelude.{◌≡◌, ℕ, List, Option, Some}
+use Rattle.vthread_state.specs.declared.phase.Phase.{Phase}
+use Rattle.vthread_state.specs.declared.phase.Phase.TheVariants.{Run}
+use Rattle.vthread_state.specs.Threads.{phase_at}
+use Rattle.link_model.specs.World.{World}
+use Rattle.state_model.specs.Frames.{Frame}
+use Rattle.frame_soundness.specs.TypedStates.{AreOfPhase}
+use Rattle.interp_local.specs.declared.fetched.Fetched.{Fetched}
+use Rattle.interp_local.specs.Fetched.{IsTopAt}
+use Rattle.program_state.specs.declared.state.ProgramState.{ProgramState}
+
+-- the thread is live, in this phase
+abbrev pub IsAt : ProgramState → ℕ → Phase → Type 0
+IsAt state t phase = phase_at state.threads t ≡ Some phase
+
+-- these frames are such as the thread's phase asks for
+abbrev pub AreTyped : World → ProgramState → ℕ → List Frame → Type 0
+AreTyped w state t frames = (phase : Phase) → IsAt state t phase → AreOfPhase w frames phase
+
+-- the instruction at hand, where the thread runs
+pub record IsNext (w : World) (frames : List Frame) (next : Option Fetched) : Type 0 where
+  pub fetched : Fetched
+  pub is : next ≡ Some fetched
+  pub at : IsTopAt w frames fetched
+
+abbrev pub HasNext : World → ProgramState → ℕ → List Frame → Option Fetched → Type 0
+HasNext w state t frames next = IsAt state t Run → IsNext w frames next

@@ -1,0 +1,68 @@
+-- The steps of a mounted thread.
+use Rattle.std.specs.Prelude.{◌≡◌, ◌≤◌, ℕ, zero, suc, true, false, List, Option, Some, None, slice_get}
+use Rattle.history.specs.declared.entry.What.{What}
+use Rattle.history.specs.declared.entry.What.TheVariants.{Step}
+use Rattle.vthread_state.specs.declared.phase.Phase.TheVariants.{Run}
+use Rattle.vthread_state.specs.declared.thread.Status.{Status}
+use Rattle.vthread_state.specs.declared.thread.Status.TheVariants.{New, Live, Done}
+use Rattle.link_model.specs.World.{World}
+use Rattle.state_model.specs.Frames.{Frame}
+use Rattle.ref_model.specs.declared.ending.Ending.TheVariants.{Limit, Halted}
+use Rattle.ref_model.specs.declared.ending.Which.TheVariants.{Threads}
+use Rattle.ref_model.specs.State.{JavaThread}
+use Rattle.ref_model.specs.Entries.{may_be_last, most_local_steps}
+use Rattle.frame_soundness.specs.Typed.{Typed}
+use Rattle.interp_local.specs.declared.fetched.Fetched.{Fetched}
+use Rattle.interp_local.specs.Fetched.{IsTopAt}
+use Rattle.machine.specs.declared.after.After.{After}
+use Rattle.machine.specs.declared.after.After.TheVariants.{Goes, Leaves, Ends, Halts}
+use Rattle.machine.specs.Machines.{Given, Known, with_ending, with_entry}
+use Rattle.machine.specs.Hands.{Holds, HasEnded, Lives, OwesNothing, OwesUnmount}
+
+-- ---- before a step
+
+-- The thread runs, and after so many local instructions its entry may end with this instruction.
+pub record IsAtLast (w : World) (n : ℕ) (frames : List Frame) (next : Option Fetched) : Type 0 where
+  pub typed : Typed w frames
+  pub few : n ≤ most_local_steps
+  pub last : may_be_last w n frames ≡ true
+  pub fetched : Fetched
+  pub is : next ≡ Some fetched
+  pub at : IsTopAt w frames fetched
+
+-- a thread in another phase has no instruction at hand, and makes one step
+abbrev pub IsStepReadyIn : World → ℕ → List Frame → Option Fetched → Status → Type 0
+IsStepReadyIn w n frames next (Live Run) = IsAtLast w n frames next
+IsStepReadyIn w n frames next status = (n ≡ 0) × (next ≡ None)
+
+abbrev pub IsStepReady : Known → ℕ → ℕ → List Frame → Option Fetched → Type 0
+IsStepReady m t n frames next =
+    Given m (λ v. (x : JavaThread) → slice_get v.state.threads t ≡ Some x → IsStepReadyIn m.setting.world n frames next x.thread.status)
+
+-- ---- after a step
+
+-- so many steps of a thread, of which the last picks none
+abbrev pub step_of : ℕ → ℕ → What
+step_of t n = Step t n None
+
+-- The thread goes on; or it has to be unmounted, since it yielded or can't go on; or it has ended.
+abbrev pub IsOutcome : After → Known → ℕ → Type 0
+IsOutcome Goes m t = OwesNothing m t
+IsOutcome Leaves m t = OwesUnmount m t × Lives m t
+IsOutcome Ends m t = OwesUnmount m t × HasEnded m t
+IsOutcome Halts m t = ⊥
+
+-- one entry more, of n local instructions and one step, after which the thread has these frames
+pub record HasStepped (after : After) (old new : Known) (c t n : ℕ) (frames : List Frame) : Type 0 where
+  pub entry : new ≡ with_entry old c (step_of t (suc n))
+  pub hand : Holds new c t 0 frames
+  pub outcome : IsOutcome after new t
+
+-- No entry was made. No more threads may be made, or there was no memory.
+pub data HasHalted (old new : Known) : Type 0 where
+  given_up : new ≡ with_ending old Halted → HasHalted old new
+  lacks_threads : new ≡ with_ending old (Limit Threads old.setting.limits.threads) → HasHalted old new
+
+abbrev pub Steps : After → Known → Known → ℕ → ℕ → ℕ → List Frame → Type 0
+Steps Halts old new c t n frames = HasHalted old new
+Steps after old new c t n frames = HasStepped after old new c t n frames

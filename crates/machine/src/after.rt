@@ -1,0 +1,12 @@
+/// What became of a step.
+#[derive(Clone, Copy, Debug, PartialEq, Eq)]
+pub enum After {
+    /// The thread goes on.
+    Goes,
+    /// The thread has to be unmounted: it yielded or can't go on.
+    Leaves,
+    /// The thread has ended.
+    Ends,
+    /// No entry was made, and the run has ended: no more threads may be made, or there was no memory.
+    Halts,
+}
