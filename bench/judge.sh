@@ -6,7 +6,7 @@ set -eu
 . "$(dirname -- "$0")/javac.sh"
 judged=0
 wrong=0
-for source in "$top"/bench/programs/*.java; do
+for source in "$top"/bench/programs/*.java "$top"/bench/programs/threads/*.java; do
     name=$(basename "$source" .java)
     rules=$(wanted "$source")
     for version in 8 11 17; do

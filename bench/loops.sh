@@ -8,6 +8,8 @@ import sys
 
 from user_times import least_times
 
-for name, (ours, theirs) in least_times(sys.argv[1], ["IntLoop", "LongLoop", "SwitchLoop"]).items():
-    print(f"{name}: jvt {ours:.3f} s, java -Xint {theirs:.3f} s")
+times = least_times(sys.argv[1], ["Empty", "IntLoop", "LongLoop", "SwitchLoop"])
+start = times.pop("Empty")
+for name, (ours, theirs) in times.items():
+    print(f"{name}: jvt {ours - start[0]:.3f} s, java -Xint {theirs - start[1]:.3f} s")
 PYTHON

@@ -3,7 +3,7 @@
 # and with java (javac.sh). Main's file comes first, since class initializers run in the order of the files. usage: bench/outputs.sh
 set -eu
 . "$(dirname -- "$0")/javac.sh"
-for source in "$top"/bench/programs/*.java; do
+for source in "$top"/bench/programs/*.java "$top"/bench/programs/threads/*.java; do
     main=$(basename "$source" .java)
     rules=$(wanted "$source")
     case $rules in links*) ;; *) continue ;; esac

@@ -1,0 +1,1 @@
+abstract class Middle extends Thread { public abstract void run(); }
