@@ -1,8 +1,12 @@
 //! What no program can show of itself: its history, the gate, and sinks and memory that fail.
 
-ghost use Rattle.std.specs.Prelude.{◌<◌};
+ghost use Rattle.std.specs.Prelude.{◌<◌, IfOk};
+ghost use Rattle.link_soundness.specs.Library.{HasLibrary};
+ghost use Rattle.schedule_soundness.specs.PinLaws.{NamesNoHold};
+ghost use Rattle.step_soundness.specs.OpeningLaws.{IsMain};
 
 use crate::arguments_of;
+use class_world::World;
 use history::print;
 use java_cli::{Report, SinkName, Which, Why, jvt, no_memory, run_checked};
 use jvm_edges::{Gate, ListClock, MapStore, MemSink, OpenGate};
@@ -11,6 +15,7 @@ use ref_model::Limits;
 use std::alloc::{AllocError, Global};
 use std::sync::atomic::{AtomicU64, Ordering};
 use std::test::Fail;
+use verify_code::Checked;
 
 // `class A`, whose main prints 42: `own/A.class`.
 const A_CLASS: [u8; 241] = [
@@ -120,6 +125,21 @@ fn run_a<G: Gate + Sync>(
     Ok(jvt(alloc, &args, &mut store, out, err, &clock, gate))
 }
 
+// The class A of these bytes with the built-in classes, and the number of its main method.
+fn load(alloc: Global, bytes: &[u8]) -> Result<(Checked<World>, u32), Fail>
+    ensures library { IfOk result (λ r. HasLibrary r.0.program) }
+    ensures main { IfOk result (λ r. IsMain r.0 r.1) }
+    ensures unpinned { IfOk result (λ r. NamesNoHold r.0) }
+{
+    let mut names = Vec::new(alloc);
+    names.push(String::from_str(alloc, "A.class")?)?;
+    let mut store = store_of(alloc, bytes)?;
+    let classes = read_files(alloc, &names, &mut store)?;
+    let checked = accept_files(alloc, classes)?;
+    let main = start(alloc, "A", checked.world())?;
+    Ok((checked, main))
+}
+
 // The run of the class A of these bytes, with room for so many threads and entries.
 fn run_with(
     alloc: Global,
@@ -130,12 +150,7 @@ fn run_with(
 ) -> Result<Report, Fail>
     requires { 0 < threads }
 {
-    let mut names = Vec::new(alloc);
-    names.push(String::from_str(alloc, "A.class")?)?;
-    let mut store = store_of(alloc, bytes)?;
-    let classes = read_files(alloc, &names, &mut store)?;
-    let checked = accept_files(alloc, classes)?;
-    let main = start(alloc, "A", checked.world())?;
+    let (checked, main) = load(alloc, bytes)?;
     let limits = Limits {
         heap_cells: 1000,
         threads,
