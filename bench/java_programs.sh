@@ -10,7 +10,7 @@
 # bench/own/sketches.txt what stands there. usage: [NEW_JDK=COMMAND] bench/java_programs.sh
 set -eu
 export LC_ALL=C
-# What has no step yet: monitors, parking, waits for a time, interruption, the clock.
+# What has no step yet: monitors, waits for a time, the clock.
 left_out='Monitors Parking PlatformThreads Queue States SystemCalls WaitNotify'
 # Programs in which rules of jvt show: initializers run before main, and an exception's toString is that of Object.
 left_out="$left_out Main2 Exceptions ErrorKinds"

@@ -23,7 +23,7 @@ use Rattle.schedule_soundness.specs.EntryLaws.{IsAhead}
 use Rattle.schedule_soundness.specs.PutLaws.{OthersStay, Stays}
 use Rattle.schedule_soundness.proofs.LocalSteps.{frames_local}
 use Rattle.schedule_soundness.proofs.ThreadLists.{set_other}
-use Rattle.program_state.specs.Steps.{Starts}
+use Rattle.program_state.specs.Steps.{IsWoken, Starts, Wakes}
 use Rattle.machine.specs.Hands.{HasHand}
 
 -- ---- whether it may step
@@ -101,6 +101,31 @@ ahead_starts r q t u x frames at other h =
       };
       new = record { thread = g.new.thread; there = sym (set_other r.threads t u y other) ∙ g.new.there; status = g.new.status };
       runs = g.runs;
+      count = g.count ∙ length-set r.threads t y;
+    }
+
+pub ahead_wakes : (r q : State) (t u : ℕ) (x : JavaThread) (frames : List Frame) → slice_get r.threads t ≡ Some x → Wakes t u (with_frames r t frames) q
+    → Wakes t u r q
+ahead_wakes r q t u x frames at h =
+    let y : JavaThread = record x { frames = frames } in
+    let g = subst (λ z. Wakes t u z q) (frames_is r t x frames at) h in
+    record {
+      other = g.other;
+      others = record {
+        threads = λ k ne elsewhere. subst (λ o. Stays o (slice_get q.threads k)) (set_other r.threads t k y ne) (g.others.threads k ne elsewhere);
+        owners = g.others.owners;
+        now = g.others.now;
+      };
+      woken = record {
+        old = g.woken.old;
+        new = g.woken.new;
+        was = sym (set_other r.threads t u y g.other) ∙ g.woken.was;
+        is = g.woken.is;
+        live = g.woken.live;
+        status = g.woken.status;
+        permit = g.woken.permit;
+        interrupted = g.woken.interrupted;
+      };
       count = g.count ∙ length-set r.threads t y;
     }
 

@@ -19,7 +19,11 @@ use Rattle.startup.specs.Openings.{opened_state}
 use Rattle.thread_steps.specs.States.{memory_of}
 use Rattle.schedule_soundness.proofs.Placed.{none_on}
 use Rattle.program_state.specs.declared.state.ProgramState.{ProgramState}
-use Rattle.program_state.specs.States.{IsKept, IsPlain, IsState, absent, waiting}
+use Rattle.wakes.specs.Flags.{Flags}
+use Rattle.sleep_wheel.specs.declared.sleeper.Sleeper.{Sleeper}
+use Rattle.sleep_wheel.specs.Sleepers.{sleeper_at, slot_at}
+use Rattle.program_state.specs.Deadlines.{HoldsDeadlines, IsTimed, untimed, deadlines_of, key_at}
+use Rattle.program_state.specs.States.{IsKept, IsState, absent, waiting, is_plain_status}
 use Rattle.machine.specs.Begin.{main_row}
 use Rattle.machine.specs.Insides.{AreParts, IsConsistent, is_out}
 use Rattle.machine.specs.Legal.{IsAccepted}
@@ -27,11 +31,24 @@ use Rattle.machine.proofs.PlaceLaws.{in_from, push_length}
 use Rattle.machine.proofs.StateLaws.{others_out}
 
 module _ (a : ProgramState) (limits : Limits) (o : Opened) (frozen : a.frozen.items ≡ Some o.mounted ∷ []) (number : o.mounted.thread ≡ 0) where
-  first_plain : (t : ℕ) (x : JavaThread) → slice_get (opening_thread o.mounted.stack.frames ∷ []) t ≡ Some x → IsPlain x
+  first_plain : (t : ℕ) (x : JavaThread) → slice_get (opening_thread o.mounted.stack.frames ∷ []) t ≡ Some x → is_plain_status x.thread.status ≡ true
   first_plain zero x at =
       let same : opening_thread o.mounted.stack.frames ≡ x = cc in
-      subst IsPlain same (record { status = refl; permit = refl; interrupted = refl })
+      subst (λ (y : JavaThread). is_plain_status y.thread.status ≡ true) same refl
   first_plain (suc t) x at = absurd cc
+
+  -- nobody has a deadline
+  first_timed : a.keys.items ≡ None ∷ [] → (t : ℕ)
+      → IsTimed (sleeper_at a.wheel) t (deadlines_of 0 (opening_thread o.mounted.stack.frames ∷ []) t) (key_at a.keys.items t)
+  first_timed keys zero = untimed refl (ap (λ ks. key_at ks 0) keys)
+  first_timed keys (suc t) = untimed refl (ap (λ ks. key_at ks (suc t)) keys)
+
+  first_wheel : a.keys.items ≡ None ∷ [] → a.wheel.slots ≡ []
+      → HoldsDeadlines (sleeper_at a.wheel) (key_at a.keys.items) (deadlines_of 0 (opening_thread o.mounted.stack.frames ∷ []))
+  first_wheel keys empty = record {
+    each = first_timed keys;
+    only = λ k s at. let no : ◌≡◌ {A = Option Sleeper} None (Some s) = sym (ap (λ ss. slot_at ss k) empty) ∙ at in absurd cc;
+  }
 
   first_kept : (u : ℕ) → IsKept u false (slice_get (opening_thread o.mounted.stack.frames ∷ []) u) (slice_get a.frozen.items u)
   first_kept zero =
@@ -39,9 +56,10 @@ module _ (a : ProgramState) (limits : Limits) (o : Opened) (frozen : a.frozen.it
   first_kept (suc u) = absent refl refl (ap (λ fs. slice_get fs (suc u)) frozen)
 
   pub first_is : a.memory.status ≡ Live Run → memory_of a.memory ≡ (opened_state limits o).memory → a.memory.main_threw ≡ false
-      → a.threads ≡ record { threads = main_row ∷ []; limit = limits.threads } → a.most_threads ≡ limits.threads → a.unnamed ≡ 0
+      → a.threads ≡ record { threads = main_row ∷ []; limit = limits.threads } → a.wakes ≡ record { permits = false ∷ []; interrupts = false ∷ [] }
+      → a.wheel.slots ≡ [] → a.keys.items ≡ None ∷ [] → a.time ≡ 0 → a.most_threads ≡ limits.threads → a.unnamed ≡ 0
       → IsState a (opened_state limits o) (λ t. false)
-  first_is status memory main threads most unnamed = record {
+  first_is status memory main threads wakes empty keys now most unnamed = record {
     status = status;
     memory = memory;
     main_threw = main;
@@ -49,9 +67,13 @@ module _ (a : ProgramState) (limits : Limits) (o : Opened) (frozen : a.frozen.it
     most_threads = most;
     limit = ap (λ (x : Threads). x.limit) threads;
     plain = first_plain;
+    permits = ap (λ (f : Flags). f.permits) wakes;
+    interrupts = ap (λ (f : Flags). f.interrupts) wakes;
     unnamed = unnamed;
     owners = refl;
-    now = refl;
+    now = now;
+    places = ap (λ ks. length ks) keys;
+    wheel = first_wheel keys empty;
     kept = first_kept;
   }
 

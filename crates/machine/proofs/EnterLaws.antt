@@ -14,12 +14,13 @@ use Rattle.machine.specs.declared.after.After.{After}
 use Rattle.machine.specs.declared.made.Move.{Move}
 use Rattle.machine.specs.Insides.{AreParts, is_out}
 use Rattle.machine.specs.Moves.{IsMoved, LacksRoom, Moves}
-use Rattle.machine.specs.Puts.{HasPut, MayBePut}
+use Rattle.machine.specs.declared.made.Others.TheVariants as moves
+use Rattle.machine.specs.Puts.{HasPut, IsTouched}
 use Rattle.machine.specs.Steps.{Enters, IsTold, Lacks, MayBeMade, StepsFrom, outcome_of}
 use Rattle.machine.proofs.EntryLaws.{is_scheduled}
 use Rattle.machine.proofs.PlaceLaws.{mounted_within}
 use Rattle.machine.proofs.StateLaws.{rows_length}
-use Rattle.machine.proofs.StepLaws.{ahead_has, ahead_is, ahead_out, put_below, put_free, step_enters, then, then_hand, then_outcome, then_parts}
+use Rattle.machine.proofs.StepLaws.{ahead_has, ahead_is, ahead_out, start_free, step_enters, touched, then, then_hand, then_outcome, then_parts}
 
 module _ (w : World) (n : ℕ) (state : ProgramState) (deques : Lists) (on : List (Option ℕ)) (c t k : ℕ) (frames : List Frame) (x : StepsFrom w n state deques on c t k frames) where
   pub step_carrier : c < length deques.lists
@@ -35,10 +36,10 @@ module _ (w : World) (n : ℕ) (state : ProgramState) (deques : Lists) (on : Lis
     lacks = h.lacks (with_frames x.before.state t frames) (is_out x.before.schedule) (ahead_is w n state deques on c t k frames x) (ahead_has w n state deques on c t k frames x);
   }
 
-  module _ (made : Move) (new : ProgramState) (after : List Frame) (moves : Moves w made t state frames new after) where
+  module _ (made : Move) (new : ProgramState) (after : List Frame) (made_so : Moves w made t state frames new after) where
     pub moved : IsMoved w made t new after (with_frames x.before.state t frames) (is_out x.before.schedule)
     moved =
-        moves (with_frames x.before.state t frames) (is_out x.before.schedule) (ahead_is w n state deques on c t k frames x)
+        made_so (with_frames x.before.state t frames) (is_out x.before.schedule) (ahead_is w n state deques on c t k frames x)
         (ahead_out w n state deques on c t k frames x) (ahead_has w n state deques on c t k frames x)
 
     pub step_below : t < length new.threads.threads
@@ -47,13 +48,13 @@ module _ (w : World) (n : ℕ) (state : ProgramState) (deques : Lists) (on : Lis
         let inside = slice_get_within moved.leads.next.threads t moved.leads.has.thread moved.leads.has.at in
         omega arith
 
-    pub start_below : (u : ℕ) → made.started ≡ Some u → u < length new.threads.threads
-    start_below u e = put_below w n state deques on c t k frames x made new after moved u e
+    pub who_is_touched : IsTouched made.others (length new.threads.threads)
+    who_is_touched = touched w n state deques on c t k frames x made new after moved
 
-    pub put_loose : (u : ℕ) → MayBePut new t made.started u → total (count u) deques.lists ≡ 0
-    put_loose u may = put_free w n state deques on c t k frames x made new after moved u may
+    pub who_starts : (u : ℕ) → made.others ≡ moves.Starts u → total (count u) deques.lists ≡ 0
+    who_starts u e = start_free w n state deques on c t k frames x made new after moved u e
 
-    pub enters_by : (left : Lists) (told : After) → HasPut new t made.started c deques.lists left.lists → length new.threads.threads ≤ left.threads
+    pub enters_by : (left : Lists) (told : After) → HasPut new t made.others c deques.lists left.lists → length new.threads.threads ≤ left.threads
         → ((r : State) (out : ℕ → Bool) → IsState new r out → told ≡ outcome_of (has_ended r t) made.yields (enabled r t))
         → Enters w n state deques on c t k frames x told new left after
     enters_by left told put room tells =

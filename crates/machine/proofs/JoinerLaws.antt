@@ -1,9 +1,8 @@
 -- Whom the end of a thread puts: those that wait for it and are in no place.
-use Rattle.std.proofs.Common.{◌≡◌, ◌≢◌, ◌⊎◌, ◌+◌, ◌<◌, ◌≤◌, inl, inr, eqb, ℕ, zero, suc, Bool, true, false, List, [], ◌∷◌, Option, None, Some, refl, ap, sym, subst, ◌∙◌, arith, ◌||◌, ◌&&◌}
-use Rattle.std.specs.Prelude.{◌↔◌, Contains, is_none, is_some, map, slice_get}
+use Rattle.std.proofs.Common.{◌≡◌, ◌≢◌, ◌+◌, ◌<◌, ◌≤◌, inl, inr, ℕ, zero, suc, Bool, true, false, List, [], ◌∷◌, Option, None, Some, length, refl, ap, sym, subst, ◌∙◌, arith, cond}
+use Rattle.std.specs.Prelude.{◌↔◌, Contains, filter, is_some, map, slice_get}
 use Rattle.std.specs.Option.{option_map_or}
-use Rattle.std.proofs.lemmas.Bool.{and_right, cases_lt}
-use Rattle.std.proofs.lemmas.Bool.Decides.{eqb_tells}
+use Rattle.std.proofs.lemmas.Bool.{cases_Bool, eq-eqb, eqb-true}
 use Rattle.items.specs.Options.{◌>>=◌}
 use Rattle.vthread_state.specs.declared.phase.Phase.{Phase}
 use Rattle.vthread_state.specs.declared.phase.Phase.TheVariants.{Run, Throwing, Entering, Waiting, Reenter, Parked, Asleep, Joining}
@@ -12,27 +11,20 @@ use Rattle.vthread_state.specs.declared.thread.Status.TheVariants.{New, Live, Do
 use Rattle.vthread_state.specs.declared.thread.Thread.{Thread}
 use Rattle.vthread_state.specs.Threads.{joins, joins_in, target_of, target_of_status}
 use Rattle.continuation.specs.Continuation.{Continuation}
-use Rattle.schedule_model.specs.Look.{is_in_line}
 use Rattle.schedule_model.specs.Schedule.{Schedule, in_deques, on_carriers, places}
 use Rattle.schedule_model.specs.Run.{Scheduled}
-use Rattle.schedule_model.specs.Woken.{AreWoken as NoneLost}
 use Rattle.ref_model.specs.Setting.{Setting}
 use Rattle.ref_model.specs.State.{JavaThread, State}
-use Rattle.ref_model.specs.Enabled.{can_go_on, has_ended, is_done, is_ready}
+use Rattle.ref_model.specs.Enabled.{has_ended, is_done}
 use Rattle.ref_model.specs.Ending.{ending, is_live}
-use Rattle.ref_model.specs.Step.{enabled}
-use Rattle.ref_model.specs.Waiting.{is_reached}
-use Rattle.ref_model.specs.Looks.{look_of, spot_in, spot_of}
 use Rattle.schedule_soundness.specs.HistoryLaws.{IsProgramAfter}
 use Rattle.schedule_soundness.specs.PutLaws.{OthersStay, Stays, no_thread, is_new, is_kept, rows_of}
-use Rattle.schedule_soundness.proofs.Histories.{no_wake_up_is_lost}
-use Rattle.schedule_soundness.proofs.OtherMoves.{spot_at}
 use Rattle.program_state.specs.declared.state.ProgramState.{ProgramState}
-use Rattle.program_state.specs.States.{IsKept, IsPlain, IsState, absent, mounted, waiting, idle, is_plain_status}
+use Rattle.program_state.specs.States.{IsKept, IsState, absent, mounted, waiting, idle}
 use Rattle.program_state.specs.Waiting.{AreWoken, lies_in}
 use Rattle.machine.specs.Insides.{is_out}
+use Rattle.machine.specs.Puts.{is_loose}
 use Rattle.machine.proofs.PlaceLaws.{in_from, in_none, out_from}
-use Rattle.machine.proofs.EndingLaws.{not_ended}
 
 no_both : (b : Bool) → b ≡ true → b ≡ false → ⊥
 no_both b i j = absurd cc
@@ -82,40 +74,6 @@ pub thread_joins : (r : State) (u t : ℕ) → Joins (slice_get r.threads u) t �
 thread_joins r u t j =
     row_at r.threads u ∙ ap (λ o. o >>= λ (x : JavaThread). target_of_status x.thread.status) j.at ∙ ap target_of_status j.status
 
--- ---- it isn't in a deque
-
-plain_deadline : (t : ℕ) (deadline : Option ℕ) → is_plain_status (Live (Joining t deadline)) ≡ true → deadline ≡ None
-plain_deadline t None e = refl
-plain_deadline t (Some n) e = absurd cc
-
--- one that waits for a thread that hasn't ended may not step
-pub joiner_waits : (r : State) (u t : ℕ) (j : Joins (slice_get r.threads u) t) → IsPlain j.thread → has_ended r t ≡ false → enabled r u ≡ false
-joiner_waits r u t j plain alive =
-    let status = j.status in
-    let never : j.deadline ≡ None = plain_deadline t j.deadline (ap is_plain_status (sym status) ∙ plain.status) in
-    let goes : can_go_on r j.thread (Joining t j.deadline) ≡ false =
-    ap (λ b. b || (j.thread.interrupted || is_reached r.now j.deadline)) alive
-    ∙ ap (λ b. b || is_reached r.now j.deadline) plain.interrupted ∙ ap (is_reached r.now) never in
-    and_right (is_none (ending r)) _
-    (ap (λ o. option_map_or (λ (y : JavaThread). is_ready r y y.thread.status) o false) j.at ∙ ap (is_ready r j.thread) status ∙ goes)
-
-or_no : (a b : Bool) → (a || b) ≡ true → a ≡ false → b ≡ false → ⊥
-or_no true b e f g = absurd cc
-or_no false true e f g = absurd cc
-or_no false false e f g = absurd cc
-
--- so it is in no deque
-pub joiner_loose : (p : Setting) (first : State) (v : Scheduled State) (u t : ℕ) → IsProgramAfter p first v → ending v.state ≡ None
-    → (j : Joins (slice_get v.state.threads u) t) → IsPlain j.thread → has_ended v.state t ≡ false → in_deques u v.schedule ≡ 0
-joiner_loose p first v u t a going j plain alive =
-    elim (cases_lt 0 (in_deques u v.schedule)) [
-      | inr none ↦ omega arith
-      | inl there ↦
-          let woken : NoneLost (look_of p.world v.state) v.schedule = no_wake_up_is_lost p first v a (not_ended v.state going) in
-          let line : is_in_line ((look_of p.world v.state).spot u) ≡ false = ap (λ o. is_in_line (spot_at o)) j.at ∙ ap (λ s. is_in_line (spot_of s)) j.status in
-          absurd (or_no (enabled v.state u) _ (woken.deques u there).1 (joiner_waits v.state u t j plain alive) line)
-    ]
-
 -- ---- before the end of the thread and after it
 
 pub joiner_before : (t u : ℕ) (before after : Option JavaThread) → Stays before after → Joins after t → Joins before t
@@ -156,13 +114,46 @@ in_lying u t b o place (idle x off there at dead) is j =
 
 -- ---- who is put
 
--- a step of thread t, which is mounted and hasn't ended before, after which it has
+-- what a filter keeps is in the list and passes
+in_filter : (p : ℕ → Bool) (xs : List ℕ) (u : ℕ) → Contains (filter p xs) u → Contains xs u × (p u ≡ true)
+in_filter p [] u (k, low, is) = absurd (omega arith)
+in_filter p (x ∷ xs) u here =
+    elim (cases_Bool (p x)) [
+      | inl kept ↦ first (in_filter p xs u) kept (subst (λ ys. Contains ys u) (ap (λ b. cond b (x ∷ filter p xs) (filter p xs)) kept) here)
+      | inr gone ↦
+          let rest = in_filter p xs u (subst (λ ys. Contains ys u) (ap (λ b. cond b (x ∷ filter p xs) (filter p xs)) gone) here) in
+          (behind rest.0, rest.1)
+    ]
+  where
+    behind : Contains xs u → Contains (x ∷ xs) u
+    behind (k, low, is) = (suc k, omega arith, is)
+
+    first : (Contains (filter p xs) u → Contains xs u × (p u ≡ true)) → p x ≡ true → Contains (x ∷ filter p xs) u
+        → Contains (x ∷ xs) u × (p u ≡ true)
+    first later kept (zero, low, is) = let same : x ≡ u = is in ((zero, omega arith, same), subst (λ n. p n ≡ true) same kept)
+    first later kept (suc k, low, is) = let rest = later (k, omega arith, is) in (behind rest.0, rest.1)
+
+to_filter : (p : ℕ → Bool) (xs : List ℕ) (u : ℕ) → Contains xs u → p u ≡ true → Contains (filter p xs) u
+to_filter p [] u (k, low, is) passes = absurd (omega arith)
+to_filter p (x ∷ xs) u here passes =
+    elim (cases_Bool (p x)) [
+      | inl kept ↦ subst (λ ys. Contains ys u) (sym (ap (λ b. cond b (x ∷ filter p xs) (filter p xs)) kept)) (with_first (λ l. to_filter p xs u l passes) here)
+      | inr gone ↦ subst (λ ys. Contains ys u) (sym (ap (λ b. cond b (x ∷ filter p xs) (filter p xs)) gone)) (without_first (λ l. to_filter p xs u l passes) gone here)
+    ]
+  where
+    with_first : (Contains xs u → Contains (filter p xs) u) → Contains (x ∷ xs) u → Contains (x ∷ filter p xs) u
+    with_first later (zero, low, is) = (zero, omega arith, is)
+    with_first later (suc k, low, is) = let rest = later (k, omega arith, is) in (suc rest.0, omega (arith, rest.1), rest.2)
+
+    without_first : (Contains xs u → Contains (filter p xs) u) → p x ≡ false → Contains (x ∷ xs) u → Contains (filter p xs) u
+    without_first later gone (zero, low, is) = let same : x ≡ u = is in absurd (no_both (p u) passes (subst (λ n. p n ≡ false) same gone))
+    without_first later gone (suc k, low, is) = later (k, omega arith, is)
+
+-- a step of thread t, which is mounted, after which it has ended
 pub record AtEnd (p : Setting) (first : State) (v : Scheduled State) (q : State) (state : ProgramState) (t : ℕ) : Type 0 where
   pub after : IsProgramAfter p first v
   pub going : ending v.state ≡ None
   pub out : is_out v.schedule t ≡ true
-  pub plain : (u : ℕ) (x : JavaThread) → slice_get v.state.threads u ≡ Some x → IsPlain x
-  pub alive : has_ended v.state t ≡ false
   pub others : OthersStay t v.state q
   pub is : IsState state q (is_out v.schedule)
   pub ended : has_ended q t ≡ true
@@ -176,29 +167,35 @@ ended_joins q t u ended j =
     no_both (has_ended q t) ended
     (ap (λ o. option_map_or (λ (x : JavaThread). is_done x.thread.status) o false) j.at ∙ ap is_done j.status)
 
-pub put_joiners : (p : Setting) (first : State) (v : Scheduled State) (q : State) (state : ProgramState) (t : ℕ) (ws : List ℕ) → AtEnd p first v q state t
-    → AreWoken t state ws → (u : ℕ) → Contains ws u ↔ ((joins_in (rows_of v.state) u ≡ Some t) × (places u v.schedule ≡ 0))
-put_joiners p first v q state t ws h woken u = (to, from)
+-- a thread that is neither mounted nor in a deque is in no place
+pub no_place : (s : Schedule) (u : ℕ) → is_out s u ≡ false → in_deques u s ≡ 0 → places u s ≡ 0
+no_place s u off loose = let down = in_none s u off in omega arith
+
+pub put_joiners : (p : Setting) (first : State) (v : Scheduled State) (q : State) (state : ProgramState) (t : ℕ) (joiners : List ℕ) → AtEnd p first v q state t
+    → AreWoken t state joiners → (u : ℕ) → Contains (filter (is_loose v.schedule.deques) joiners) u ↔ ((joins_in (rows_of v.state) u ≡ Some t) × (places u v.schedule ≡ 0))
+put_joiners p first v q state t joiners h woken u = (to, from)
   where
     other : Joins (slice_get q.threads u) t → u ≢ t
     other j e = ended_joins q t t h.ended (subst (λ n. Joins (slice_get q.threads n) t) e j)
 
-    to : Contains ws u → (joins_in (rows_of v.state) u ≡ Some t) × (places u v.schedule ≡ 0)
+    to : Contains (filter (is_loose v.schedule.deques) joiners) u → (joins_in (rows_of v.state) u ≡ Some t) × (places u v.schedule ≡ 0)
     to here =
-        let facts = (woken.just_these u).0 here in
+        let kept = in_filter (is_loose v.schedule.deques) joiners u here in
+        let facts = (woken.just_these u).0 kept.0 in
         let j = joins_thread q u t (sym (rows_joins state q (is_out v.schedule) u h.is) ∙ facts.0) in
         let i = joiner_before t u (slice_get v.state.threads u) (slice_get q.threads u) (h.others.threads u (other j)) j in
         let off = lying_in u (is_out v.schedule u) (slice_get q.threads u) (slice_get state.frozen.items u) (h.is.kept u) facts.1 in
-        let loose = joiner_loose p first v u t h.after h.going i (h.plain u i.thread i.at) h.alive in
-        let down = in_none v.schedule u off in
-        (thread_joins v.state u t i, omega arith)
+        (thread_joins v.state u t i, no_place v.schedule u off (eqb-true (in_deques u v.schedule) 0 kept.1))
 
-    from : (joins_in (rows_of v.state) u ≡ Some t) × (places u v.schedule ≡ 0) → Contains ws u
+    from : (joins_in (rows_of v.state) u ≡ Some t) × (places u v.schedule ≡ 0) → Contains (filter (is_loose v.schedule.deques) joiners) u
     from facts =
         let i = joins_thread v.state u t facts.0 in
         let none = facts.1 in
         let off = in_from v.schedule u (omega arith) in
+        let free : in_deques u v.schedule ≡ 0 = omega arith in
         let ne : u ≢ t = λ e. no_both (is_out v.schedule t) h.out (subst (λ n. is_out v.schedule n ≡ false) e off) in
         let j = joiner_after t u (slice_get v.state.threads u) (slice_get q.threads u) (h.others.threads u ne) i in
-        (woken.just_these u).1
-        (rows_joins state q (is_out v.schedule) u h.is ∙ thread_joins q u t j, in_lying u t (is_out v.schedule u) (slice_get q.threads u) (slice_get state.frozen.items u) (h.is.kept u) off j)
+        to_filter (is_loose v.schedule.deques) joiners u
+        ((woken.just_these u).1
+        (rows_joins state q (is_out v.schedule) u h.is ∙ thread_joins q u t j, in_lying u t (is_out v.schedule u) (slice_get q.threads u) (slice_get state.frozen.items u) (h.is.kept u) off j))
+        (eq-eqb (in_deques u v.schedule) 0 free)

@@ -1,11 +1,11 @@
 -- The step of a thread, by what the crate of its state says of it in its phase.
-use Rattle.std.proofs.Common.{◌≡◌, ℕ, Bool, true, false, List, [], ◌∷◌, Option, None, Some, refl, ap, sym, subst, ◌∙◌, not, ◌&&◌}
-use Rattle.std.specs.Prelude.{slice_get}
+use Rattle.std.proofs.Common.{◌≡◌, ◌≤◌, ℕ, zero, suc, length, arith, Bool, true, false, List, [], ◌∷◌, Option, None, Some, refl, ap, sym, subst, ◌∙◌, not, ◌&&◌}
+use Rattle.std.specs.Prelude.{map, slice_get}
 use Rattle.std.specs.Option.{option_map_or}
 use Rattle.items.specs.Options.{◌>>=◌}
 use Rattle.items.proofs.Binds.{bind_is}
 use Rattle.vthread_state.specs.declared.phase.Phase.{Phase}
-use Rattle.vthread_state.specs.declared.phase.Phase.TheVariants.{Run, Throwing, Joining}
+use Rattle.vthread_state.specs.declared.phase.Phase.TheVariants.{Run, Throwing, Entering, Waiting, Reenter, Parked, Asleep, Joining}
 use Rattle.vthread_state.specs.declared.thread.Status.{Status}
 use Rattle.vthread_state.specs.declared.thread.Status.TheVariants.{Live}
 use Rattle.vthread_state.specs.Threads.{phase_at}
@@ -30,6 +30,9 @@ use Rattle.program_state.specs.Running.{StandsAt}
 use Rattle.program_state.specs.States.{HasFrames, IsInPhase, IsState}
 use Rattle.program_state.specs.Steps.{StepsTo}
 use Rattle.machine.specs.declared.made.Move.{Move}
+use Rattle.frame_soundness.specs.Typed.{Typed}
+use Rattle.frame_soundness.specs.TypedStates.{AreOfPhase}
+use Rattle.machine.specs.AtHand.{is_waiting}
 use Rattle.machine.specs.Moves.{LacksRoom, Moves, others_of}
 use Rattle.machine.proofs.AheadLaws.{frames_running}
 use Rattle.machine.proofs.StateLaws.{status_is}
@@ -51,7 +54,7 @@ phase_steps w r t phase before h =
     ∙ ap (λ fs. phase_step w r t fs phase) h.has
 
 pub moves_by : (w : World) (made : Move) (t : ℕ) (phase : Phase) (old new : ProgramState) (before after : List Frame) → phase_at old.threads t ≡ Some phase
-    → StepsTo w (others_of t made.started) phase t old before new after
+    → StepsTo w (others_of t made.others) phase t old before new after
     → ((r : State) (out : ℕ → Bool) → IsState old r out → IsInPhase r t phase before → yields_next w r t ≡ made.yields)
     → Moves w made t old before new after
 moves_by w made t phase old new before after at steps yields r out is on has =
@@ -77,25 +80,70 @@ pub quiet_yields : (w : World) (a : ProgramState) (r : State) (out : ℕ → Boo
 quiet_yields w a r out t before is h quiet =
     ap (λ o. option_map_or (λ (x : Request × Asking). is_yield (is_interrupted r t) x.0) o false) (asks_there w a r out t before is h ∙ quiet)
 
-uninterrupted : (a : ProgramState) (r : State) (out : ℕ → Bool) (t : ℕ) (before : List Frame) → IsState a r out → IsInPhase r t Run before → is_interrupted r t ≡ false
-uninterrupted a r out t before is h =
-    ap (λ o. option_map_or (λ (x : JavaThread). x.interrupted) o false) h.at ∙ (is.plain t h.thread h.at).interrupted
-
-pub pending_yields : (w : World) (q : PendingRequest) (a : ProgramState) (r : State) (out : ℕ → Bool) (t : ℕ) (before : List Frame) → IsState a r out
-    → IsInPhase r t Run before → IsPending w q a.memory before → yields_next w r t ≡ is_yield false (request_of q.request)
-pending_yields w q a r out t before is h asks =
+pub pending_yields : (w : World) (q : PendingRequest) (a : ProgramState) (r : State) (out : ℕ → Bool) (t : ℕ) (before : List Frame) (interrupted : Bool) → IsState a r out
+    → IsInPhase r t Run before → IsPending w q a.memory before → interrupted ≡ is_interrupted r t → yields_next w r t ≡ is_yield interrupted (request_of q.request)
+pending_yields w q a r out t before interrupted is h asks tells =
     ap (λ o. option_map_or (λ (x : Request × Asking). is_yield (is_interrupted r t) x.0) o false) (asks_there w a r out t before is h ∙ asks.asks.asking)
-    ∙ ap (λ b. is_yield b (request_of q.request)) (uninterrupted a r out t before is h)
+    ∙ ap (λ b. is_yield b (request_of q.request)) (sym tells)
+
+-- ---- the interrupt status
+
+flags_at : (xs : List JavaThread) (t : ℕ)
+    → option_map_or (λ b. b) (slice_get (map (λ (x : JavaThread). x.interrupted) xs) t) false
+    ≡ option_map_or (λ (x : JavaThread). x.interrupted) (slice_get xs t) false
+flags_at [] t = refl
+flags_at (x ∷ xs) zero = refl
+flags_at (x ∷ xs) (suc t) = flags_at xs t
+
+-- the parts tell it
+pub interrupt_told : (a : ProgramState) (r : State) (out : ℕ → Bool) (t : ℕ) → IsState a r out
+    → option_map_or (λ b. b) (slice_get a.wakes.interrupts t) false ≡ is_interrupted r t
+interrupt_told a r out t is = ap (λ bs. option_map_or (λ b. b) (slice_get bs t) false) is.interrupts ∙ flags_at r.threads t
+
+no_flag : (bs : List Bool) (t : ℕ) → length bs ≤ t → slice_get bs t ≡ None
+no_flag [] t le = refl
+no_flag (b ∷ bs) zero le = absurd (omega arith)
+no_flag (b ∷ bs) (suc t) le = no_flag bs t (omega arith)
+
+pub absent_interrupt : (a : ProgramState) (r : State) (out : ℕ → Bool) (t : ℕ) → IsState a r out → length a.wakes.interrupts ≤ t → false ≡ is_interrupted r t
+absent_interrupt a r out t is past =
+    sym (ap (λ o. option_map_or (λ b. b) o false) (no_flag a.wakes.interrupts t past)) ∙ interrupt_told a r out t is
+
+pub present_interrupt : (a : ProgramState) (r : State) (out : ℕ → Bool) (t : ℕ) (b : Bool) → IsState a r out → slice_get a.wakes.interrupts t ≡ Some b
+    → b ≡ is_interrupted r t
+present_interrupt a r out t b is at = sym (ap (λ o. option_map_or (λ b. b) o false) at) ∙ interrupt_told a r out t is
 
 pub throwing_yields : (w : World) (r : State) (t o : ℕ) (before : List Frame) → IsInPhase r t (Throwing o) before → yields_next w r t ≡ false
 throwing_yields w r t o before h =
     ap (λ fs. option_map_or (λ (x : Request × Asking). is_yield (is_interrupted r t) x.0) (fs >>= asking_in w r.memory) false)
     (ap (λ x. x >>= λ (y : JavaThread). running_frames y.frames y.thread.status) h.at ∙ ap (running_frames h.thread.frames) h.status)
 
-pub joining_yields : (w : World) (r : State) (t target : ℕ) (deadline : Option ℕ) (before : List Frame) → IsInPhase r t (Joining target deadline) before → yields_next w r t ≡ false
-joining_yields w r t target deadline before h =
+waiting_frames : (frames : List Frame) (phase : Phase) → is_waiting phase ≡ true → running_frames frames (Live phase) ≡ None
+waiting_frames frames Run e = absurd cc
+waiting_frames frames (Throwing o) e = absurd cc
+waiting_frames frames (Entering o) e = absurd cc
+waiting_frames frames (Waiting o n deadline) e = absurd cc
+waiting_frames frames (Reenter o n wake) e = absurd cc
+waiting_frames frames (Parked deadline) e = refl
+waiting_frames frames (Asleep deadline) e = refl
+waiting_frames frames (Joining u deadline) e = refl
+
+pub waiting_yields : (w : World) (r : State) (t : ℕ) (phase : Phase) (before : List Frame) → is_waiting phase ≡ true → IsInPhase r t phase before → yields_next w r t ≡ false
+waiting_yields w r t phase before waits h =
     ap (λ fs. option_map_or (λ (x : Request × Asking). is_yield (is_interrupted r t) x.0) (fs >>= asking_in w r.memory) false)
-    (ap (λ x. x >>= λ (y : JavaThread). running_frames y.frames y.thread.status) h.at ∙ ap (running_frames h.thread.frames) h.status)
+    (ap (λ x. x >>= λ (y : JavaThread). running_frames y.frames y.thread.status) h.at ∙ ap (running_frames h.thread.frames) h.status
+    ∙ waiting_frames h.thread.frames phase waits)
+
+-- the frames of a thread that waits are at its instruction, as those of one that runs
+pub waiting_typed : (w : World) (frames : List Frame) (phase : Phase) → is_waiting phase ≡ true → AreOfPhase w frames phase → Typed w frames
+waiting_typed w frames Run e typed = absurd cc
+waiting_typed w frames (Throwing o) e typed = absurd cc
+waiting_typed w frames (Entering o) e typed = absurd cc
+waiting_typed w frames (Waiting o n deadline) e typed = absurd cc
+waiting_typed w frames (Reenter o n wake) e typed = absurd cc
+waiting_typed w frames (Parked deadline) e typed = typed
+waiting_typed w frames (Asleep deadline) e typed = typed
+waiting_typed w frames (Joining u deadline) e typed = typed
 
 -- ---- one thread too many
 

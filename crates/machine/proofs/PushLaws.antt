@@ -1,41 +1,94 @@
 -- Threads that are put into a deque one after the other.
-use Rattle.std.proofs.Common.{◌≡◌, ◌+◌, ◌<◌, ◌≤◌, ◌==◌, ℕ, zero, suc, List, [], ◌∷◌, ◌++◌, length, get_or, take, refl, ap, sym, ◌∙◌, arith}
-use Rattle.std.specs.Prelude.{Contains}
+use Rattle.std.proofs.Common.{◌≡◌, ◌+◌, ◌<◌, ◌≤◌, ◌==◌, inl, inr, ℕ, zero, suc, List, [], ◌∷◌, ◌++◌, length, get_or, take, refl, ap, sym, subst, ◌∙◌, arith, cond, Bool}
+use Rattle.std.specs.Prelude.{Contains, filter}
+use Rattle.std.specs.List.{AllPairs}
 use Rattle.std.specs.List.Sorted.{IsStrictlyIncreasing}
+use Rattle.std.proofs.lemmas.Bool.{cases_Bool}
+use Rattle.std.proofs.lemmas.Bool.Decides.{eqb_tells}
 use Rattle.std.proofs.lemmas.List.{append_assoc, take_more}
+use Rattle.std.proofs.lemmas.List.Elements.{filter_more}
 use Rattle.std.proofs.lemmas.List.Kept.{AllPairs-from_increasing}
 use Rattle.thread_lists.specs.Lists.{count, push, total}
-use Rattle.thread_lists.proofs.CountLaws.{count-append, count-other, total-push}
+use Rattle.thread_lists.proofs.CountLaws.{count-append, count-cons, count-here, count-other, count-same, total-push}
+use Rattle.machine.specs.Puts.{is_loose}
 
 push_push : (lists : List (List ℕ)) (c : ℕ) (xs ys : List ℕ) → push (push lists c xs) c ys ≡ push lists c (xs ++ ys)
 push_push [] c xs ys = refl
 push_push (l ∷ lists) zero xs ys = ap (λ z. z ∷ lists) (append_assoc l xs ys)
 push_push (l ∷ lists) (suc c) xs ys = ap (λ z. l ∷ z) (push_push lists c xs ys)
 
--- those before a thread in a rising list are others
-none_before : (ts : List ℕ) (i j : ℕ) → IsStrictlyIncreasing ts → i < length ts → j ≤ i → count (get_or ts i 0) (take j ts) ≡ 0
-none_before ts i zero rising within le = refl
-none_before ts i (suc j) rising within le =
+-- ---- how often a number is in a list
+
+none_above : (x : ℕ) (xs : List ℕ) → ((j : ℕ) → j < length xs → x < get_or xs j 0) → count x xs ≡ 0
+none_above x [] above = refl
+none_above x (y ∷ ys) above =
+    let first : x < y = above 0 (omega arith) in
+    count-other x y ys (λ same. absurd (omega arith)) ∙ none_above x ys (λ j low. above (suc j) (omega arith))
+
+pairs_once : (u : ℕ) (xs : List ℕ) → AllPairs (λ x y. x < y) xs → count u xs ≤ 1
+pairs_once u [] pairs = let none : count u [] ≡ 0 = refl in omega arith
+pairs_once u (x ∷ xs) pairs =
+    elim (eqb_tells x u) [
+      | inl here ↦
+          let none : count x xs ≡ 0 = none_above x xs (λ j low. pairs 0 (suc j) 0 (omega arith) (omega arith)) in
+          subst (λ n. count n (x ∷ xs) ≤ 1) here.1 (omega (arith, count-same x xs, none))
+      | inr other ↦
+          let rest = pairs_once u xs (λ i j d below low. pairs (suc i) (suc j) d (omega arith) (omega arith)) in
+          omega (arith, count-other u x xs other.1, rest)
+    ]
+
+pub rising_once : (u : ℕ) (xs : List ℕ) → IsStrictlyIncreasing xs → count u xs ≤ 1
+rising_once u xs rising = pairs_once u xs (AllPairs-from_increasing xs rising)
+
+filter_less : (p : ℕ → Bool) (u : ℕ) (xs : List ℕ) → count u (filter p xs) ≤ count u xs
+filter_less p u [] = omega arith
+filter_less p u (x ∷ xs) =
+    let rest = filter_less p u xs in
+    elim (cases_Bool (p x)) [
+      | inl kept ↦
+          let is : filter p (x ∷ xs) ≡ x ∷ filter p xs = ap (λ b. cond b (x ∷ filter p xs) (filter p xs)) kept in
+          omega (arith, rest, ap (count u) is, count-cons u x (filter p xs), count-cons u x xs)
+      | inr gone ↦
+          let is : filter p (x ∷ xs) ≡ filter p xs = ap (λ b. cond b (x ∷ filter p xs) (filter p xs)) gone in
+          omega (arith, rest, ap (count u) is, count-cons u x xs)
+    ]
+
+take_less : (u : ℕ) (xs : List ℕ) (j : ℕ) → count u (take j xs) ≤ count u xs
+take_less u [] zero = omega arith
+take_less u [] (suc j) = omega arith
+take_less u (x ∷ xs) zero = let none : count u [] ≡ 0 = refl in omega arith
+take_less u (x ∷ xs) (suc j) = let rest = take_less u xs j in omega (arith, rest, count-cons u x (take j xs), count-cons u x xs)
+
+-- a number that is in a list once isn't among those before it
+none_before : (ts : List ℕ) (i : ℕ) → i < length ts → count (get_or ts i 0) ts ≤ 1 → count (get_or ts i 0) (take i ts) ≡ 0
+none_before ts i within once =
     let x = get_or ts i 0 in
-    let y = get_or ts j 0 in
-    let below : y < x = AllPairs-from_increasing ts rising j i 0 (omega arith) within in
-    let more : suc j ≡ j + 1 = omega arith in
-    let sum : count x (take (suc j) ts) ≡ count x (take j ts) + count x (y ∷ []) =
-    ap (λ n. count x (take n ts)) more ∙ ap (count x) (take_more ts j 0 (omega arith)) ∙ count-append x (take j ts) (y ∷ []) in
-    let none : count x (take j ts) ≡ 0 = none_before ts i j rising within (omega arith) in
-    let other : count x (y ∷ []) ≡ 0 = count-other x y [] (λ same. absurd (omega arith)) in
-    omega arith
+    let sum : count x (take (i + 1) ts) ≡ count x (take i ts) + count x (x ∷ []) = ap (count x) (take_more ts i 0 within) ∙ count-append x (take i ts) (x ∷ []) in
+    let less = take_less x ts (i + 1) in
+    omega (arith, sum, less, once, count-here x [])
+
+-- ---- one more
 
 module _ (lists : List (List ℕ)) (c : ℕ) (ts : List ℕ) (i : ℕ) (within : i < length ts) where
-  pub one_more : push (push lists c (take i ts)) c (get_or ts i 0 ∷ []) ≡ push lists c (take (i + 1) ts)
-  one_more = push_push lists c (take i ts) (get_or ts i 0 ∷ []) ∙ ap (push lists c) (sym (take_more ts i 0 within))
+  abbrev pub so_far : List (List ℕ)
+  so_far = push lists c (filter (is_loose lists) (take i ts))
 
-  pub still_free : IsStrictlyIncreasing ts → c < length lists → total (count (get_or ts i 0)) lists ≡ 0
-      → total (count (get_or ts i 0)) (push lists c (take i ts)) ≡ 0
-  still_free rising carrier free =
-      let none = none_before ts i i rising within (omega arith) in
-      let sum = total-push (get_or ts i 0) lists c (take i ts) carrier in
-      omega arith
+  same_loose : c < length lists → count (get_or ts i 0) ts ≤ 1 → is_loose so_far (get_or ts i 0) ≡ is_loose lists (get_or ts i 0)
+  same_loose carrier once =
+      let x = get_or ts i 0 in
+      let before = none_before ts i within once in
+      let kept = filter_less (is_loose lists) x (take i ts) in
+      let sum = total-push x lists c (filter (is_loose lists) (take i ts)) carrier in
+      let same : total (count x) so_far ≡ total (count x) lists = omega arith in
+      ap (λ n. n == 0) same
+
+  pub one_more : c < length lists → count (get_or ts i 0) ts ≤ 1
+      → push so_far c (filter (is_loose so_far) (get_or ts i 0 ∷ [])) ≡ push lists c (filter (is_loose lists) (take (i + 1) ts))
+  one_more carrier once =
+      let x = get_or ts i 0 in
+      ap (λ b. push so_far c (cond b (x ∷ []) [])) (same_loose carrier once)
+      ∙ push_push lists c (filter (is_loose lists) (take i ts)) (cond (is_loose lists x) (x ∷ []) [])
+      ∙ ap (push lists c) (sym (filter_more (is_loose lists) ts i 0 within))
 
   pub is_one : Contains ts (get_or ts i 0)
   is_one = (i, within, same ts i within)

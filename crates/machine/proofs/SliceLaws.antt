@@ -31,6 +31,7 @@ use Rattle.program_state.specs.States.{IsInPhase, IsState}
 use Rattle.program_state.proofs.StateLaws.{frames_had, other_frames}
 use Rattle.machine.specs.declared.after.After.TheVariants.{Goes}
 use Rattle.machine.specs.declared.made.Move.{Move}
+use Rattle.machine.specs.declared.made.Others.TheVariants as moves
 use Rattle.machine.specs.Hands.{HasHand, Holds, OwesNothing}
 use Rattle.machine.specs.Insides.{AreParts, IsConsistent, is_out}
 use Rattle.machine.specs.Legal.{GoesOn}
@@ -123,7 +124,7 @@ module _ (p : Setting) (n : ℕ) (state : ProgramState) (deques : Lists) (on : L
     out_r = ahead_out p.world n state deques on c t k last.0 slice_from
 
     made : Move
-    made = record { started = None; yields = false }
+    made = record { others = moves.Stay; yields = false }
 
     pub makes_it : thread_step p.world r t ≡ Some (with_frames r t frames)
     makes_it =
@@ -143,7 +144,7 @@ module _ (p : Setting) (n : ℕ) (state : ProgramState) (deques : Lists) (on : L
         quiet_yields p.world state r out t last.0 is_r (record { thread = record hand.thread { frames = last.0 }; at = at_r; status = running; has = refl })
         (row_quiet p.world (memory_of state.memory) last.0 frames last.2)
 
-    abbrev pub moved : IsMoved p.world (record { started = None; yields = false }) t state frames r out
+    abbrev pub moved : IsMoved p.world (record { others = moves.Stay; yields = false }) t state frames r out
     moved = record {
       leads = record {
         next = with_frames r t frames;
@@ -156,12 +157,12 @@ module _ (p : Setting) (n : ℕ) (state : ProgramState) (deques : Lists) (on : L
     }
 
     abbrev pub slice_then : Scheduled State
-    slice_then = then p.world n state deques on c t k last.0 slice_from (record { started = None; yields = false }) state frames moved
+    slice_then = then p.world n state deques on c t k last.0 slice_from (record { others = moves.Stay; yields = false }) state frames moved
 
     slice_enters : scheduled_after (machine_from p x.first) x.after c (Step t (suc k) None) ≡ Some slice_then
-    slice_enters = step_enters p.world n state deques on c t k last.0 slice_from (record { started = None; yields = false }) state frames moved
+    slice_enters = step_enters p.world n state deques on c t k last.0 slice_from (record { others = moves.Stay; yields = false }) state frames moved
 
-    nobody_put : HasPut state t None c deques.lists deques.lists
+    nobody_put : HasPut state t moves.Stay c deques.lists deques.lists
     nobody_put = record {
       threads = [];
       who = nobody refl (ended_in state v.state out t (slice_from.parts.state) ∙ enabled_alive v.state t hand.thread hand.at on_again) refl;
@@ -170,7 +171,7 @@ module _ (p : Setting) (n : ℕ) (state : ProgramState) (deques : Lists) (on : L
 
     slice_parts : AreParts n state deques on slice_then
     slice_parts =
-        then_parts p.world n state deques on c t k last.0 slice_from (record { started = None; yields = false }) state frames moved deques nobody_put
+        then_parts p.world n state deques on c t k last.0 slice_from (record { others = moves.Stay; yields = false }) state frames moved deques nobody_put
         (let same = rows_length state v.state out slice_from.parts.state in let room = slice_from.parts.room in omega arith)
 
     -- afterwards the thread may step as before
@@ -187,7 +188,7 @@ module _ (p : Setting) (n : ℕ) (state : ProgramState) (deques : Lists) (on : L
     slice_goes =
         subst (λ b. IsTold (outcome_of b false true) slice_then t) after_alive
         (subst (λ b. IsTold (outcome_of (has_ended (with_frames r t frames) t) false b) slice_then t) after_on
-        (then_outcome p.world n state deques on c t k last.0 slice_from (record { started = None; yields = false }) state frames moved))
+        (then_outcome p.world n state deques on c t k last.0 slice_from (record { others = moves.Stay; yields = false }) state frames moved))
 
     pub slice_kept : length h < p.limits.events → IsConsistent p n state deques on (h ++ entry_of c (Step t (suc k) None) ∷ []) told
     slice_kept few =
@@ -198,7 +199,7 @@ module _ (p : Setting) (n : ℕ) (state : ProgramState) (deques : Lists) (on : L
         → HasStepped Goes (known_of p n h spare told) (known_of p n (h ++ entry_of c (Step t (suc k) None) ∷ []) room told) c t k frames
     slice_stepped room less = record {
       entry = ap (λ i. known_of p n (h ++ entry_of c (Step t (suc k) None) ∷ []) i told) less;
-      hand = gives_after (λ w. HasHand p w c t 0 frames) (then_hand p.world n state deques on c t k last.0 slice_from (record { started = None; yields = false }) state frames moved);
+      hand = gives_after (λ w. HasHand p w c t 0 frames) (then_hand p.world n state deques on c t k last.0 slice_from (record { others = moves.Stay; yields = false }) state frames moved);
       outcome = gives_after (λ w. w.schedule.owes t ≡ false) slice_goes;
     }
       where

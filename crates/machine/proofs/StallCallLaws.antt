@@ -1,6 +1,6 @@
 -- A machine that looks whether its program can go on.
 use Rattle.std.proofs.Common.{◌≡◌, ◌<◌, ◌==◌, ℕ, Bool, true, false, List, [], ◌∷◌, Option, None, Some, length, slice_get, refl, ap, sym, subst, ◌∙◌, arith}
-use Rattle.std.specs.Prelude.{is_some}
+use Rattle.std.specs.Prelude.{◌↔◌, IfSome, IsNone, is_some}
 use Rattle.std.specs.List.{list_any}
 use Rattle.std.proofs.lemmas.Bool.{eq-eqb}
 use Rattle.history.specs.declared.entry.Entry.{Entry}
@@ -13,6 +13,7 @@ use Rattle.ref_model.specs.Setting.{Setting}
 use Rattle.ref_model.specs.State.{State}
 use Rattle.ref_model.specs.Looks.{is_stalled}
 use Rattle.program_state.specs.declared.state.ProgramState.{ProgramState}
+use Rattle.program_state.specs.Deadlines.{IsLeast, deadlines_of}
 use Rattle.program_state.specs.States.{IsState}
 use Rattle.machine.specs.Insides.{AreParts, IsConsistent, is_out}
 use Rattle.machine.specs.Legal.{HasNotStalled, IsCause}
@@ -21,7 +22,7 @@ use Rattle.machine.specs.Stalls.{AreBelow, goes_on}
 use Rattle.machine.proofs.EntryLaws.{given, program_after}
 use Rattle.machine.proofs.NextLaws.{known_of, none_there, parts_there}
 use Rattle.machine.proofs.PlaceLaws.{mounted_out}
-use Rattle.machine.proofs.StallLaws.{deque_goes, mounted_goes, none_goes}
+use Rattle.machine.proofs.StallLaws.{deque_goes, mounted_goes, none_goes, timed_goes}
 use Rattle.machine.proofs.StateLaws.{out_below}
 
 same_ending : (a b : Ending) → ◌≡◌ {A = Option Ending} (Some a) (Some b) → a ≡ b
@@ -63,9 +64,18 @@ module _ (p : Setting) (n : ℕ) (state : ProgramState) (deques : Lists) (mounte
   by_mounted b tells some =
       not_stalled (mounted_goes p x.after.state mounted (sym (tells x.after.state (is_out x.after.schedule) parts.state) ∙ some))
 
-  pub stalled_kept : (o : Option (ℕ × ℕ)) (b : Bool) → o ≡ next deques.lists 0 → is_some o ≡ false
-      → ((r : State) (out : ℕ → Bool) → IsState state r out → b ≡ list_any (goes_on r) mounted) → b ≡ false → IsConsistent p n state deques mounted h (Some Stalled)
-  stalled_kept o b is nobody tells off = record {
+  pub by_time : (o : Option ℕ) → ((r : State) (out : ℕ → Bool) → IsState state r out → IfSome o (IsLeast (deadlines_of r.now r.threads))) → is_some o ≡ true
+      → HasNotStalled (known_of p n h spare told) (known_of p n h spare told)
+  by_time None tells some = absurd cc
+  by_time (Some d) tells some =
+      let least = tells x.after.state (is_out x.after.schedule) parts.state in
+      not_stalled (timed_goes p x.after.state least.thread d least.is)
+
+  pub stalled_kept : (o : Option (ℕ × ℕ)) (b : Bool) (time : Option ℕ) → o ≡ next deques.lists 0 → is_some o ≡ false
+      → ((r : State) (out : ℕ → Bool) → IsState state r out → b ≡ list_any (goes_on r) mounted) → b ≡ false
+      → ((r : State) (out : ℕ → Bool) → IsState state r out → IsNone time ↔ ((t : ℕ) → deadlines_of r.now r.threads t ≡ None)) → is_some time ≡ false
+      → IsConsistent p n state deques mounted h (Some Stalled)
+  stalled_kept o b time is nobody tells off times never = record {
     accepted = x.accepted;
     some = x.some;
     first = x.first;
@@ -75,7 +85,8 @@ module _ (p : Setting) (n : ℕ) (state : ProgramState) (deques : Lists) (mounte
     timeless = x.timeless;
     few = x.few;
     cause = λ e there. subst (IsCause p x.after) (same_ending Stalled e there)
-        (none_goes p x.first x.after (program_after p n state deques mounted h told x) (none_there p n state deques mounted h told spare x none).going parts.state.plain
+        (none_goes p x.first x.after (program_after p n state deques mounted h told x) (none_there p n state deques mounted h told spare x none).going
+        ((times x.after.state (is_out x.after.schedule) parts.state).0 never)
         (ap (λ ls. next ls 0) (sym parts.deques) ∙ sym is ∙ none_found o nobody)
         (ap (list_any (goes_on x.after.state)) (sym parts.mounted) ∙ sym (tells x.after.state (is_out x.after.schedule) parts.state) ∙ off));
     parts = λ works. parts;

@@ -1,10 +1,10 @@
 -- When a program can go on no more, by those that are mounted and by the deques.
 use Rattle.std.proofs.Common.{◌≡◌, ◌≢◌, ◌⊎◌, ◌+◌, ◌<◌, ◌≤◌, ◌==◌, inl, inr, ℕ, zero, suc, Bool, true, false, List, [], ◌∷◌, Option, None, Some, length, slice_get, refl, ap, sym, subst, ◌∙◌, arith, cond, not, ◌&&◌, ◌||◌}
-use Rattle.std.specs.Prelude.{is_some, sum_by}
+use Rattle.std.specs.Prelude.{is_some, nat_lt, sum_by}
 use Rattle.std.specs.List.{list_any, range_with_len}
 use Rattle.std.specs.Option.{option_map_or}
 use Rattle.std.proofs.lemmas.Bool.Decides.{eqb_tells}
-use Rattle.std.proofs.lemmas.Bool.{and_left, and_right, cases_Bool, cases_lt, eq-eqb}
+use Rattle.std.proofs.lemmas.Bool.{and_right, cases_Bool, cases_lt, lt-ltb, ltb-true}
 use Rattle.std.proofs.lemmas.List.Sums.{sum_by-cons}
 use Rattle.std.proofs.lemmas.Option.{slice_get_within}
 use Rattle.vthread_state.specs.declared.phase.Phase.TheVariants.{Run, Throwing, Entering, Waiting, Reenter, Parked, Asleep, Joining}
@@ -31,7 +31,8 @@ use Rattle.schedule_soundness.specs.HistoryLaws.{IsProgramAfter}
 use Rattle.schedule_soundness.proofs.Histories.{no_wake_up_is_lost}
 use Rattle.schedule_soundness.proofs.OtherMoves.{spot_at}
 use Rattle.schedule_soundness.proofs.Stalls.{stalls_by_places}
-use Rattle.program_state.specs.States.{IsPlain, is_plain_status}
+use Rattle.program_state.specs.Deadlines.{coming_deadline, deadlines_of, later_than}
+use Rattle.program_state.specs.States.{is_plain_status}
 use Rattle.machine.specs.Insides.{is_out}
 use Rattle.machine.specs.Stalls.{goes_on}
 
@@ -60,14 +61,67 @@ enabled_there r t on = by (slice_get r.threads t) refl
     by None e = absurd (no_both (enabled r t) on (and_right _ _ (ap (λ o. option_map_or (λ (x : JavaThread). is_ready r x x.thread.status) o false) e)))
     by (Some x) e = slice_get_within r.threads t x e
 
-pub enabled_goes : (p : Setting) (r : State) (t : ℕ) → enabled r t ≡ true → is_stalled p.world r ≡ false
-enabled_goes p r t on =
+-- a thread that may step, or will by itself, keeps a program from being stalled
+one_goes : (p : Setting) (r : State) (t : ℕ) → t < length r.threads → can_go_on (look_of p.world r) t ≡ true → is_stalled p.world r ≡ false
+one_goes p r t there on =
     elim (cases_Bool (list_any (can_go_on (look_of p.world r)) (all_threads (look_of p.world r)))) [
       | inl some_go ↦ and_right (not (is_some (ending r))) _ (ap not some_go)
       | inr none_go ↦
-          let off = any_range (can_go_on (look_of p.world r)) (length r.threads) 0 t none_go (omega arith) (let h = enabled_there r t on in omega arith) in
-          absurd (no_both (enabled r t || has_time (look_of p.world r) t) (ap (λ b. b || has_time (look_of p.world r) t) on) off)
+          absurd (no_both (can_go_on (look_of p.world r) t) on (any_range (can_go_on (look_of p.world r)) (length r.threads) 0 t none_go (omega arith) (omega arith)))
     ]
+
+pub enabled_goes : (p : Setting) (r : State) (t : ℕ) → enabled r t ≡ true → is_stalled p.world r ≡ false
+enabled_goes p r t on = one_goes p r t (enabled_there r t on) (ap (λ b. b || has_time (look_of p.world r) t) on)
+
+-- ---- a thread with a deadline to come
+
+timed_status : (now d : ℕ) (status : Status) → later_than now (deadline_in status) ≡ Some d → (deadline_in status ≡ Some d) × (now < d)
+timed_status now d status e = by (deadline_in status) refl
+  where
+    by : (o : Option ℕ) → deadline_in status ≡ o → (deadline_in status ≡ Some d) × (now < d)
+    by None is = let no : ◌≡◌ {A = Option ℕ} None (Some d) = sym (ap (later_than now) is) ∙ e in absurd cc
+    by (Some k) is =
+        elim (cases_Bool (nat_lt now k)) [
+          | inl later ↦
+              let one : ◌≡◌ {A = Option ℕ} (Some k) (Some d) = sym (ap (λ b. cond b (Some k) None) later) ∙ sym (ap (later_than now) is) ∙ e in
+              (is ∙ one, subst (λ n. now < n) (ap (λ o. option_map_or (λ n. n) o 0) one) (ltb-true now k later))
+          | inr not_later ↦ let no : ◌≡◌ {A = Option ℕ} None (Some d) = sym (ap (λ b. cond b (Some k) None) not_later) ∙ sym (ap (later_than now) is) ∙ e in absurd cc
+        ]
+
+timed_live : (status : Status) (d : ℕ) → deadline_in status ≡ Some d → is_live (spot_of status) ≡ true
+timed_live New d e = absurd cc
+timed_live Done d e = absurd cc
+timed_live (Live Run) d e = refl
+timed_live (Live (Throwing o)) d e = refl
+timed_live (Live (Entering o)) d e = refl
+timed_live (Live (Waiting o n deadline)) d e = refl
+timed_live (Live (Reenter o n wake)) d e = refl
+timed_live (Live (Parked deadline)) d e = refl
+timed_live (Live (Asleep deadline)) d e = refl
+timed_live (Live (Joining u deadline)) d e = refl
+
+and_true : (a b : Bool) → a ≡ true → b ≡ true → (a && b) ≡ true
+and_true a b e f = ap (λ x. x && b) e ∙ f
+
+or_true : (a b : Bool) → b ≡ true → (a || b) ≡ true
+or_true true b e = refl
+or_true false b e = e
+
+-- what has_time tests, for a deadline that is there
+timed_look : (l : Look) (t d : ℕ) → is_live (l.spot t) ≡ true → l.deadline t ≡ Some d → l.now < d → has_time l t ≡ true
+timed_look l t d live has later = rw has (and_true (is_live (l.spot t)) (nat_lt l.now d) live (lt-ltb l.now d later))
+
+pub timed_goes : (p : Setting) (r : State) (t d : ℕ) → deadlines_of r.now r.threads t ≡ Some d → is_stalled p.world r ≡ false
+timed_goes p r t d e = by (slice_get r.threads t) refl
+  where
+    by : (o : Option JavaThread) → slice_get r.threads t ≡ o → is_stalled p.world r ≡ false
+    by None at = let no : ◌≡◌ {A = Option ℕ} None (Some d) = sym (ap (coming_deadline r.now) at) ∙ e in absurd cc
+    by (Some x) at =
+        let timed = timed_status r.now d x.thread.status (sym (ap (coming_deadline r.now) at) ∙ e) in
+        let has : (look_of p.world r).deadline t ≡ Some d = ap (λ o. option_map_or (λ (y : JavaThread). deadline_in y.thread.status) o None) at ∙ timed.0 in
+        let live : is_live ((look_of p.world r).spot t) ≡ true = ap (λ o. is_live (spot_at o)) at ∙ timed_live x.thread.status d timed.0 in
+        one_goes p r t (slice_get_within r.threads t x at)
+        (or_true (enabled r t) (has_time (look_of p.world r) t) (timed_look (look_of p.world r) t d live has timed.1))
 
 -- ---- a thread in a deque may step
 
@@ -100,19 +154,23 @@ line_status New e = refl
 line_status Done e = refl
 line_status (Live Run) e = refl
 line_status (Live (Throwing o)) e = refl
+line_status (Live (Parked deadline)) e = refl
+line_status (Live (Asleep deadline)) e = refl
 line_status (Live (Joining u deadline)) e = refl
 line_status (Live (Entering o)) e = absurd cc
 line_status (Live (Waiting o n deadline)) e = absurd cc
 line_status (Live (Reenter o n wake)) e = absurd cc
-line_status (Live (Parked deadline)) e = absurd cc
-line_status (Live (Asleep deadline)) e = absurd cc
 
-off_line : (r : State) → ((t : ℕ) (x : JavaThread) → slice_get r.threads t ≡ Some x → IsPlain x) → (t : ℕ) → is_in_line (spot_at (slice_get r.threads t)) ≡ false
+-- all threads run, throw, are parked, asleep, or wait for the end of another
+abbrev pub ArePlain : State → Type 0
+ArePlain r = (t : ℕ) (x : JavaThread) → slice_get r.threads t ≡ Some x → is_plain_status x.thread.status ≡ true
+
+pub off_line : (r : State) → ArePlain r → (t : ℕ) → is_in_line (spot_at (slice_get r.threads t)) ≡ false
 off_line r plain t = by (slice_get r.threads t) refl
   where
     by : (o : Option JavaThread) → slice_get r.threads t ≡ o → is_in_line (spot_at (slice_get r.threads t)) ≡ false
     by None e = ap (λ o. is_in_line (spot_at o)) e
-    by (Some x) e = ap (λ o. is_in_line (spot_at o)) e ∙ line_status x.thread.status (plain t x e).status
+    by (Some x) e = ap (λ o. is_in_line (spot_at o)) e ∙ line_status x.thread.status (plain t x e)
 
 or_left : (a b : Bool) → (a || b) ≡ true → b ≡ false → a ≡ true
 or_left true b e f = refl
@@ -120,7 +178,7 @@ or_left false true e f = absurd cc
 or_left false false e f = absurd cc
 
 pub deque_goes : (p : Setting) (first : State) (v : Scheduled State) (found : ℕ × ℕ) → IsProgramAfter p first v → ending v.state ≡ None
-    → ((t : ℕ) (x : JavaThread) → slice_get v.state.threads t ≡ Some x → IsPlain x) → next v.schedule.deques 0 ≡ Some found → is_stalled p.world v.state ≡ false
+    → ArePlain v.state → next v.schedule.deques 0 ≡ Some found → is_stalled p.world v.state ≡ false
 deque_goes p first v found a going plain e =
     let woken = no_wake_up_is_lost p first v a (ap is_some going) in
     let there = woken.deques found.1 (first_in v.schedule.deques found e) in
@@ -155,28 +213,23 @@ none_mounted r t (Some u ∷ mounted) e there =
           ]
     ]
 
-deadline_status : (status : Status) → is_plain_status status ≡ true → deadline_in status ≡ None
-deadline_status New e = refl
-deadline_status Done e = refl
-deadline_status (Live Run) e = refl
-deadline_status (Live (Throwing o)) e = refl
-deadline_status (Live (Joining u None)) e = refl
-deadline_status (Live (Joining u (Some n))) e = absurd cc
-deadline_status (Live (Entering o)) e = absurd cc
-deadline_status (Live (Waiting o n deadline)) e = absurd cc
-deadline_status (Live (Reenter o n wake)) e = absurd cc
-deadline_status (Live (Parked deadline)) e = absurd cc
-deadline_status (Live (Asleep deadline)) e = absurd cc
+-- a thread without a deadline to come has no time
+untimed_look : (l : Look) (t : ℕ) (o : Option ℕ) → l.deadline t ≡ o → later_than l.now o ≡ None → has_time l t ≡ false
+untimed_look l t None e none = rw e (and_right (is_live (l.spot t)) false refl)
+untimed_look l t (Some d) e none =
+    elim (cases_Bool (nat_lt l.now d)) [
+      | inl later ↦ let no : ◌≡◌ {A = Option ℕ} (Some d) None = sym (ap (λ b. cond b (Some d) None) later) ∙ none in absurd cc
+      | inr not_later ↦ rw e (and_right (is_live (l.spot t)) (nat_lt l.now d) not_later)
+    ]
 
-no_time : (l : Look) (t : ℕ) → l.deadline t ≡ None → has_time l t ≡ false
-no_time l t e = rw e (and_right (is_live (l.spot t)) false refl)
-
-plain_deadline : (p : Setting) (r : State) → ((t : ℕ) (x : JavaThread) → slice_get r.threads t ≡ Some x → IsPlain x) → (t : ℕ) → (look_of p.world r).deadline t ≡ None
-plain_deadline p r plain t = by (slice_get r.threads t) refl
+no_time : (p : Setting) (r : State) (t : ℕ) → deadlines_of r.now r.threads t ≡ None → has_time (look_of p.world r) t ≡ false
+no_time p r t none = by (slice_get r.threads t) refl
   where
-    by : (o : Option JavaThread) → slice_get r.threads t ≡ o → (look_of p.world r).deadline t ≡ None
-    by None e = ap (λ o. option_map_or (λ (x : JavaThread). deadline_in x.thread.status) o None) e
-    by (Some x) e = ap (λ o. option_map_or (λ (x : JavaThread). deadline_in x.thread.status) o None) e ∙ deadline_status x.thread.status (plain t x e).status
+    by : (o : Option JavaThread) → slice_get r.threads t ≡ o → has_time (look_of p.world r) t ≡ false
+    by None at = untimed_look (look_of p.world r) t None (ap (λ o. option_map_or (λ (y : JavaThread). deadline_in y.thread.status) o None) at) refl
+    by (Some x) at =
+        untimed_look (look_of p.world r) t (deadline_in x.thread.status) (ap (λ o. option_map_or (λ (y : JavaThread). deadline_in y.thread.status) o None) at)
+        (sym (ap (coming_deadline r.now) at) ∙ none)
 
 empty_total : (t : ℕ) (lists : List (List ℕ)) → AreEmpty lists → total (count t) lists ≡ 0
 empty_total t [] all = refl
@@ -184,10 +237,10 @@ empty_total t ([] ∷ lists) all = let h = empty_total t lists (λ i d within. a
 empty_total t ((u ∷ us) ∷ lists) all = let bad = all 0 [] (omega arith) in absurd cc
 
 pub none_goes : (p : Setting) (first : State) (v : Scheduled State) → IsProgramAfter p first v → ending v.state ≡ None
-    → ((t : ℕ) (x : JavaThread) → slice_get v.state.threads t ≡ Some x → IsPlain x) → next v.schedule.deques 0 ≡ None
+    → ((t : ℕ) → deadlines_of v.state.now v.state.threads t ≡ None) → next v.schedule.deques 0 ≡ None
     → list_any (goes_on v.state) v.schedule.mounted ≡ false → is_stalled p.world v.state ≡ true
-none_goes p first v a going plain none off =
+none_goes p first v a going timeless none off =
     stalls_by_places p first v a (ap is_some going) (λ t there.
     let empty : in_deques t v.schedule ≡ 0 = empty_total t v.schedule.deques (AreEmpty-next v.schedule.deques 0 none) in
     none_mounted v.state t v.schedule.mounted off (omega arith))
-    (λ t. no_time (look_of p.world v.state) t (plain_deadline p v.state plain t))
+    (λ t. no_time p v.state t (timeless t))

@@ -21,7 +21,9 @@ use Rattle.ref_model.specs.Looks.{look_of, spot_of}
 use Rattle.ref_model.proofs.StateLaws.{get_set}
 use Rattle.thread_steps.specs.States.{memory_of}
 use Rattle.schedule_soundness.proofs.ThreadLists.{not_none, same_some, set_other}
+use Rattle.sleep_wheel.specs.Sleepers.{sleeper_at}
 use Rattle.program_state.specs.declared.state.ProgramState.{ProgramState}
+use Rattle.program_state.specs.Deadlines.{HoldsDeadlines, deadlines_of, key_at}
 use Rattle.program_state.specs.States.{IsKept, IsState, absent, mounted, waiting, idle, is_started}
 use Rattle.machine.specs.Hands.{IsLive, IsLiveIn}
 
@@ -106,6 +108,10 @@ kept_same u b d o f g e i h = subst (λ c. IsKept u c o g) (sym e) (subst (λ p.
 pub record SameBut (a b : ProgramState) : Type 0 where
   pub memory : b.memory ≡ a.memory
   pub threads : b.threads ≡ a.threads
+  pub wakes : b.wakes ≡ a.wakes
+  pub wheel : b.wheel ≡ a.wheel
+  pub keys : b.keys.items ≡ a.keys.items
+  pub now : b.time ≡ a.time
   pub unnamed : b.unnamed ≡ a.unnamed
   pub most_threads : b.most_threads ≡ a.most_threads
 
@@ -121,9 +127,14 @@ one_place a b r out new t same is here elsewhere = record {
   most_threads = same.most_threads ∙ is.most_threads;
   limit = ap (λ x. x.limit) same.threads ∙ is.limit;
   plain = is.plain;
+  permits = ap (λ f. f.permits) same.wakes ∙ is.permits;
+  interrupts = ap (λ f. f.interrupts) same.wakes ∙ is.interrupts;
   unnamed = same.unnamed ∙ is.unnamed;
   owners = is.owners;
-  now = is.now;
+  now = same.now ∙ is.now;
+  places = ap (λ ks. length ks) same.keys ∙ is.places;
+  wheel = subst (λ w. HoldsDeadlines (sleeper_at w) (key_at b.keys.items) (deadlines_of r.now r.threads)) (sym same.wheel)
+      (subst (λ ks. HoldsDeadlines (sleeper_at a.wheel) (key_at ks) (deadlines_of r.now r.threads)) (sym same.keys) is.wheel);
   kept = λ u. each u (eqb_tells u t);
 }
   where
@@ -171,9 +182,13 @@ others_out a r out new is same = record {
   most_threads = is.most_threads;
   limit = is.limit;
   plain = is.plain;
+  permits = is.permits;
+  interrupts = is.interrupts;
   unnamed = is.unnamed;
   owners = is.owners;
   now = is.now;
+  places = is.places;
+  wheel = is.wheel;
   kept = λ u. kept_same u (out u) (new u) (slice_get r.threads u) (slice_get a.frozen.items u) (slice_get a.frozen.items u) (same u) refl (is.kept u);
 }
 

@@ -1,9 +1,9 @@
 -- The step of a thread as an entry of the history.
-use Rattle.std.proofs.Common.{◌≡◌, ◌≢◌, ◌⊎◌, ◌<◌, ◌≤◌, inl, inr, eqb, ℕ, zero, suc, Bool, true, false, List, [], ◌∷◌, Option, None, Some, length, refl, ap, sym, subst, ◌∙◌, arith, cond, not, ◌&&◌, ◌||◌}
-use Rattle.std.specs.Prelude.{is_none, is_some, map, slice_get, max}
+use Rattle.std.proofs.Common.{◌≡◌, ◌≢◌, ◌<◌, ◌≤◌, ◌==◌, inl, inr, ℕ, zero, suc, Bool, true, false, List, [], ◌∷◌, Option, None, Some, length, refl, ap, sym, subst, ◌∙◌, arith, cond, not, ◌&&◌, ◌||◌}
+use Rattle.std.specs.Prelude.{filter, is_none, is_some, map, slice_get}
 use Rattle.std.specs.Option.{option_map_or}
-use Rattle.std.proofs.lemmas.Bool.{and_parts, cases_lt, eq-eqb}
-use Rattle.std.proofs.lemmas.Bool.Decides.{eqb_tells}
+use Rattle.std.proofs.lemmas.Bool.{and_parts, cases_lt, eq-eqb, ne_eqb}
+use Rattle.std.proofs.lemmas.List.Kept.{IsStrictlyIncreasing-filter}
 use Rattle.std.proofs.lemmas.Option.{slice_get_within}
 use Rattle.items.specs.Options.{◌>>=◌}
 use Rattle.history.specs.declared.entry.What.TheVariants.{Step}
@@ -12,12 +12,13 @@ use Rattle.vthread_state.specs.declared.phase.Phase.TheVariants.{Run, Throwing, 
 use Rattle.vthread_state.specs.declared.thread.Status.{Status}
 use Rattle.vthread_state.specs.declared.thread.Status.TheVariants.{New, Live, Done}
 use Rattle.vthread_state.specs.declared.thread.Thread.{Thread}
-use Rattle.vthread_state.specs.Threads.{joins, joins_in, thread_at}
+use Rattle.vthread_state.specs.Threads.{thread_at}
 use Rattle.thread_lists.specs.Lists.{Lists, count, push, total}
 use Rattle.link_model.specs.World.{World}
 use Rattle.state_model.specs.Frames.{Frame}
+use Rattle.continuation.specs.Continuation.{Continuation}
 use Rattle.schedule_model.specs.Look.{Look, is_done as is_done_spot, is_entering, is_live as is_live_spot}
-use Rattle.schedule_model.specs.Schedule.{Schedule, in_deques}
+use Rattle.schedule_model.specs.Schedule.{Schedule, in_deques, places}
 use Rattle.schedule_model.specs.Puts.{all_threads, beginning_with, put_by, updated_list}
 use Rattle.schedule_model.specs.Entries.{after_step, has_mounted, has_to_leave}
 use Rattle.schedule_model.specs.Run.{Scheduled, scheduled_after, with_schedule}
@@ -34,13 +35,13 @@ use Rattle.schedule_soundness.specs.EntryLaws.{MayStep}
 use Rattle.schedule_soundness.specs.HistoryLaws.{IsProgramAfter}
 use Rattle.schedule_soundness.specs.PutLaws.{EndsNoWait, OthersStay, OthersStayBeside}
 use Rattle.schedule_soundness.proofs.Ahead.{steps_are_entries}
-use Rattle.schedule_soundness.proofs.Histories.{deques_have_live, histories_go_on, mounted_in_no_deque}
+use Rattle.schedule_soundness.proofs.Histories.{deques_have_live, histories_go_on}
 use Rattle.schedule_soundness.proofs.OtherMoves.{spot_at}
 use Rattle.schedule_soundness.proofs.Pins.{nobody_is_pinned}
-use Rattle.schedule_soundness.proofs.PutLaws.{ends_put_joiners, quiet_steps_put_nobody, starts_put_the_started}
+use Rattle.schedule_soundness.proofs.PutLaws.{ends_put_joiners, quiet_steps_put_nobody, starts_put_the_started, wakes_put_the_woken}
 use Rattle.program_state.specs.declared.state.ProgramState.{ProgramState}
 use Rattle.program_state.specs.States.{HasFrames, IsKept, IsState, absent, mounted, waiting, idle, is_started}
-use Rattle.program_state.specs.Steps.{Starts}
+use Rattle.program_state.specs.Steps.{Starts, Wakes}
 use Rattle.program_state.specs.Waiting.{AreWoken, has_ended_in}
 use Rattle.program_state.proofs.StateLaws.{frames_had, other_frames}
 use Rattle.machine.specs.declared.after.After.{After}
@@ -49,12 +50,15 @@ use Rattle.machine.specs.declared.made.Move.{Move}
 use Rattle.machine.specs.Hands.{HasHand, IsLive}
 use Rattle.machine.specs.Insides.{AreParts, is_out}
 use Rattle.machine.specs.Moves.{IsMade, IsMoved, LacksRoom, Moves, others_of}
-use Rattle.machine.specs.Puts.{ArePut, EndsSo, HasPut, IsOver, MayBePut, nobody, started, nobody_over, joiners}
+use Rattle.machine.specs.declared.made.Others.{Others}
+use Rattle.machine.specs.declared.made.Others.TheVariants as moves
+use Rattle.machine.specs.Puts.{ArePut, EndsSo, HasPut, IsOver, IsTouched, nobody, started, woken, nobody_over, joiners, is_loose, is_nowhere}
 use Rattle.machine.specs.Steps.{Enters, IsTold, Lacks, StepsFrom, outcome_of}
-use Rattle.machine.proofs.AheadLaws.{ahead_starts, ahead_stays, ahead_step, enabled_alive, enabled_going, hand_ahead}
-use Rattle.machine.proofs.PlaceLaws.{mounted_out, out_on, push_length}
+use Rattle.machine.proofs.AheadLaws.{ahead_starts, ahead_stays, ahead_step, ahead_wakes, enabled_alive, enabled_going, hand_ahead}
+use Rattle.machine.proofs.PlaceLaws.{in_none, mounted_out, out_on, push_length}
+use Rattle.machine.proofs.StallLaws.{off_line}
 use Rattle.machine.proofs.EndingLaws.{not_ended}
-use Rattle.machine.proofs.JoinerLaws.{AtEnd, Joins, joiner_before, joiner_loose, joins_thread, put_joiners}
+use Rattle.machine.proofs.JoinerLaws.{AtEnd, put_joiners}
 use Rattle.machine.proofs.StateLaws.{rows_length}
 
 no_both : (b : Bool) → b ≡ true → b ≡ false → ⊥
@@ -63,18 +67,14 @@ no_both b i j = absurd cc
 same_thread : (o : Option JavaThread) (x y : JavaThread) → o ≡ Some x → o ≡ Some y → x ≡ y
 same_thread o x y e f = cc
 
+same_test : (a b : ℕ) → a ≡ b → (a == 0) ≡ (b == 0)
+same_test a b e = ap (λ n. n == 0) e
+
 -- the thread with other frames
 with_at : (r : State) (t : ℕ) (x : JavaThread) (frames : List Frame) → slice_get r.threads t ≡ Some x
     → slice_get (with_frames r t frames).threads t ≡ Some (record x { frames = frames })
 with_at r t x frames at =
     ap (λ (s : State). slice_get s.threads t) (frames_is r t x frames at) ∙ get_set r.threads t x (record x { frames = frames }) at
-
--- a thread that runs joins none
-runs_joins : (o : Option JavaThread) (t : ℕ) (x : JavaThread) → o ≡ Some x → x.thread.status ≡ Live Run → Joins o t → ⊥
-runs_joins o t x at runs j =
-    let same : x ≡ j.thread = same_thread o x j.thread at j.at in
-    let no : Live Run ≡ Live (Joining t j.deadline) = sym runs ∙ ap (λ (z : JavaThread). z.thread.status) same ∙ j.status in
-    absurd cc
 
 -- a thread that may step was started
 never_new : (r : State) (t : ℕ) (x : JavaThread) → slice_get r.threads t ≡ Some x → enabled r t ≡ true → x.thread.status ≡ New → ⊥
@@ -204,21 +204,28 @@ module _ (w : World) (n : ℕ) (state : ProgramState) (deques : Lists) (on : Lis
     abbrev pub puts : List ℕ
     puts = put_by (l v.state) (l q) entry_list v.schedule (all_threads (l q))
 
-    stays : (s : Option ℕ) → s ≡ None → others_of t s r q → OthersStay t v.state q
-    stays None e h = ahead_stays v.state q t x.hand.thread frames x.hand.at h
-    stays (Some u) e h = absurd cc
+    stays : (s : Others) → s ≡ moves.Stay → others_of t s r q → OthersStay t v.state q
+    stays moves.Stay e h = ahead_stays v.state q t x.hand.thread frames x.hand.at h
+    stays (moves.Starts u) e h = absurd cc
+    stays (moves.Wakes u) e h = absurd cc
 
-    others_stay : made.started ≡ None → OthersStay t v.state q
-    others_stay none = stays made.started none m.leads.others
+    others_stay : made.others ≡ moves.Stay → OthersStay t v.state q
+    others_stay none = stays made.others none m.leads.others
 
-    starts : (s : Option ℕ) (u : ℕ) → s ≡ Some u → others_of t s r q → Starts t u r q
-    starts None u e h = absurd cc
-    starts (Some s) u e h = let same : s ≡ u = cc in subst (λ n. Starts t n r q) same h
+    starts : (s : Others) (u : ℕ) → s ≡ moves.Starts u → others_of t s r q → Starts t u r q
+    starts moves.Stay u e h = absurd cc
+    starts (moves.Starts s) u e h = let same : s ≡ u = cc in subst (λ n. Starts t n r q) same h
+    starts (moves.Wakes s) u e h = absurd cc
+
+    wakes : (s : Others) (u : ℕ) → s ≡ moves.Wakes u → others_of t s r q → Wakes t u r q
+    wakes moves.Stay u e h = absurd cc
+    wakes (moves.Starts s) u e h = absurd cc
+    wakes (moves.Wakes s) u e h = let same : s ≡ u = cc in subst (λ n. Wakes t n r q) same h
 
     ends_in : has_ended_in new.threads t ≡ has_ended q t
     ends_in = ended_in new q out t m.leads.is
 
-    none_put : made.started ≡ None → EndsNoWait q t → puts ≡ []
+    none_put : made.others ≡ moves.Stay → EndsNoWait q t → puts ≡ []
     none_put none ends = quiet_steps_put_nobody x.setting v q c t entry_list x.hand.mounted going (others_stay none) ends
 
     -- a thread that is started is another, since it was never started before
@@ -235,72 +242,91 @@ module _ (w : World) (n : ℕ) (state : ProgramState) (deques : Lists) (on : Lis
         starts_put_the_started x.setting x.first v q c t u entry_list x.after x.hand.mounted going
         b.others (inl goes) b.new (record { thread = b.runs.thread; there = b.runs.there; status = ap is_live b.runs.status })
 
-    joiners_put : (ws : List ℕ) → made.started ≡ None → has_ended q t ≡ true → ending q ≡ None → AreWoken t new ws → puts ≡ ws
-    joiners_put ws none ended goes woken =
+    -- whether it is nowhere, and whether it is in no place
+    nowhere_is : (u : ℕ) → Wakes t u v.state q → is_nowhere new deques.lists u ≡ (places u v.schedule == 0)
+    nowhere_is u h = by (new_kept u)
+      where
+        new_kept : (i : ℕ) → IsKept i (out i) (slice_get q.threads i) (slice_get new.frozen.items i)
+        new_kept = m.leads.is.kept
+
+        live : (z : JavaThread) → slice_get q.threads u ≡ Some z → is_live z.thread.status ≡ true
+        live z at =
+            ap (λ (y : JavaThread). is_live y.thread.status) (same_thread (slice_get q.threads u) z h.woken.new at h.woken.is)
+            ∙ ap is_live h.woken.status ∙ h.woken.live
+
+        by : IsKept u (out u) (slice_get q.threads u) (slice_get new.frozen.items u) → is_nowhere new deques.lists u ≡ (places u v.schedule == 0)
+        by (absent off there at) = let no : ◌≡◌ {A = Option JavaThread} None (Some h.woken.new) = sym there ∙ h.woken.is in absurd cc
+        by (mounted z on there at begun) =
+            let up = out_on v.schedule u on in
+            ap (λ o. option_map_or (λ (k : Option Continuation). is_some k) o false && is_loose deques.lists u) at
+            ∙ sym (ne_eqb (places u v.schedule) 0 (λ none. absurd (omega arith)))
+        by (waiting z k off there at alive number frames_are) =
+            let down = in_none v.schedule u off in
+            ap (λ o. option_map_or (λ (k : Option Continuation). is_some k) o false && is_loose deques.lists u) at
+            ∙ ap (λ ls. total (count u) ls == 0) x.parts.deques
+            ∙ same_test (in_deques u v.schedule) (places u v.schedule) (omega arith)
+        by (idle z off there at dead) = absurd (no_both (is_live z.thread.status) (live z there) dead)
+
+    one_woken : (u : ℕ) (goes : Bool) → Wakes t u r q → has_ended q t ≡ false → goes ≡ enabled q u
+        → puts ≡ cond (is_nowhere new deques.lists u && goes) (u ∷ []) []
+    one_woken u goes h alive_then tells =
+        let b = ahead_wakes v.state q t u x.hand.thread frames x.hand.at h in
+        wakes_put_the_woken x.setting x.first v q c t u entry_list x.after x.hand.mounted going b.others (inl alive_then)
+        (record { old = b.woken.old; new = b.woken.new; was = b.woken.was; is = b.woken.is; status = b.woken.status })
+        (off_line v.state x.parts.state.plain u)
+        ∙ ap (λ i. cond (i && enabled q u) (u ∷ []) []) (sym (nowhere_is u b))
+        ∙ ap (λ i. cond (is_nowhere new deques.lists u && i) (u ∷ []) []) (sym tells)
+
+    joiners_put : (others : List ℕ) → made.others ≡ moves.Stay → has_ended q t ≡ true → ending q ≡ None → AreWoken t new others
+        → puts ≡ filter (is_loose v.schedule.deques) others
+    joiners_put others none ended goes are_woken =
         let h : AtEnd x.setting x.first v q new t = record {
           after = x.after;
           going = going;
           out = is_mounted;
-          plain = x.parts.state.plain;
-          alive = alive;
           others = others_stay none;
           is = m.leads.is;
           ended = ended;
         } in
-        ends_put_joiners x.setting x.first v q c t entry_list ws x.after x.hand.mounted going goes (others_stay none) ended woken.rising
-        (λ u. put_joiners x.setting x.first v q new t ws h woken u)
+        ends_put_joiners x.setting x.first v q c t entry_list (filter (is_loose v.schedule.deques) others) x.after x.hand.mounted going goes (others_stay none) ended
+        (IsStrictlyIncreasing-filter (is_loose v.schedule.deques) others are_woken.rising)
+        (λ u. put_joiners x.setting x.first v q new t others h are_woken u)
 
-    puts_are : (ws : List ℕ) → ArePut new t made.started ws → puts ≡ ws
+    puts_are : (ws : List ℕ) → ArePut new deques.lists t made.others ws → puts ≡ ws
     puts_are ws (nobody none goes is) = none_put none (inl (sym ends_in ∙ goes)) ∙ sym is
-    puts_are ws (started u e goes is) = one_put u (starts made.started u e m.leads.others) (sym ends_in ∙ goes) ∙ sym is
+    puts_are ws (started u e goes is) = one_put u (starts made.others u e m.leads.others) (sym ends_in ∙ goes) ∙ sym is
+    puts_are ws (woken u goes e alive_then tells is) =
+        one_woken u goes (wakes made.others u e m.leads.others) (sym ends_in ∙ alive_then) (tells q out m.leads.is) ∙ sym is
     puts_are ws (nobody_over none over is) = none_put none (inr (over.told, sym (over.is q out m.leads.is))) ∙ sym is
-    puts_are ws (joiners none ended goes woken) = joiners_put ws none (sym ends_in ∙ ended) (sym (goes q out m.leads.is)) woken
+    puts_are ws (joiners others none ended goes who is) =
+        joiners_put others none (sym ends_in ∙ ended) (sym (goes q out m.leads.is)) who
+        ∙ ap (λ ls. filter (is_loose ls) others) (sym x.parts.deques) ∙ sym is
 
-    -- who joins the thread after the step did so before
-    joined_before : (s : Option ℕ) → others_of t s r q → (u : ℕ) → u ≢ t → Joins (slice_get q.threads u) t → Joins (slice_get v.state.threads u) t
-    joined_before None h u ne j =
-        joiner_before t u (slice_get v.state.threads u) (slice_get q.threads u) ((ahead_stays v.state q t x.hand.thread frames x.hand.at h).threads u ne) j
-    joined_before (Some s) h u ne j = by (eqb_tells u s)
-      where
-        by : ((eqb u s ≡ true) × (u ≡ s)) ⊎ ((eqb u s ≡ false) × (u ≢ s)) → Joins (slice_get v.state.threads u) t
-        by (inl me) = absurd (runs_joins (slice_get q.threads u) t h.runs.thread (subst (λ i. slice_get q.threads i ≡ Some h.runs.thread) (sym me.1) h.runs.there) h.runs.status j)
-        by (inr other) =
-            let b = ahead_starts v.state q t s x.hand.thread frames x.hand.at (started_other s h) h in
-            joiner_before t u (slice_get v.state.threads u) (slice_get q.threads u) (b.others.threads u ne other.1) j
+    -- who is started was in no deque
+    pub start_free : (u : ℕ) → made.others ≡ moves.Starts u → total (count u) deques.lists ≡ 0
+    start_free u e =
+        let s = starts made.others u e m.leads.others in
+        let b = ahead_starts v.state q t u x.hand.thread frames x.hand.at (started_other u s) s in
+        ap (total (count u)) x.parts.deques
+        ∙ new_loose x.setting x.first v u x.after going (ap (λ o. is_live_spot (spot_at o)) b.new.there ∙ ap (λ i. is_live_spot (spot_of i)) b.new.status)
 
-    -- the thread itself may join itself only where nobody puts it: it is mounted, so it is in no deque
-    joined : (u : ℕ) → Joins (slice_get q.threads u) t → in_deques u v.schedule ≡ 0
-    joined u j = by (eqb_tells u t)
-      where
-        by : ((eqb u t ≡ true) × (u ≡ t)) ⊎ ((eqb u t ≡ false) × (u ≢ t)) → in_deques u v.schedule ≡ 0
-        by (inl me) =
-            subst (λ i. in_deques i v.schedule ≡ 0) (sym me.1)
-            (mounted_in_no_deque x.setting x.first v x.after t (out_on v.schedule t is_mounted))
-        by (inr other) =
-            let i = joined_before made.started m.leads.others u other.1 j in
-            joiner_loose x.setting x.first v u t x.after going i (x.parts.state.plain u i.thread i.at) alive
-
-    -- who is put was in no deque
-    pub put_free : (u : ℕ) → MayBePut new t made.started u → total (count u) deques.lists ≡ 0
-    put_free u may = ap (total (count u)) x.parts.deques ∙ loose may
-      where
-        loose : MayBePut new t made.started u → in_deques u v.schedule ≡ 0
-        loose (inl e) =
-            let s = starts made.started u e m.leads.others in
-            let b = ahead_starts v.state q t u x.hand.thread frames x.hand.at (started_other u s) s in
-            new_loose x.setting x.first v u x.after going (ap (λ o. is_live_spot (spot_at o)) b.new.there ∙ ap (λ i. is_live_spot (spot_of i)) b.new.status)
-        loose (inr e) = joined u (joins_thread q u t (sym (ap (λ ts. joins_in ts u) m.leads.is.rows) ∙ e))
-
-    pub put_below : (u : ℕ) → made.started ≡ Some u → u < length new.threads.threads
-    put_below u e =
-        let s = starts made.started u e m.leads.others in
+    below : (u : ℕ) (z : JavaThread) → slice_get q.threads u ≡ Some z → u < length new.threads.threads
+    below u z at =
         let same = rows_length new q out m.leads.is in
-        let inside = slice_get_within q.threads u s.runs.thread s.runs.there in
+        let inside = slice_get_within q.threads u z at in
         omega arith
+
+    pub touched : IsTouched made.others (length new.threads.threads)
+    touched = by made.others m.leads.others
+      where
+        by : (s : Others) → others_of t s r q → IsTouched s (length new.threads.threads)
+        by moves.Stay h = tt
+        by (moves.Starts u) h = below u h.runs.thread h.runs.there
+        by (moves.Wakes u) h = below u h.woken.new h.woken.is
 
     -- ---- afterwards
 
-    pub then_parts : (left : Lists) → HasPut new t made.started c deques.lists left.lists → length new.threads.threads ≤ left.threads
+    pub then_parts : (left : Lists) → HasPut new t made.others c deques.lists left.lists → length new.threads.threads ≤ left.threads
         → AreParts n new left on then
     then_parts left put room = record {
       state = m.leads.is;

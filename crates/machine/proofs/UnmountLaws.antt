@@ -117,7 +117,7 @@ module _ (p : Setting) (first : State) (v : Scheduled State) (n : ℕ) (state : 
   retired_parts on ended puts =
       let x = over_at v.state t ended in
       record {
-        state = ended_state state state v.state (is_out v.schedule) (is_out then_schedule) t x (record { memory = refl; threads = refl; unnamed = refl; most_threads = refl }) refl h.parts.state out off elsewhere;
+        state = ended_state state state v.state (is_out v.schedule) (is_out then_schedule) t x (record { memory = refl; threads = refl; wakes = refl; wheel = refl; keys = refl; now = refl; unnamed = refl; most_threads = refl }) refl h.parts.state out off elsewhere;
         deques =
             h.parts.deques ∙ sym (push_none v.schedule.deques c)
             ∙ ap (λ b. push v.schedule.deques c (cond b (t ∷ []) [])) (sym (not_enabled v.state t x));

@@ -1,7 +1,7 @@
 -- The thread that a carrier steps: its phase, its frames, and its instruction.
-use Rattle.std.specs.Prelude.{◌≡◌, ℕ, List, Option, Some}
+use Rattle.std.specs.Prelude.{◌≡◌, ℕ, Bool, true, false, List, Option, Some}
 use Rattle.vthread_state.specs.declared.phase.Phase.{Phase}
-use Rattle.vthread_state.specs.declared.phase.Phase.TheVariants.{Run}
+use Rattle.vthread_state.specs.declared.phase.Phase.TheVariants.{Run, Parked, Asleep, Joining}
 use Rattle.vthread_state.specs.Threads.{phase_at}
 use Rattle.link_model.specs.World.{World}
 use Rattle.state_model.specs.Frames.{Frame}
@@ -13,6 +13,13 @@ use Rattle.program_state.specs.declared.state.ProgramState.{ProgramState}
 -- the thread is live, in this phase
 abbrev pub IsAt : ProgramState → ℕ → Phase → Type 0
 IsAt state t phase = phase_at state.threads t ≡ Some phase
+
+-- whether a thread in a phase waits for a permit, a time or the end of another thread
+abbrev pub is_waiting : Phase → Bool
+is_waiting (Parked deadline) = true
+is_waiting (Asleep deadline) = true
+is_waiting (Joining target deadline) = true
+is_waiting phase = false
 
 -- these frames are such as the thread's phase asks for
 abbrev pub AreTyped : World → ProgramState → ℕ → List Frame → Type 0

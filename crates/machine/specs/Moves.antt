@@ -8,17 +8,20 @@ use Rattle.ref_model.specs.Looks.{lacks_threads_next, yields_next}
 use Rattle.schedule_soundness.specs.PutLaws.{OthersStay}
 use Rattle.program_state.specs.declared.state.ProgramState.{ProgramState}
 use Rattle.program_state.specs.States.{HasFrames, IsState}
-use Rattle.program_state.specs.Steps.{Leads, Starts}
+use Rattle.program_state.specs.Steps.{Leads, Starts, Wakes}
 use Rattle.machine.specs.declared.made.Move.{Move}
+use Rattle.machine.specs.declared.made.Others.{Others}
+use Rattle.machine.specs.declared.made.Others.TheVariants as moves
 
--- what it does to the other threads: it starts one, or leaves them where they are
-abbrev pub others_of : ℕ → Option ℕ → State → State → Type 0
-others_of t None = OthersStay t
-others_of t (Some u) = Starts t u
+-- what it does to the other threads
+abbrev pub others_of : ℕ → Others → State → State → Type 0
+others_of t moves.Stay = OthersStay t
+others_of t (moves.Starts u) = Starts t u
+others_of t (moves.Wakes u) = Wakes t u
 
 -- A step of the thread leads from this state to one whose parts are these, in which it has these frames.
 pub record IsMoved (w : World) (made : Move) (t : ℕ) (new : ProgramState) (after : List Frame) (r : State) (out : ℕ → Bool) : Type 0 where
-  pub leads : Leads (λ s. thread_step w s t) (others_of t made.started) new t after r out
+  pub leads : Leads (λ s. thread_step w s t) (others_of t made.others) new t after r out
   pub yields : yields_next w r t ≡ made.yields
 
 -- So it does in each state whose parts were the old ones, in which the thread had the old frames, which a carrier has.

@@ -18,10 +18,12 @@ use native_methods::NativeState;
 use program_state::ProgramState;
 use ref_model::Limits;
 use run_deques::Deques;
+use sleep_wheel::{Key, Wheel};
 use startup::Opened;
 use std::alloc::Global;
 use thread_steps::Parts;
 use vthread_state::{Phase, Status, ThreadKind, ThreadTable};
+use wakes::Wakes;
 
 // The object of the main thread.
 const MAIN_THREAD: u32 = 3;
@@ -72,6 +74,25 @@ fn first_memory(alloc: Global, heap: Heap, statics: Vec<Value>) -> Parts
     }
 }
 
+// The main thread has neither a permit nor an interrupt.
+fn first_wakes(alloc: Global) -> Result<Wakes, NoMemory>
+    ensures { IfOk result
+        (λ wakes. wakes ≡ record { permits = false ∷ []; interrupts = false ∷ [] }) }
+{
+    let mut wakes = Wakes::new(alloc)?;
+    wakes.add()?;
+    Ok(wakes)
+}
+
+// It has no deadline.
+fn first_keys(alloc: Global) -> Result<Vec<Option<Key>>, NoMemory>
+    ensures { IfOk result (λ keys. keys.items ≡ None ∷ []) }
+{
+    let mut keys = Vec::new(alloc);
+    keys.push(None)?;
+    Ok(keys)
+}
+
 /// The state of a program that begins, in which no thread is mounted.
 pub(crate) fn first_state(
     alloc: Global,
@@ -90,6 +111,10 @@ pub(crate) fn first_state(
         memory: first_memory(alloc, heap, statics),
         threads: first_threads(alloc, limits.threads)?,
         frozen: first_frozen(alloc, mounted)?,
+        wakes: first_wakes(alloc)?,
+        wheel: Wheel::new(alloc)?,
+        keys: first_keys(alloc)?,
+        time: 0,
         unnamed: 0,
         most_threads: limits.threads,
     })

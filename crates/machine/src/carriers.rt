@@ -1,9 +1,9 @@
 //! What carriers take up and put down: threads in deques, and frames of threads that no carrier runs.
 
-ghost use Rattle.std.specs.Prelude.{◌≡◌, ◌<◌, ◌++◌, ℕ, [], ◌∷◌, Contains, None, Some, if◌then◌else◌, length, slice_get, slice_set, take};
-ghost use Rattle.std.specs.List.Sorted.{IsStrictlyIncreasing};
+ghost use Rattle.std.specs.Prelude.{◌≡◌, ◌<◌, ◌≤◌, ℕ, [], ◌∷◌, Contains, IsTrue, None, Some, filter, if◌then◌else◌, length, slice_get, slice_set};
 ghost use Rattle.thread_lists.specs.Lists.{count, push, total};
 ghost use Rattle.machine.specs.Insides.{IsFrozen};
+ghost use Rattle.machine.specs.Puts.{is_loose};
 
 use continuation::Frozen;
 use run_deques::Deques;
@@ -43,7 +43,7 @@ pub(crate) fn set_mounted(mounted: &mut Vec<Option<u32>>, c: u32, thread: Option
 pub(crate) fn put_if(deques: &mut Deques, c: u32, t: u32, wanted: bool)
     requires carrier { c < length deques.old.lists }
     requires room { t < deques.old.threads }
-    requires free { total (count t) deques.old.lists ≡ 0 }
+    requires free { IsTrue wanted → total (count t) deques.old.lists ≡ 0 }
     ensures lists { deques.new.lists
         ≡ push deques.old.lists c (if wanted then t ∷ [] else []) }
     ensures room { deques.new.threads ≡ deques.old.threads }
@@ -53,16 +53,29 @@ pub(crate) fn put_if(deques: &mut Deques, c: u32, t: u32, wanted: bool)
     }
 }
 
-/// Puts threads that are in no deque into that of a carrier, in this order.
-pub(crate) fn put_all(deques: &mut Deques, c: u32, threads: &[u32])
+// Puts a thread into the deque of a carrier, if it is in none.
+fn put_if_loose(deques: &mut Deques, c: u32, t: u32)
+    requires carrier { c < length deques.old.lists }
+    requires room { t < deques.old.threads }
+    ensures lists { deques.new.lists
+        ≡ push deques.old.lists c (filter (is_loose deques.old.lists) (t ∷ [])) }
+    ensures room { deques.new.threads ≡ deques.old.threads }
+{
+    if !deques.holds(t) {
+        deques.put(c, t);
+    }
+}
+
+/// Puts those of some threads that are in no deque into that of a carrier, in this order.
+pub(crate) fn put_loose(deques: &mut Deques, c: u32, threads: &[u32])
     requires carrier { c < length deques.old.lists }
     requires room { (u : ℕ) → Contains threads.now u → u < deques.old.threads }
-    requires free { (u : ℕ) → Contains threads.now u → total (count u) deques.old.lists ≡ 0 }
-    requires rising { IsStrictlyIncreasing threads.now }
-    ensures lists { deques.new.lists ≡ push deques.old.lists c threads.now }
+    requires once { (u : ℕ) → count u threads.now ≤ 1 }
+    ensures lists { deques.new.lists
+        ≡ push deques.old.lists c (filter (is_loose deques.old.lists) threads.now) }
     ensures room { deques.new.threads ≡ deques.old.threads }
 {
     for t in threads {
-        deques.put(c, *t);
+        put_if_loose(deques, c, *t);
     }
 }

@@ -76,7 +76,7 @@ pub(crate) fn make_step(
     let Some(made) = thread_move(alloc, program, cache, state, mounted, next)? else {
         return Ok(None);
     };
-    put_woken(alloc, state, deques, c, t, made.started)?;
+    put_woken(alloc, state, deques, c, t, made.others)?;
     Ok(Some(outcome(state, t, made.yields)))
 }
 

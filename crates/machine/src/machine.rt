@@ -31,7 +31,7 @@ use history::{Entry, What};
 use interp_local::Fetched;
 use invocation::InvocationCache;
 use items::NoMemory;
-use program_state::ProgramState;
+use program_state::{ProgramState, earliest};
 use ref_model::{Ending, Limits};
 use run_deques::Deques;
 use startup::{ReadyProgram, open_typed};
@@ -349,6 +349,9 @@ impl<'p> Machine<'p> {
             return false;
         }
         if any_enabled(&self.state, self.mounted.as_slice()) {
+            return false;
+        }
+        if earliest(&self.state).is_some() {
             return false;
         }
         self.told = Some(Ending::Stalled);

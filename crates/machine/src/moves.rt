@@ -1,7 +1,7 @@
 //! The step of a mounted thread, by its phase.
 
-ghost use Rattle.std.specs.Prelude.{◌≡◌, false, IfOk, IsSome, OnOk};
-ghost use Rattle.vthread_state.specs.declared.phase.Phase.TheVariants.{Joining, Run, Throwing};
+ghost use Rattle.std.specs.Prelude.{◌≡◌, ℕ, Bool, true, IfOk, IsSome, OnOk};
+ghost use Rattle.vthread_state.specs.declared.phase.Phase.TheVariants.{Run, Throwing};
 ghost use Rattle.vthread_state.specs.Threads.{phase_at};
 ghost use Rattle.ref_model.specs.Looks as looks;
 ghost use Rattle.ref_model.specs.Requests.{request_of};
@@ -9,11 +9,14 @@ ghost use Rattle.frame_soundness.specs.Typed.{Typed};
 ghost use Rattle.interp_local.specs.Fetched.{IsTopAt};
 ghost use Rattle.invocation.specs.InvocationCache.{AreSelected};
 ghost use Rattle.program_state.specs.Requests.{IsPending};
+ghost use Rattle.program_state.specs.States.{IsState};
+ghost use Rattle.ref_model.specs.State as model;
+ghost use Rattle.machine.specs.AtHand as spec;
 ghost use Rattle.machine.specs.AtHand.{AreTyped, HasNext, IsAt};
 ghost use Rattle.machine.specs.Moves.{IsMade};
 ghost use Rattle.machine.specs.Ready.{IsReady};
 
-use crate::made::Move;
+use crate::made::{Move, Others};
 use continuation::Mounted;
 use interp_local::Fetched;
 use invocation::InvocationCache;
@@ -27,13 +30,21 @@ use std::alloc::Global;
 use thread_steps::{PendingRequest, Progress};
 use vthread_state::Phase;
 
-// Whether a request of a thread that wasn't interrupted is a yield.
-fn is_yield(request: ThreadRequest) -> bool
-    ensures { result ≡ looks.is_yield false (request_of request) }
+// Whether a thread's interrupt status is set.
+fn is_interrupted(state: &ProgramState, t: u32) -> bool
+    ensures { (r : model.State) (out : ℕ → Bool) → IsState state.now r out
+        → result ≡ model.is_interrupted r t }
+{
+    (t as usize) < state.wakes.count() && state.wakes.interrupted(t)
+}
+
+// Whether a request of a thread is a yield, by its interrupt status.
+fn is_yield(interrupted: bool, request: ThreadRequest) -> bool
+    ensures { result ≡ looks.is_yield interrupted (request_of request) }
 {
     match request {
         ThreadRequest::Yields => true,
-        ThreadRequest::Sleeps(millis) => millis == 0,
+        ThreadRequest::Sleeps(millis) => !interrupted && millis == 0,
         _ => false,
     }
 }
@@ -52,19 +63,15 @@ fn asking_move(
         state.old mounted.old.stack.frames state.new mounted.new.stack.frames) }
     ensures thread { OnOk result (mounted.new.thread ≡ mounted.old.thread) }
 {
-    let yields = is_yield(pending.request);
-    let made = match make_request(alloc, program, state, mounted, pending)? {
-        RequestOutcome::Done => Some(Move {
-            started: None,
-            yields,
-        }),
-        RequestOutcome::Starts(thread) => Some(Move {
-            started: Some(thread),
-            yields,
-        }),
-        RequestOutcome::LacksThreads => None,
+    let interrupted = is_interrupted(state, mounted.thread());
+    let yields = is_yield(interrupted, pending.request);
+    let others = match make_request(alloc, program, state, mounted, pending)? {
+        RequestOutcome::Done => Others::Stay,
+        RequestOutcome::Starts(thread) => Others::Starts(thread),
+        RequestOutcome::Wakes(thread) => Others::Wakes(thread),
+        RequestOutcome::LacksThreads => return Ok(None),
     };
-    Ok(made)
+    Ok(Some(Move { others, yields }))
 }
 
 // The step of a thread that runs.
@@ -98,7 +105,7 @@ fn running_move(
     )?;
     match progress {
         Progress::Stepped => Ok(Some(Move {
-            started: None,
+            others: Others::Stay,
             yields: false,
         })),
         Progress::Asks(pending) => asking_move(alloc, program, state, mounted, pending),
@@ -120,7 +127,7 @@ fn throwing_move(
 {
     throwing_step(alloc, program, state, mounted, o)?;
     Ok(Some(Move {
-        started: None,
+        others: Others::Stay,
         yields: false,
     }))
 }
@@ -139,18 +146,28 @@ fn top_instruction<'a>(
     program.instruction(top.method, top.pc).ok_or(NoMemory)
 }
 
-// The step of a thread that waited for the end of another.
+// Whether a thread in a phase waits for a permit, a time or the end of another thread.
+fn is_waiting(phase: Phase) -> bool
+    ensures { result ≡ spec.is_waiting phase }
+{
+    matches!(
+        phase,
+        Phase::Parked(_) | Phase::Asleep(_) | Phase::Joining { .. }
+    )
+}
+
+// The step of a thread that waited for a permit, a time or the end of another thread.
 fn waiting_move(
     alloc: Global,
     program: &ReadyProgram,
     cache: &mut InvocationCache,
     state: &mut ProgramState,
     mounted: &mut Mounted,
-    target: u32,
-    deadline: Option<u64>,
+    phase: Phase,
 ) -> Result<Option<Move>, NoMemory>
     requires ready { IsReady program.now }
-    requires waits { IsAt state.old mounted.old.thread (Joining target deadline) }
+    requires waits { IsAt state.old mounted.old.thread phase }
+    requires waiting { spec.is_waiting phase ≡ true }
     requires typed { Typed program.now mounted.old.stack.frames }
     requires selected { AreSelected program.now cache.old }
     ensures made { IfOk result (λ made. IsMade program.now made mounted.old.thread
@@ -169,7 +186,7 @@ fn waiting_move(
         next.resolution,
     )?;
     Ok(Some(Move {
-        started: None,
+        others: Others::Stay,
         yields: false,
     }))
 }
@@ -195,15 +212,18 @@ pub(crate) fn thread_move(
     ensures thread { OnOk result (mounted.new.thread ≡ mounted.old.thread) }
     ensures cache { AreSelected program.now cache.new }
 {
-    match state.threads.phase(mounted.thread()) {
+    let phase = state.threads.phase(mounted.thread());
+    match phase {
         Phase::Run => {
             let next = next.ok_or(NoMemory)?;
             running_move(alloc, program, cache, state, mounted, next)
         }
         Phase::Throwing(o) => throwing_move(alloc, program, state, mounted, o),
-        Phase::Joining { target, deadline } => {
-            waiting_move(alloc, program, cache, state, mounted, target, deadline)
+        _ => {
+            if !is_waiting(phase) {
+                return Err(NoMemory);
+            }
+            waiting_move(alloc, program, cache, state, mounted, phase)
         }
-        _ => Err(NoMemory),
     }
 }

@@ -1,11 +1,15 @@
 //! Whom a step puts into the deque of its carrier.
 
-ghost use Rattle.std.specs.Prelude.{◌≡◌, ◌<◌, ◌≤◌, ℕ, None, Some, length, true, OnOk};
+ghost use Rattle.std.specs.Prelude.{◌≡◌, ◌<◌, ◌≤◌, ℕ, false, length, true, OnOk};
 ghost use Rattle.thread_lists.specs.Lists.{count, push, total};
-ghost use Rattle.program_state.specs.Waiting.{has_ended_in};
-ghost use Rattle.machine.specs.Puts.{HasPut, MayBePut, threads_of};
+ghost use Rattle.program_state.specs.Waiting.{has_ended_in, lies_in};
+ghost use Rattle.machine.specs.Puts.{HasPut, IsTouched, is_nowhere as is_nowhere_in};
+ghost use Rattle.machine.specs.declared.made.Others.TheVariants as moves;
 
-use crate::carriers::put_all;
+use crate::carriers::{put_if, put_loose};
+use crate::endings::may_step;
+use crate::made::Others;
+use continuation::Frozen;
 use items::NoMemory;
 use program_state::{ProgramState, ending, woken_by_end};
 use run_deques::Deques;
@@ -33,58 +37,112 @@ fn put_joiners(
     requires done { has_ended_in state.now.threads t ≡ true }
     requires carrier { c < length deques.old.lists }
     requires room { length state.now.threads.threads ≤ deques.old.threads }
-    requires free { (u : ℕ) → MayBePut state.now t None u → total (count u) deques.old.lists ≡ 0 }
     ensures put { OnOk result
-        (HasPut state.now t None c deques.old.lists deques.new.lists) }
+        (HasPut state.now t moves.Stay c deques.old.lists deques.new.lists) }
     ensures room { OnOk result (deques.new.threads ≡ deques.old.threads) }
 {
     if ending(state).is_some() {
         return Ok(());
     }
     let woken = woken_by_end(alloc, state, t)?;
-    put_all(deques, c, woken.as_slice());
+    put_loose(deques, c, woken.as_slice());
     Ok(())
 }
 
-// Puts a thread that was started, if there is one.
-#[inline(always)]
-fn put_started(deques: &mut Deques, c: u32, start: Option<u32>)
-    requires carrier { c < length deques.old.lists }
-    requires room { (u : ℕ) → start ≡ Some u → u < deques.old.threads }
-    requires free { (u : ℕ) → start ≡ Some u → total (count u) deques.old.lists ≡ 0 }
-    ensures lists { deques.new.lists ≡ push deques.old.lists c (threads_of start) }
-    ensures room { deques.new.threads ≡ deques.old.threads }
+// Whether the frames of a thread lie with those that no carrier runs.
+fn lies(frozen: &Vec<Option<Frozen>>, u: u32) -> bool
+    ensures { result ≡ lies_in frozen.now.items u }
 {
-    if let Some(u) = start {
-        deques.put(c, u);
+    match frozen.get(u as usize) {
+        Some(Some(_)) => true,
+        _ => false,
     }
 }
 
-/// Puts whom a step of a thread puts into the deque of its carrier: the thread that it started, or those that waited for its end. There is
-/// room for each thread then. A thread that starts another and ends in one step counts as memory run out.
+// Whether a thread is neither mounted nor in a deque.
+fn is_nowhere(state: &ProgramState, deques: &Deques, u: u32) -> bool
+    ensures { result ≡ is_nowhere_in state.now deques.now.lists u }
+{
+    lies(&state.frozen, u) && !deques.holds(u)
+}
+
+// Puts a thread that got a permit or an interrupt, if it is nowhere and may step.
+fn put_roused(state: &ProgramState, deques: &mut Deques, c: u32, t: u32, u: u32)
+    requires thread { u < length state.now.threads.threads }
+    requires goes { has_ended_in state.now.threads t ≡ false }
+    requires carrier { c < length deques.old.lists }
+    requires room { length state.now.threads.threads ≤ deques.old.threads }
+    ensures put { HasPut state.now t (moves.Wakes u) c deques.old.lists deques.new.lists }
+    ensures room { deques.new.threads ≡ deques.old.threads }
+{
+    let nowhere = is_nowhere(state, deques, u);
+    let goes = may_step(state, u);
+    put_if(deques, c, u, nowhere & goes);
+}
+
+// Puts whom the end of a thread wakes. A thread that does something to another and ends in one step counts as memory run out.
+fn put_at_end(
+    alloc: Global,
+    state: &ProgramState,
+    deques: &mut Deques,
+    c: u32,
+    t: u32,
+    others: Others,
+) -> Result<(), NoMemory>
+    requires thread { t < length state.now.threads.threads }
+    requires done { has_ended_in state.now.threads t ≡ true }
+    requires carrier { c < length deques.old.lists }
+    requires room { length state.now.threads.threads ≤ deques.old.threads }
+    ensures put { OnOk result
+        (HasPut state.now t others c deques.old.lists deques.new.lists) }
+    ensures room { OnOk result (deques.new.threads ≡ deques.old.threads) }
+{
+    match others {
+        Others::Stay => put_joiners(alloc, state, deques, c, t),
+        Others::Starts(_) | Others::Wakes(_) => Err(NoMemory),
+    }
+}
+
+// Puts whom a step puts after which its thread goes on.
+#[inline(always)]
+fn put_by_step(state: &ProgramState, deques: &mut Deques, c: u32, t: u32, others: Others)
+    requires touched { IsTouched others (length state.now.threads.threads) }
+    requires goes { has_ended_in state.now.threads t ≡ false }
+    requires carrier { c < length deques.old.lists }
+    requires room { length state.now.threads.threads ≤ deques.old.threads }
+    requires free { (u : ℕ) → others ≡ moves.Starts u → total (count u) deques.old.lists ≡ 0 }
+    ensures put { HasPut state.now t others c deques.old.lists deques.new.lists }
+    ensures room { deques.new.threads ≡ deques.old.threads }
+{
+    match others {
+        Others::Stay => {}
+        Others::Starts(u) => deques.put(c, u),
+        Others::Wakes(u) => put_roused(state, deques, c, t, u),
+    }
+}
+
+/// Puts whom a step of a thread puts into the deque of its carrier: the thread that it started, the one that it gave a permit or an
+/// interrupt, or those that waited for its end. There is room for each thread then.
 pub(crate) fn put_woken(
     alloc: Global,
     state: &ProgramState,
     deques: &mut Deques,
     c: u32,
     t: u32,
-    start: Option<u32>,
+    others: Others,
 ) -> Result<(), NoMemory>
     requires thread { t < length state.now.threads.threads }
+    requires touched { IsTouched others (length state.now.threads.threads) }
     requires carrier { c < length deques.old.lists }
-    requires start { (u : ℕ) → start ≡ Some u → u < length state.now.threads.threads }
-    requires free { (u : ℕ) → MayBePut state.now t start u → total (count u) deques.old.lists ≡ 0 }
+    requires free { (u : ℕ) → others ≡ moves.Starts u → total (count u) deques.old.lists ≡ 0 }
     ensures put { OnOk result
-        (HasPut state.now t start c deques.old.lists deques.new.lists) }
+        (HasPut state.now t others c deques.old.lists deques.new.lists) }
     ensures room { OnOk result (length state.now.threads.threads ≤ deques.new.threads) }
 {
     deques.room(state.threads.count())?;
-    if !is_done(&state.threads, t) {
-        put_started(deques, c, start);
-        return Ok(());
+    if is_done(&state.threads, t) {
+        return put_at_end(alloc, state, deques, c, t, others);
     }
-    match start {
-        Some(_) => Err(NoMemory),
-        None => put_joiners(alloc, state, deques, c, t),
-    }
+    put_by_step(state, deques, c, t, others);
+    Ok(())
 }

@@ -1,5 +1,5 @@
-//! Whether the machine has a step for all that the classes of the files do. It has none for monitors, interruption, parking, waits for a
-//! time, clocks and pins.
+//! Whether the machine has a step for all that the classes of the files do. It has none for monitors, waits for a time, clocks and
+//! pins.
 
 ghost use Rattle.std.specs.Prelude.{◌≡◌, false, codes};
 ghost use Rattle.class_grammar.specs.Text.{same_text};
@@ -30,11 +30,11 @@ fn is_unsupported_of_system(name: &[u16]) -> bool
     is_same(name, b"nanoTime") || is_same(name, b"currentTimeMillis")
 }
 
-// Whether this is the name of one of the methods on the interrupt status of a thread.
-fn is_interruption(name: &[u16]) -> bool
-    ensures { result ≡ spec.is_interruption name.now }
+// Whether the machine has no step for the method of this name of java.util.concurrent.locks.LockSupport.
+fn is_unsupported_of_locks(name: &[u16]) -> bool
+    ensures { result ≡ spec.is_unsupported_of_locks name.now }
 {
-    is_same(name, b"interrupt") || is_same(name, b"isInterrupted") || is_same(name, b"interrupted")
+    is_same(name, b"parkNanos")
 }
 
 // Whether a method has a descriptor with arguments.
@@ -49,9 +49,7 @@ fn is_unsupported_of_thread(method: &MethodInfo) -> bool
     ensures { result ≡ spec.is_unsupported_of_thread method.now }
 {
     let name = method.name.as_slice();
-    is_interruption(name)
-        || is_same(name, b"sleep")
-        || is_same(name, b"join") && has_arguments(method)
+    is_same(name, b"sleep") || is_same(name, b"join") && has_arguments(method)
 }
 
 // Whether the machine has no step for this method of the built-in class of that name.
@@ -59,7 +57,7 @@ fn is_unsupported_method(class: &[u16], method: &MethodInfo) -> bool
     ensures { result ≡ spec.is_unsupported_method class.now method.now }
 {
     let name = method.name.as_slice();
-    is_same(class, b"java/util/concurrent/locks/LockSupport")
+    is_same(class, b"java/util/concurrent/locks/LockSupport") && is_unsupported_of_locks(name)
         || is_same(class, b"java/lang/Object") && is_unsupported_of_object(name)
         || is_same(class, b"java/lang/System") && is_unsupported_of_system(name)
         || is_same(class, b"java/lang/Thread") && is_unsupported_of_thread(method)

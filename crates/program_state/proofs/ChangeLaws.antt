@@ -12,6 +12,7 @@ use Rattle.state_model.specs.Frames.{Frame}
 use Rattle.ref_model.specs.declared.exception.Exception.TheVariants as exceptions
 use Rattle.ref_model.specs.Asking.{Asking, goes}
 use Rattle.ref_model.specs.Ending.{is_live}
+use Rattle.ref_model.specs.Looks.{deadline_in}
 use Rattle.ref_model.specs.Requesting.{asked, daemon_set, is_virtual, with_daemon, with_name}
 use Rattle.ref_model.specs.Requests.{request_of}
 use Rattle.ref_model.specs.State.{JavaThread, State, with_thread as with_thread_in}
@@ -37,7 +38,7 @@ pub record KeepsPlace (change : JavaThread → JavaThread) : Type 0 where
 
 -- ---- what is so afterwards
 
-changed_runs : (r : State) (t u : ℕ) (x y : JavaThread) (frames : List Frame) → slice_get r.threads u ≡ Some x → y.thread.status ≡ x.thread.status → y.frames ≡ x.frames
+pub changed_runs : (r : State) (t u : ℕ) (x y : JavaThread) (frames : List Frame) → slice_get r.threads u ≡ Some x → y.thread.status ≡ x.thread.status → y.frames ≡ x.frames
     → IsInPhase r t Run frames → IsInPhase (record r { threads = slice_set r.threads u y }) t Run frames
 changed_runs r t u x y frames at status same is = by (eqb_tells t u)
   where
@@ -72,7 +73,6 @@ change_answers w request t u a row change f there rows keeps each r out frames i
     let y : JavaThread = change x.0 in
     let next : State = record r { threads = slice_set r.threads u y } in
     let made : with_thread_in r u change ≡ next = ap (λ o. option_map_or (λ z. record r { threads = slice_set r.threads u (change z) }) o r) x.1 in
-    let plain = is.plain u x.0 x.1 in
     let status = keeps.status x.0 in
     let k = keeps.frames x.0 in
     let table = rows_set a.threads r u x.0 y f is.rows x.1 (rows x.0 x.2) in
@@ -81,7 +81,12 @@ change_answers w request t u a row change f there rows keeps each r out frames i
       same = λ k. each r x.0 k x.1 x.2 ∙ ap (λ s. goes s t k) made;
       is = subst (λ q. IsState (record a { threads = with_thread a.threads u f }) q out) (own_memory a r out (slice_set r.threads u y) is)
           (thread_changed a a.memory (with_thread a.threads u f) r out u x.0 y is x.1 is.status table refl
-          (record { status = ap is_plain_status status ∙ plain.status; permit = keeps.permit x.0 ∙ plain.permit; interrupted = keeps.interrupted x.0 ∙ plain.interrupted })
+          (record {
+            plain = ap is_plain_status status ∙ is.plain u x.0 x.1;
+            permit = keeps.permit x.0;
+            interrupted = keeps.interrupted x.0;
+            deadline = ap deadline_in status;
+          })
           (still_kept u (out u) x.0 y (slice_get a.frozen.items u) status k));
       runs = changed_runs r t u x.0 y frames x.1 status k at;
       others = changed_others r t u x.0 y x.1 status (keeps.permit x.0) (keeps.interrupted x.0);
@@ -94,7 +99,7 @@ pub daemon_throws : (w : World) (t u : ℕ) (a : ProgramState) (row : Thread) (d
 daemon_throws w t u a row daemon there e =
     told_answers w (requests.SetsDaemon u daemon) t a (replies.Throws exceptions.IllegalArgumentException)
     (told_by w (requests.SetsDaemon u daemon) t u a.threads row (replies.Throws exceptions.IllegalArgumentException) there
-    (λ r x k at same calm. bind_is (slice_get r.threads u) (daemon_set w r t k u daemon) x (raised w r t exceptions.IllegalArgumentException) at
+    (λ r x k at same. bind_is (slice_get r.threads u) (daemon_set w r t k u daemon) x (raised w r t exceptions.IllegalArgumentException) at
     (ap (λ b. if b then raised w r t exceptions.IllegalArgumentException
     else (if is_live x.thread.status then raised w r t exceptions.IllegalThreadStateException else goes (with_thread_in r u (with_daemon daemon)) t k))
     (ap (λ (z : Thread). is_virtual z.kind && not daemon) same ∙ e))))
@@ -111,7 +116,7 @@ pub daemon_of_live : (w : World) (t u : ℕ) (a : ProgramState) (row : Thread) (
 daemon_of_live w t u a row daemon there e live =
     told_answers w (requests.SetsDaemon u daemon) t a (replies.Throws exceptions.IllegalThreadStateException)
     (told_by w (requests.SetsDaemon u daemon) t u a.threads row (replies.Throws exceptions.IllegalThreadStateException) there
-    (λ r x k at same calm. bind_is (slice_get r.threads u) (daemon_set w r t k u daemon) x (raised w r t exceptions.IllegalThreadStateException) at
+    (λ r x k at same. bind_is (slice_get r.threads u) (daemon_set w r t k u daemon) x (raised w r t exceptions.IllegalThreadStateException) at
     (daemon_cases w r t k u daemon x row same e ∙ ap (λ b. if b then raised w r t exceptions.IllegalThreadStateException else goes (with_thread_in r u (with_daemon daemon)) t k)
     (ap (λ (z : Thread). is_live z.status) same ∙ live))))
 

@@ -1,6 +1,7 @@
 -- A thread is made.
 use Rattle.std.proofs.Common.{◌≡◌, ◌⊎◌, inl, inr, ℕ, zero, suc, ◌+◌, ℤ, pos, Bool, true, false, List, [], ◌∷◌, ◌++◌, length, Option, Some, None, refl, ap, sym, subst, ◌∙◌}
 use Rattle.std.specs.Prelude.{codes, is_some, map, nat_lt, slice_get, if◌then◌else◌}
+use Rattle.std.specs.Option.{option_map_or}
 use Rattle.items.specs.Options.{◌>>=◌}
 use Rattle.items.proofs.Binds.{bind_is}
 use Rattle.instruction_rows.specs.declared.value.Value.TheVariants as values
@@ -17,11 +18,14 @@ use Rattle.ref_model.specs.Asking.{Asking, goes}
 use Rattle.ref_model.specs.Ending.{is_live}
 use Rattle.ref_model.specs.Heap.{with_text, with_value}
 use Rattle.ref_model.specs.Texts.{decimal_text}
+use Rattle.ref_model.specs.Looks.{deadline_in}
 use Rattle.ref_model.specs.Memory.{Memory}
 use Rattle.ref_model.specs.Starting.{created, first_daemon, first_name, made_or_thrown, made_thread, may_create, name_made, unnamed_after, with_new_thread}
 use Rattle.ref_model.specs.State.{JavaThread, State}
 use Rattle.ref_model.specs.ThreadNatives.{with_number}
 use Rattle.ref_model.specs.declared.request.ThreadRequest.TheVariants as requests
+use Rattle.sleep_wheel.specs.declared.sleeper.Key.{Key}
+use Rattle.sleep_wheel.specs.Sleepers.{Sleepers, sleeper_at}
 use Rattle.heap_objs.specs.Heap.{Heap}
 use Rattle.heap_instructions.specs.HeapReads.{IsMade, IsValueSet}
 use Rattle.heap_instructions.specs.Outcomes.{with_heap}
@@ -33,9 +37,11 @@ use Rattle.thread_steps.specs.States.{memory_of}
 use Rattle.program_state.specs.declared.reply.Reply.TheVariants as replies
 use Rattle.program_state.specs.declared.state.ProgramState.{ProgramState}
 use Rattle.program_state.specs.Creating.{IsAdded, IsNameMade, daemon_of, first_name_of, has_room, unnamed_with}
+use Rattle.program_state.specs.Deadlines.{coming_deadline, deadlines_of, key_at, key_number, later_than}
 use Rattle.program_state.specs.Replies.{Answers}
 use Rattle.program_state.specs.States as places
-use Rattle.program_state.specs.States.{IsInPhase, IsKept, IsPlain, IsState}
+use Rattle.program_state.specs.States.{IsInPhase, IsKept, IsState, is_plain_status}
+use Rattle.program_state.proofs.WheelLaws.{holds_same}
 use Rattle.program_state.proofs.StateLaws.{others_same, row_back, stays_same}
 
 -- ---- two lists with one more at the end
@@ -78,10 +84,19 @@ kept_none u out k (places.idle x e f g live) = e
 
 -- ---- the state with one more thread
 
-added_state : (a new : ProgramState) (b : Parts) (r : State) (out : ℕ → Bool) (memory : Memory) (unnamed : ℕ) (x : JavaThread) → IsState a r out → x.thread.status ≡ New → IsPlain x
+length_more : {A : Type 0} (xs : List A) (x : A) → length (xs ++ x ∷ []) ≡ suc (length xs)
+length_more [] x = refl
+length_more (y ∷ xs) x = ap suc (length_more xs x)
+
+abbrev key_in : Option (Option Key) → Option ℕ
+key_in o = option_map_or key_number o None
+
+added_state : (a new : ProgramState) (b : Parts) (r : State) (out : ℕ → Bool) (memory : Memory) (unnamed : ℕ) (x : JavaThread) → IsState a r out → x.thread.status ≡ New → x.permit ≡ false → x.interrupted ≡ false
     → b.status ≡ Live Run → b.main_threw ≡ a.memory.main_threw → memory_of b ≡ memory → new.memory ≡ b → new.threads ≡ record a.threads { threads = a.threads.threads ++ x.thread ∷ [] }
-    → new.frozen.items ≡ a.frozen.items ++ None ∷ [] → new.unnamed ≡ unnamed → new.most_threads ≡ a.most_threads → IsState new (with_new_thread r memory unnamed x) out
-added_state a new b r out memory unnamed x is idle plain run threw made memory_is threads frozen count most =
+    → new.frozen.items ≡ a.frozen.items ++ None ∷ [] → new.wakes.permits ≡ a.wakes.permits ++ false ∷ [] → new.wakes.interrupts ≡ a.wakes.interrupts ++ false ∷ []
+    → new.wheel ≡ a.wheel → new.keys.items ≡ a.keys.items ++ None ∷ [] → new.time ≡ a.time → new.unnamed ≡ unnamed → new.most_threads ≡ a.most_threads
+    → IsState new (with_new_thread r memory unnamed x) out
+added_state a new b r out memory unnamed x is idle no_permit calm run threw made memory_is threads frozen permits interrupts wheel keys now count most =
     record {
       status = ap (λ (p : Parts). p.status) memory_is ∙ run;
       memory = ap memory_of memory_is ∙ made;
@@ -90,17 +105,36 @@ added_state a new b r out memory unnamed x is idle plain run threw made memory_i
       most_threads = most ∙ is.most_threads;
       limit = ap (λ (ts : Threads). ts.limit) threads ∙ is.limit;
       plain = λ u y at. each_plain u y at (more r.threads x u);
+      permits = permits ∙ ap (λ fs. fs ++ false ∷ []) is.permits ∙ ap (λ b. map (λ (y : JavaThread). y.permit) r.threads ++ b ∷ []) (sym no_permit)
+          ∙ sym (map_more (λ (y : JavaThread). y.permit) r.threads x);
+      interrupts = interrupts ∙ ap (λ fs. fs ++ false ∷ []) is.interrupts ∙ ap (λ b. map (λ (y : JavaThread). y.interrupted) r.threads ++ b ∷ []) (sym calm)
+          ∙ sym (map_more (λ (y : JavaThread). y.interrupted) r.threads x);
       unnamed = count;
       owners = is.owners;
-      now = is.now;
+      now = now ∙ is.now;
+      places = ap length keys ∙ length_more a.keys.items None ∙ ap suc is.places ∙ sym (length_more r.threads x);
+      wheel = holds_same (sleeper_at a.wheel) (sleeper_at new.wheel) (key_at a.keys.items) (key_at new.keys.items) (deadlines_of r.now r.threads) (deadlines_of r.now (r.threads ++ x ∷ []))
+          (λ k. ap (λ (s : Sleepers). sleeper_at s k) wheel) (λ u. ap (λ ks. key_at ks u) keys ∙ each_key u (more a.keys.items None u)) (λ u. each_deadline u (more r.threads x u)) is.wheel;
       kept = λ u. subst (λ ks. IsKept u (out u) (slice_get (r.threads ++ x ∷ []) u) (slice_get ks u)) (sym frozen)
           (each_kept u (more_both r.threads a.frozen.items x None (λ k. kept_ends k (out k) (slice_get r.threads k) (slice_get a.frozen.items k) (is.kept k)) u));
     }
   where
     each_plain : (u : ℕ) (y : JavaThread) → slice_get (r.threads ++ x ∷ []) u ≡ Some y
-        → (slice_get (r.threads ++ x ∷ []) u ≡ slice_get r.threads u) ⊎ ((slice_get r.threads u ≡ None) × (slice_get (r.threads ++ x ∷ []) u ≡ Some x)) → IsPlain y
+        → (slice_get (r.threads ++ x ∷ []) u ≡ slice_get r.threads u) ⊎ ((slice_get r.threads u ≡ None) × (slice_get (r.threads ++ x ∷ []) u ≡ Some x)) → is_plain_status y.thread.status ≡ true
     each_plain u y at (inl same) = is.plain u y (sym same ∙ at)
-    each_plain u y at (inr last) = subst IsPlain (same_some (slice_get (r.threads ++ x ∷ []) u) x y last.1 at) plain
+    each_plain u y at (inr last) =
+        ap (λ (z : JavaThread). is_plain_status z.thread.status) (sym (same_some (slice_get (r.threads ++ x ∷ []) u) x y last.1 at)) ∙ ap is_plain_status idle
+
+    each_key : (u : ℕ) → (slice_get (a.keys.items ++ None ∷ []) u ≡ slice_get a.keys.items u) ⊎ ((slice_get a.keys.items u ≡ None) × (slice_get (a.keys.items ++ None ∷ []) u ≡ Some None))
+        → key_at (a.keys.items ++ None ∷ []) u ≡ key_at a.keys.items u
+    each_key u (inl same) = ap key_in same
+    each_key u (inr last) = ap key_in last.1 ∙ sym (ap key_in last.0)
+
+    each_deadline : (u : ℕ) → (slice_get (r.threads ++ x ∷ []) u ≡ slice_get r.threads u) ⊎ ((slice_get r.threads u ≡ None) × (slice_get (r.threads ++ x ∷ []) u ≡ Some x))
+        → deadlines_of r.now (r.threads ++ x ∷ []) u ≡ deadlines_of r.now r.threads u
+    each_deadline u (inl same) = ap (coming_deadline r.now) same
+    each_deadline u (inr last) =
+        ap (coming_deadline r.now) last.1 ∙ ap (λ status. later_than r.now (deadline_in status)) idle ∙ sym (ap (coming_deadline r.now) last.0)
 
     each_kept : (u : ℕ) → ((slice_get (r.threads ++ x ∷ []) u ≡ slice_get r.threads u) × (slice_get (a.frozen.items ++ None ∷ []) u ≡ slice_get a.frozen.items u))
         ⊎ ((slice_get r.threads u ≡ None) × (slice_get (r.threads ++ x ∷ []) u ≡ Some x) × (slice_get a.frozen.items u ≡ None) × (slice_get (a.frozen.items ++ None ∷ []) u ≡ Some None))
@@ -218,7 +252,7 @@ thread_created w kind object string name t a new named numbered row daemon unnam
           (ap (with_number (with_heap named (memory_of a.memory)) object) (sym count) ∙ number (memory_of a.memory))
           (λ i. goes (with_new_thread r memory (sym (is_unnamed ∙ unnamed_is kind name r a.unnamed is.unnamed) i) (made_thread kind (sym flag i) object string)) t k);
       is = added_state a (record new { unnamed = unnamed }) (with_heap_in a numbered) r out memory unnamed x is refl
-          (record { status = refl; permit = refl; interrupted = refl }) is.status refl refl added.memory added.threads added.frozen refl added.most_threads;
+          refl refl is.status refl refl added.memory added.threads added.frozen added.permits added.interrupts added.wheel added.keys added.time refl added.most_threads;
       runs = record { thread = at.thread; at = more_there r.threads x t at.thread at.at; status = at.status; has = at.has };
       others = added_others r t memory unnamed x refl;
     }

@@ -1,23 +1,26 @@
 -- What a reply makes of the thread that asked.
 use Rattle.std.proofs.Common.{◌≡◌, ℕ, ◌≤◌, Bool, true, false, List, [], ◌∷◌, length, drop, Option, Some, None, refl, ap, sym, subst, ◌∙◌, arith, length-drop}
 use Rattle.std.specs.Prelude.{slice_get, slice_set, nat_le, if◌then◌else◌}
+use Rattle.std.specs.Global.{Vec}
 use Rattle.std.proofs.lemmas.Bool.{le-leb}
 use Rattle.items.specs.Options.{◌>>=◌}
 use Rattle.items.proofs.Binds.{bind_is}
 use Rattle.instruction_rows.specs.SlotEffect.{pushed}
 use Rattle.instruction_rows.specs.declared.value.Slot.{Slot}
 use Rattle.instruction_rows.specs.declared.value.Value.{Value}
-use Rattle.vthread_state.specs.declared.phase.Phase.TheVariants.{Run, Joining}
+use Rattle.vthread_state.specs.declared.phase.Phase.{Phase}
+use Rattle.vthread_state.specs.declared.phase.Phase.TheVariants.{Run}
 use Rattle.vthread_state.specs.declared.thread.Status.TheVariants.{Live}
-use Rattle.vthread_state.specs.Threads.{Threads, with_status}
+use Rattle.vthread_state.specs.Threads.{Threads}
 use Rattle.link_model.specs.World.{World}
 use Rattle.state_model.specs.Frames.{Frame}
 use Rattle.continuation.specs.Continuation.{Continuation}
 use Rattle.frames.specs.Frames.{at_pc, top_room, top_stack, with_stack}
 use Rattle.ref_model.specs.declared.exception.Exception.{Exception}
-use Rattle.ref_model.specs.Asking.{goes, waits}
+use Rattle.ref_model.specs.Asking.{goes}
 use Rattle.ref_model.specs.Effects.{Effect, done, gives}
 use Rattle.ref_model.specs.Frames.{behind}
+use Rattle.ref_model.specs.Looks.{deadline_in, phase_deadline}
 use Rattle.ref_model.specs.Memory.{Memory}
 use Rattle.ref_model.specs.State.{JavaThread, State, with_frames, with_status as with_status_in}
 use Rattle.ref_model.specs.Throwing.{raised}
@@ -25,6 +28,8 @@ use Rattle.ref_model.proofs.StateLaws.{get_set, frames_is}
 use Rattle.heap_instructions.specs.declared.outcome.Outcome.TheVariants as outcomes
 use Rattle.heap_instructions.specs.Operands.{operands, ChangesOperands, HasTop}
 use Rattle.heap_instructions.specs.Outcomes.{IsGiven}
+use Rattle.sleep_wheel.specs.declared.sleeper.Key.{Key}
+use Rattle.sleep_wheel.specs.Sleepers.{Sleepers, sleeper_at}
 use Rattle.schedule_soundness.specs.PutLaws.{OthersStay}
 use Rattle.schedule_soundness.proofs.ThreadLists.{set_other}
 use Rattle.thread_steps.specs.declared.parts.Parts.{Parts}
@@ -32,12 +37,14 @@ use Rattle.thread_steps.specs.declared.progress.PendingRequest.{PendingRequest}
 use Rattle.thread_steps.specs.Concluding.{Raises}
 use Rattle.program_state.specs.declared.reply.Reply.TheVariants as replies
 use Rattle.program_state.specs.declared.state.ProgramState.{ProgramState}
+use Rattle.program_state.specs.Deadlines.{HoldsDeadlines, coming_deadline, deadlines_of, key_at, later_than, with_deadline}
+use Rattle.program_state.specs.Timers.{IsTimerSet}
 use Rattle.program_state.specs.Replies.{Concludes, GoesOn, GoesOnWith, GoesOnWithout}
-use Rattle.program_state.specs.Replying.{IsJoining, IsRaised}
+use Rattle.program_state.specs.Replying.{BeginsWait, IsRaised, IsWaiting}
 use Rattle.program_state.specs.Settling.{IsSettled}
 use Rattle.program_state.specs.States.{IsInPhase, IsState}
 use Rattle.program_state.specs.Steps.{Leads}
-use Rattle.program_state.proofs.StateLaws.{frames_had, other_frames, others_same, own_memory, rows_set, still_out, thread_changed}
+use Rattle.program_state.proofs.StateLaws.{frames_had, interrupts_same, kept_put, other_frames, others_same, own_memory, permits_same, rows_set, still_out, thread_put}
 use Rattle.program_state.proofs.StepLaws.{stage_leads, stage_of}
 
 -- ---- the thread goes on
@@ -124,7 +131,7 @@ went_with q v m n after given only held pc =
 
 pub is_raised : (w : World) (e : Exception) (t : ℕ) (a new : ProgramState) (b : Parts) → Raises w e a.memory b → IsSettled t (record a { memory = b }) new → IsRaised w e t a new
 is_raised w e t a new b raises settled r out frames is here at =
-    stage_leads (λ s. raised w s t e) a new r out t Run frames frames is at a.memory b refl refl is.status here (raises (stage_of r t Run frames at) frames) settled
+    stage_leads (λ s. raised w s t e) a new r out t Run frames frames is at a.memory b refl refl is.status here refl (raises (stage_of r t Run frames at) frames) settled
 
 pub throws_concluded : (w : World) (q : PendingRequest) (t : ℕ) (e : Exception) (a new : ProgramState) (before : List Frame) → IsRaised w e t a new
     → Concludes w q t (replies.Throws e) a before new before
@@ -132,22 +139,45 @@ throws_concluded w q t e a new before raises r out f below is here at top = rais
 
 -- ---- a wait
 
-pub joins_concluded : (w : World) (q : PendingRequest) (t target : ℕ) (a : ProgramState) (table : Threads) (before : List Frame) → IsJoining t target a.threads table
-    → Concludes w q t (replies.Joins target) a before (record a { threads = table }) before
-joins_concluded w q t target a table before waits r out f below is here at top =
+-- Thread t, which had no deadline, waits in a phase.
+pub wait_begun : (t : ℕ) (phase : Phase) (a : ProgramState) (wheel : Sleepers) (keys : Vec (Option Key)) (table : Threads)
+    → IsTimerSet t (later_than a.time (phase_deadline phase)) a.wheel a.keys.items wheel keys.items → IsWaiting t phase a.threads table
+    → BeginsWait t phase a (record a { threads = table; wheel = wheel; keys = keys })
+wait_begun t phase a wheel keys table timer waits r out frames is here at =
     let x : JavaThread = at.thread in
-    let y : JavaThread = record x { thread = record x.thread { status = Live (Joining target None) } } in
-    let plain = is.plain t x at.at in
+    let y : JavaThread = record x { thread = record x.thread { status = Live phase } } in
+    let new : ProgramState = record a { threads = table; wheel = wheel; keys = keys } in
+    let none : deadlines_of r.now r.threads t ≡ None = ap (coming_deadline r.now) at.at ∙ ap (λ status. later_than r.now (deadline_in status)) at.status in
+    let status : with_status_in r t (Live phase) ≡ record r { threads = slice_set r.threads t y } = rw at.at refl in
+    let put = thread_put a new r out t x y is at.at
+    (record {
+      run = is.status;
+      rows = ap (λ (ts : Threads). ts.threads) waits.threads ∙ rows_set a.threads r t x y (λ thread. record thread { status = Live phase }) is.rows at.at refl;
+      limit = ap (λ (ts : Threads). ts.limit) waits.threads;
+      most_threads = refl;
+      plain = waits.plain;
+      permits = permits_same a r out t x x.permit is at.at refl;
+      interrupts = interrupts_same a r out t x x.interrupted is at.at refl;
+      unnamed = refl;
+      time = refl;
+      places = timer.places;
+      wheel = subst (λ now. HoldsDeadlines (sleeper_at wheel) (key_at keys.items) (with_deadline (deadlines_of r.now r.threads) t (later_than now (phase_deadline phase)))) is.now
+          (timer.holds (deadlines_of r.now r.threads) is.wheel none);
+    })
+    (kept_put a.frozen.items r out t x y at.at is.kept (still_out t (out t) x y (slice_get a.frozen.items t) here refl)) in
+    subst (λ q. IsState new q out) (own_memory a r out (slice_set r.threads t y) is ∙ sym status) put
+
+pub waits_concluded : (w : World) (q : PendingRequest) (t : ℕ) (phase : Phase) (a new : ProgramState) (before : List Frame) → BeginsWait t phase a new
+    → Concludes w q t (replies.Waits phase) a before new before
+waits_concluded w q t phase a new before waits r out f below is here at top =
+    let x : JavaThread = at.thread in
+    let y : JavaThread = record x { thread = record x.thread { status = Live phase } } in
     let next : State = record r { threads = slice_set r.threads t y } in
-    let status : with_status_in r t (Live (Joining target None)) ≡ next = rw at.at refl in
-    let rows = rows_set a.threads r t x y (λ thread. record thread { status = Live (Joining target None) }) is.rows at.at refl in
-    let changed = thread_changed a a.memory (with_status a.threads t (Live (Joining target None))) r out t x y is at.at is.status rows refl
-    (record { status = refl; permit = plain.permit; interrupted = plain.interrupted }) (still_out t (out t) x y (slice_get a.frozen.items t) here refl) in
+    let status : with_status_in r t (Live phase) ≡ next = rw at.at refl in
     record {
       next = next;
       makes = ap (λ (s : State). Some s) status;
-      is = subst (λ ts. IsState (record a { threads = ts }) next out) (sym waits) (subst (λ q. IsState (record a { threads = with_status a.threads t (Live (Joining target None)) }) q out)
-          (own_memory a r out (slice_set r.threads t y) is) changed);
+      is = subst (λ s. IsState new s out) status (waits r out before is here at);
       has = record { thread = y; at = get_set r.threads t x y at.at; has = at.has };
       others = others_same t r next (λ u ne. set_other r.threads t u y ne) refl refl;
     }

@@ -1,6 +1,6 @@
 -- From what an instruction asks to the step of its thread.
-use Rattle.std.proofs.Common.{◌≡◌, ℕ, suc, ◌<◌, arith, Bool, true, false, List, [], ◌∷◌, length, drop, Option, Some, refl, ap, sym, subst, ◌∙◌}
-use Rattle.std.specs.Prelude.{map, not, slice_set, ◌&&◌}
+use Rattle.std.proofs.Common.{◌≡◌, ◌≢◌, ℕ, suc, ◌<◌, arith, Bool, true, false, List, [], ◌∷◌, length, drop, Option, Some, None, refl, ap, sym, subst, ◌∙◌}
+use Rattle.std.specs.Prelude.{map, not, slice_get, slice_set, ◌&&◌}
 use Rattle.std.proofs.Math.ListN.{length-set}
 use Rattle.items.specs.Options.{◌>>=◌}
 use Rattle.items.proofs.Binds.{bind_is, some_is}
@@ -24,7 +24,8 @@ use Rattle.ref_model.specs.Resuming.{asking_by, asking_in}
 use Rattle.ref_model.specs.State.{JavaThread, State}
 use Rattle.ref_model.specs.Step.{after_effect, event_step, phase_step, row_effect, row_event, row_or_event}
 use Rattle.ref_model.specs.declared.request.ThreadRequest.TheVariants as requests
-use Rattle.schedule_soundness.specs.PutLaws.{OthersStay}
+use Rattle.schedule_soundness.specs.PutLaws.{Stays, no_thread, is_new, is_kept, OthersStay, OthersStayBeside}
+use Rattle.schedule_soundness.proofs.ThreadLists.{not_none, same_some}
 use Rattle.thread_steps.specs.declared.parts.Parts.{Parts}
 use Rattle.thread_steps.specs.declared.progress.PendingRequest.{PendingRequest}
 use Rattle.thread_steps.specs.Asking.{asking_of, AsksAt}
@@ -35,14 +36,15 @@ use Rattle.program_state.specs.declared.starting.Start.TheVariants.{Begins, Thro
 use Rattle.program_state.specs.declared.state.ProgramState.{ProgramState}
 use Rattle.program_state.specs.Creating.{has_room}
 use Rattle.program_state.specs.Replies.{Answers, Concludes, GoesOn, GoesOnWithout}
-use Rattle.program_state.specs.Requests.{IsPending, LacksThreads, lacks_room}
+use Rattle.program_state.specs.Requests.{IsPending, IsRequestMade, LacksThreads, lacks_room}
 use Rattle.program_state.specs.Running.{StandsAt}
 use Rattle.program_state.specs.Starting.{IsBegun, IsStart}
 use Rattle.program_state.specs.States.{IsState}
-use Rattle.program_state.specs.Steps.{Starts, StepsTo}
-use Rattle.program_state.proofs.StateLaws.{others_same, others_then}
+use Rattle.program_state.specs.Steps.{IsWoken, Starts, StepsTo}
+use Rattle.program_state.specs.Waking.{LeavesWoken, wake_outcome}
+use Rattle.program_state.proofs.StateLaws.{others_same, others_then, stays_then}
 use Rattle.program_state.proofs.CreateLaws.{room_there}
-use Rattle.program_state.proofs.ReplyLaws.{gone_on}
+use Rattle.program_state.proofs.ReplyLaws.{goes_concluded, gone_on}
 use Rattle.program_state.proofs.StartLaws.{begun_is, begun_runs, begun_state, begun_thread, starts_then}
 
 -- ---- the step of an instruction that asks is what its request makes of the state
@@ -82,9 +84,14 @@ pending_step w q a frames r t p same =
 
 -- ---- a request that was answered, and whose reply was concluded
 
-pub request_done : (w : World) (q : PendingRequest) (t : ℕ) (a mid new : ProgramState) (before after : List Frame) (reply : Reply) → IsPending w q a.memory before
-    → Answers w q.request (OthersStay t) t a mid reply → Concludes w q t reply mid before new after → StepsTo w (OthersStay t) Run t a before new after
-request_done w q t a mid new before after reply p answers concludes r out is here at =
+-- what a step leaves of others, where it goes on from a state that a request left
+abbrev pub LeavesThen : ℕ → ProgramState → ProgramState → (State → State → Type 0) → (State → State → Type 0) → Type 0
+LeavesThen t mid new first leaves = (r s q : State) (out : ℕ → Bool) → IsState mid s out → IsState new q out → first r s → OthersStay t s q → leaves r q
+
+request_goes_on : (w : World) (q : PendingRequest) (t : ℕ) (a mid new : ProgramState) (before after : List Frame) (reply : Reply) (first leaves : State → State → Type 0)
+    → LeavesThen t mid new first leaves → IsPending w q a.memory before → Answers w q.request first t a mid reply → Concludes w q t reply mid before new after
+    → StepsTo w leaves Run t a before new after
+request_goes_on w q t a mid new before after reply first leaves then p answers concludes r out is here at =
     let h = answers r out before is at in
     let l = concludes h.state out p.frame p.below h.is here h.runs p.top in
     record {
@@ -92,8 +99,13 @@ request_done w q t a mid new before after reply p answers concludes r out is her
       makes = pending_step w q a.memory before r t p is.memory ∙ h.same (asking_of q p.frame p.below) ∙ l.makes;
       is = l.is;
       has = l.has;
-      others = others_then t r h.state l.next h.others l.others;
+      others = then r h.state l.next out h.is l.is h.others l.others;
     }
+
+pub request_done : (w : World) (q : PendingRequest) (t : ℕ) (a mid new : ProgramState) (before after : List Frame) (reply : Reply) → IsPending w q a.memory before
+    → Answers w q.request (OthersStay t) t a mid reply → Concludes w q t reply mid before new after → StepsTo w (OthersStay t) Run t a before new after
+request_done w q t a mid new before after reply =
+    request_goes_on w q t a mid new before after reply (OthersStay t) (OthersStay t) (λ r s q out is now first last. others_then t r s q first last)
 
 -- ---- starts
 
@@ -135,6 +147,55 @@ request_starts w q t u a new k before after p starts start begun goes_on r out i
       has = l.has;
       others = starts_then t u r l.next g.frame s.new before at l.others count;
     }
+
+-- ---- permits and interrupts
+
+beside_then : (t u : ℕ) (r s q : State) → OthersStayBeside t u r s → OthersStay t s q → OthersStayBeside t u r q
+beside_then t u r s q first last =
+    record {
+      threads = λ v ne other. stays_then (slice_get r.threads v) (slice_get s.threads v) (slice_get q.threads v) (first.threads v ne other) (last.threads v ne);
+      owners = last.owners ∙ first.owners;
+      now = last.now ∙ first.now;
+    }
+
+woken_then : (t u : ℕ) (r s q : State) → u ≢ t → IsWoken u r s → OthersStay t s q → IsWoken u r q
+woken_then t u r s q ne woken last = by (last.threads u ne)
+  where
+    by : Stays (slice_get s.threads u) (slice_get q.threads u) → IsWoken u r q
+    by (no_thread e f) = absurd (not_none (slice_get s.threads u) woken.new e woken.is)
+    by (is_new y e f n) = absurd (not_none (slice_get s.threads u) woken.new e woken.is)
+    by (is_kept x y e f status permit interrupted) =
+        let same : x ≡ woken.new = same_some (slice_get s.threads u) x woken.new e woken.is in
+        record {
+          old = woken.old;
+          new = y;
+          was = woken.was;
+          is = f;
+          live = woken.live;
+          status = status ∙ ap (λ (z : JavaThread). z.thread.status) same ∙ woken.status;
+          permit = λ had. permit ∙ ap (λ (z : JavaThread). z.permit) same ∙ woken.permit had;
+          interrupted = λ had. interrupted ∙ ap (λ (z : JavaThread). z.interrupted) same ∙ woken.interrupted had;
+        }
+
+leaves_then : (t : ℕ) (a : ProgramState) (woken : Option ℕ) → LeavesThen t a a (LeavesWoken t woken) (LeavesWoken t woken)
+leaves_then t a None r s q out is now first last = others_then t r s q first last
+leaves_then t a (Some u) r s q out is now first last =
+    record {
+      other = first.other;
+      others = beside_then t u r s q first.others last;
+      woken = woken_then t u r s q first.other first.woken last;
+      count = same_count a s q out is now ∙ first.count;
+    }
+
+-- A thread was given a permit or an interrupt, and the one that gave it goes on.
+pub wake_made : (w : World) (q : PendingRequest) (a new : ProgramState) (m n : Continuation) (woken : Option ℕ) → IsPending w q a.memory m.stack.frames
+    → Answers w q.request (LeavesWoken m.thread woken) m.thread a new replies.Goes → GoesOnWithout q m.stack.frames n.stack.frames → IsRequestMade w q (wake_outcome woken) a m new n
+wake_made w q a new m n None p answers goes =
+    request_goes_on w q m.thread a new new m.stack.frames n.stack.frames replies.Goes (LeavesWoken m.thread None) (LeavesWoken m.thread None) (leaves_then m.thread new None) p answers
+    (goes_concluded w q m.thread new m.stack.frames n.stack.frames goes)
+wake_made w q a new m n (Some u) p answers goes =
+    request_goes_on w q m.thread a new new m.stack.frames n.stack.frames replies.Goes (LeavesWoken m.thread (Some u)) (LeavesWoken m.thread (Some u)) (leaves_then m.thread new (Some u)) p answers
+    (goes_concluded w q m.thread new m.stack.frames n.stack.frames goes)
 
 -- ---- a thread is to be made where there may be no more
 

@@ -1,6 +1,7 @@
 -- A thread is started.
 use Rattle.std.proofs.Common.{◌≡◌, ◌≢◌, ◌⊎◌, inl, inr, eqb, ℕ, zero, suc, ◌<◌, ◌-◌, Bool, true, false, List, [], ◌∷◌, length, Option, Some, None, refl, ap, sym, subst, ◌∙◌, arith}
 use Rattle.std.specs.Prelude.{nat_le, replicate, slice_get, slice_set, if◌then◌else◌}
+use Rattle.std.specs.Global.{Vec}
 use Rattle.std.specs.Option.{option_map_or}
 use Rattle.std.proofs.lemmas.Bool.{le-leb}
 use Rattle.std.proofs.lemmas.Bool.Decides.{eqb_tells}
@@ -29,11 +30,15 @@ use Rattle.ref_model.specs.Asking.{Asking, goes}
 use Rattle.ref_model.specs.Ending.{is_live}
 use Rattle.ref_model.specs.Frames.{first_frame}
 use Rattle.ref_model.specs.Heap.{class_at}
+use Rattle.ref_model.specs.Looks.{deadline_in}
 use Rattle.ref_model.specs.Monitors.{with_monitor}
 use Rattle.ref_model.specs.Starting.{begun_by, begun_with, first_phase, run_choice, run_frame, run_method, started, started_in, with_begun}
 use Rattle.ref_model.specs.State.{JavaThread, State}
 use Rattle.ref_model.specs.Throwing.{raised}
 use Rattle.ref_model.proofs.StateLaws.{get_set}
+use Rattle.wakes.specs.Flags.{Flags}
+use Rattle.sleep_wheel.specs.declared.sleeper.Key.{Key}
+use Rattle.sleep_wheel.specs.Sleepers.{sleeper_at}
 use Rattle.heap_instructions.specs.HeapReads.{class_number}
 use Rattle.schedule_soundness.specs.PutLaws.{Stays, no_thread, is_new, is_kept, IsNew, OthersStay}
 use Rattle.schedule_soundness.proofs.ThreadLists.{set_other, same_some, not_none}
@@ -42,11 +47,12 @@ use Rattle.thread_steps.specs.States.{memory_of}
 use Rattle.program_state.specs.declared.starting.Start.{Start}
 use Rattle.program_state.specs.declared.starting.Start.TheVariants.{Begins, Throws}
 use Rattle.program_state.specs.declared.state.ProgramState.{ProgramState}
+use Rattle.program_state.specs.Deadlines.{HoldsDeadlines, deadlines_of, key_at, with_deadline}
 use Rattle.program_state.specs.Starting.{IsBegun, IsFirst, IsRun, IsStart, StartGives, StartsSo}
 use Rattle.program_state.specs.States as places
-use Rattle.program_state.specs.States.{IsInPhase, IsKept, IsPlain, IsState}
+use Rattle.program_state.specs.States.{IsInPhase, IsKept, IsState}
 use Rattle.program_state.specs.Steps.{IsRunning, Starts}
-use Rattle.program_state.proofs.StateLaws.{row_back, rows_set, set_each}
+use Rattle.program_state.proofs.StateLaws.{interrupts_same, own_memory, permits_same, row_back, rows_set, thread_put, wheel_same}
 
 -- ---- the first frame
 
@@ -195,23 +201,27 @@ pub begun_state : (a new : ProgramState) (r : State) (out : ℕ → Bool) (u : �
 begun_state a new r out u k f idle is begun thread frames =
     let x : JavaThread = idle.thread in
     let y : JavaThread = begun_thread x f in
-    let plain = is.plain u x idle.there in
     let place = new_idle u (out u) x (slice_get a.frozen.items u) idle.status (subst (λ o. IsKept u (out u) o (slice_get a.frozen.items u)) idle.there (is.kept u)) in
-    record {
-      status = ap (λ (p : Parts). p.status) begun.memory ∙ is.status;
-      memory = ap memory_of begun.memory ∙ is.memory;
-      main_threw = ap (λ (p : Parts). p.main_threw) begun.memory ∙ is.main_threw;
-      most_threads = begun.most_threads ∙ is.most_threads;
+    let put = thread_put a new r out u x y is idle.there
+    (record {
+      run = ap (λ (p : Parts). p.status) begun.memory ∙ is.status;
       rows = ap (λ (ts : Threads). ts.threads) begun.threads ∙ rows_set a.threads r u x y (λ thread. record thread { status = Live Run }) is.rows idle.there refl;
-      limit = ap (λ (ts : Threads). ts.limit) begun.threads ∙ is.limit;
-      plain = set_each (λ v o. (z : JavaThread) → o ≡ Some z → IsPlain z) r u x y idle.there is.plain
-          (λ z e. let same : y ≡ z = cc in subst IsPlain same (record { status = refl; permit = plain.permit; interrupted = plain.interrupted }));
-      unnamed = begun.unnamed ∙ is.unnamed;
-      owners = is.owners;
-      now = is.now;
-      kept = λ v. subst (λ ks. IsKept v (out v) (slice_get (slice_set r.threads u y) v) (slice_get ks v)) (sym begun.frozen)
-          (set_place (λ n o c. IsKept n (out n) o c) r.threads a.frozen.items u x y None (Some k) idle.there place.1 is.kept (places.waiting y k place.0 refl refl refl thread frames) v);
-    }
+      limit = ap (λ (ts : Threads). ts.limit) begun.threads;
+      most_threads = begun.most_threads;
+      plain = refl;
+      permits = ap (λ (fs : Flags). fs.permits) begun.wakes ∙ permits_same a r out u x x.permit is idle.there refl;
+      interrupts = ap (λ (fs : Flags). fs.interrupts) begun.wakes ∙ interrupts_same a r out u x x.interrupted is idle.there refl;
+      unnamed = begun.unnamed;
+      time = begun.time;
+      places = ap (λ (ks : Vec (Option Key)). length ks.items) begun.keys;
+      wheel = subst (λ s. HoldsDeadlines (sleeper_at s) (key_at new.keys.items) (with_deadline (deadlines_of r.now r.threads) u None)) (sym begun.wheel)
+          (subst (λ (ks : Vec (Option Key)). HoldsDeadlines (sleeper_at a.wheel) (key_at ks.items) (with_deadline (deadlines_of r.now r.threads) u None)) (sym begun.keys)
+          (wheel_same a r out u x y is idle.there (sym (ap deadline_in idle.status))));
+    })
+    (λ v. subst (λ ks. IsKept v (out v) (slice_get (slice_set r.threads u y) v) (slice_get ks v)) (sym begun.frozen)
+    (set_place (λ n o c. IsKept n (out n) o c) r.threads a.frozen.items u x y None (Some k) idle.there place.1 is.kept (places.waiting y k place.0 refl refl refl thread frames) v)) in
+    subst (λ q. IsState new q out) (ap (λ b. record r { memory = memory_of b; main_threw = b.main_threw; threads = slice_set r.threads u y }) begun.memory
+    ∙ own_memory a r out (slice_set r.threads u y) is) put
 
 pub begun_runs : (r : State) (t u : ℕ) (f : Frame) (frames : List Frame) (idle : IsNew r u) → IsInPhase r t Run frames
     → IsInPhase (record r { threads = slice_set r.threads u (begun_thread idle.thread f) }) t Run frames

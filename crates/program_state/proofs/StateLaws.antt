@@ -1,6 +1,8 @@
 -- A state by its parts, of which some have changed.
-use Rattle.std.proofs.Common.{◌≡◌, ◌≢◌, ◌⊎◌, inl, inr, eqb, ℕ, zero, suc, Bool, true, false, List, [], ◌∷◌, Option, Some, None, refl, ap, sym, subst, ◌∙◌}
+use Rattle.std.proofs.Common.{◌≡◌, ◌≢◌, ◌⊎◌, inl, inr, eqb, ℕ, zero, suc, Bool, true, false, List, [], ◌∷◌, length, Option, Some, None, refl, ap, sym, subst, ◌∙◌}
 use Rattle.std.specs.Prelude.{map, slice_get, slice_set}
+use Rattle.std.proofs.Math.ListN.{length-set}
+use Rattle.std.specs.Option.{option_map_or}
 use Rattle.std.proofs.lemmas.Bool.Decides.{eqb_tells}
 use Rattle.vthread_state.specs.declared.phase.Phase.TheVariants.{Run}
 use Rattle.vthread_state.specs.declared.thread.Status.TheVariants.{New, Live}
@@ -8,16 +10,20 @@ use Rattle.vthread_state.specs.declared.thread.Thread.{Thread}
 use Rattle.vthread_state.specs.Threads.{Threads, threads_with, thread_at, with_thread}
 use Rattle.state_model.specs.Frames.{Frame}
 use Rattle.continuation.specs.Continuation.{Continuation}
-use Rattle.ref_model.specs.State.{JavaThread, State, with_frames}
+use Rattle.ref_model.specs.State.{JavaThread, State, with_frames, with_thread as with_thread_in}
 use Rattle.ref_model.specs.Ending.{is_live}
+use Rattle.ref_model.specs.Looks.{deadline_in}
 use Rattle.ref_model.proofs.StateLaws.{get_set, set_same, frames_is, frames_there}
 use Rattle.schedule_soundness.specs.PutLaws.{Stays, no_thread, is_new, is_kept, OthersStay}
 use Rattle.schedule_soundness.proofs.ThreadLists.{set_other, map_there}
+use Rattle.sleep_wheel.specs.Sleepers.{sleeper_at}
 use Rattle.thread_steps.specs.declared.parts.Parts.{Parts}
 use Rattle.thread_steps.specs.States.{memory_of}
 use Rattle.program_state.specs.declared.state.ProgramState.{ProgramState}
+use Rattle.program_state.specs.Deadlines.{HoldsDeadlines, coming_deadline, deadlines_of, key_at, later_than, with_deadline}
 use Rattle.program_state.specs.States as places
-use Rattle.program_state.specs.States.{HasFrames, IsInPhase, IsKept, IsPlain, IsState, is_plain_status, is_started}
+use Rattle.program_state.specs.States.{HasFrames, IsInPhase, IsKept, IsState, is_plain_status, is_started}
+use Rattle.program_state.proofs.WheelLaws.{deadline_changed, deadline_stays, holds_same}
 
 -- ---- lists
 
@@ -51,6 +57,11 @@ rows_set a r u x y f rows e same =
     ∙ ap (λ (z : Thread). slice_set a.threads u z) (sym same)
     ∙ ap (λ ts. slice_set ts u y.thread) rows
     ∙ sym (map_set row_of r.threads u y)
+
+-- a state in which a thread was changed
+pub thread_is : (r : State) (t : ℕ) (change : JavaThread → JavaThread) (x : JavaThread) → slice_get r.threads t ≡ Some x
+    → with_thread_in r t change ≡ record r { threads = slice_set r.threads t (change x) }
+thread_is r t change x at = ap (λ o. option_map_or (λ z. record r { threads = slice_set r.threads t (change z) }) o r) at
 
 -- ---- who stays
 
@@ -127,31 +138,143 @@ set_each P r t x y at all own u = by (eqb_tells u t)
     by (inr other) = subst (P u) (sym (set_other r.threads t u y other.1)) (all u)
 
 abbrev pub EachPlain : ℕ → Option JavaThread → Type 0
-EachPlain u o = (x : JavaThread) → o ≡ Some x → IsPlain x
+EachPlain u o = (x : JavaThread) → o ≡ Some x → is_plain_status x.thread.status ≡ true
 
-some_plain : (t : ℕ) (y : JavaThread) → IsPlain y → EachPlain t (Some y)
-some_plain t y plain x e = let same : y ≡ x = cc in subst IsPlain same plain
+some_plain : (t : ℕ) (y : JavaThread) → is_plain_status y.thread.status ≡ true → EachPlain t (Some y)
+some_plain t y plain x e = let same : y ≡ x = cc in ap (λ (z : JavaThread). is_plain_status z.thread.status) (sym same) ∙ plain
+
+-- the parts of a state, after those of another one, in which thread t is y now
+pub record IsPut (a new : ProgramState) (r : State) (t : ℕ) (y : JavaThread) : Type 0 where
+  pub run : new.memory.status ≡ Live Run
+  pub rows : new.threads.threads ≡ map (λ x. x.thread) (slice_set r.threads t y)
+  pub limit : new.threads.limit ≡ a.threads.limit
+  pub most_threads : new.most_threads ≡ a.most_threads
+  pub plain : is_plain_status y.thread.status ≡ true
+  pub permits : new.wakes.permits ≡ slice_set a.wakes.permits t y.permit
+  pub interrupts : new.wakes.interrupts ≡ slice_set a.wakes.interrupts t y.interrupted
+  pub unnamed : new.unnamed ≡ a.unnamed
+  pub time : new.time ≡ a.time
+  pub places : length new.keys.items ≡ length a.keys.items
+  pub wheel : HoldsDeadlines (sleeper_at new.wheel) (key_at new.keys.items) (with_deadline (deadlines_of r.now r.threads) t (later_than r.now (deadline_in y.thread.status)))
+
+abbrev permit_of : JavaThread → Bool
+permit_of x = x.permit
+
+abbrev interrupt_of : JavaThread → Bool
+interrupt_of x = x.interrupted
+
+deadlines_put : (now : ℕ) (threads : List JavaThread) (t u : ℕ) (x y : JavaThread) → slice_get threads t ≡ Some x
+    → deadlines_of now (slice_set threads t y) u ≡ with_deadline (deadlines_of now threads) t (later_than now (deadline_in y.thread.status)) u
+deadlines_put now threads t u x y at = by (eqb_tells u t)
+  where
+    until : Option ℕ
+    until = later_than now (deadline_in y.thread.status)
+
+    by : ((eqb u t ≡ true) × (u ≡ t)) ⊎ ((eqb u t ≡ false) × (u ≢ t)) → deadlines_of now (slice_set threads t y) u ≡ with_deadline (deadlines_of now threads) t until u
+    by (inl me) =
+        ap (coming_deadline now) (ap (λ n. slice_get (slice_set threads t y) n) me.1 ∙ get_set threads t x y at) ∙ sym (deadline_changed (deadlines_of now threads) t u until me.1)
+    by (inr other) = ap (coming_deadline now) (set_other threads t u y other.1) ∙ sym (deadline_stays (deadlines_of now threads) t u until other.1)
+
+-- Thread t is y now, and the parts fit; its frames lie where they may.
+pub thread_put : (a new : ProgramState) (r : State) (out : ℕ → Bool) (t : ℕ) (x y : JavaThread) → IsState a r out → slice_get r.threads t ≡ Some x → IsPut a new r t y
+    → ((u : ℕ) → IsKept u (out u) (slice_get (slice_set r.threads t y) u) (slice_get new.frozen.items u))
+    → IsState new (record r { memory = memory_of new.memory; main_threw = new.memory.main_threw; threads = slice_set r.threads t y }) out
+thread_put a new r out t x y is at put kept =
+    record {
+      status = put.run;
+      memory = refl;
+      main_threw = refl;
+      rows = put.rows;
+      most_threads = put.most_threads ∙ is.most_threads;
+      limit = put.limit ∙ is.limit;
+      plain = set_each EachPlain r t x y at is.plain (some_plain t y put.plain);
+      permits = put.permits ∙ ap (λ fs. slice_set fs t y.permit) is.permits ∙ sym (map_set permit_of r.threads t y);
+      interrupts = put.interrupts ∙ ap (λ fs. slice_set fs t y.interrupted) is.interrupts ∙ sym (map_set interrupt_of r.threads t y);
+      unnamed = put.unnamed ∙ is.unnamed;
+      owners = is.owners;
+      now = put.time ∙ is.now;
+      places = put.places ∙ is.places ∙ sym (length-set r.threads t y);
+      wheel = holds_same (sleeper_at new.wheel) (sleeper_at new.wheel) (key_at new.keys.items) (key_at new.keys.items)
+          (with_deadline (deadlines_of r.now r.threads) t (later_than r.now (deadline_in y.thread.status))) (deadlines_of r.now (slice_set r.threads t y)) (λ k. refl) (λ u. refl)
+          (λ u. deadlines_put r.now r.threads t u x y at) put.wheel;
+      kept = kept;
+    }
+
+-- the frames lie where they lay, but for those of the thread
+pub kept_put : (frozen : List (Option Continuation)) (r : State) (out : ℕ → Bool) (t : ℕ) (x y : JavaThread) → slice_get r.threads t ≡ Some x
+    → ((u : ℕ) → IsKept u (out u) (slice_get r.threads u) (slice_get frozen u))
+    → (IsKept t (out t) (Some x) (slice_get frozen t) → IsKept t (out t) (Some y) (slice_get frozen t))
+    → (u : ℕ) → IsKept u (out u) (slice_get (slice_set r.threads t y) u) (slice_get frozen u)
+kept_put frozen r out t x y at kept keeps =
+    set_each (λ u o. IsKept u (out u) o (slice_get frozen u)) r t x y at kept (keeps (subst (λ o. IsKept t (out t) o (slice_get frozen t)) at (kept t)))
+
+-- ---- what doesn't change with a thread
+
+-- a list of flags has the thread's flag already
+flag_same : (f : JavaThread → Bool) (flags : List Bool) (r : State) (t : ℕ) (x : JavaThread) (flag : Bool) → flags ≡ map f r.threads → slice_get r.threads t ≡ Some x → flag ≡ f x
+    → flags ≡ slice_set flags t flag
+flag_same f flags r t x flag is at same = sym (set_same flags t flag (ap (λ fs. slice_get fs t) is ∙ map_there f r.threads t x at ∙ ap (λ (b : Bool). Some b) (sym same)))
+
+pub permits_same : (a : ProgramState) (r : State) (out : ℕ → Bool) (t : ℕ) (x : JavaThread) (permit : Bool) → IsState a r out → slice_get r.threads t ≡ Some x → permit ≡ x.permit
+    → a.wakes.permits ≡ slice_set a.wakes.permits t permit
+permits_same a r out t x permit is at same = flag_same permit_of a.wakes.permits r t x permit is.permits at same
+
+pub interrupts_same : (a : ProgramState) (r : State) (out : ℕ → Bool) (t : ℕ) (x : JavaThread) (interrupted : Bool) → IsState a r out → slice_get r.threads t ≡ Some x → interrupted ≡ x.interrupted
+    → a.wakes.interrupts ≡ slice_set a.wakes.interrupts t interrupted
+interrupts_same a r out t x interrupted is at same = flag_same interrupt_of a.wakes.interrupts r t x interrupted is.interrupts at same
+
+-- the wheel, where the thread has the old deadline
+pub wheel_same : (a : ProgramState) (r : State) (out : ℕ → Bool) (t : ℕ) (x y : JavaThread) → IsState a r out → slice_get r.threads t ≡ Some x
+    → deadline_in y.thread.status ≡ deadline_in x.thread.status
+    → HoldsDeadlines (sleeper_at a.wheel) (key_at a.keys.items) (with_deadline (deadlines_of r.now r.threads) t (later_than r.now (deadline_in y.thread.status)))
+wheel_same a r out t x y is at same =
+    holds_same (sleeper_at a.wheel) (sleeper_at a.wheel) (key_at a.keys.items) (key_at a.keys.items) (deadlines_of r.now r.threads)
+    (with_deadline (deadlines_of r.now r.threads) t until) (λ k. refl) (λ u. refl) (λ u. by u (eqb_tells u t)) is.wheel
+  where
+    until : Option ℕ
+    until = later_than r.now (deadline_in y.thread.status)
+
+    by : (u : ℕ) → ((eqb u t ≡ true) × (u ≡ t)) ⊎ ((eqb u t ≡ false) × (u ≢ t)) → with_deadline (deadlines_of r.now r.threads) t until u ≡ deadlines_of r.now r.threads u
+    by u (inl me) =
+        deadline_changed (deadlines_of r.now r.threads) t u until me.1 ∙ ap (later_than r.now) same
+        ∙ sym (ap (coming_deadline r.now) (ap (slice_get r.threads) me.1 ∙ at))
+    by u (inr other) = deadline_stays (deadlines_of r.now r.threads) t u until other.1
+
+-- the table, where the thread has the old row
+pub rows_same : (a : ProgramState) (r : State) (out : ℕ → Bool) (t : ℕ) (x y : JavaThread) → IsState a r out → slice_get r.threads t ≡ Some x → y.thread ≡ x.thread
+    → a.threads.threads ≡ map (λ x. x.thread) (slice_set r.threads t y)
+rows_same a r out t x y is at same =
+    is.rows ∙ sym (map_set row_of r.threads t y ∙ ap (slice_set (map row_of r.threads) t) same
+    ∙ set_same (map row_of r.threads) t x.thread (map_there row_of r.threads t x at))
+
+-- A thread is as plain as it was, and has the old permit, interrupt status and deadline.
+pub record IsAlike (x y : JavaThread) : Type 0 where
+  pub plain : is_plain_status y.thread.status ≡ true
+  pub permit : y.permit ≡ x.permit
+  pub interrupted : y.interrupted ≡ x.interrupted
+  pub deadline : deadline_in y.thread.status ≡ deadline_in x.thread.status
 
 -- Thread t is y now, and the parts with the memory and the table are these; the others are as they were.
 pub thread_changed : (a : ProgramState) (b : Parts) (table : Threads) (r : State) (out : ℕ → Bool) (t : ℕ) (x y : JavaThread) → IsState a r out
-    → slice_get r.threads t ≡ Some x → b.status ≡ Live Run → table.threads ≡ map (λ x. x.thread) (slice_set r.threads t y) → table.limit ≡ a.threads.limit → IsPlain y
+    → slice_get r.threads t ≡ Some x → b.status ≡ Live Run → table.threads ≡ map (λ x. x.thread) (slice_set r.threads t y) → table.limit ≡ a.threads.limit → IsAlike x y
     → (IsKept t (out t) (Some x) (slice_get a.frozen.items t) → IsKept t (out t) (Some y) (slice_get a.frozen.items t))
     → IsState (record a { memory = b; threads = table }) (record r { memory = memory_of b; main_threw = b.main_threw; threads = slice_set r.threads t y }) out
-thread_changed a b table r out t x y is at run rows limit plain keeps =
-    record {
-      status = run;
-      memory = refl;
-      main_threw = refl;
+thread_changed a b table r out t x y is at run rows limit alike keeps =
+    thread_put a (record a { memory = b; threads = table }) r out t x y is at
+    (record {
+      run = run;
       rows = rows;
-      most_threads = is.most_threads;
-      limit = limit ∙ is.limit;
-      plain = set_each EachPlain r t x y at is.plain (some_plain t y plain);
-      unnamed = is.unnamed;
-      owners = is.owners;
-      now = is.now;
-      kept = set_each (λ u o. IsKept u (out u) o (slice_get a.frozen.items u)) r t x y at is.kept
-          (keeps (subst (λ o. IsKept t (out t) o (slice_get a.frozen.items t)) at (is.kept t)));
-    }
+      limit = limit;
+      most_threads = refl;
+      plain = alike.plain;
+      permits = permits_same a r out t x y.permit is at alike.permit;
+      interrupts = interrupts_same a r out t x y.interrupted is at alike.interrupted;
+      unnamed = refl;
+      time = refl;
+      places = refl;
+      wheel = wheel_same a r out t x y is at alike.deadline;
+    })
+    (kept_put a.frozen.items r out t x y at is.kept keeps)
 
 -- the memory and what it has beside are the state's own
 pub own_memory : (a : ProgramState) (r : State) (out : ℕ → Bool) (threads : List JavaThread) → IsState a r out
@@ -180,9 +303,7 @@ pub other_frames : (a : ProgramState) (r : State) (out : ℕ → Bool) (t : ℕ)
 other_frames a r out t frames is here =
     let x = out_is_there a r out t is here in
     let y : JavaThread = record x.0 { frames = frames } in
-    let plain = is.plain t x.0 x.1 in
-    let rows : a.threads.threads ≡ map (λ x. x.thread) (slice_set r.threads t y) =
-    is.rows ∙ sym (map_set row_of r.threads t y ∙ set_same (map row_of r.threads) t x.0.thread (map_there row_of r.threads t x.0 x.1)) in
-    let changed = thread_changed a a.memory a.threads r out t x.0 y is x.1 is.status rows refl (record { status = plain.status; permit = plain.permit; interrupted = plain.interrupted })
+    let changed = thread_changed a a.memory a.threads r out t x.0 y is x.1 is.status (rows_same a r out t x.0 y is x.1 refl) refl
+    (record { plain = is.plain t x.0 x.1; permit = refl; interrupted = refl; deadline = refl })
     (still_out t (out t) x.0 y (slice_get a.frozen.items t) here x.2) in
     subst (λ q. IsState a q out) (own_memory a r out (slice_set r.threads t y) is ∙ sym (frames_is r t x.0 frames x.1)) changed

@@ -14,6 +14,7 @@ use Rattle.verify_types.specs.Environment.{Instruction}
 use Rattle.state_model.specs.Frames.{Frame}
 use Rattle.continuation.specs.Continuation.{Continuation}
 use Rattle.ref_model.specs.Fetch.{fetched}
+use Rattle.ref_model.specs.Looks.{deadline_in, phase_deadline}
 use Rattle.ref_model.specs.State.{JavaThread, State}
 use Rattle.ref_model.specs.Step.{phase_step}
 use Rattle.ref_model.proofs.StateLaws.{get_set, set_same}
@@ -51,6 +52,13 @@ stepped_plain (Live (Throwing o)) e = refl
 stepped_plain (Live phase) e = absurd cc
 stepped_plain Done e = refl
 
+pub stepped_timeless : (status : Status) → is_stepped status ≡ true → deadline_in status ≡ None
+stepped_timeless New e = refl
+stepped_timeless (Live Run) e = refl
+stepped_timeless (Live (Throwing o)) e = refl
+stepped_timeless (Live phase) e = absurd cc
+stepped_timeless Done e = refl
+
 pub stepped_started : (status : Status) → is_stepped status ≡ true → is_started status ≡ true
 stepped_started New e = absurd cc
 stepped_started (Live phase) e = refl
@@ -81,15 +89,19 @@ stage_is a r out t phase frames is at b memory threw status =
 
 -- The parts that the step left, and the thread with the status that it left, are those of the state after it.
 pub stage_settled : (a new : ProgramState) (r : State) (out : ℕ → Bool) (t : ℕ) (phase : Phase) (before after : List Frame) (is : IsState a r out) (at : IsInPhase r t phase before) (b : Parts)
-    → out t ≡ true → IsSettled t (record a { memory = b }) new → IsState new (state_of (stage_of r t phase before at) b after) out
-stage_settled a new r out t phase before after is at b here settled =
+    → out t ≡ true → phase_deadline phase ≡ None → IsSettled t (record a { memory = b }) new → IsState new (state_of (stage_of r t phase before at) b after) out
+stage_settled a new r out t phase before after is at b here timeless settled =
     let x : JavaThread = at.thread in
     let y : JavaThread = own_thread (stage_of r t phase before at) b after in
-    let plain = is.plain t x at.at in
     let table : Threads = with_status a.threads t b.status in
     let rows = rows_set a.threads r t x y (λ thread. record thread { status = b.status }) is.rows at.at refl in
     let changed = thread_changed a (record b { status = Live Run }) table r out t x y is at.at refl rows refl
-    (record { status = stepped_plain b.status settled.stepped; permit = plain.permit; interrupted = plain.interrupted })
+    (record {
+      plain = stepped_plain b.status settled.stepped;
+      permit = refl;
+      interrupted = refl;
+      deadline = stepped_timeless b.status settled.stepped ∙ sym (ap deadline_in at.status ∙ timeless);
+    })
     (still_out t (out t) x y (slice_get a.frozen.items t) here (stepped_started b.status settled.stepped)) in
     subst (λ s. IsState s (state_of (stage_of r t phase before at) b after) out) (sym settled.state) changed
 
@@ -108,13 +120,13 @@ stage_has r t phase before after at b =
 -- A step that leads from the state of a stage to another of its states, after which the thread runs, throws or is done.
 pub stage_leads : (act : State → Option State) (a new : ProgramState) (r : State) (out : ℕ → Bool) (t : ℕ) (phase : Phase) (before after : List Frame) (is : IsState a r out)
     (at : IsInPhase r t phase before) (first b : Parts) → memory_of first ≡ memory_of a.memory → first.main_threw ≡ a.memory.main_threw → first.status ≡ Live phase
-    → out t ≡ true → act (state_of (stage_of r t phase before at) first before) ≡ Some (state_of (stage_of r t phase before at) b after) → IsSettled t (record a { memory = b }) new
+    → out t ≡ true → phase_deadline phase ≡ None → act (state_of (stage_of r t phase before at) first before) ≡ Some (state_of (stage_of r t phase before at) b after) → IsSettled t (record a { memory = b }) new
     → Leads act (OthersStay t) new t after r out
-stage_leads act a new r out t phase before after is at first b memory threw status here made settled =
+stage_leads act a new r out t phase before after is at first b memory threw status here timeless made settled =
     record {
       next = state_of (stage_of r t phase before at) b after;
       makes = ap act (sym (stage_is a r out t phase before is at first memory threw status)) ∙ made;
-      is = stage_settled a new r out t phase before after is at b here settled;
+      is = stage_settled a new r out t phase before after is at b here timeless settled;
       has = stage_has r t phase before after at b;
       others = stage_others r t phase before after at b;
     }
@@ -156,7 +168,7 @@ pub run_steps : (w : World) (i : Instruction) (a new : ProgramState) (b : Parts)
     → Steps w i a.memory frames b after → (status_at a.threads t ≡ Some (Live Run) → IsSettled t (record a { memory = b }) new)
     → StepsTo w (OthersStay t) Run t a frames new after
 run_steps w i a new b t frames after f below top fetch steps settled r out is here at =
-    stage_leads (λ s. phase_step w s t frames Run) a new r out t Run frames after is at a.memory b refl refl is.status here
+    stage_leads (λ s. phase_step w s t frames Run) a new r out t Run frames after is at a.memory b refl refl is.status here refl
     (steps (stage_of r t Run frames at) f below top fetch).step (settled (phase_in_table a r out t Run frames is at))
 
 -- a stage, of one thread
@@ -198,7 +210,7 @@ pub throw_steps : (w : World) (a new : ProgramState) (b : Parts) (t name o : ℕ
     → ThrowingSteps w t name o (record a.memory { status = Live (Throwing o) }) frames b after → IsSettled t (record a { memory = b }) new
     → StepsTo w (OthersStay t) (Throwing o) t a frames new after
 throw_steps w a new b t name o own frames after there named steps settled r out is here at =
-    stage_leads (λ s. phase_step w s t frames (Throwing o)) a new r out t (Throwing o) frames after is at (record a.memory { status = Live (Throwing o) }) b refl refl refl here
+    stage_leads (λ s. phase_step w s t frames (Throwing o)) a new r out t (Throwing o) frames after is at (record a.memory { status = Live (Throwing o) }) b refl refl refl here refl
     (steps (stage_of r t (Throwing o) frames at) (record { number = refl; named = own_name })) settled
   where
     own_name : at.thread.thread.name ≡ name

@@ -1,5 +1,5 @@
 -- A thread that is made.
-use Rattle.std.specs.Prelude.{◌≡◌, ◌+◌, ◌++◌, ◌∷◌, [], ℕ, pos, Bool, true, List, Option, Some, None, codes, length, nat_lt}
+use Rattle.std.specs.Prelude.{◌≡◌, ◌+◌, ◌++◌, ◌∷◌, [], ℕ, pos, Bool, true, false, List, Option, Some, None, codes, length, nat_lt}
 use Rattle.vthread_state.specs.declared.thread.Thread.{Thread}
 use Rattle.vthread_state.specs.declared.thread.ThreadKind.{ThreadKind}
 use Rattle.vthread_state.specs.declared.thread.ThreadKind.TheVariants.{Platform, Virtual}
@@ -39,4 +39,9 @@ pub record IsAdded (thread : Thread) (old new : ProgramState) : Type 0 where
   pub threads : new.threads ≡ record old.threads { threads = old.threads.threads ++ thread ∷ [] }
   pub most_threads : new.most_threads ≡ old.most_threads
   pub frozen : new.frozen.items ≡ old.frozen.items ++ None ∷ []
+  pub permits : new.wakes.permits ≡ old.wakes.permits ++ false ∷ []
+  pub interrupts : new.wakes.interrupts ≡ old.wakes.interrupts ++ false ∷ []
+  pub wheel : new.wheel ≡ old.wheel
+  pub keys : new.keys.items ≡ old.keys.items ++ None ∷ []
+  pub time : new.time ≡ old.time
   pub unnamed : new.unnamed ≡ old.unnamed

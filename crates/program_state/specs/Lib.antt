@@ -1,3 +1,5 @@
+pub mod Deadlines
+pub mod Timers
 pub mod States
 pub mod Steps
 pub mod Settling
@@ -7,4 +9,6 @@ pub mod Creating
 pub mod Starting
 pub mod Requests
 pub mod Running
+pub mod Waking
 pub mod Waiting
+pub mod Times

@@ -1,9 +1,9 @@
 -- What is answered to requests.
-use Rattle.std.specs.Prelude.{◌≡◌, ◌≤◌, ℕ, Bool, true, false, List, ◌∷◌, Option, Some, None, drop, length, map, slice_get}
+use Rattle.std.specs.Prelude.{◌≡◌, ◌≤◌, ℕ, Bool, true, List, ◌∷◌, Option, Some, drop, length, map, slice_get}
 use Rattle.instruction_rows.specs.SlotEffect.{pushed}
 use Rattle.instruction_rows.specs.declared.value.Slot.{Slot}
 use Rattle.instruction_rows.specs.declared.value.Value.{Value}
-use Rattle.vthread_state.specs.declared.phase.Phase.TheVariants.{Run, Joining}
+use Rattle.vthread_state.specs.declared.phase.Phase.TheVariants.{Run}
 use Rattle.vthread_state.specs.Threads.{Threads}
 use Rattle.state_model.specs.Frames.{Frame}
 use Rattle.link_model.specs.World.{World}
@@ -30,7 +30,7 @@ abbrev pub replied : World → State → ℕ → Asking → Reply → Option Sta
 replied w r t a replies.Goes = goes r t a
 replied w r t a (replies.Gives v) = gives_back r t a v
 replied w r t a (replies.Throws e) = raised w r t e
-replied w r t a (replies.Joins u) = waits r t (Joining u None)
+replied w r t a (replies.Waits phase) = waits r t phase
 
 -- A reply was concluded, of what these frames asked.
 abbrev pub Concludes : World → PendingRequest → ℕ → Reply → ProgramState → List Frame → ProgramState → List Frame → Type 0
@@ -69,4 +69,4 @@ Answers w request leaves t old new reply = (r : State) (out : ℕ → Bool) (fra
 -- A request is answered by the table alone, and nothing has changed.
 abbrev pub IsTold : World → ThreadRequest → ℕ → Threads → Reply → Type 0
 IsTold w request t table reply = (r : State) (x : JavaThread) (a : Asking) → table.threads ≡ map (λ y. y.thread) r.threads →
-    slice_get r.threads t ≡ Some x → x.interrupted ≡ false → asked w r t a (request_of request) ≡ replied w r t a reply
+    slice_get r.threads t ≡ Some x → asked w r t a (request_of request) ≡ replied w r t a reply

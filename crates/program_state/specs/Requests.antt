@@ -18,7 +18,7 @@ use Rattle.program_state.specs.declared.requests.RequestOutcome.TheVariants as o
 use Rattle.program_state.specs.declared.state.ProgramState.{ProgramState}
 use Rattle.program_state.specs.Creating.{has_room}
 use Rattle.program_state.specs.States.{IsState}
-use Rattle.program_state.specs.Steps.{Starts, StepsTo}
+use Rattle.program_state.specs.Steps.{Starts, StepsTo, Wakes}
 
 -- The next instruction of these frames asks this.
 pub record IsPending (w : World) (q : PendingRequest) (memory : Parts) (frames : List Frame) : Type 0 where
@@ -42,4 +42,5 @@ pub record LacksThreads (q : PendingRequest) (old : ProgramState) (m : Continuat
 abbrev pub IsRequestMade : World → PendingRequest → RequestOutcome → ProgramState → Continuation → ProgramState → Continuation → Type 0
 IsRequestMade w q outcomes.Done old m new n = StepsTo w (OthersStay m.thread) Run m.thread old m.stack.frames new n.stack.frames
 IsRequestMade w q (outcomes.Starts u) old m new n = StepsTo w (Starts m.thread u) Run m.thread old m.stack.frames new n.stack.frames
+IsRequestMade w q (outcomes.Wakes u) old m new n = StepsTo w (Wakes m.thread u) Run m.thread old m.stack.frames new n.stack.frames
 IsRequestMade w q outcomes.LacksThreads old m new n = LacksThreads q old m new n

@@ -62,5 +62,9 @@ pub record IsBegun (u : ℕ) (k : Continuation) (old new : ProgramState) : Type 
   pub memory : new.memory ≡ old.memory
   pub threads : new.threads ≡ with_status old.threads u (Live Run)
   pub frozen : new.frozen.items ≡ slice_set old.frozen.items u (Some k)
+  pub wakes : new.wakes ≡ old.wakes
+  pub wheel : new.wheel ≡ old.wheel
+  pub keys : new.keys ≡ old.keys
+  pub time : new.time ≡ old.time
   pub most_threads : new.most_threads ≡ old.most_threads
   pub unnamed : new.unnamed ≡ old.unnamed

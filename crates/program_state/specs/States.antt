@@ -1,7 +1,7 @@
 -- The state of a program with many threads, by the parts that the machine keeps. The frames of mounted threads lie with their carriers.
-use Rattle.std.specs.Prelude.{◌≡◌, ℕ, Bool, true, false, List, Option, Some, None, map, slice_get}
+use Rattle.std.specs.Prelude.{◌≡◌, ℕ, Bool, true, false, List, Option, Some, None, length, map, slice_get}
 use Rattle.vthread_state.specs.declared.phase.Phase.{Phase}
-use Rattle.vthread_state.specs.declared.phase.Phase.TheVariants.{Run, Throwing, Joining}
+use Rattle.vthread_state.specs.declared.phase.Phase.TheVariants.{Run, Throwing, Parked, Asleep, Joining}
 use Rattle.vthread_state.specs.declared.thread.Status.{Status}
 use Rattle.vthread_state.specs.declared.thread.Status.TheVariants.{New, Live, Done}
 use Rattle.state_model.specs.Frames.{Frame}
@@ -9,28 +9,26 @@ use Rattle.continuation.specs.Continuation.{Continuation}
 use Rattle.ref_model.specs.Ending.{is_live}
 use Rattle.ref_model.specs.Opening.{opening_owners}
 use Rattle.ref_model.specs.State.{JavaThread, State}
+use Rattle.sleep_wheel.specs.Sleepers.{sleeper_at}
 use Rattle.thread_steps.specs.States.{memory_of}
 use Rattle.program_state.specs.declared.state.ProgramState.{ProgramState}
+use Rattle.program_state.specs.Deadlines.{HoldsDeadlines, deadlines_of, key_at}
 
--- ---- threads as they are while there are no permits, interrupts, times and monitors
+-- ---- threads as they are while there are no monitors
 
--- it runs, throws, or waits for the end of another thread without a time
+-- it runs, throws, is parked, asleep, or waits for the end of another thread
 abbrev pub is_plain_phase : Phase → Bool
 is_plain_phase Run = true
 is_plain_phase (Throwing o) = true
-is_plain_phase (Joining target None) = true
+is_plain_phase (Parked deadline) = true
+is_plain_phase (Asleep deadline) = true
+is_plain_phase (Joining target deadline) = true
 is_plain_phase phase = false
 
 abbrev pub is_plain_status : Status → Bool
 is_plain_status New = true
 is_plain_status (Live phase) = is_plain_phase phase
 is_plain_status Done = true
-
--- It is in such a phase, where it is live; it has no permit, and wasn't interrupted.
-pub record IsPlain (x : JavaThread) : Type 0 where
-  pub status : is_plain_status x.thread.status ≡ true
-  pub permit : x.permit ≡ false
-  pub interrupted : x.interrupted ≡ false
 
 -- ---- where the frames of threads lie
 
@@ -60,10 +58,14 @@ pub record IsState (a : ProgramState) (r : State) (out : ℕ → Bool) : Type 0 
   pub rows : a.threads.threads ≡ map (λ x. x.thread) r.threads
   pub most_threads : a.most_threads ≡ r.most_threads
   pub limit : a.threads.limit ≡ r.most_threads
-  pub plain : (t : ℕ) (x : JavaThread) → slice_get r.threads t ≡ Some x → IsPlain x
+  pub plain : (t : ℕ) (x : JavaThread) → slice_get r.threads t ≡ Some x → is_plain_status x.thread.status ≡ true
+  pub permits : a.wakes.permits ≡ map (λ x. x.permit) r.threads
+  pub interrupts : a.wakes.interrupts ≡ map (λ x. x.interrupted) r.threads
   pub unnamed : a.unnamed ≡ r.unnamed
   pub owners : opening_owners None ≡ r.owners
-  pub now : 0 ≡ r.now
+  pub now : a.time ≡ r.now
+  pub places : length a.keys.items ≡ length r.threads
+  pub wheel : HoldsDeadlines (sleeper_at a.wheel) (key_at a.keys.items) (deadlines_of r.now r.threads)
   pub kept : (u : ℕ) → IsKept u (out u) (slice_get r.threads u) (slice_get a.frozen.items u)
 
 -- a thread has these frames

@@ -1,10 +1,11 @@
 -- What a step of one thread makes of the state of a program.
-use Rattle.std.specs.Prelude.{◌≡◌, ℕ, Bool, true, List, Option, Some, length, slice_get}
+use Rattle.std.specs.Prelude.{◌≡◌, ◌≢◌, ℕ, Bool, true, List, Option, Some, length, slice_get}
 use Rattle.vthread_state.specs.declared.phase.Phase.{Phase}
 use Rattle.vthread_state.specs.declared.phase.Phase.TheVariants.{Run}
 use Rattle.vthread_state.specs.declared.thread.Status.TheVariants.{Live}
 use Rattle.state_model.specs.Frames.{Frame}
 use Rattle.link_model.specs.World.{World}
+use Rattle.ref_model.specs.Ending.{is_live}
 use Rattle.ref_model.specs.State.{JavaThread, State}
 use Rattle.ref_model.specs.Step.{phase_step}
 use Rattle.schedule_soundness.specs.PutLaws.{OthersStayBeside, IsNew}
@@ -37,4 +38,22 @@ pub record Starts (t u : ℕ) (before after : State) : Type 0 where
   pub others : OthersStayBeside t u before after
   pub new : IsNew before u
   pub runs : IsRunning after u
+  pub count : length after.threads ≡ length before.threads
+
+-- A live thread keeps its status, and its permit and its interrupt status stay set where they were.
+pub record IsWoken (u : ℕ) (before after : State) : Type 0 where
+  pub old : JavaThread
+  pub new : JavaThread
+  pub was : slice_get before.threads u ≡ Some old
+  pub is : slice_get after.threads u ≡ Some new
+  pub live : is_live old.thread.status ≡ true
+  pub status : new.thread.status ≡ old.thread.status
+  pub permit : old.permit ≡ true → new.permit ≡ true
+  pub interrupted : old.interrupted ≡ true → new.interrupted ≡ true
+
+-- Thread t gives thread u, another one, a permit or an interrupt, and makes none.
+pub record Wakes (t u : ℕ) (before after : State) : Type 0 where
+  pub other : u ≢ t
+  pub others : OthersStayBeside t u before after
+  pub woken : IsWoken u before after
   pub count : length after.threads ≡ length before.threads

@@ -126,10 +126,13 @@ fn add_thread(
         state.old state.new) }
 {
     state.frozen.reserve(1)?;
+    state.keys.reserve(1)?;
+    state.wakes.add()?;
     if state.threads.add(kind, daemon, object, name).is_err() {
         return Err(NoMemory);
     }
     state.frozen.push_reserved(None);
+    state.keys.push_reserved(None);
     Ok(())
 }
 

@@ -2,8 +2,11 @@
 //! of other threads, and the ends of its waits. Carriers and run deques come above.
 #![tactic(auto)]
 
+mod clock;
 mod creating;
 mod endings;
+mod flags;
+mod phases;
 mod replies;
 mod reply;
 mod request_changes;
@@ -13,13 +16,20 @@ mod running;
 mod starting;
 mod state;
 mod throwing;
+mod time;
+mod time_requests;
+mod timers;
+mod wait_requests;
 mod waits;
+mod wake_requests;
 mod world;
 
+pub use clock::reads_clock;
 pub use endings::ending;
 pub use requests::{RequestOutcome, make_request};
 pub use running::run_step;
 pub use state::ProgramState;
 pub use throwing::throwing_step;
+pub use time::{earliest, pass_time};
 pub use waits::{finish_wait, is_enabled, woken_by_end};
 pub use world::ThreadWorld;

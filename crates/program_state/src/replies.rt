@@ -3,8 +3,9 @@
 ghost use Rattle.std.specs.Prelude.{◌≡◌, ◌<◌, ◌≤◌, length, OnOk};
 ghost use Rattle.heap_instructions.specs.Operands.{HasTop, operands};
 ghost use Rattle.program_state.specs.Replies.{Concludes, GoesOnWith, GoesOnWithout};
-ghost use Rattle.program_state.specs.Replying.{IsJoining, IsRaised};
+ghost use Rattle.program_state.specs.Replying.{IsRaised};
 
+use crate::phases::begin_wait;
 use crate::reply::Reply;
 use crate::state::{ProgramState, settle_status};
 use continuation::Mounted;
@@ -13,7 +14,6 @@ use instruction_rows::Value;
 use items::NoMemory;
 use ref_model::Exception;
 use thread_steps::{MachineWorld, PendingRequest, raise};
-use vthread_state::{Phase, ThreadTable};
 
 /// The thread goes on at its next instruction.
 pub(crate) fn go_on(mounted: &mut Mounted, pending: PendingRequest)
@@ -44,8 +44,8 @@ fn go_on_with(mounted: &mut Mounted, pending: PendingRequest, value: Value) -> R
     }
 }
 
-// The thread throws a new exception.
-fn throw<W: MachineWorld>(
+/// The thread, which runs, throws a new exception.
+pub(crate) fn throw<W: MachineWorld>(
     world: &W,
     state: &mut ProgramState,
     t: u32,
@@ -55,19 +55,6 @@ fn throw<W: MachineWorld>(
 {
     raise(world, &mut state.memory, exception)?;
     settle_status(state, t)
-}
-
-// A live thread waits for the end of another. A thread that isn't there counts as memory run out.
-fn wait_for(threads: &mut ThreadTable, t: u32, target: u32) -> Result<(), NoMemory>
-    ensures { OnOk result (IsJoining t target threads.old threads.new) }
-{
-    let count = threads.count();
-    if t >= count || target >= count || !threads.is_alive(t) {
-        return Err(NoMemory);
-    }
-    let deadline = None;
-    threads.set_phase(t, Phase::Joining { target, deadline });
-    Ok(())
 }
 
 /// Gives a reply to the thread that asked.
@@ -93,6 +80,6 @@ pub(crate) fn conclude_reply<W: MachineWorld>(
         }
         Reply::Gives(value) => go_on_with(mounted, pending, value),
         Reply::Throws(exception) => throw(world, state, t, exception),
-        Reply::Joins(target) => wait_for(&mut state.threads, t, target),
+        Reply::Waits(phase) => begin_wait(state, t, phase),
     }
 }

@@ -1,5 +1,6 @@
 use instruction_rows::Value;
 use ref_model::Exception;
+use vthread_state::Phase;
 
 /// What is answered to a request.
 #[derive(Clone, Copy)]
@@ -10,6 +11,6 @@ pub(crate) enum Reply {
     Gives(Value),
     /// It throws a new exception.
     Throws(Exception),
-    /// It waits for the end of a thread.
-    Joins(u32),
+    /// It waits in this phase.
+    Waits(Phase),
 }

@@ -30,8 +30,8 @@ pub(crate) fn is_virtual(kind: ThreadKind) -> bool
     matches!(kind, ThreadKind::Virtual)
 }
 
-// A boolean as an answer.
-fn tell(b: bool) -> Reply
+/// A boolean as an answer.
+pub(crate) fn tell(b: bool) -> Reply
     ensures { result ≡ Reply.Gives (natives.boolean b) }
 {
     Reply::Gives(Value::Int(i32::from(b)))
@@ -52,18 +52,6 @@ fn state_object(state: JavaState) -> u32
     FIRST_STATE + ordinal
 }
 
-// join without a time: a thread that isn't live isn't waited for.
-fn join(threads: &ThreadTable, target: u32) -> Result<Reply, NoMemory>
-    ensures { (w : World) (t : ℕ) → IfOk result
-        (IsTold w (ThreadRequest.Joins target None) t threads.now) }
-{
-    if is_live(row_at(threads, target)?.status) {
-        Ok(Reply::Joins(target))
-    } else {
-        Ok(Reply::Goes)
-    }
-}
-
 /// The answer to what thread t asks, where the table alone tells it. Any other request counts as memory run out, and so does a thread that
 /// isn't there.
 pub(crate) fn tell_request(
@@ -76,10 +64,6 @@ pub(crate) fn tell_request(
     match request {
         ThreadRequest::Current => Ok(Reply::Gives(Value::Ref(row_at(threads, t)?.object))),
         ThreadRequest::Yields => Ok(Reply::Goes),
-        ThreadRequest::Joins {
-            thread,
-            millis: None,
-        } => join(threads, thread),
         ThreadRequest::TellsAlive(u) => Ok(tell(is_live(row_at(threads, u)?.status))),
         ThreadRequest::TellsVirtual(u) => Ok(tell(is_virtual(row_at(threads, u)?.kind))),
         ThreadRequest::TellsDaemon(u) => Ok(tell(row_at(threads, u)?.daemon)),

@@ -5,6 +5,7 @@ ghost use Rattle.link_model.specs.World.{World};
 ghost use Rattle.schedule_soundness.specs.PutLaws.{OthersStay};
 ghost use Rattle.program_state.specs.Replies.{Answers};
 ghost use Rattle.program_state.specs.Requests.{IsPending, IsRequestMade, lacks_room};
+ghost use Rattle.program_state.specs.Waking.{LeavesWoken, wake_outcome};
 
 use crate::creating::create_thread;
 use crate::replies::{conclude_reply, go_on};
@@ -13,6 +14,9 @@ use crate::request_changes::{set_daemon, set_name};
 use crate::request_rows::tell_request;
 use crate::starting::{Start, begin_thread, start_of};
 use crate::state::ProgramState;
+use crate::time_requests::{tell_millis, tell_nanos};
+use crate::wait_requests::{join, park, sleep};
+use crate::wake_requests::{clear_interrupt, interrupt, tell_interrupt, unpark};
 use crate::world::ThreadWorld;
 use continuation::Mounted;
 use items::NoMemory;
@@ -27,11 +31,13 @@ pub enum RequestOutcome {
     Done,
     /// The same, but it started this thread.
     Starts(u32),
+    /// The same, but it gave this thread, another one that is live, a permit or an interrupt.
+    Wakes(u32),
     /// A thread is to be made where there are as many as there may be: nothing has changed.
     LacksThreads,
 }
 
-// The answer to a request that starts no thread. One that isn't built yet counts as memory run out.
+// The answer to a request that starts and wakes no thread. One that isn't built yet counts as memory run out.
 fn answer(
     alloc: Global,
     state: &mut ProgramState,
@@ -48,6 +54,13 @@ fn answer(
         }
         ThreadRequest::SetsDaemon { thread, daemon } => set_daemon(state, thread, daemon),
         ThreadRequest::SetsName { thread, name } => set_name(state, thread, name),
+        ThreadRequest::Joins { thread, millis } => join(state, t, thread, millis),
+        ThreadRequest::Sleeps(millis) => sleep(state, t, millis),
+        ThreadRequest::Parks(nanos) => park(state, t, nanos),
+        ThreadRequest::TellsInterrupt(u) => Ok(tell_interrupt(state, u)),
+        ThreadRequest::TakesInterrupt => clear_interrupt(state, t),
+        ThreadRequest::TellsNanos => Ok(tell_nanos(state)),
+        ThreadRequest::TellsMillis => Ok(tell_millis(state)),
         other => tell_request(&state.threads, t, other),
     }
 }
@@ -81,6 +94,51 @@ fn start_thread<W: ThreadWorld>(
             Ok(RequestOutcome::Done)
         }
     }
+}
+
+// A permit or an interrupt for a thread. The thread, where it is another one that is live. Any other request counts as memory run out.
+fn give_wake(
+    state: &mut ProgramState,
+    t: u32,
+    request: ThreadRequest,
+) -> Result<Option<u32>, NoMemory>
+    ensures { (w : World) → IfOk result (λ woken. Answers w request (LeavesWoken t woken) t
+        state.old state.new Reply.Goes) }
+{
+    match request {
+        ThreadRequest::Unparks(u) => unpark(state, t, u),
+        ThreadRequest::Interrupts(u) => interrupt(state, t, u),
+        _ => Err(NoMemory),
+    }
+}
+
+// What becomes of a request that woke this thread, or none.
+fn outcome_of(woken: Option<u32>) -> RequestOutcome
+    ensures { result ≡ wake_outcome woken }
+{
+    match woken {
+        Some(u) => RequestOutcome::Wakes(u),
+        None => RequestOutcome::Done,
+    }
+}
+
+// A thread is given a permit or an interrupt.
+fn wake_thread<W: ThreadWorld>(
+    world: &W,
+    state: &mut ProgramState,
+    mounted: &mut Mounted,
+    pending: PendingRequest,
+) -> Result<RequestOutcome, NoMemory>
+    requires asks { IsPending (W.world world.now) pending state.old.memory
+        mounted.old.stack.frames }
+    ensures made { IfOk result (λ outcome. IsRequestMade (W.world world.now) pending outcome
+        state.old mounted.old state.new mounted.new) }
+    ensures thread { mounted.new.thread ≡ mounted.old.thread }
+{
+    let woken = give_wake(state, mounted.thread(), pending.request)?;
+    mounted.operands_fit();
+    go_on(mounted, pending);
+    Ok(outcome_of(woken))
 }
 
 // Whether a request makes a thread where there may be no more.
@@ -128,6 +186,9 @@ pub fn make_request<W: ThreadWorld>(
 {
     match pending.request {
         ThreadRequest::Starts(u) => start_thread(alloc, world, state, mounted, pending, u),
+        ThreadRequest::Unparks(_) | ThreadRequest::Interrupts(_) => {
+            wake_thread(world, state, mounted, pending)
+        }
         _ => conclude_request(alloc, world, state, mounted, pending),
     }
 }

@@ -8,8 +8,10 @@ ghost use Rattle.program_state.specs.Settling.{IsSettled, IsStatusSet, is_run_ph
 
 use continuation::Frozen;
 use items::NoMemory;
+use sleep_wheel::{Key, Wheel};
 use thread_steps::Parts;
 use vthread_state::{Phase, Status, Thread, ThreadTable};
+use wakes::Wakes;
 
 /// The state of a program, but for the frames of mounted threads, which their carriers have.
 #[derive(Drop)]
@@ -19,6 +21,14 @@ pub struct ProgramState {
     pub threads: ThreadTable,
     /// The frames of each live thread that isn't mounted, by the thread's number.
     pub frozen: Vec<Option<Frozen>>,
+    /// The permit and the interrupt status of each thread.
+    pub wakes: Wakes,
+    /// The live threads with a deadline that is greater than the time.
+    pub wheel: Wheel,
+    /// The key on the wheel of each thread that is on it, by the thread's number.
+    pub keys: Vec<Option<Key>>,
+    /// The time in nanoseconds, which begins at 0.
+    pub time: u64,
     /// How many threads there may be, as in the table.
     pub most_threads: u32,
     /// How many platform threads were made without a name.

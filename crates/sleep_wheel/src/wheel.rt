@@ -1,6 +1,6 @@
 //! A wheel of sleepers, and the calls that change it.
 
-ghost use Rattle.std.specs.Prelude.{◌≡◌, ◌↔◌, ◌<◌, ◌≤◌, ◌+◌, ℕ, [], None, Some, IsSome, IsNone, IfSome, IfOk, OnOk, OnErr};
+ghost use Rattle.std.specs.Prelude.{◌≡◌, ◌↔◌, ◌<◌, ◌≤◌, ◌+◌, ℕ, [], None, Some, IsSome, IsNone, is_some, IfSome, IfOk, OnOk, OnErr};
 ghost use Rattle.sleep_wheel.specs.Sleepers.{sleeper_at, unless_due, sleepers_of, Changes, IsEarliest, IsDueList};
 
 use crate::alarms::{Alarm, drop_stale, make_compact, push_reserved, take_due};
@@ -69,6 +69,13 @@ impl Wheel {
         push_reserved(&mut self.alarms, Alarm { sleeper, key });
         drop_stale(&mut self.alarms, &self.sleepers);
         Key { number: key }
+    }
+
+    /// Whether a key has a sleeper.
+    pub fn holds(&self, key: Key) -> bool
+        ensures { result ≡ is_some (sleeper_at self.now key.number) }
+    {
+        self.sleepers.contains(key.number)
     }
 
     /// Takes out the sleeper of a key. All other keys stay right. This takes no memory.

@@ -1,7 +1,9 @@
-use Rattle.std.proofs.Common.{◌≡◌, None, Some, subst, sym, ◌∙◌}
+use Rattle.std.proofs.Common.{◌≡◌, ap, subst, sym, ◌∙◌}
 use Rattle.vthread_state.specs.declared.phase.Phase.TheVariants.{Run}
 use Rattle.program_state.specs.declared.requests.RequestOutcome.{RequestOutcome}
 use Rattle.program_state.specs.Requests.{IsRequestMade}
+use Rattle.ref_model.specs.State.{is_interrupted}
+use Rattle.machine.specs.declared.made.Others.TheVariants as moves
 use Rattle.machine.proofs.MoveLaws.{lacks_room, moves_by, pending_yields}
 use Rattle.machine.proofs.moves.asking_move.Goals as goal
 
@@ -13,8 +15,10 @@ returns-in-Done-clause-made c =
     let old = c.args.state.now in
     let new = c.make_request.new.state in
     let steps = subst (λ (o : RequestOutcome). IsRequestMade w c.args.pending o old m new n) c.in-Done.is c.in_ok-make_request.ensures.made in
-    moves_by w (record { started = None; yields = c.is_yield-yields.result }) m.thread Run old new m.stack.frames n.stack.frames c.requires.runs steps
-    (λ r out is h. pending_yields w c.args.pending old r out m.thread m.stack.frames is h c.requires.asks ∙ sym c.is_yield-yields.ensures)
+    moves_by w (record { others = moves.Stay; yields = c.is_yield-yields.result }) m.thread Run old new m.stack.frames n.stack.frames c.requires.runs steps
+    (λ r out is h.
+    pending_yields w c.args.pending old r out m.thread m.stack.frames c.is_interrupted-interrupted.result is h c.requires.asks
+    (c.is_interrupted-interrupted.ensures r out is ∙ ap (is_interrupted r) c.thread.ensures) ∙ sym c.is_yield-yields.ensures)
 
 pub returns-in-Starts-clause-made : goal.returns-in-Starts-clause-made
 returns-in-Starts-clause-made c =
@@ -24,8 +28,23 @@ returns-in-Starts-clause-made c =
     let old = c.args.state.now in
     let new = c.make_request.new.state in
     let steps = subst (λ (o : RequestOutcome). IsRequestMade w c.args.pending o old m new n) c.in-Starts.is c.in_ok-make_request.ensures.made in
-    moves_by w (record { started = Some c.in-Starts.thread; yields = c.is_yield-yields.result }) m.thread Run old new m.stack.frames n.stack.frames c.requires.runs steps
-    (λ r out is h. pending_yields w c.args.pending old r out m.thread m.stack.frames is h c.requires.asks ∙ sym c.is_yield-yields.ensures)
+    moves_by w (record { others = moves.Starts c.in-Starts.thread; yields = c.is_yield-yields.result }) m.thread Run old new m.stack.frames n.stack.frames c.requires.runs steps
+    (λ r out is h.
+    pending_yields w c.args.pending old r out m.thread m.stack.frames c.is_interrupted-interrupted.result is h c.requires.asks
+    (c.is_interrupted-interrupted.ensures r out is ∙ ap (is_interrupted r) c.thread.ensures) ∙ sym c.is_yield-yields.ensures)
+
+pub returns-in-Wakes-clause-made : goal.returns-in-Wakes-clause-made
+returns-in-Wakes-clause-made c =
+    let w = c.args.program.now in
+    let m = c.args.mounted.now in
+    let n = c.make_request.new.mounted in
+    let old = c.args.state.now in
+    let new = c.make_request.new.state in
+    let steps = subst (λ (o : RequestOutcome). IsRequestMade w c.args.pending o old m new n) c.in-Wakes.is c.in_ok-make_request.ensures.made in
+    moves_by w (record { others = moves.Wakes c.in-Wakes.thread; yields = c.is_yield-yields.result }) m.thread Run old new m.stack.frames n.stack.frames c.requires.runs steps
+    (λ r out is h.
+    pending_yields w c.args.pending old r out m.thread m.stack.frames c.is_interrupted-interrupted.result is h c.requires.asks
+    (c.is_interrupted-interrupted.ensures r out is ∙ ap (is_interrupted r) c.thread.ensures) ∙ sym c.is_yield-yields.ensures)
 
 pub returns-in-LacksThreads-clause-made : goal.returns-in-LacksThreads-clause-made
 returns-in-LacksThreads-clause-made c =

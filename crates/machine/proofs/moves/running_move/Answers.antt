@@ -1,8 +1,9 @@
-use Rattle.std.proofs.Common.{◌≡◌, Option, None, false, refl, sym, subst}
+use Rattle.std.proofs.Common.{◌≡◌, false, refl, subst}
 use Rattle.vthread_state.specs.declared.phase.Phase.TheVariants.{Run}
 use Rattle.interp_local.specs.Fetched.{instruction_of}
 use Rattle.thread_steps.specs.declared.progress.Progress.{Progress}
 use Rattle.program_state.specs.Running.{IsProgress}
+use Rattle.machine.specs.declared.made.Others.TheVariants as moves
 use Rattle.machine.proofs.MoveLaws.{moves_by, quiet_yields}
 use Rattle.machine.proofs.OperandLaws.{natives_found, operands_found}
 use Rattle.machine.proofs.moves.running_move.Goals as goal
@@ -24,5 +25,5 @@ returns-in-Stepped-clause-made c =
     let old = c.args.state.now in
     let new = c.run_step.new.state in
     let made = subst (λ (x : Progress). IsProgress w x old m new n) c.in-Stepped.is c.in_ok-progress.ensures.progress in
-    moves_by w (record { started = None; yields = false }) m.thread Run old new m.stack.frames n.stack.frames c.requires.runs made.steps
+    moves_by w (record { others = moves.Stay; yields = false }) m.thread Run old new m.stack.frames n.stack.frames c.requires.runs made.steps
     (λ r out is h. quiet_yields w old r out m.thread m.stack.frames is h made.quiet)

@@ -1,7 +1,7 @@
-use Rattle.std.proofs.Common.{None, false, refl}
-use Rattle.vthread_state.specs.declared.phase.Phase.TheVariants.{Joining}
+use Rattle.std.proofs.Common.{false, refl}
 use Rattle.interp_local.specs.Fetched.{instruction_of}
-use Rattle.machine.proofs.MoveLaws.{joining_yields, moves_by}
+use Rattle.machine.specs.declared.made.Others.TheVariants as moves
+use Rattle.machine.proofs.MoveLaws.{moves_by, waiting_yields}
 use Rattle.machine.proofs.OperandLaws.{natives_found, operands_found}
 use Rattle.machine.proofs.moves.waiting_move.Goals as goal
 
@@ -18,6 +18,6 @@ pub returns-clause-made : goal.returns-clause-made
 returns-clause-made c =
     let w = c.args.program.now in
     let m = c.args.mounted.now in
-    moves_by w (record { started = None; yields = false }) m.thread (Joining c.args.target c.args.deadline) c.args.state.now c.finish_wait.new.state m.stack.frames
-    c.finish_wait.new.mounted.stack.frames c.requires.waits (c.in_ok-finish_wait.ensures.steps c.args.target c.args.deadline)
-    (λ r out is h. joining_yields w r m.thread c.args.target c.args.deadline m.stack.frames h)
+    moves_by w (record { others = moves.Stay; yields = false }) m.thread c.args.phase c.args.state.now c.finish_wait.new.state m.stack.frames
+    c.finish_wait.new.mounted.stack.frames c.requires.waits (c.in_ok-finish_wait.ensures.steps c.args.phase)
+    (λ r out is h. waiting_yields w r m.thread c.args.phase m.stack.frames c.requires.waiting h)

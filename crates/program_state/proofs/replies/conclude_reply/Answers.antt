@@ -1,9 +1,9 @@
 use Rattle.std.proofs.Common.{ℕ, subst, sym}
 use Rattle.program_state.specs.declared.reply.Reply.{Reply}
 use Rattle.program_state.specs.Replies.{Concludes}
-use Rattle.program_state.specs.Replying.{IsJoining, IsRaised}
+use Rattle.program_state.specs.Replying.{BeginsWait, IsRaised}
 use Rattle.program_state.proofs.StepLaws.{on_ok}
-use Rattle.program_state.proofs.ReplyLaws.{gives_concluded, goes_concluded, joins_concluded, throws_concluded}
+use Rattle.program_state.proofs.ReplyLaws.{gives_concluded, goes_concluded, throws_concluded, waits_concluded}
 use Rattle.program_state.proofs.replies.conclude_reply.Goals as goal
 
 pub returns-in-Goes-clause-concludes : goal.returns-in-Goes-clause-concludes
@@ -34,13 +34,13 @@ returns-in-Throws-clause-concludes g c =
     subst (λ (x : Reply). Concludes w c.args.pending m.thread x a m.stack.frames new m.stack.frames) (sym c.in-Throws.is)
     (throws_concluded w c.args.pending m.thread e a new m.stack.frames (subst (λ (t : ℕ). IsRaised w e t a new) c.thread-t.ensures raised)))
 
-pub returns-in-Joins-clause-concludes : goal.returns-in-Joins-clause-concludes
-returns-in-Joins-clause-concludes g c =
+pub returns-in-Waits-clause-concludes : goal.returns-in-Waits-clause-concludes
+returns-in-Waits-clause-concludes g c =
     let w = g.W.EventWorld.world c.args.world.now in
     let m = c.args.mounted.now in
     let a = c.args.state.now in
-    let target = c.in-Joins.target in
-    let table = c.wait_for.new.threads in
-    on_ok c.wait_for.result c.wait_for.ensures (λ waits.
-    subst (λ (x : Reply). Concludes w c.args.pending m.thread x a m.stack.frames (record a { threads = table }) m.stack.frames) (sym c.in-Joins.is)
-    (joins_concluded w c.args.pending m.thread target a table m.stack.frames (subst (λ (t : ℕ). IsJoining t target a.threads table) c.thread-t.ensures waits)))
+    let phase = c.in-Waits.phase in
+    let new = c.begin_wait.new.state in
+    on_ok c.begin_wait.result c.begin_wait.ensures (λ waits.
+    subst (λ (x : Reply). Concludes w c.args.pending m.thread x a m.stack.frames new m.stack.frames) (sym c.in-Waits.is)
+    (waits_concluded w c.args.pending m.thread phase a new m.stack.frames (subst (λ (t : ℕ). BeginsWait t phase a new) c.thread-t.ensures waits)))

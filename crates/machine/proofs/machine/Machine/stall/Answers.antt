@@ -4,7 +4,7 @@ use Rattle.machine.specs.Insides.{setting_in}
 use Rattle.machine.specs.Legal.{HasNotStalled}
 use Rattle.machine.specs.Machines.{Known, machine_ending}
 use Rattle.machine.specs.Stalls.{AreBelow, goes_on}
-use Rattle.machine.proofs.StallCallLaws.{by_deque, by_mounted, mounted_below_all, stalled_kept}
+use Rattle.machine.proofs.StallCallLaws.{by_deque, by_mounted, by_time, mounted_below_all, stalled_kept}
 use Rattle.machine.proofs.machine.Machine.stall.Goals as goal
 
 pub any_enabled-requires : goal.any_enabled-requires
@@ -30,10 +30,19 @@ returns-then-any_enabled c =
     (ap machine_ending c.self.view_is ∙ c.requires)
     c.any_enabled.result (λ r out is. c.any_enabled.ensures r out is ∙ ap (list_any (goes_on r)) c.as_slice.ensures.value) c.if-any_enabled.true)
 
+pub returns-then-is_some-2 : goal.returns-then-is_some-2
+returns-then-is_some-2 c =
+    let a = c.self.inside in
+    subst (λ (k : Known). HasNotStalled k k) c.self.view_is
+    (by_time (setting_in a) a.carriers a.state a.deques a.mounted.items a.history.items a.told (vec_capacity a.history - length a.history.items) c.self.invariant
+    (ap machine_ending c.self.view_is ∙ c.requires)
+    c.earliest.result c.earliest.ensures.least (sym c.is_some-2.ensures ∙ c.if-is_some-2.true))
+
 pub invariant_of-self : goal.invariant_of-self
 invariant_of-self c =
     let a = c.self.inside in
     stalled_kept (setting_in a) a.carriers a.state a.deques a.mounted.items a.history.items a.told (vec_capacity a.history - length a.history.items) c.self.invariant
     (ap machine_ending c.self.view_is ∙ c.requires)
-    c.next.result c.any_enabled.result c.next.ensures (sym c.is_some.ensures ∙ c.if-is_some.false)
+    c.next.result c.any_enabled.result c.earliest.result c.next.ensures (sym c.is_some.ensures ∙ c.if-is_some.false)
     (λ r out is. c.any_enabled.ensures r out is ∙ ap (list_any (goes_on r)) c.as_slice.ensures.value) c.if-any_enabled.false
+    c.earliest.ensures.none (sym c.is_some-2.ensures ∙ c.if-is_some-2.false)

@@ -1,9 +1,0 @@
-use Rattle.std.proofs.Common.{◌≡◌, take}
-use Rattle.thread_lists.specs.Lists.{push}
-use Rattle.machine.proofs.carriers.put_all.Given as goal
-
-abbrev pub invariant-loop-t : goal.invariant-loop-t
-invariant-loop-t l = record {
-  lists : l.deques.lists ≡ push l.initial.deques.lists l.c (take l.t-index l.threads);
-  room : l.deques.threads ≡ l.initial.deques.threads;
-}
