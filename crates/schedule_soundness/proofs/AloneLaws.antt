@@ -1,9 +1,8 @@
 -- The steps of main in a history are those that it makes alone.
-use Rattle.std.proofs.Common.{◌≡◌, ◌≢◌, ◌⊎◌, inl, inr, eqb, ℕ, zero, suc, ◌+◌, Bool, true, false, List, [], ◌∷◌, Option, Some, None, refl, ap, sym, ◌∙◌, ◌&&◌, arith, ◌||◌, subst}
+use Rattle.std.proofs.Common.{◌≡◌, ℕ, zero, suc, ◌+◌, Bool, true, false, List, [], ◌∷◌, Option, Some, None, refl, ap, sym, ◌∙◌, ◌&&◌, arith, ◌||◌, subst}
 use Rattle.std.specs.Prelude.{is_none, is_some, slice_get, if◌then◌else◌}
 use Rattle.std.specs.Option.{option_map_or}
 use Rattle.std.proofs.lemmas.Bool.{and_parts}
-use Rattle.std.proofs.lemmas.Bool.Decides.{eqb_tells}
 use Rattle.items.specs.First.{Each}
 use Rattle.items.specs.Options.{◌>>=◌}
 use Rattle.items.proofs.Binds.{some_is}
@@ -36,9 +35,9 @@ use Rattle.ref_model.proofs.StateLaws.{runs}
 use Rattle.schedule_soundness.specs.Started.{OnlyMain, was_started}
 use Rattle.schedule_soundness.specs.AloneLaws.{MainRunsAlone, steps_of, steps_in, is_tick}
 use Rattle.schedule_soundness.proofs.ThreadLists.{same_some}
-use Rattle.schedule_soundness.proofs.Steps.{guarded, LiveStep, step_moves}
+use Rattle.schedule_soundness.proofs.Steps.{guarded, asks_none, step_moves}
 use Rattle.schedule_soundness.proofs.Reached.{grouped_is, inner_state}
-use Rattle.schedule_soundness.proofs.MainAlone.{live_started}
+use Rattle.schedule_soundness.proofs.MainAlone.{live_started, started_is_main}
 use Rattle.schedule_soundness.proofs.OtherMoves.{Fresh, spot_at}
 use Rattle.schedule_soundness.proofs.Openings.{Opens, opens}
 
@@ -76,20 +75,11 @@ pub record Same (p : Setting) (q s : State) : Type 0 where
   pub is : s ≡ q
   pub only : OnlyMain (look_of p.world q)
 
-no_both : (b : Bool) → b ≡ true → b ≡ false → ⊥
-no_both b i j = cc
-
 -- a step that asks for no start starts nobody
 pub starts_nobody : (p : Setting) (r q : State) (t : ℕ) (pick : Option ℕ) → step p r t pick ≡ Some q → next_asks p.world r t is_start ≡ false
     → Fresh t r q
-starts_nobody p r q t pick e off = by l.stepped.starting refl
-  where
-    l : LiveStep p.world t r q
-    l = step_moves p r q t pick e
-
-    by : (b : Bool) → l.stepped.starting ≡ b → Fresh t r q
-    by true is = absurd (no_both (next_asks p.world r t is_start) (l.stepped.starts is) off)
-    by false is = l.stepped.moves.fresh is
+starts_nobody p r q t pick e off =
+    let l = step_moves p r q t pick e in l.stepped.moves.fresh (asks_none p.world t r q l is_start off)
 
 no_start : (o : Option (Request × Asking)) → option_map_or (λ (x : Request × Asking). needs_others x.0) o false ≡ false
     → option_map_or (λ (x : Request × Asking). is_start x.0) o false ≡ false
@@ -124,16 +114,9 @@ alone_step p r q s only e made =
 
 -- while main alone was started, who steps is main
 main_steps : (p : Setting) (r q : State) (t : ℕ) (pick : Option ℕ) → OnlyMain (look_of p.world r) → step p r t pick ≡ Some q → t ≡ 0
-main_steps p r q t pick only e = by (eqb_tells t 0)
-  where
-    l : LiveStep p.world t r q
-    l = step_moves p r q t pick e
-
-    by : ((eqb t 0 ≡ true) × (t ≡ 0)) ⊎ ((eqb t 0 ≡ false) × (t ≢ 0)) → t ≡ 0
-    by (inl is) = is.1
-    by (inr other) =
-        absurd (no_both (was_started (spot_at (slice_get r.threads t)))
-        (live_started (slice_get r.threads t) l.thread l.phase l.there l.status) (only t other.1))
+main_steps p r q t pick only e =
+    let l = step_moves p r q t pick e in
+    started_is_main p.world r t only (live_started (slice_get r.threads t) l.thread l.phase l.there l.status)
 
 pub entry_of_main : (p : Setting) (n : ℕ) (r q : State) (t : ℕ) (pick : Option ℕ) → OnlyMain (look_of p.world r) → after_steps p r t (suc n) pick ≡ Some q
     → t ≡ 0
@@ -170,15 +153,9 @@ none_picked p r q u only e =
     waits : (me : JavaThread) → slice_get r.threads 0 ≡ Some me → me.thread.status ≡ Live Run → (o : ℕ) → is_waiting_on r o u ≡ true → ⊥
     waits me at run o e =
         let z = waits_live o (slice_get r.threads u) e in
-        by z.0 z.1 z.2 z.3 z.4 (eqb_tells u 0)
-      where
-        by : (x : JavaThread) (phase : Phase) → slice_get r.threads u ≡ Some x → x.thread.status ≡ Live phase → (x.thread.status ≡ Live Run → ⊥)
-            → ((eqb u 0 ≡ true) × (u ≡ 0)) ⊎ ((eqb u 0 ≡ false) × (u ≢ 0)) → ⊥
-        by x phase there is idle (inl main) =
-            let same = same_some (slice_get r.threads 0) me x at (ap (slice_get r.threads) (sym main.1) ∙ there) in
-            idle (ap (λ (y : JavaThread). y.thread.status) (sym same) ∙ run)
-        by x phase there is idle (inr other) =
-            let z : true ≡ false = sym (live_started (slice_get r.threads u) x phase there is) ∙ only u other.1 in absurd cc
+        let main = started_is_main p.world r u only (live_started (slice_get r.threads u) z.0 z.1 z.2 z.3) in
+        let same = same_some (slice_get r.threads 0) me z.0 at (ap (slice_get r.threads) (sym main) ∙ z.2) in
+        z.4 (ap (λ (y : JavaThread). y.thread.status) (sym same) ∙ run)
 
     picks : (me : JavaThread) → slice_get r.threads 0 ≡ Some me → me.thread.status ≡ Live Run → (a : Asking) (request : Request)
         → asked_with r 0 a u request ≡ Some q → ⊥

@@ -19,6 +19,8 @@ pub mod Unpinned
 pub mod TypedHistories
 pub mod MainAlone
 pub mod AloneLaws
+pub mod AloneSteps
+pub mod ClockAlone
 pub mod Filters
 pub mod Placed
 pub mod PutLaws

@@ -42,6 +42,14 @@ live_started o x phase at is =
     ap (λ m. was_started (spot_at m)) at ∙ ap (λ status. was_started (spot_of status)) is
     ∙ or_left (is_live_spot (spot_in phase)) (is_done_spot (spot_in phase)) (phase_live phase)
 
+-- while main alone was started, who was started is main
+pub started_is_main : (w : World) (r : State) (t : ℕ) → OnlyMain (look_of w r) → was_started (spot_at (slice_get r.threads t)) ≡ true → t ≡ 0
+started_is_main w r t only on = by (eqb_tells t 0)
+  where
+    by : ((eqb t 0 ≡ true) × (t ≡ 0)) ⊎ ((eqb t 0 ≡ false) × (t ≢ 0)) → t ≡ 0
+    by (inl is) = is.1
+    by (inr other) = absurd (no_both (was_started (spot_at (slice_get r.threads t))) on (only t other.1))
+
 -- who was started stays so
 pub started_stays : (w : World) (before after : Option JavaThread) → Moved w before after → was_started (spot_at before) ≡ true
     → was_started (spot_at after) ≡ true
@@ -79,17 +87,16 @@ pub record ByMain (w : World) (r : State) (t : ℕ) : Type 0 where
 
 pub step_by_main : (p : Setting) (r q : State) (t : ℕ) (pick : Option ℕ) → step p r t pick ≡ Some q → OnlyMain (look_of p.world q)
     → ByMain p.world r t
-step_by_main p r q t pick e only = record { only = λ u ne. by u ne (eqb_tells u t); main = main (eqb_tells t 0) }
+step_by_main p r q t pick e only = record { only = λ u ne. by u ne (eqb_tells u t); main = main }
   where
     l : LiveStep p.world t r q
     l = step_moves p r q t pick e
 
-    main : ((eqb t 0 ≡ true) × (t ≡ 0)) ⊎ ((eqb t 0 ≡ false) × (t ≢ 0)) → t ≡ 0
-    main (inl is) = is.1
-    main (inr other) = absurd (no_both (was_started (spot_at (slice_get q.threads t))) (own_started p.world r q t l) (only t other.1))
+    main : t ≡ 0
+    main = started_is_main p.world q t only (own_started p.world r q t l)
 
     by : (u : ℕ) → u ≢ 0 → ((eqb u t ≡ true) × (u ≡ t)) ⊎ ((eqb u t ≡ false) × (u ≢ t)) → was_started (spot_at (slice_get r.threads u)) ≡ false
-    by u ne (inl me) = absurd (ne (me.1 ∙ main (eqb_tells t 0)))
+    by u ne (inl me) = absurd (ne (me.1 ∙ main))
     by u ne (inr other) =
         started_before p.world (slice_get r.threads u) (slice_get q.threads u) (l.stepped.moves.others u other.1) (only u ne)
 

@@ -1,10 +1,8 @@
 -- Main alone goes on: a history has at most three entries for each of its steps, and one more.
 use Rattle.std.proofs.Common.{◌≡◌, ◌⊎◌, inl, inr, ℕ, zero, suc, ◌+◌, ◌-◌, ◌*◌, ◌<◌, ◌≤◌, Bool, true, false, List, [], ◌∷◌, length, Option, Some, None, refl, ap, sym, subst, ◌∙◌, ◌&&◌, ◌||◌, not, cond, arith}
-use Rattle.std.specs.Prelude.{is_some, if◌then◌else◌}
+use Rattle.std.specs.Prelude.{is_some}
 use Rattle.std.proofs.lemmas.Bool.{and_parts, and_right, cases_lt, or_from}
-use Rattle.std.proofs.lemmas.Bool.Decides.{eqb_tells}
 use Rattle.items.specs.First.{Each}
-use Rattle.items.specs.Options.{◌>>=◌}
 use Rattle.items.proofs.Binds.{some_is}
 use Rattle.history.specs.declared.entry.Entry.{Entry}
 use Rattle.history.specs.declared.entry.What.{What}
@@ -21,20 +19,21 @@ use Rattle.ref_model.specs.Setting.{Setting}
 use Rattle.ref_model.specs.State.{State}
 use Rattle.ref_model.specs.Ending.{ending}
 use Rattle.ref_model.specs.Opening.{opening}
-use Rattle.ref_model.specs.Resuming.{next_asks}
-use Rattle.ref_model.specs.Alone.{alone, needs_others, stepped_alone}
+use Rattle.ref_model.specs.Alone.{alone, stepped_alone}
 use Rattle.ref_model.specs.Enabled.{enabled}
 use Rattle.ref_model.specs.Step.{step, thread_step}
 use Rattle.ref_model.specs.Run.{after_steps}
 use Rattle.ref_model.specs.Entries.{is_grouped}
 use Rattle.ref_model.specs.Looks.{look_of, grouped_steps, machine_from, yields_after}
-use Rattle.schedule_soundness.specs.Started.{OnlyMain, was_started}
+use Rattle.schedule_soundness.specs.Started.{OnlyMain}
 use Rattle.schedule_soundness.specs.HistoryLaws.{IsProgramAfter}
 use Rattle.schedule_soundness.specs.AloneLaws.{MainGoes, MainGoesOn, is_tick}
 use Rattle.schedule_soundness.proofs.Steps.{guarded}
 use Rattle.schedule_soundness.proofs.Reached.{grouped_is, inner_state}
 use Rattle.schedule_soundness.proofs.Openings.{opens}
+use Rattle.schedule_soundness.proofs.MainAlone.{started_is_main}
 use Rattle.schedule_soundness.proofs.AloneLaws.{alone_entry, from, from_more, from_next, from_opening, main_opens, some_from}
+use Rattle.schedule_soundness.proofs.AloneSteps.{from_over, from_past, steps_alone}
 use Rattle.schedule_soundness.proofs.Histories.{histories_go_on, in_one_place}
 use Rattle.schedule_soundness.proofs.Placed.{PutDown, Taken, none_on, placed_were_started, put_down, sizes_of, taken}
 use Rattle.schedule_soundness.proofs.Ahead.{going}
@@ -48,19 +47,6 @@ ends_once o told e f = absurd cc
 
 -- ---- so many steps of main
 
-from_over : (p : Setting) (n : ℕ) (r : State) (told : Ending) → ending r ≡ Some told → from p n (Some r) ≡ Some r
-from_over p zero r told over = refl
-from_over p (suc n) r told over =
-    ap (λ o. o >>= stepped_alone p) (from_over p n r told over)
-    ∙ ap (λ b. cond b (Some r) (cond (next_asks p.world r 0 needs_others) None (step p r 0 None))) (ap is_some over)
-
--- more steps than to the end lead to the end
-from_past : (p : Setting) (few many : ℕ) (o : Option State) (q : State) (told : Ending) → few ≤ many → ending q ≡ Some told → from p few o ≡ Some q
-    → from p many o ≡ Some q
-from_past p few many o q told low over e =
-    let split : many ≡ few + (many - few) = omega arith in
-    ap (λ n. from p n o) split ∙ from_more p few (many - few) o ∙ ap (from p (many - few)) e ∙ from_over p (many - few) q told over
-
 -- the next step of main, where the program goes on and will have ended after so many
 record NextStep (p : Setting) (r : State) (left : ℕ) : Type 0 where
   pub some : 0 < left
@@ -73,13 +59,7 @@ next_step : (p : Setting) (q : State) (told : Ending) (r : State) (left : ℕ) �
 next_step p q told r zero over goes e = absurd (ends_once (ending r) told goes (ap ending (inner_state r q e) ∙ over))
 next_step p q told r (suc left) over goes e =
     let s = some_from p left (stepped_alone p r) q (from_next p left (Some r) ∙ e) in
-    record { some = omega arith; next = s.0; alone = s.1; made = by (ending r) (next_asks p.world r 0 needs_others) s.0 goes s.1 }
-  where
-    by : (o : Option Ending) (b : Bool) (s : State) → o ≡ None → (if is_some o then Some r else if b then None else step p r 0 None) ≡ Some s
-        → step p r 0 None ≡ Some s
-    by (Some x) b s goes e = absurd cc
-    by None true s goes e = absurd cc
-    by None false s goes e = e
+    record { some = omega arith; next = s.0; alone = s.1; made = (steps_alone p r s.0 goes s.1).made }
 
 main_may : (p : Setting) (r s : State) → step p r 0 None ≡ Some s → enabled r 0 ≡ true
 main_may p r s e = (guarded (enabled r 0) (thread_step p.world r 0) s e).0
@@ -139,11 +119,7 @@ Along p q n entries v = (v.state ≡ q) ⊎ Going p q n entries v
 -- who is in a place is main
 is_main : (p : Setting) (first : State) (v : Scheduled State) → IsProgramAfter p first v → OnlyMain (look_of p.world v.state) → (t : ℕ)
     → 0 < places t v.schedule → t ≡ 0
-is_main p first v a only t there =
-    elim (eqb_tells t 0) [
-      | inl w ↦ w.1
-      | inr w ↦ absurd (no_both (was_started ((look_of p.world v.state).spot t)) (placed_were_started p first v a t there) (only t w.1))
-    ]
+is_main p first v a only t there = started_is_main p.world v.state t only (placed_were_started p first v a t there)
 
 module _ (p : Setting) (first q : State) (told : Ending) (over : ending q ≡ Some told) (n : ℕ) where
   mount_goes : (v : Scheduled State) (s : Schedule) (c t entries : ℕ) → IsProgramAfter p first v → Going p q n entries v

@@ -15,15 +15,17 @@ use Rattle.schedule_model.specs.Look.{Spot, absent, in_entry_list, is_in_line, i
 use Rattle.ref_model.specs.Memory.{Memory}
 use Rattle.ref_model.specs.State.{JavaThread, Owner, State, with_thread, with_owner}
 use Rattle.ref_model.specs.Ending.{is_live}
+use Rattle.ref_model.specs.Requests.{Request, reads_clock}
+use Rattle.ref_model.specs.Alone.{is_start}
 use Rattle.ref_model.specs.Starting.{with_new_thread}
 use Rattle.ref_model.specs.Waiting.{is_reached, status_at_time, thread_at_time, status_woken, thread_woken, thread_waits_on, notified_on, with_all_notified, at_time}
 use Rattle.ref_model.specs.Requesting.{thread_interrupted, thread_unparked, with_daemon, with_name}
 use Rattle.ref_model.proofs.StateLaws.{get_set}
-use Rattle.ref_model.specs.Looks.{spot_in, spot_of}
+use Rattle.ref_model.specs.Looks.{spot_in, spot_of, deadline_in}
 use Rattle.schedule_soundness.specs.Started.{was_started}
 use Rattle.schedule_soundness.specs.Moves.{Moved, still, told, woken, made}
 use Rattle.schedule_soundness.proofs.ThreadLists.{StaysThere, same_there, set_there, set_other, more, more_there, map_there, map_none, with_cases}
-use Rattle.schedule_soundness.proofs.OwnSteps.{OwnMoves, OwnStep, Settled, going, ended}
+use Rattle.schedule_soundness.proofs.OwnSteps.{AsksNo, OwnMoves, OwnStep, Settled, going, ended}
 
 pub phase_live : (phase : Phase) → is_live_spot (spot_in phase) ≡ true
 phase_live (Entering o) = refl
@@ -38,41 +40,48 @@ spot_at o = option_map_or (λ (x : JavaThread). spot_of x.thread.status) o absen
 abbrev pub Fresh : ℕ → State → State → Type 0
 Fresh t r q = (u : ℕ) → u ≢ t → was_started (spot_at (slice_get r.threads u)) ≡ false → was_started (spot_at (slice_get q.threads u)) ≡ false
 
--- before the thread does something to itself
-pub record SomeMoves (w : World) (t : ℕ) (r q : State) (starting : Bool) : Type 0 where
-  pub fresh : starting ≡ false → Fresh t r q
+-- before the thread does something to itself, in a step that asks this, or nothing
+pub record SomeMoves (w : World) (t : ℕ) (r q : State) (asking : Option Request) : Type 0 where
+  pub fresh : AsksNo is_start asking → Fresh t r q
   pub there : StaysThere t r q
   pub now : q.now ≡ r.now
   pub others : (u : ℕ) → u ≢ t → Moved w (slice_get r.threads u) (slice_get q.threads u)
 
--- after its step a thread is in line only where another one owns the monitor
-pub record OwnAfter (r : State) (y : JavaThread) : Type 0 where
+-- after its step a thread is in line only where another one owns the monitor, and has a deadline only where the step reads the clock
+pub record OwnAfter (r : State) (asking : Option Request) (y : JavaThread) : Type 0 where
   pub begun : was_started (spot_of y.thread.status) ≡ true
   pub dropped : is_live y.thread.status ≡ false → y.frames ≡ []
   pub came : (o : ℕ) → spot_of y.thread.status ≡ in_entry_list o → is_some (r.owners o) ≡ true
+  pub timeless : AsksNo reads_clock asking → deadline_in y.thread.status ≡ None
 
-pub record StepMoves (w : World) (t : ℕ) (r q : State) (starting : Bool) : Type 0 where
-  pub fresh : starting ≡ false → Fresh t r q
+pub record StepMoves (w : World) (t : ℕ) (r q : State) (asking : Option Request) : Type 0 where
+  pub fresh : AsksNo is_start asking → Fresh t r q
   pub there : StaysThere t r q
   pub now : q.now ≡ r.now
   pub others : (u : ℕ) → u ≢ t → Moved w (slice_get r.threads u) (slice_get q.threads u)
-  pub own : (y : JavaThread) → slice_get q.threads t ≡ Some y → OwnAfter r y
+  pub own : (y : JavaThread) → slice_get q.threads t ≡ Some y → OwnAfter r asking y
 
-settled_after : (r : State) (y : JavaThread) → Settled y → OwnAfter r y
+settled_after : {asking : Option Request} (r : State) (y : JavaThread) → Settled asking y → OwnAfter r asking y
 settled_after r y (going g) =
     record {
       begun = ap (λ status. was_started (spot_of status)) g.status ∙ or_left (is_live_spot (spot_in g.phase)) (is_done_spot (spot_in g.phase)) (phase_live g.phase);
       dropped = λ e. let x : is_live (Live g.phase) ≡ false = sym (ap is_live g.status) ∙ e in absurd cc;
       came = λ o e. absurd (no_line (spot_in g.phase) o (sym (ap spot_of g.status) ∙ e) g.loose);
+      timeless = λ z. ap deadline_in g.status ∙ g.timeless z;
     }
   where
     no_line : (x : Spot) (o : ℕ) → x ≡ in_entry_list o → is_in_line x ≡ false → ⊥
     no_line x o e loose = let z : is_in_line (in_entry_list o) ≡ false = sym (ap is_in_line e) ∙ loose in cc
 settled_after r y (ended e dropped) =
-    record { begun = ap (λ status. was_started (spot_of status)) e; dropped = λ z. dropped; came = λ o z. let x : spot_of Done ≡ in_entry_list o = sym (ap spot_of e) ∙ z in absurd cc }
+    record {
+      begun = ap (λ status. was_started (spot_of status)) e;
+      dropped = λ z. dropped;
+      came = λ o z. let x : spot_of Done ≡ in_entry_list o = sym (ap spot_of e) ∙ z in absurd cc;
+      timeless = λ z. ap deadline_in e;
+    }
 
 -- others, then the thread itself
-pub moves_after : {starting : Bool} (w : World) (t : ℕ) (r s q : State) → SomeMoves w t r s starting → OwnStep t s q → StepMoves w t r q starting
+pub moves_after : {asking : Option Request} (w : World) (t : ℕ) (r s q : State) → SomeMoves w t r s asking → OwnStep t s q asking → StepMoves w t r q asking
 moves_after w t r s q a b =
     record {
       fresh = λ e u ne off. ap (λ o. was_started (spot_at o)) (b.moves.others u ne) ∙ a.fresh e u ne off;
@@ -82,10 +91,10 @@ moves_after w t r s q a b =
       own = λ y at. settled_after r y (b.own y at);
     }
 
-pub no_moves : {starting : Bool} (w : World) (t : ℕ) (r : State) → SomeMoves w t r r starting
+pub no_moves : {asking : Option Request} (w : World) (t : ℕ) (r : State) → SomeMoves w t r r asking
 no_moves w t r = record { fresh = λ e u ne off. off; there = same_there t r r refl; now = refl; others = λ u ne. still refl }
 
-pub owner_moves : {starting : Bool} (w : World) (t : ℕ) (r : State) (o : ℕ) (owner : Option Owner) → SomeMoves w t r (with_owner r o owner) starting
+pub owner_moves : {asking : Option Request} (w : World) (t : ℕ) (r : State) (o : ℕ) (owner : Option Owner) → SomeMoves w t r (with_owner r o owner) asking
 owner_moves w t r o owner =
     record {
       fresh = λ e u ne off. off;
@@ -94,10 +103,10 @@ owner_moves w t r o owner =
       others = λ u ne. still refl;
     }
 
-pub own_moves : {starting : Bool} (w : World) (t : ℕ) (r q : State) → OwnStep t r q → StepMoves w t r q starting
+pub own_moves : {asking : Option Request} (w : World) (t : ℕ) (r q : State) → OwnStep t r q asking → StepMoves w t r q asking
 own_moves w t r q own = moves_after w t r r q (no_moves w t r) own
 
-pub own_some : {starting : Bool} (w : World) (t : ℕ) (r q : State) → OwnMoves t r q → SomeMoves w t r q starting
+pub own_some : {asking : Option Request} (w : World) (t : ℕ) (r q : State) → OwnMoves t r q → SomeMoves w t r q asking
 own_some w t r q a =
     record {
       fresh = λ e u ne off. ap (λ o. was_started (spot_at o)) (a.others u ne) ∙ off;
@@ -139,12 +148,12 @@ set_fresh xs u v x y e each (inl is) off =
     ∙ each (sym (ap (λ o. was_started (spot_at o)) e) ∙ ap (λ n. was_started (spot_at (slice_get xs n))) (sym is.1) ∙ off)
 set_fresh xs u v x y e each (inr other) off = ap (λ o. was_started (spot_at o)) (set_other xs u v y other.1) ∙ off
 
-pub one_moves : {starting : Bool} (w : World) (t : ℕ) (r : State) (u : ℕ) (change : JavaThread → JavaThread)
-    → (starting ≡ false → (x : JavaThread) → x.thread.status ≡ New → (change x).thread.status ≡ New)
+pub one_moves : {asking : Option Request} (w : World) (t : ℕ) (r : State) (u : ℕ) (change : JavaThread → JavaThread)
+    → (AsksNo is_start asking → (x : JavaThread) → x.thread.status ≡ New → (change x).thread.status ≡ New)
     → ((x : JavaThread) → u ≢ t → slice_get r.threads u ≡ Some x → Moved w (Some x) (Some (change x)))
-    → SomeMoves w t r (with_thread r u change) starting
-one_moves {starting} w t r u change keeps each =
-    with_cases r u change (λ s. SomeMoves w t r s starting) (no_moves w t r)
+    → SomeMoves w t r (with_thread r u change) asking
+one_moves {asking} w t r u change keeps each =
+    with_cases r u change (λ s. SomeMoves w t r s asking) (no_moves w t r)
     (λ x e. record {
       fresh = λ plain v ne off. set_fresh r.threads u v x (change x) e (keeps_new change (keeps plain) x) (eqb_tells v u) off;
       there = set_there t u r x (change x) e;
@@ -218,7 +227,7 @@ map_fresh f xs u keeps None e off = ap (λ o. was_started (spot_at o)) (map_none
 map_fresh f xs u keeps (Some x) e off =
     ap (λ o. was_started (spot_at o)) (map_there f xs u x e) ∙ keeps_new f keeps x (sym (ap (λ o. was_started (spot_at o)) e) ∙ off)
 
-pub all_notified_moves : {starting : Bool} (w : World) (t : ℕ) (r : State) (o : ℕ) → SomeMoves w t r (with_all_notified r o) starting
+pub all_notified_moves : {asking : Option Request} (w : World) (t : ℕ) (r : State) (o : ℕ) → SomeMoves w t r (with_all_notified r o) asking
 all_notified_moves w t r o =
     record {
       fresh = λ e u ne off. map_fresh (notified_on o) r.threads u (notified_new o) (slice_get r.threads u) refl off;
@@ -258,8 +267,8 @@ time_moves w r q u now e =
 
 -- ---- one thread more
 
-pub made_moves : {starting : Bool} (w : World) (t : ℕ) (r : State) (memory : Memory) (unnamed : ℕ) (x : JavaThread) → x.thread.status ≡ New
-    → x.frames ≡ [] → SomeMoves w t r (with_new_thread r memory unnamed x) starting
+pub made_moves : {asking : Option Request} (w : World) (t : ℕ) (r : State) (memory : Memory) (unnamed : ℕ) (x : JavaThread) → x.thread.status ≡ New
+    → x.frames ≡ [] → SomeMoves w t r (with_new_thread r memory unnamed x) asking
 made_moves w t r memory unnamed x new empty =
     record {
       fresh = λ e u ne off. fresh u (more r.threads x u) off;

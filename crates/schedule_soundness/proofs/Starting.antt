@@ -29,6 +29,7 @@ use Rattle.ref_model.specs.Heap.{class_at}
 use Rattle.ref_model.specs.Frames.{first_frame}
 use Rattle.ref_model.specs.Monitors.{with_monitor}
 use Rattle.ref_model.specs.ThreadNatives.{with_number}
+use Rattle.ref_model.specs.Requests.{Request, starts}
 use Rattle.ref_model.specs.Asking.{Asking, goes}
 use Rattle.ref_model.specs.Starting.{unnamed_after, first_daemon, name_made, made_thread, with_new_thread, made_or_thrown, may_create, created, run_method, run_choice, run_frame, first_phase, with_begun, begun_with, begun_by, started_in, started as started_state}
 use Rattle.ref_model.proofs.StateLaws.{get_set}
@@ -43,7 +44,7 @@ abbrev pub Runs : State → ℕ → Type 0
 Runs r t = (x : JavaThread) → slice_get r.threads t ≡ Some x → x.thread.status ≡ Live Run
 
 pub still_going : (r : State) (t : ℕ) → Runs r t → IsGoing r t
-still_going r t on = λ x at. record { phase = Run; status = on x at; loose = refl }
+still_going r t on = λ x at. record { phase = Run; status = on x at; loose = refl; timeless = λ z. refl }
 
 -- a change of one thread that leaves a thread running
 pub runs_with : (r : State) (t u : ℕ) (change : JavaThread → JavaThread)
@@ -71,15 +72,15 @@ runs_with_more r t memory unnamed x creator there on y at = by (more r.threads x
     by (inl same) = on y (sym same ∙ at)
     by (inr last) = absurd (not_none (slice_get r.threads t) creator last.0 there)
 
-pub created_moves : {starting : Bool} (w : World) (r q : State) (t : ℕ) (a : Asking) (kind : ThreadKind) (object : ℕ) (name : Option ℕ) → Runs r t
-    → created w r t a kind object name ≡ Some q → StepMoves w t r q starting
-created_moves {starting} w r q t a kind object name on e =
+pub created_moves : {asking : Option Request} (w : World) (r q : State) (t : ℕ) (a : Asking) (kind : ThreadKind) (object : ℕ) (name : Option ℕ) → Runs r t
+    → created w r t a kind object name ≡ Some q → StepMoves w t r q asking
+created_moves {asking} w r q t a kind object name on e =
     either (may_create r) (slice_get r.threads t >>= λ creator. made_or_thrown w r t a kind object name creator (name_made kind r name)) None q
     (λ e. let creator = some_is (slice_get r.threads t) (λ creator. made_or_thrown w r t a kind object name creator (name_made kind r name)) q e in
     by creator.0 creator.1 (name_made kind r name) creator.2) (λ e. absurd cc) e
   where
     by : (creator : JavaThread) → slice_get r.threads t ≡ Some creator → (o : Option (Memory × ℕ))
-        → made_or_thrown w r t a kind object name creator o ≡ Some q → StepMoves w t r q starting
+        → made_or_thrown w r t a kind object name creator o ≡ Some q → StepMoves w t r q asking
     by creator there None e = own_moves w t r q (raised_own w r q t OutOfMemoryError e)
     by creator there (Some named) e =
         let daemon = first_daemon kind creator in
@@ -146,14 +147,14 @@ runs_beside : (r : State) (t u : ℕ) (change : JavaThread → JavaThread) → u
 runs_beside r t u change ne on =
     with_cases r u change (λ s. Runs s t) on (λ x e y at. on y (sym (set_other r.threads u t (change x) (λ z. ne (sym z))) ∙ at))
 
-pub started_moves : (w : World) (r q : State) (t : ℕ) (a : Asking) (u : ℕ) → Runs r t → started_state w r t a u ≡ Some q → StepMoves w t r q true
+pub started_moves : (w : World) (r q : State) (t : ℕ) (a : Asking) (u : ℕ) → Runs r t → started_state w r t a u ≡ Some q → StepMoves w t r q (Some (starts u))
 started_moves w r q t a u on e =
     let x = some_is (slice_get r.threads u) (λ x. started_in w r t a u x.thread.object x.thread.status) q e in
     by x.0 x.1 x.0.thread.object x.0.thread.status refl x.2
   where
     by_code : (x : JavaThread) → slice_get r.threads u ≡ Some x → x.thread.status ≡ New → (class run object : ℕ) (at : MemberPlace) → run_method w ≡ Some run
         → choice_of w class run ≡ Some (Method at) → (o : Option MethodCode) → begun_with w r t a u object (method_number w.program at) o ≡ Some q
-        → StepMoves w t r q true
+        → StepMoves w t r q (Some (starts u))
     by_code x there new class run object at run_is chosen None e = own_moves w t r q (raised_own w r q t AbstractMethodError e)
     by_code x there new class run object at run_is chosen (Some code) e =
         let n = method_number w.program at in
@@ -166,7 +167,7 @@ started_moves w r q t a u on e =
         let s = with_thread r u change in
         let ne : u ≢ t = λ same. new_runs x new (on x (subst (λ k. slice_get r.threads k ≡ Some x) same there)) in
         let method = method_is n code (One (values.Ref object) ∷ []) f.0 f.1 in
-        let moves : SomeMoves w t r s true =
+        let moves : SomeMoves w t r s (Some (starts u)) =
         one_moves w t r u change (λ z. absurd cc) (λ y other here. started y (change y) refl refl
         (ap (λ (z : JavaThread). z.thread.status) (same_some (slice_get r.threads u) y x here there) ∙ new)
         (begins w class run object at m.0 f.0 y run_is chosen m.1 method)) in
@@ -176,14 +177,14 @@ started_moves w r q t a u on e =
         new_runs x a b = let z : New ≡ Live Run = sym a ∙ b in cc
 
     by_choice : (x : JavaThread) → slice_get r.threads u ≡ Some x → x.thread.status ≡ New → (class run object : ℕ) (choice : Choice) → run_method w ≡ Some run
-        → choice_of w class run ≡ Some choice → begun_by w r t a u object choice ≡ Some q → StepMoves w t r q true
+        → choice_of w class run ≡ Some choice → begun_by w r t a u object choice ≡ Some q → StepMoves w t r q (Some (starts u))
     by_choice x there new class run object Abstract run_is chosen e = own_moves w t r q (raised_own w r q t AbstractMethodError e)
     by_choice x there new class run object Several run_is chosen e = own_moves w t r q (raised_own w r q t IncompatibleClassChangeError e)
     by_choice x there new class run object (Method at) run_is chosen e =
         by_code x there new class run object at run_is chosen (code_at w (method_number w.program at)) e
 
     by : (x : JavaThread) → slice_get r.threads u ≡ Some x → (object : ℕ) (status : Status) → x.thread.status ≡ status
-        → started_in w r t a u object status ≡ Some q → StepMoves w t r q true
+        → started_in w r t a u object status ≡ Some q → StepMoves w t r q (Some (starts u))
     by x there object New new e =
         let choice = some_is (run_choice w r.memory object) (begun_by w r t a u object) q e in
         let n = some_is (run_method w) (λ n. class_at w r.memory object >>= λ class. choice_of w class n) choice.0 choice.1 in

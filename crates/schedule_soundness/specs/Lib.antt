@@ -9,5 +9,6 @@ pub mod TypedLaws
 pub mod AloneLaws
 pub mod PutLaws
 pub mod TimeLaws
+pub mod ClockLaws
 pub mod EntryLaws
 pub mod PinLaws

@@ -10,6 +10,7 @@ ghost use Rattle.schedule_soundness.specs.StallLaws.{PlacesTell, StallsByPlaces,
 ghost use Rattle.schedule_soundness.specs.HandLaws.{EntriesLeaveHands, HandsOutlastEntries, OwedOutlastsEntries, UnmountsOutlastEntries, HandsGoOn, RowsAreEntries};
 ghost use Rattle.schedule_soundness.specs.TypedLaws.{HistoriesAreTyped, FramesAreTyped, LinkedProgramsAreSuch};
 ghost use Rattle.schedule_soundness.specs.AloneLaws.{StepsAreOfMain, MainRunsAlone, MainGoesOn};
+ghost use Rattle.schedule_soundness.specs.ClockLaws.{NothingTicksAlone};
 ghost use Rattle.schedule_soundness.specs.PutLaws.{QuietStepsPutNobody, EndsPutJoiners, StartsPutTheStarted, WakesPutTheWoken};
 ghost use Rattle.schedule_soundness.specs.TimeLaws.{TicksLeaveThreads, TicksPutWhoIsDue};
 ghost use Rattle.schedule_soundness.specs.PinLaws.{NobodyIsPinned, StepsPinNobody, RowsPinNobody, NamesTellCalls, TestsTellNames, LinkedHoldIsStatic};
@@ -138,9 +139,10 @@ pub fn histories_are_typed()
 
 /// While no other thread was started each step is main's. Where time hasn't gone on, and `alone` is defined for as many steps, the state is
 /// the one that it gives, and no other thread was started. Where `alone` ends the program the history has ended so, or main goes on, in a
-/// history of at most three entries a step.
+/// history of at most three entries a step; and time doesn't go on, where it does so only with a reason.
 pub fn main_runs_alone()
     ensures steps { StepsAreOfMain }
     ensures alone { MainRunsAlone }
     ensures on { MainGoesOn }
+    ensures ticks { NothingTicksAlone }
 {}
