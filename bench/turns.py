@@ -26,4 +26,8 @@ THREADS = {
     "Yields": Turns("a yield of a virtual thread, and the mount of another", 500_000),
     "AmongFew": Turns("a yield of one of two threads, while 10 wait", 200_000, "Few"),
     "AmongMany": Turns("a yield of one of two threads, while 90,000 wait", 200_000, "Many"),
+    "OwnPermits": Turns("a permit that a thread gives itself, and takes", 500_000),
+    "OwnInterrupts": Turns("a thread interrupts itself, and clears the status", 500_000),
+    "Handovers": Turns("a permit for another thread, which waits for it", 200_000),
+    "ClockReadings": Turns("a reading of the clock", 500_000),
 }

@@ -1,5 +1,5 @@
 -- What each way through a turn gives its callers.
-use Rattle.std.proofs.Common.{◌≡◌, ◌<◌, ◌≤◌, ℕ, suc, Bool, true, false, Some, None, Result, Ok, Err, refl, ap, sym, ◌∙◌, subst}
+use Rattle.std.proofs.Common.{◌≡◌, ◌⊎◌, inl, inr, ◌<◌, ◌≤◌, ℕ, suc, arith, Bool, true, false, Some, None, Result, Ok, Err, refl, ap, sym, ◌∙◌, subst}
 use Rattle.std.specs.Prelude.{OnOk, is_err, is_some}
 use Rattle.continuation.specs.Continuation.{Continuation}
 use Rattle.invocation.specs.InvocationCache.{AreSelected, Kept}
@@ -8,7 +8,7 @@ use Rattle.ref_model.specs.declared.ending.Ending.TheVariants.{Halted, Stalled}
 use Rattle.ref_model.specs.Setting.{Setting}
 use Rattle.ref_model.specs.Step.{enabled}
 use Rattle.machine.specs.declared.after.After.{After}
-use Rattle.machine.specs.declared.after.After.TheVariants.{Goes, Leaves, Ends}
+use Rattle.machine.specs.declared.after.After.TheVariants.{Goes, Leaves, Ends, Halts, ReadsClock}
 use Rattle.machine.specs.Hands.{HasEnded, Holds, IsMounted, Lives, MayStep, MayUnmount, OwesNothing, OwesUnmount}
 use Rattle.machine.specs.Legal.{IsLegal}
 use Rattle.machine.specs.Machines.{Known, machine_ending, with_ending, with_entry}
@@ -18,10 +18,10 @@ use Rattle.carrier.specs.declared.ask.Ask.TheVariants.{Nothing, Freeze}
 use Rattle.carrier.specs.declared.ask.Turn.{Turn}
 use Rattle.carrier.specs.declared.hand.Hand.{Hand}
 use Rattle.carrier.specs.Hands.{Fits, HasDone, HasParts, HasThread}
-use Rattle.carrier.specs.Steps.{AnswersUnlessStalled, GoesOnBy, HasGone, MayAct, looks_over, looks_stalled, looks_on}
+use Rattle.carrier.specs.Steps.{AnswersUnlessStalled, GoesOnBy, HasGone, MayAct, MayGoOn, MountedBy, ran, waits, looks_over, looks_stalled, looks_on}
 use Rattle.carrier.specs.Turns.{HoldsNothing, IsTurn, MayNotStep, asked_by}
-use Rattle.carrier.proofs.EndingLaws.{is_scheduled, told_ends}
-use Rattle.carrier.proofs.FitLaws.{MountedBy, empty_by, fits_told, goes_fits, leaving_fits, mounted_by, over_fits, owed_leaves, ran, running_steps, waits}
+use Rattle.carrier.proofs.EndingLaws.{goes_on, is_scheduled, room_for, told_ends}
+use Rattle.carrier.proofs.FitLaws.{empty_by, fits_told, goes_fits, leaving_fits, mounted_by, over_fits, owed_leaves, running_steps}
 use Rattle.carrier.proofs.StepLaws.{enabled_lives, goes_enabled, is_mounted, may_retire, mounted_lives, off_leaves}
 use Rattle.carrier.proofs.TurnLaws.{carriers_is, room_turn, setting_is}
 
@@ -67,19 +67,41 @@ off_fits m c t h g act has off parts failed cache = by (mounted_by m c h has.kep
           asked_is = parts.asked_is;
         }) (failed ∙ act.works) (subst (AreSelected m.setting.world) (sym cache) act.fits.selected)
 
+-- it may make a step
+pub may_go : (m : Known) (c t : ℕ) (h : Hand) → MayAct m c h → HasThread h t → MayStep m t → MayGoOn m c h t
+may_go m c t h act has enabled = record {
+  legal = act.legal;
+  below = act.fits.below;
+  selected = act.fits.selected;
+  done = act.done;
+  works = act.works;
+  going = goes_on m act.legal act.going;
+  left = let room = room_for m act.legal act.going in omega arith;
+  spare = act.spare;
+  mounted = has;
+  by = mounted_by m c h has.kept act has.mounted;
+  enabled = enabled;
+}
+
 -- ---- after a step
 
-pub gone_at : {after b : After} {old mid : Known} {c t : ℕ} {g : Hand} → after ≡ b → HasGone after old mid c t g → HasGone b old mid c t g
-gone_at {old = old} {mid = mid} {c = c} {t = t} {g = g} e gone = subst (λ a. HasGone a old mid c t g) e gone
+pub gone_at : {after b : After} {old mid : Known} {c t now : ℕ} {h g : Hand} → after ≡ b → HasGone after old mid c t now h g → HasGone b old mid c t now h g
+gone_at {old = old} {mid = mid} {c = c} {t = t} {now = now} {h = h} {g = g} e gone = subst (λ a. HasGone a old mid c t now h g) e gone
 
-pub goes_may : (old mid : Known) (c t : ℕ) (g : Hand) → HasGone Goes old mid c t g → IsLegal mid → MayStep mid t
-goes_may old mid c t g gone legal = goes_enabled old mid c t (suc gone.local) gone.steps.entry legal gone.steps.outcome
+-- what was gone without a step halted the run
+pub gone_halts : {after : After} {old mid : Known} {c t now : ℕ} {h g : Hand} → (after ≡ Halts) ⊎ (after ≡ ReadsClock) → HasGone after old mid c t now h g
+    → HasGone Halts old mid c t now h g
+gone_halts (inl e) gone = gone_at e gone
+gone_halts (inr e) gone = absurd (gone.tried e)
 
-pub goes_lives : (old mid : Known) (c t : ℕ) (g : Hand) → HasGone Goes old mid c t g → IsLegal mid → Lives mid t
-goes_lives old mid c t g gone legal = enabled_lives mid t (goes_may old mid c t g gone legal)
+pub goes_may : (old mid : Known) (c t now : ℕ) (h g : Hand) → HasGone Goes old mid c t now h g → IsLegal mid → MayStep mid t
+goes_may old mid c t now h g gone legal = goes_enabled old mid c t (suc gone.local) gone.steps.entry legal gone.steps.outcome
 
-pub retire_may : (old mid : Known) (c t : ℕ) (g : Hand) → HasGone Ends old mid c t g → MayUnmount mid c t
-retire_may old mid c t g gone =
+pub goes_lives : (old mid : Known) (c t now : ℕ) (h g : Hand) → HasGone Goes old mid c t now h g → IsLegal mid → Lives mid t
+goes_lives old mid c t now h g gone legal = enabled_lives mid t (goes_may old mid c t now h g gone legal)
+
+pub retire_may : (old mid : Known) (c t now : ℕ) (h g : Hand) → HasGone Ends old mid c t now h g → MayUnmount mid c t
+retire_may old mid c t now h g gone =
     let s = gone.steps in
     let entered = with_entry old c (step_of t (suc gone.local)) in
     subst (λ m. MayUnmount m c t) (sym s.entry)
@@ -102,24 +124,24 @@ parts_after g x k ask was parts =
       asked_is = parts.asked_is;
     }
 
-pub goes_on_fits : (old mid : Known) (c t : ℕ) (h g x : Hand) (answer : Turn) → MayAct old c h → HasGone Goes old mid c t g → IsLegal mid
+pub goes_on_fits : (old mid : Known) (c t now : ℕ) (h g x : Hand) (answer : Turn) → MayGoOn old c h t → HasGone Goes old mid c t now h g → IsLegal mid
     → GoesOnBy mid t answer → HasParts x g.mounted g.frozen g.local (asked_by answer) → x.failed ≡ g.failed → x.cache ≡ g.cache → Fits mid c x
-goes_on_fits old mid c t h g x answer act gone legal way parts failed cache =
+goes_on_fits old mid c t now h g x answer act gone legal way parts failed cache =
     let s = gone.steps in
-    goes_fits mid c t gone.kept x answer legal (below_after old mid c t (suc gone.local) s.entry act.fits.below) (gone.thread (λ e. cc)) s.hand s.outcome way
+    goes_fits mid c t gone.kept x answer legal (below_after old mid c t (suc gone.local) s.entry act.below) (gone.thread (λ e. cc)) s.hand s.outcome way
     (parts_after g x gone.kept (asked_by answer) gone.parts parts) (failed ∙ gone.works)
     (subst (AreSelected mid.setting.world) (sym cache) (selected_after old mid c t (suc gone.local) g.cache s.entry gone.selected))
 
-pub leaves_on_fits : (old mid new : Known) (c t : ℕ) (h g x : Hand) (answer : Turn) → MayAct old c h → HasGone Leaves old mid c t g → IsLegal mid
+pub leaves_on_fits : (old mid new : Known) (c t now : ℕ) (h g x : Hand) (answer : Turn) → MayGoOn old c h t → HasGone Leaves old mid c t now h g → IsLegal mid
     → AnswersUnlessStalled mid new Freeze answer → HasParts x g.mounted g.frozen g.local (asked_by answer) → x.failed ≡ g.failed → x.cache ≡ g.cache
     → Fits new c x
-leaves_on_fits old mid new c t h g x answer act gone legal look parts failed cache = by look
+leaves_on_fits old mid new c t now h g x answer act gone legal look parts failed cache = by look
   where
     s : HasStepped Leaves old mid c t gone.local gone.kept.stack.frames
     s = gone.steps
 
     below : c < mid.carriers
-    below = below_after old mid c t (suc gone.local) s.entry act.fits.below
+    below = below_after old mid c t (suc gone.local) s.entry act.below
 
     works : x.failed ≡ false
     works = failed ∙ gone.works
@@ -183,7 +205,7 @@ may_act old mid c h r same legal fits done works none room fine =
       done = done;
       works = works;
       going = ap machine_ending same ∙ none;
-      spare = on_ok r (3 ≤ mid.spare) room fine;
+      spare = let spare = on_ok r (3 ≤ mid.spare) room fine in omega arith;
     }
 
 pub given_up_fits : (old mid new : Known) (c : ℕ) (h : Hand) → mid ≡ record old { spare = mid.spare } → IsLegal old → new ≡ with_ending mid Halted → Fits old c h
@@ -201,12 +223,11 @@ given_up_fits old mid new c h same legal given fits =
           begins = x.begins;
           after = x.after;
           runs = x.runs;
-          timeless = x.timeless;
           few = x.few;
           cause = x.cause;
         }
 
-pub turn_after_room : (old mid new : Known) (c : ℕ) (h g : Hand) (answer : Turn) → mid ≡ record old { spare = mid.spare } → IsTurn mid new c h g answer
-    → IsTurn old new c h g answer
-turn_after_room old mid new c h g answer same x =
-    room_turn old new mid.spare c h g answer (subst (λ m. IsTurn m new c h g answer) same x)
+pub turn_after_room : (old mid new : Known) (c now : ℕ) (h g : Hand) (answer : Turn) → mid ≡ record old { spare = mid.spare } → IsTurn mid new c now h g answer
+    → IsTurn old new c now h g answer
+turn_after_room old mid new c now h g answer same x =
+    room_turn old new mid.spare c now h g answer (subst (λ m. IsTurn m new c now h g answer) same x)

@@ -32,12 +32,14 @@ use Rattle.ref_model.specs.Looks.{is_create, is_stalled, lacks_threads_next, loo
 use Rattle.ref_model.proofs.StateLaws.{frames_ending, frames_is, get_set, runs, set_same}
 use Rattle.ref_model.proofs.StepLaws.{local_steps}
 use Rattle.schedule_soundness.specs.AloneLaws.{MainGoes, is_tick, steps_in}
+use Rattle.schedule_soundness.specs.ClockLaws.{HaveReasons}
+use Rattle.schedule_soundness.proofs.ClockAlone.{nothing_ticks_alone}
 use Rattle.schedule_soundness.specs.Started.{OnlyMain, was_started}
 use Rattle.schedule_soundness.proofs.AloneLaws.{main_runs_alone}
 use Rattle.schedule_soundness.proofs.Creations.{has_room}
 use Rattle.schedule_soundness.proofs.MainGoes.{main_goes_on}
 use Rattle.machine.specs.Hands.{HasHand}
-use Rattle.machine.specs.Legal.{HasNoTicks, IsAccepted, IsCause, LacksThreads}
+use Rattle.machine.specs.Legal.{IsAccepted, IsCause, LacksThreads}
 use Rattle.carrier.specs.Runs.{IsComplete, IsEndingOf, own, caused, limited}
 use Rattle.carrier.proofs.StallLaws.{enabled_goes}
 
@@ -154,7 +156,7 @@ same_thread : (x y : JavaThread) → ◌≡◌ {A = Option JavaThread} (Some x) 
 same_thread x y e = cc
 
 -- with other frames it runs where it did
-runs_with : (r : State) (t : ℕ) (x : JavaThread) (frames mine : List Frame) → slice_get r.threads t ≡ Some x → frames_at (with_frames r t frames) t ≡ Some mine
+pub runs_with : (r : State) (t : ℕ) (x : JavaThread) (frames mine : List Frame) → slice_get r.threads t ≡ Some x → frames_at (with_frames r t frames) t ≡ Some mine
     → x.thread.status ≡ Live Run
 runs_with r t x frames mine at e =
     let h = runs (with_frames r t frames) t mine e in
@@ -175,6 +177,10 @@ runs_main w r t x only at runs =
 
 -- ---- both
 
+-- time never goes on
+abbrev HasNoTicks : List Entry → Type 0
+HasNoTicks history = Each (λ (e : Entry). is_tick e.what ≡ false) history
+
 frames_own : (r : State) (t : ℕ) (x : JavaThread) → slice_get r.threads t ≡ Some x → with_frames r t x.frames ≡ r
 frames_own r t x at = frames_is r t x x.frames at ∙ ap (λ (ts : List JavaThread). record r { threads = ts }) (set_same r.threads t x at)
 
@@ -187,7 +193,7 @@ each_java (e ∷ es) all = by (is_java e.what) (each_java es all.1)
     by false rest = rest
 
 -- the state after local instructions that were made ahead
-ahead_steps : (p : Setting) (v : Scheduled State) (c t n : ℕ) (frames : List Frame) → HasHand p v c t n frames → ending v.state ≡ None
+pub ahead_steps : (p : Setting) (v : Scheduled State) (c t n : ℕ) (frames : List Frame) → HasHand p v c t n frames → ending v.state ≡ None
     → steps p n v.state t ≡ Some (with_frames v.state t frames)
 ahead_steps p v c t zero frames h goes =
     let same : h.thread.frames ≡ frames = let e = h.ahead in cc in
@@ -219,14 +225,16 @@ lacks_not p first carriers history v n q e begins runs_ timeless lone over only 
 
 -- A legal history whose run has ended, and which had room, has ended where the main thread alone does.
 pub complete : (p : Setting) (first : State) (carriers : ℕ) (history : List Entry) (v : Scheduled State) (told : Ending) → IsAccepted p → 0 < carriers
-    → opening p ≡ Some first → schedule_of (machine_from p first) carriers history ≡ Some v → HasNoTicks history → IsEndingOf p v (length history) told → IsComplete p v.state
-complete p first carriers history v told accepted some begins runs_ timeless ends = λ n q e lone over room.
-    by n q e lone over room (main_goes_on p first carriers history v n q e begins accepted.unpinned some runs_ (each_java history timeless) lone over)
+    → opening p ≡ Some first → schedule_of (machine_from p first) carriers history ≡ Some v → HaveReasons p first carriers history → IsEndingOf p v (length history) told
+    → IsComplete p v.state
+complete p first carriers history v told accepted some begins runs_ reasons ends = λ n q e lone over room.
+    let timeless = nothing_ticks_alone p first carriers history v n q e begins accepted.unpinned runs_ reasons lone over in
+    by n q e lone over room timeless (main_goes_on p first carriers history v n q e begins accepted.unpinned some runs_ (each_java history timeless) lone over)
   where
-    by : (n : ℕ) (q : State) (e : Ending) → alone p n ≡ Some q → ending q ≡ Some e → 3 * n + 3 ≤ p.limits.events
+    by : (n : ℕ) (q : State) (e : Ending) → alone p n ≡ Some q → ending q ≡ Some e → 3 * n + 3 ≤ p.limits.events → HasNoTicks history
         → (v.state ≡ q) ⊎ MainGoes p history n v.state → v.state ≡ q
-    by n q e lone over room (inl same) = same
-    by n q e lone over room (inr goes) = absurd (never ends)
+    by n q e lone over room timeless (inl same) = same
+    by n q e lone over room timeless (inr goes) = absurd (never ends)
       where
         cause : (told : Ending) → IsCause p v told → (told ≡ Halted → ⊥) → ⊥
         cause Ended is works = is

@@ -6,7 +6,7 @@ use Rattle.std.specs.Prelude.{is_some, nat_lt, if◌then◌else◌}
 use Rattle.items.proofs.Binds.{bind_is}
 use Rattle.schedule_model.specs.Run.{Scheduled, schedule_of}
 use Rattle.ref_model.specs.declared.ending.Ending.{Ending}
-use Rattle.ref_model.specs.declared.ending.Ending.TheVariants.{Limit}
+use Rattle.ref_model.specs.declared.ending.Ending.TheVariants.{Halted, Limit}
 use Rattle.ref_model.specs.declared.ending.Which.TheVariants.{Events}
 use Rattle.ref_model.specs.declared.limits.Limits.{Limits}
 use Rattle.ref_model.specs.State.{State}
@@ -89,3 +89,8 @@ own_ends m v e at own =
 -- where there is an ending nothing has to be told
 pub told_over : (m : Known) → is_some (machine_ending m) ≡ true → StallsAreTold m
 told_over m over = λ v at stalled. over
+
+-- a run that was given up has an ending
+pub halted_ends : (m : Known) → IsLegal m → m.told ≡ Some Halted → is_some (machine_ending m) ≡ true
+halted_ends m x halted =
+    ap is_some (ending_at m x.after (is_scheduled m x)) ∙ ap (λ o. is_some (option_or o (option_or (ending x.after.state) (limit_reached m.setting.limits (length m.history))))) halted

@@ -1,5 +1,5 @@
 -- What the last entry of a history did.
-use Rattle.std.proofs.Common.{◌≡◌, ℕ, ◌==◌, Bool, true, false, not, [], ◌∷◌, ◌++◌, Some, None, refl, ap, sym, ◌∙◌, cond, ◌&&◌, ◌||◌}
+use Rattle.std.proofs.Common.{◌≡◌, ℕ, ◌==◌, Bool, true, false, not, List, [], ◌∷◌, ◌++◌, Some, None, refl, ap, sym, ◌∙◌, cond, ◌&&◌, ◌||◌}
 use Rattle.std.proofs.lemmas.Bool.{and_parts, eqb-true, eq-eqb, not-false, or_parts}
 use Rattle.items.proofs.Binds.{some_is, bind_is}
 use Rattle.history.specs.declared.entry.Entry.{Entry}
@@ -108,3 +108,9 @@ stays_enabled l t yields free stays =
     let rest = (or_parts (is_done (l.spot t)) (not (l.pinned t) && (yields || not (l.enabled t))) stays).1 in
     let open_ : (yields || not (l.enabled t)) ≡ false = sym (ap (λ b. not b && (yields || not (l.enabled t))) free) ∙ rest in
     not-false (l.enabled t) (or_parts yields (not (l.enabled t)) open_).1
+
+-- ---- lists of entries
+
+-- the first entries of equal lists do the same, by the same carrier
+pub first_entry : (x y : Entry) (xs ys : List Entry) → x ∷ xs ≡ y ∷ ys → x ≡ y
+first_entry x y xs ys e = cc

@@ -23,13 +23,11 @@ use Rattle.machine.specs.Legal.{IsLegal}
 use Rattle.carrier.specs.declared.ask.Ask.{Ask}
 use Rattle.carrier.specs.declared.ask.Ask.TheVariants.{Nothing, Local, Freeze}
 use Rattle.carrier.specs.declared.hand.Hand.{Hand}
-use Rattle.carrier.specs.declared.local.LocalRun.{LocalRun}
 use Rattle.carrier.specs.declared.ask.Turn.{Turn}
 use Rattle.carrier.specs.declared.ask.Turn.TheVariants.{Run, Nap, Over}
-use Rattle.carrier.specs.LocalRuns.{HasStopped}
 use Rattle.carrier.specs.Hands.{Fits, HasParts, HasToLeave, HoldsRightly, IsNotRunning, MayFreeze, MayRun, nothing, frozen, leaving, running, stopped, waiting, over}
 use Rattle.carrier.specs.Turns.{HoldsNothing, asked_by}
-use Rattle.carrier.specs.Steps.{GoesOnBy, MayAct, goes_over, goes_to_run, goes_to_wait}
+use Rattle.carrier.specs.Steps.{GoesOnBy, MayAct, MountedBy, ran, waits, goes_over, goes_to_run, goes_to_wait}
 use Rattle.carrier.specs.Plays.{MayDo}
 use Rattle.carrier.proofs.EndingLaws.{going, is_scheduled, not_both}
 
@@ -56,13 +54,6 @@ failed_fits m c h below failed asked selected =
     record { below = below; holds = λ works. absurd (let e = sym failed ∙ works in cc); rests = λ bad. asked; selected = selected }
 
 -- ---- what a hand holds before its turn
-
--- a mounted thread has executed local instructions, or is in another phase than Run
-pub data MountedBy (m : Known) (c : ℕ) (h : Hand) (k : Continuation) : Type 0 where
-  ran : (run : LocalRun) → HasParts h (Some k) None (Some run) Nothing → Holds m c k.thread run.steps k.stack.frames → OwesNothing m k.thread →
-      HasPhase m k.thread phases.Run → HasStopped m.setting.world run k.stack.frames → MountedBy m c h k
-  waits : HasParts h (Some k) None None Nothing → Holds m c k.thread 0 k.stack.frames → OwesNothing m k.thread →
-      IsNotRunning m k.thread → MountedBy m c h k
 
 same_kept : (x y : Continuation) → ◌≡◌ {A = Option Continuation} (Some x) (Some y) → x ≡ y
 same_kept x y e = cc

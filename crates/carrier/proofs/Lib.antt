@@ -5,6 +5,7 @@ pub mod StaticLaws
 pub mod EndingLaws
 pub mod HistoryLaws
 pub mod EntryLaws
+pub mod TickLaws
 pub mod LateLaws
 pub mod StallLaws
 pub mod HandLaws
@@ -13,6 +14,10 @@ pub mod StepLaws
 pub mod TurnLaws
 pub mod ActLaws
 pub mod OutlastLaws
+pub mod ReadLaws
+pub mod TimedTurnLaws
+pub mod CacheLaws
+pub mod TimeLaws
 pub mod AloneLaws
 pub mod RunLaws
 pub mod PlayLaws

@@ -17,7 +17,7 @@ use Rattle.vthread_state.specs.declared.thread.Status.TheVariants.{New, Live}
 use Rattle.link_model.specs.World.{World}
 use Rattle.state_model.specs.Frames.{Frame}
 use Rattle.schedule_model.specs.Schedule.{Schedule, places, times}
-use Rattle.schedule_model.specs.Entries.{after_step, after_tick, has_mounted, holds, is_idle, is_vacant, may_step, may_tick, may_unmount, mount, unmount}
+use Rattle.schedule_model.specs.Entries.{after_step, has_mounted, holds, is_idle, is_vacant, may_step, may_unmount, mount, unmount}
 use Rattle.schedule_model.specs.Run.{Scheduled, schedule_from, schedule_of, scheduled_after, with_schedule}
 use Rattle.schedule_model.proofs.EntryLaws.{holds_is}
 use Rattle.schedule_model.proofs.PrefixLaws.{histories_go_on as entries_after}
@@ -29,7 +29,6 @@ use Rattle.ref_model.specs.LocalRows.{rows}
 use Rattle.ref_model.specs.Opening.{opening}
 use Rattle.ref_model.specs.Run.{steps, after_steps}
 use Rattle.ref_model.specs.Step.{step}
-use Rattle.ref_model.specs.Waiting.{at_time}
 use Rattle.ref_model.specs.Entries.{is_grouped}
 use Rattle.ref_model.specs.Looks.{grouped_steps, look_of, machine_from, yields_after}
 use Rattle.schedule_soundness.specs.HistoryLaws.{IsProgramAfter}
@@ -42,13 +41,18 @@ use Rattle.schedule_soundness.proofs.Steps.{step_moves}
 use Rattle.schedule_soundness.proofs.ThreadLists.{set_other}
 use Rattle.frame_soundness.specs.Typed.{Typed}
 use Rattle.invocation.specs.InvocationCache.{AreSelected}
-use Rattle.machine.specs.Hands.{HasHand, HasPhase, Holds, IsLiveIn, Lives, OwesNothing}
+use Rattle.continuation.specs.Continuation.{Continuation}
+use Rattle.machine.specs.Hands.{HasHand, HasPhase, Holds, Idle, IsLiveIn, Lives, OwesNothing}
 use Rattle.machine.specs.Legal.{IsLegal}
-use Rattle.machine.specs.Machines.{Known, machine_ending, scheduled}
+use Rattle.machine.specs.Machines.{Known, machine_ending, scheduled, with_entry}
 use Rattle.carrier.specs.declared.hand.Hand.{Hand}
 use Rattle.carrier.specs.Hands.{Fits, HasToLeave, HoldsRightly, IsInOtherPhase, IsNotRunning, nothing, frozen, leaving, running, stopped, waiting, over}
 use Rattle.carrier.specs.LocalRuns.{HasStopped}
+use Rattle.carrier.specs.Steps.{MountedBy, ran, waits}
 use Rattle.carrier.proofs.EndingLaws.{going, not_both}
+use Rattle.carrier.proofs.EntryLaws.{LastEntry, last_entry}
+use Rattle.carrier.proofs.HistoryLaws.{is_program_after}
+use Rattle.carrier.proofs.TickLaws.{Ticks, tick_allows, ticked}
 
 -- ---- a thread that doesn't step
 
@@ -148,6 +152,13 @@ another s c k t u once ne here there same =
       get_or-le-sum_by (times t) rest k None (slice_get_within rest k (Some t) still),
     )
 
+-- time that goes on leaves a thread its frames
+tick_with : (p : Setting) (first : State) (v w : Scheduled State) (k now t : ℕ) (frames : List Frame) (b : Phase)
+    → scheduled_after (machine_from p first) v k (Clock now) ≡ Some w → IsWith v.state t frames b → IsWith w.state t frames b
+tick_with p first v w k now t frames b e x =
+    let tick = ticked p first v w k now e in
+    moved_with p.world v.state w.state t frames b (time_moves p.world v.state w.state t now tick.tick) x
+
 what_with : (p : Setting) (first : State) (v w : Scheduled State) (k t : ℕ) (frames : List Frame) (b : Phase) (what : What)
     → ((u : ℕ) → has_mounted v.schedule k u ≡ true → t ≢ u) → scheduled_after (machine_from p first) v k what ≡ Some w
     → IsWith v.state t frames b → IsWith w.state t frames b
@@ -166,12 +177,7 @@ what_with p first v w k t frames b (Step u n pick) apart e x =
     let made = (grouped_is (is_grouped p.world v.state u n) (after_steps p v.state u n pick) q.0 q.1).1 in
     subst (λ (y : Scheduled State). IsWith y.state t frames b) same
     (entry_with p n v.state q.0 t u pick frames b (apart u (and_parts (has_mounted v.schedule k u) _ given.0).0) made x)
-what_with p first v w k t frames b (Clock now) apart e x =
-    let l = look_of p.world in
-    let given = under_is (may_tick (l v.state) v.schedule k) _ w e in
-    let q = some_is (at_time v.state now) (λ q. Some (with_schedule q (after_tick (l v.state) (l q) v.schedule k))) w given.1 in
-    let same = inner (with_schedule q.0 (after_tick (l v.state) (l q.0) v.schedule k)) w q.2 in
-    subst (λ (y : Scheduled State). IsWith y.state t frames b) same (moved_with p.world v.state q.0 t frames b (time_moves p.world v.state q.0 t now q.1) x)
+what_with p first v w k t frames b (Clock now) apart e x = tick_with p first v w k now t frames b e x
 
 -- what a carrier has mounted, of whom this is known, it has after any entries of others
 record IsOn (v : Scheduled State) (c t : ℕ) (frames : List Frame) (before : Phase) : Type 0 where
@@ -281,15 +287,57 @@ not_ended : {A : Type 0} (o : Option A) → o ≡ None → is_some o ≡ false
 not_ended None e = refl
 not_ended (Some x) e = absurd cc
 
-pub fits_outlasts : (old new : Known) (es : List Entry) (c : ℕ) (h : Hand) → IsLegal old → machine_ending old ≡ None → new.setting ≡ old.setting
-    → new.carriers ≡ old.carriers → new.history ≡ old.history ++ es → Each (λ (e : Entry). e.carrier ≢ c) es → Fits old c h → Fits new c h
-fits_outlasts old new es c h legal none setting carriers history others fits =
+-- what a carrier has, in an older machine and in a newer one
+record Outlasts (old new : Known) (c : ℕ) : Type 0 where
+  setting : new.setting ≡ old.setting
+  carriers : new.carriers ≡ old.carriers
+  held : (t n : ℕ) (frames : List Frame) → Holds old c t n frames → Lives old t → Holds new c t n frames
+  lived : (t n : ℕ) (frames : List Frame) → Holds old c t n frames → Lives old t → Lives new t
+  runs_on : (t n : ℕ) (frames : List Frame) → Holds old c t n frames → HasPhase old t phases.Run → HasPhase new t phases.Run
+  waits_on : (t n : ℕ) (frames : List Frame) → Holds old c t n frames → IsNotRunning old t → IsNotRunning new t
+  free : (t n : ℕ) (frames : List Frame) → Holds old c t n frames → OwesNothing old t → OwesNothing new t
+  leave : (t n : ℕ) (frames : List Frame) → Holds old c t n frames → HasToLeave old c t → HasToLeave new c t
+  idle : Idle old c → Idle new c
+
+run_lives : (m : Known) (t : ℕ) → HasPhase m t phases.Run → Lives m t
+run_lives m t phase = λ v at. record { phase = phases.Run; live = phase v at }
+
+wait_lives : (m : Known) (t : ℕ) → IsNotRunning m t → Lives m t
+wait_lives m t not = λ v at. record { phase = (not v at).phase; live = (not v at).live }
+
+-- so its hand fits
+fits_by : (old new : Known) (c : ℕ) (h : Hand) → Outlasts old new c → machine_ending old ≡ None → Fits old c h → Fits new c h
+fits_by old new c h o none fits =
     record {
-      below = subst (λ n. c < n) (sym carriers) fits.below;
+      below = subst (λ n. c < n) (sym o.carriers) fits.below;
       holds = λ works. by (fits.holds works);
       rests = fits.rests;
-      selected = subst (λ (q : Setting). AreSelected q.world h.cache) (sym setting) fits.selected;
+      selected = subst (λ (q : Setting). AreSelected q.world h.cache) (sym o.setting) fits.selected;
     }
+  where
+    by : HoldsRightly old c h → HoldsRightly new c h
+    by (nothing parts idle) = nothing parts (o.idle idle)
+    by (frozen k parts holds lives leaves) =
+        frozen k parts (o.held k.thread 0 k.stack.frames holds lives) (o.lived k.thread 0 k.stack.frames holds lives) (o.leave k.thread 0 k.stack.frames holds leaves)
+    by (leaving k parts holds lives leaves) =
+        leaving k parts (o.held k.thread 0 k.stack.frames holds lives) (o.lived k.thread 0 k.stack.frames holds lives) (o.leave k.thread 0 k.stack.frames holds leaves)
+    by (running k parts holds owes phase typed) =
+        running k parts (o.held k.thread 0 k.stack.frames holds (run_lives old k.thread phase)) (o.free k.thread 0 k.stack.frames holds owes)
+        (o.runs_on k.thread 0 k.stack.frames holds phase) (subst (λ (q : Setting). Typed q.world k.stack.frames) (sym o.setting) typed)
+    by (stopped k run parts holds owes phase has) =
+        stopped k run parts (o.held k.thread run.steps k.stack.frames holds (run_lives old k.thread phase)) (o.free k.thread run.steps k.stack.frames holds owes)
+        (o.runs_on k.thread run.steps k.stack.frames holds phase) (subst (λ (q : Setting). HasStopped q.world run k.stack.frames) (sym o.setting) has)
+    by (waiting k parts holds owes not) =
+        waiting k parts (o.held k.thread 0 k.stack.frames holds (wait_lives old k.thread not)) (o.free k.thread 0 k.stack.frames holds owes)
+        (o.waits_on k.thread 0 k.stack.frames holds not)
+    by (over k parts holds ended) = absurd (not_both (machine_ending old) ended none)
+
+-- ---- entries of others
+
+outlasts : (old new : Known) (es : List Entry) (c : ℕ) → IsLegal old → machine_ending old ≡ None → new.setting ≡ old.setting
+    → new.carriers ≡ old.carriers → new.history ≡ old.history ++ es → Each (λ (e : Entry). e.carrier ≢ c) es → Outlasts old new c
+outlasts old new es c legal none setting carriers history others =
+    record { setting = setting; carriers = carriers; held = held; lived = lived; runs_on = runs_on; waits_on = waits_on; free = free; leave = leave; idle = idle }
   where
     p : Setting
     p = old.setting
@@ -332,12 +380,6 @@ fits_outlasts old new es c h legal none setting carriers history others fits =
         let x = (kept t n frames w at other.phase (holds f.before f.at) other.live).1.thread in
         record { phase = x.phase; live = record { thread = x.thread; at = x.at; status = x.status }; other = x.waits other.other }
 
-    run_lives : (t : ℕ) → HasPhase old t phases.Run → Lives old t
-    run_lives t phase = λ v at. record { phase = phases.Run; live = phase v at }
-
-    wait_lives : (t : ℕ) → IsNotRunning old t → Lives old t
-    wait_lives t not = λ v at. record { phase = (not v at).phase; live = (not v at).live }
-
     free : (t n : ℕ) (frames : List Frame) → Holds old c t n frames → OwesNothing old t → OwesNothing new t
     free t n frames holds owes = λ w at.
         let f = from w at in
@@ -349,19 +391,103 @@ fits_outlasts old new es c h legal none setting carriers history others fits =
         subst (λ (q : Setting). may_unmount (look_of q.world w.state) w.schedule c t ≡ true) (sym setting)
         (unmounts_outlast p f.first f.before w f.program c t es others f.after (not_ended (ending w.state) goes) (leaves f.before f.at (going old f.before f.at none).own))
 
-    by : HoldsRightly old c h → HoldsRightly new c h
-    by (nothing parts idle) = nothing parts (λ w at. let f = from w at in idle_outlasts p f.first es f.before w c f.program others f.after (idle f.before f.at))
-    by (frozen k parts holds lives leaves) =
-        frozen k parts (held k.thread 0 k.stack.frames holds lives) (lived k.thread 0 k.stack.frames holds lives) (leave k.thread 0 k.stack.frames holds leaves)
-    by (leaving k parts holds lives leaves) =
-        leaving k parts (held k.thread 0 k.stack.frames holds lives) (lived k.thread 0 k.stack.frames holds lives) (leave k.thread 0 k.stack.frames holds leaves)
-    by (running k parts holds owes phase typed) =
-        running k parts (held k.thread 0 k.stack.frames holds (run_lives k.thread phase)) (free k.thread 0 k.stack.frames holds owes)
-        (runs_on k.thread 0 k.stack.frames holds phase) (subst (λ (q : Setting). Typed q.world k.stack.frames) (sym setting) typed)
-    by (stopped k run parts holds owes phase has) =
-        stopped k run parts (held k.thread run.steps k.stack.frames holds (run_lives k.thread phase)) (free k.thread run.steps k.stack.frames holds owes)
-        (runs_on k.thread run.steps k.stack.frames holds phase) (subst (λ (q : Setting). HasStopped q.world run k.stack.frames) (sym setting) has)
-    by (waiting k parts holds owes not) =
-        waiting k parts (held k.thread 0 k.stack.frames holds (wait_lives k.thread not)) (free k.thread 0 k.stack.frames holds owes)
-        (waits_on k.thread 0 k.stack.frames holds not)
-    by (over k parts holds ended) = absurd (not_both (machine_ending old) ended none)
+    idle : Idle old c → Idle new c
+    idle was = λ w at. let f = from w at in idle_outlasts p f.first es f.before w c f.program others f.after (was f.before f.at)
+
+pub fits_outlasts : (old new : Known) (es : List Entry) (c : ℕ) (h : Hand) → IsLegal old → machine_ending old ≡ None → new.setting ≡ old.setting
+    → new.carriers ≡ old.carriers → new.history ≡ old.history ++ es → Each (λ (e : Entry). e.carrier ≢ c) es → Fits old c h → Fits new c h
+fits_outlasts old new es c h legal none setting carriers history others fits =
+    fits_by old new c h (outlasts old new es c legal none setting carriers history others) none fits
+
+-- ---- time that goes on, by whomever
+
+same_state : (a b : State) → ◌≡◌ {A = Option State} (Some a) (Some b) → a ≡ b
+same_state a b e = cc
+
+tick_outlasts : (old : Known) (k now c : ℕ) → IsLegal old → machine_ending old ≡ None → Outlasts old (with_entry old k (Clock now)) c
+tick_outlasts old k now c legal none =
+    record { setting = refl; carriers = refl; held = held; lived = lived; runs_on = runs_on; waits_on = waits_on; free = free; leave = leave; idle = idle }
+  where
+    p : Setting
+    p = old.setting
+
+    from : (w : Scheduled State) → scheduled (with_entry old k (Clock now)) ≡ Some w → LastEntry old k (Clock now) w
+    from w at = last_entry old k (Clock now) w at
+
+    tick : (w : Scheduled State) (at : scheduled (with_entry old k (Clock now)) ≡ Some w) → Ticks old.setting (from w at).before w now
+    tick w at = ticked old.setting (from w at).first (from w at).before w k now (from w at).after
+
+    kept : (t n : ℕ) (frames : List Frame) (w : Scheduled State) (at : scheduled (with_entry old k (Clock now)) ≡ Some w) (a : Phase)
+        → HasHand old.setting (from w at).before c t n frames → IsLiveIn (from w at).before.state t a
+        → (y : HasHand old.setting (from w at).before c t n frames) × IsOn w c t y.thread.frames a
+    kept t n frames w at a y live =
+        let f = from w at in
+        let on = hand_on p f.before c t n frames a y live in (
+          y,
+          record {
+            mounted = ap (λ ms. holds t (slice_get ms c)) (tick w at).mounted ∙ on.mounted;
+            thread = tick_with p f.first f.before w k now t y.thread.frames a f.after on.thread;
+          },
+        )
+
+    held : (t n : ℕ) (frames : List Frame) → Holds old c t n frames → Lives old t → Holds (with_entry old k (Clock now)) c t n frames
+    held t n frames was lives = λ w at.
+        let f = from w at in
+        let live = lives f.before f.at in
+        let x = kept t n frames w at live.phase (was f.before f.at) live.live in
+        on_hand p f.before w c t n frames live.phase x.0 live.live x.1
+
+    lived : (t n : ℕ) (frames : List Frame) → Holds old c t n frames → Lives old t → Lives (with_entry old k (Clock now)) t
+    lived t n frames was lives = λ w at.
+        let f = from w at in
+        let live = lives f.before f.at in
+        let x = (kept t n frames w at live.phase (was f.before f.at) live.live).1.thread in
+        record { phase = x.phase; live = record { thread = x.thread; at = x.at; status = x.status } }
+
+    runs_on : (t n : ℕ) (frames : List Frame) → Holds old c t n frames → HasPhase old t phases.Run → HasPhase (with_entry old k (Clock now)) t phases.Run
+    runs_on t n frames was phase = λ w at.
+        let f = from w at in
+        let live = phase f.before f.at in
+        let x = (kept t n frames w at phases.Run (was f.before f.at) live).1.thread in
+        record { thread = x.thread; at = x.at; status = x.status ∙ ap Live (x.runs refl) }
+
+    waits_on : (t n : ℕ) (frames : List Frame) → Holds old c t n frames → IsNotRunning old t → IsNotRunning (with_entry old k (Clock now)) t
+    waits_on t n frames was other = λ w at.
+        let f = from w at in
+        let off = other f.before f.at in
+        let x = (kept t n frames w at off.phase (was f.before f.at) off.live).1.thread in
+        record { phase = x.phase; live = record { thread = x.thread; at = x.at; status = x.status }; other = x.waits off.other }
+
+    free : (t n : ℕ) (frames : List Frame) → Holds old c t n frames → OwesNothing old t → OwesNothing (with_entry old k (Clock now)) t
+    free t n frames was owes = λ w at. let f = from w at in ap (λ o. o t) (tick w at).owes ∙ owes f.before f.at
+
+    leave : (t n : ℕ) (frames : List Frame) → Holds old c t n frames → HasToLeave old c t → HasToLeave (with_entry old k (Clock now)) c t
+    leave t n frames was leaves = λ w at goes.
+        let f = from w at in
+        let same = same_state f.first legal.first (sym f.begins ∙ legal.begins) in
+        let ticks = subst (λ r. scheduled_after (machine_from p r) f.before k (Clock now) ≡ Some w) same f.after in
+        tick_allows p legal.first f.before w k now c t (is_program_after old f.before legal f.at) ticks (not_ended (ending w.state) goes)
+        (leaves f.before f.at (going old f.before f.at none).own)
+
+    idle : Idle old c → Idle (with_entry old k (Clock now)) c
+    idle was = λ w at. let f = from w at in ap (λ ms. is_vacant (slice_get ms c)) (tick w at).mounted ∙ was f.before f.at
+
+pub fits_ticked : (old : Known) (k now c : ℕ) (h : Hand) → IsLegal old → machine_ending old ≡ None → Fits old c h → Fits (with_entry old k (Clock now)) c h
+fits_ticked old k now c h legal none fits = fits_by old (with_entry old k (Clock now)) c h (tick_outlasts old k now c legal none) none fits
+
+-- a mounted thread that may step still may
+pub mounted_ticked : (old : Known) (k now c : ℕ) (h : Hand) (x : Continuation) → IsLegal old → machine_ending old ≡ None → MountedBy old c h x
+    → MountedBy (with_entry old k (Clock now)) c h x
+mounted_ticked old k now c h x legal none (ran run parts holds owes phase has) =
+    let o = tick_outlasts old k now c legal none in
+    ran run parts (o.held x.thread run.steps x.stack.frames holds (run_lives old x.thread phase)) (o.free x.thread run.steps x.stack.frames holds owes)
+    (o.runs_on x.thread run.steps x.stack.frames holds phase) has
+mounted_ticked old k now c h x legal none (waits parts holds owes not) =
+    let o = tick_outlasts old k now c legal none in
+    waits parts (o.held x.thread 0 x.stack.frames holds (wait_lives old x.thread not)) (o.free x.thread 0 x.stack.frames holds owes)
+    (o.waits_on x.thread 0 x.stack.frames holds not)
+
+-- a mounted thread that runs still runs
+pub phase_ticked : (old : Known) (k now c t n : ℕ) (frames : List Frame) → IsLegal old → machine_ending old ≡ None → Holds old c t n frames → HasPhase old t phases.Run
+    → HasPhase (with_entry old k (Clock now)) t phases.Run
+phase_ticked old k now c t n frames legal none holds phase = (tick_outlasts old k now c legal none).runs_on t n frames holds phase

@@ -15,7 +15,7 @@ use Rattle.carrier.specs.declared.ask.Turn.{Turn}
 use Rattle.carrier.specs.declared.hand.Hand.{Hand}
 use Rattle.carrier.specs.Hands.{Fits}
 use Rattle.carrier.specs.Turns as turns
-use Rattle.carrier.specs.Turns.{Appends, AreOfTurn, IsTurn, KeepsPressing, goes_on, is_pressing, turns_left}
+use Rattle.carrier.specs.Turns.{Appends, AreActs, AreOfTurn, IsTurn, KeepsPressing, goes_on, is_pressing, turns_left}
 use Rattle.carrier.specs.declared.plays.TurnOf.{TurnOf}
 use Rattle.carrier.specs.Plays.{AreTurnsOf, GoesOnFrom, HandsFit, IsDoneTurn, IsReadyHand}
 use Rattle.carrier.proofs.EndingLaws.{ends_or_goes}
@@ -36,11 +36,12 @@ fewer false false h = omega arith
 no_more : (m : Known) (h g : Hand) → KeepsPressing h g → turns_left m g ≤ turns_left m h
 no_more m h g presses = let e = fewer (is_pressing h) (is_pressing g) presses in omega arith
 
-pub done_turn : (old new : Known) (c : ℕ) (h g x : Hand) (answer : Turn) → IsTurn old new c h g answer → (is_some (machine_ending old) ≡ true → new ≡ old)
-    → KeepsPressing g x → IsDoneTurn old new c h x answer
-done_turn old new c h g x answer turn ended presses =
+pub done_turn : (old new : Known) (c now : ℕ) (h g x : Hand) (answer : Turn) → IsTurn old new c now h g answer → (is_some (machine_ending old) ≡ true → new ≡ old)
+    → KeepsPressing g x → IsDoneTurn old new c now h x answer
+done_turn old new c now h g x answer turn ended presses =
     record {
       appends = turn.appends;
+      reason = turn.reason;
       over = turn.over;
       ended = ended;
       told = turn.told;
@@ -49,33 +50,37 @@ done_turn old new c h g x answer turn ended presses =
 
 -- ---- several carriers
 
-entry_of : (c k : ℕ) (es : List Entry) → AreOfTurn c es → c ≢ k → Each (λ (e : Entry). e.carrier ≢ k) es
-entry_of c k es (turns.none is) ne = subst (Each (λ (e : Entry). e.carrier ≢ k)) (sym is) tt
-entry_of c k es (turns.mount t is) ne = subst (Each (λ (e : Entry). e.carrier ≢ k)) (sym is) (ne, tt)
-entry_of c k es (turns.unmount t is) ne = subst (Each (λ (e : Entry). e.carrier ≢ k)) (sym is) (ne, tt)
-entry_of c k es (turns.step t n is) ne = subst (Each (λ (e : Entry). e.carrier ≢ k)) (sym is) (ne, tt)
-entry_of c k es (turns.last_step t n is) ne = subst (Each (λ (e : Entry). e.carrier ≢ k)) (sym is) (ne, (ne, tt))
+acts_of : (c k : ℕ) (es : List Entry) → AreActs c es → c ≢ k → Each (λ (e : Entry). e.carrier ≢ k) es
+acts_of c k es (turns.none is) ne = subst (Each (λ (e : Entry). e.carrier ≢ k)) (sym is) tt
+acts_of c k es (turns.mount t is) ne = subst (Each (λ (e : Entry). e.carrier ≢ k)) (sym is) (ne, tt)
+acts_of c k es (turns.unmount t is) ne = subst (Each (λ (e : Entry). e.carrier ≢ k)) (sym is) (ne, tt)
+acts_of c k es (turns.step t n is) ne = subst (Each (λ (e : Entry). e.carrier ≢ k)) (sym is) (ne, tt)
+acts_of c k es (turns.last_step t n is) ne = subst (Each (λ (e : Entry). e.carrier ≢ k)) (sym is) (ne, (ne, tt))
+
+entry_of : (c k now : ℕ) (es : List Entry) → AreOfTurn c now es → c ≢ k → Each (λ (e : Entry). e.carrier ≢ k) es
+entry_of c k now es (turns.acts are) ne = acts_of c k es are ne
+entry_of c k now es (turns.timed later are is) ne = subst (Each (λ (e : Entry). e.carrier ≢ k)) (sym is) (ne, acts_of c k later are ne)
 
 -- the hand of another carrier fits after a turn
-pub other_fits : (old new : Known) (c k : ℕ) (h g x : Hand) (answer : Turn) → IsLegal old → IsDoneTurn old new c h g answer → c ≢ k → IsReadyHand old k x
+pub other_fits : (old new : Known) (c k now : ℕ) (h g x : Hand) (answer : Turn) → IsLegal old → IsDoneTurn old new c now h g answer → c ≢ k → IsReadyHand old k x
     → IsReadyHand new k x
-other_fits old new c k h g x answer legal turn ne ready =
+other_fits old new c k now h g x answer legal turn ne ready =
     record { fits = by (ends_or_goes (machine_ending old)); done = ready.done }
   where
     by : (is_some (machine_ending old) ≡ true) ⊎ (machine_ending old ≡ None) → Fits new k x
     by (inl ended) = subst (λ m. Fits m k x) (sym (turn.ended ended)) ready.fits
     by (inr none) =
         let a = turn.appends in
-        fits_outlasts old new a.entries k x legal none a.setting a.carriers a.history (entry_of c k a.entries a.of_turn ne) ready.fits
+        fits_outlasts old new a.entries k x legal none a.setting a.carriers a.history (entry_of c k now a.entries a.of_turn ne) ready.fits
 
 set_own : {A : Type 0} (xs : List A) (k : ℕ) (x y : A) → slice_get (slice_set xs k x) k ≡ Some y → y ≡ x
 set_own [] k x y e = absurd cc
 set_own (z ∷ zs) zero x y e = cc
 set_own (z ∷ zs) (suc k) x y e = set_own zs k x y e
 
-pub hands_fit : (old new : Known) (c : ℕ) (hands after : List Hand) (h g : Hand) (answer : Turn) → IsLegal old → HandsFit old hands → after ≡ slice_set hands c g
-    → IsDoneTurn old new c h g answer → IsReadyHand new c g → HandsFit new after
-hands_fit old new c hands after h g answer legal fit set turn ready =
+pub hands_fit : (old new : Known) (c now : ℕ) (hands after : List Hand) (h g : Hand) (answer : Turn) → IsLegal old → HandsFit old hands → after ≡ slice_set hands c g
+    → IsDoneTurn old new c now h g answer → IsReadyHand new c g → HandsFit new after
+hands_fit old new c now hands after h g answer legal fit set turn ready =
     subst (HandsFit new) (sym set) (record {
       count = length-set hands c g ∙ fit.count ∙ sym turn.appends.carriers;
       fit = λ k x at. by k x at (cases_eq k c);
@@ -86,10 +91,10 @@ hands_fit old new c hands after h g answer legal fit set turn ready =
         let here : x ≡ g = set_own hands c g x (ap (slice_get (slice_set hands c g)) (sym same) ∙ at) in
         subst (λ (y : Hand). IsReadyHand new k y) (sym here) (subst (λ n. IsReadyHand new n g) (sym same) ready)
     by k x at (inr other) =
-        other_fits old new c k h g x answer legal turn (λ e. other (sym e)) (fit.fit k x (sym (set_other hands c k g other) ∙ at))
+        other_fits old new c k now h g x answer legal turn (λ e. other (sym e)) (fit.fit k x (sym (set_other hands c k g other) ∙ at))
 
-pub goes_from : (old new : Known) (c : ℕ) (h g : Hand) (answer : Turn) → IsDoneTurn old new c h g answer → GoesOnFrom old new
-goes_from old new c h g answer turn =
+pub goes_from : (old new : Known) (c now : ℕ) (h g : Hand) (answer : Turn) → IsDoneTurn old new c now h g answer → GoesOnFrom old new
+goes_from old new c now h g answer turn =
     record { entries = turn.appends.entries; history = turn.appends.history; setting = turn.appends.setting; carriers = turn.appends.carriers }
 
 pub from_itself : (m : Known) → GoesOnFrom m m

@@ -18,7 +18,7 @@ use Rattle.machine.specs.Insides as insides
 use Rattle.machine.specs.Legal.{IsCause, IsLegal, Works}
 use Rattle.machine.specs.Live.{ListsLive}
 use Rattle.machine.specs.Machines.{Known, at_first, entries_left, errors, limit_reached, machine_ending, output}
-use Rattle.carrier.specs.Runs.{IsEndingOf, IsRun, own, caused, limited}
+use Rattle.carrier.specs.Runs.{IsEndingOf, IsRun, IsTimed, own, caused, limited}
 use Rattle.carrier.proofs.AloneLaws.{complete}
 use Rattle.carrier.proofs.EndingLaws.{ending_at, is_scheduled}
 
@@ -51,11 +51,14 @@ works_so m told x is works halted =
     ∙ sym (ending_at m x.after (is_scheduled m x)) ∙ is)))
 
 pub is_run : (m : Known) (told : Ending) (history : List Entry) (out err live : List ℕ) → (x : IsLegal m) → machine_ending m ≡ Some told → told ≢ Halted
-    → history ≡ m.history → out ≡ output m → err ≡ errors m → (told ≡ Stalled → ListsLive m live) → IsRun m.setting m.carriers history out err live told
-is_run m told history out err live x is works same prints tells lists =
+    → history ≡ m.history → out ≡ output m → err ≡ errors m → (told ≡ Stalled → ListsLive m live) → (gives : ℕ → Bool) → (Works m → IsTimed gives m)
+    → IsRun m.setting gives m.carriers history out err live told
+is_run m told history out err live x is works same prints tells lists gives timed =
     let at = is_scheduled m x in
     let ends = ends_so m told x is works in
-    subst (λ (es : List Entry). IsRun m.setting m.carriers es out err live told) (sym same) (record {
+    let t = timed (works_so m told x is works) in
+    let reasons = t.reasons x.first x.begins in
+    subst (λ (es : List Entry). IsRun m.setting gives m.carriers es out err live told) (sym same) (record {
       first = x.first;
       begins = x.begins;
       after = x.after;
@@ -65,9 +68,10 @@ is_run m told history out err live x is works same prints tells lists =
       prints = sym (ap (λ o. option_map_or (λ (v : Scheduled State). v.state.memory.out) o []) at) ∙ sym prints;
       tells = sym (ap (λ o. option_map_or (λ (v : Scheduled State). v.state.memory.err) o []) at) ∙ sym tells;
       live = λ stalled. lists stalled x.after at;
-      timeless = x.timeless;
+      times = t.times;
+      reasons = reasons;
       few = x.few;
-      complete = complete m.setting x.first m.carriers m.history x.after told x.accepted x.some x.begins x.runs x.timeless ends;
+      complete = complete m.setting x.first m.carriers m.history x.after told x.accepted x.some x.begins x.runs reasons ends;
     })
 
 -- a setting is told by its parts
@@ -76,13 +80,13 @@ setting_is p w main limits a b c =
     ap (λ (v : World). insides.setting v main limits) (sym a) ∙ ap (λ (n : ℕ). insides.setting p.world n limits) (sym b) ∙ ap (λ (l : Limits). insides.setting p.world p.main l) (sym c)
 
 -- of a machine that began so
-pub of_setting : (m first : Known) (p : Setting) (w : World) (main : ℕ) (limits : Limits) (history : List Entry) (out err live : List ℕ) (told : Ending)
+pub of_setting : (m first : Known) (p : Setting) (gives : ℕ → Bool) (w : World) (main : ℕ) (limits : Limits) (history : List Entry) (out err live : List ℕ) (told : Ending)
     → m.setting ≡ first.setting → m.carriers ≡ first.carriers → first ≡ at_first (insides.setting w main limits) 1 → p.world ≡ w → p.main ≡ main
-    → p.limits ≡ limits → IsRun m.setting m.carriers history out err live told → IsRun p 1 history out err live told
-of_setting m first p w main limits history out err live told setting carriers began a b c run =
+    → p.limits ≡ limits → IsRun m.setting gives m.carriers history out err live told → IsRun p gives 1 history out err live told
+of_setting m first p gives w main limits history out err live told setting carriers began a b c run =
     let mine : m.setting ≡ p = setting ∙ ap (λ (k : Known). k.setting) began ∙ setting_is p w main limits a b c in
     let one : m.carriers ≡ 1 = carriers ∙ ap (λ (k : Known). k.carriers) began in
-    subst (λ n. IsRun p n history out err live told) one (subst (λ q. IsRun q m.carriers history out err live told) mine run)
+    subst (λ n. IsRun p gives n history out err live told) one (subst (λ q. IsRun q gives m.carriers history out err live told) mine run)
 
 pub if_ok : {A E : Type 0} (r : Result A E) (P Q : A → Type 0) → ((x : A) → P x → Q x) → IfOk r P → IfOk r Q
 if_ok (Ok x) P Q f p = f x p

@@ -12,35 +12,34 @@ use Rattle.vthread_state.specs.declared.thread.Status.TheVariants.{New, Live, Do
 use Rattle.link_model.specs.World.{World}
 use Rattle.state_model.specs.Frames.{Frame}
 use Rattle.continuation.specs.Continuation.{Continuation}
-use Rattle.invocation.specs.InvocationCache.{AreSelected}
+use Rattle.invocation.specs.InvocationCache.{AreSelected, Kept}
 use Rattle.schedule_model.specs.Entries.{came_late, has_mounted, is_last_act}
 use Rattle.schedule_model.specs.Look as looks
 use Rattle.schedule_model.specs.Look.{Look}
 use Rattle.schedule_model.specs.Schedule.{Schedule}
 use Rattle.schedule_model.proofs.EntryLaws.{on_there}
-use Rattle.ref_model.specs.State.{JavaThread, State}
+use Rattle.ref_model.specs.State.{JavaThread, State, with_frames}
 use Rattle.ref_model.specs.Setting.{Setting}
 use Rattle.ref_model.specs.Ending.{ending}
 use Rattle.ref_model.specs.Enabled.{has_ended, is_done}
 use Rattle.ref_model.specs.Step.{is_ready}
 use Rattle.schedule_soundness.proofs.Pins.{nobody_is_pinned}
-use Rattle.ref_model.specs.Looks.{look_of, spot_of}
+use Rattle.ref_model.specs.Looks.{look_of, reads_clock_next, spot_of}
 use Rattle.machine.specs.declared.after.After.{After}
-use Rattle.machine.specs.declared.after.After.TheVariants.{Halts}
+use Rattle.machine.specs.declared.after.After.TheVariants.{Goes, Leaves, Ends, Halts, ReadsClock}
 use Rattle.machine.specs.Hands.{HasEnded, HasPhase, Holds, IsLive, IsMounted, Lives, MayStep, MayUnmount, OwesNothing, OwesUnmount}
 use Rattle.machine.specs.Legal.{HasEntryLeft, IsLegal, Works}
-use Rattle.machine.specs.Machines.{Known, machine_ending, scheduled, with_entry}
-use Rattle.machine.specs.Turns.{IsStepReady, IsStepReadyIn, Steps, step_of}
+use Rattle.machine.specs.Machines.{Given, Known, machine_ending, scheduled, with_entry}
+use Rattle.machine.specs.Turns.{HasToRead, IsInTime, IsStepReady, IsStepReadyIn, Steps, step_of}
 use Rattle.carrier.specs.declared.hand.Hand.{Hand}
 use Rattle.carrier.specs.declared.local.LocalRun.{LocalRun}
-use Rattle.carrier.specs.LocalRuns.{HasStopped}
+use Rattle.carrier.specs.LocalRuns.{AreAhead, HasStopped, steps_of, stop_of}
 use Rattle.carrier.specs.Hands.{HasParts, HasToLeave, IsInOtherPhase, IsNotRunning}
-use Rattle.carrier.specs.Turns.{MayNotStep}
-use Rattle.carrier.specs.Steps.{HasGone, MayAct, MayGoOn, steps_of, stop_of}
+use Rattle.carrier.specs.Turns.{MayNotStep, ReadsInTime}
+use Rattle.carrier.specs.Steps.{HasGone, MayGoOn, MountedBy, NeedsClock, ran, waits}
 use Rattle.carrier.proofs.EndingLaws.{going, is_scheduled}
 use Rattle.carrier.proofs.EntryLaws.{last_entry, stays_enabled, stepped_last, stepped_owes}
 use Rattle.carrier.proofs.HistoryLaws.{is_program_after}
-use Rattle.carrier.proofs.FitLaws.{MountedBy, mounted_by, ran, waits}
 use Rattle.carrier.proofs.LateLaws.{late_leaves}
 use Rattle.carrier.proofs.LocalLaws.{ends_may}
 
@@ -93,24 +92,32 @@ ready_waits m t frames not = λ v at x there.
     ready_in w frames (Live (Asleep deadline)) off = (refl, refl)
     ready_in w frames (Live (Joining u deadline)) off = (refl, refl)
 
--- the local run in a hand, and the frames after it
-pub held_steps : (m : Known) (c : ℕ) (h : Hand) (k : Continuation) → MayAct m c h → h.mounted ≡ Some k → Holds m c k.thread (steps_of h.local) k.stack.frames
-held_steps m c h k act is = by (mounted_by m c h k act is)
-  where
-    by : MountedBy m c h k → Holds m c k.thread (steps_of h.local) k.stack.frames
-    by (ran run parts holds owes phase has) = subst (λ o. Holds m c k.thread (steps_of o) k.stack.frames) (sym parts.local_is) holds
-    by (waits parts holds owes not) = subst (λ o. Holds m c k.thread (steps_of o) k.stack.frames) (sym parts.local_is) holds
+same_kept : (x y : Continuation) → ◌≡◌ {A = Option Continuation} (Some x) (Some y) → x ≡ y
+same_kept x y e = cc
 
-pub held_ready : (m : Known) (c : ℕ) (h : Hand) (k : Continuation) → MayAct m c h → h.mounted ≡ Some k → (steps_of h.local ≡ 10001 → ⊥)
+-- the local run in a hand, and the frames after it
+pub held_steps : (m : Known) (c : ℕ) (h : Hand) (k : Continuation) → MountedBy m c h k → Holds m c k.thread (steps_of h.local) k.stack.frames
+held_steps m c h k (ran run parts holds owes phase has) = subst (λ o. Holds m c k.thread (steps_of o) k.stack.frames) (sym parts.local_is) holds
+held_steps m c h k (waits parts holds owes not) = subst (λ o. Holds m c k.thread (steps_of o) k.stack.frames) (sym parts.local_is) holds
+
+pub held_ready : (m : Known) (c : ℕ) (h : Hand) (k : Continuation) → MountedBy m c h k → (steps_of h.local ≡ 10001 → ⊥)
     → IsStepReady m k.thread (steps_of h.local) k.stack.frames (stop_of h.local)
-held_ready m c h k act is less = by (mounted_by m c h k act is)
-  where
-    by : MountedBy m c h k → IsStepReady m k.thread (steps_of h.local) k.stack.frames (stop_of h.local)
-    by (ran run parts holds owes phase has) =
-        subst (λ o. IsStepReady m k.thread (steps_of o) k.stack.frames (stop_of o)) (sym parts.local_is)
-        (ready_ran m k.thread run k.stack.frames phase has (λ e. less (ap steps_of parts.local_is ∙ e)))
-    by (waits parts holds owes not) =
-        subst (λ o. IsStepReady m k.thread (steps_of o) k.stack.frames (stop_of o)) (sym parts.local_is) (ready_waits m k.thread k.stack.frames not)
+held_ready m c h k (ran run parts holds owes phase has) less =
+    subst (λ o. IsStepReady m k.thread (steps_of o) k.stack.frames (stop_of o)) (sym parts.local_is)
+    (ready_ran m k.thread run k.stack.frames phase has (λ e. less (ap steps_of parts.local_is ∙ e)))
+held_ready m c h k (waits parts holds owes not) less =
+    subst (λ o. IsStepReady m k.thread (steps_of o) k.stack.frames (stop_of o)) (sym parts.local_is) (ready_waits m k.thread k.stack.frames not)
+
+pub held_free : (m : Known) (c : ℕ) (h : Hand) (k : Continuation) → MountedBy m c h k → OwesNothing m k.thread
+held_free m c h k (ran run parts holds owes phase has) = owes
+held_free m c h k (waits parts holds owes not) = owes
+
+-- it is the continuation at hand
+pub by_kept : (m : Known) (c : ℕ) (h : Hand) (t : ℕ) (k : Continuation) (may : MayGoOn m c h t) → h.mounted ≡ Some k → MountedBy m c h k
+by_kept m c h t k may is = subst (MountedBy m c h) (same_kept may.mounted.kept k (sym may.mounted.mounted ∙ is)) may.by
+
+pub thread_kept : (m : Known) (c : ℕ) (h : Hand) (t : ℕ) (k : Continuation) → MayGoOn m c h t → h.mounted ≡ Some k → k.thread ≡ t
+thread_kept m c h t k may is = ap (λ (x : Continuation). x.thread) (same_kept k may.mounted.kept (sym is ∙ may.mounted.mounted)) ∙ may.mounted.thread
 
 -- a machine without an ending works
 pub works : (m : Known) → IsLegal m → machine_ending m ≡ None → Works m
@@ -122,32 +129,51 @@ is_mounted m c t n frames holds = λ v at. on_there v.schedule c t (holds v at).
 
 -- ---- after it
 
-same_kept : (x y : Continuation) → ◌≡◌ {A = Option Continuation} (Some x) (Some y) → x ≡ y
-same_kept x y e = cc
-
-pub has_gone : (after : After) (old new : Known) (c t n : ℕ) (h g : Hand) (k kept : Continuation) → MayGoOn old c h t → h.mounted ≡ Some k
+pub has_gone : (after : After) (old new : Known) (c t now n : ℕ) (h g : Hand) (k kept : Continuation) → MayGoOn old c h t → h.mounted ≡ Some k → (after ≡ ReadsClock → ⊥)
     → ((after ≡ Halts → ⊥) → kept.thread ≡ k.thread) → HasParts g (Some kept) h.frozen None h.asked → g.failed ≡ h.failed → AreSelected old.setting.world g.cache
-    → Steps after old new c k.thread n kept.stack.frames → HasGone after old new c t g
-has_gone after old new c t n h g k kept may mounted same parts failed selected steps =
-    let here : k.thread ≡ t = ap (λ (x : Continuation). x.thread) (same_kept k may.mounted.kept (sym mounted ∙ may.mounted.mounted)) ∙ may.mounted.thread in
+    → AreAhead h.local n → ((steps_of h.local ≡ 10001 → ⊥) → IsInTime after old k.thread now k.stack.frames)
+    → Steps after old new c k.thread n now k.stack.frames kept.stack.frames → HasGone after old new c t now h g
+has_gone after old new c t now n h g k kept may mounted tried same parts failed selected ahead in_time steps =
+    let here = thread_kept old c h t k may mounted in
     record {
+      tried = tried;
+      was = k;
+      had = mounted;
       kept = kept;
       thread = λ made. same made ∙ here;
       parts = record {
         mounted_is = parts.mounted_is;
-        frozen_is = parts.frozen_is ∙ frozen_none (mounted_by old c h k may.act mounted);
+        frozen_is = parts.frozen_is ∙ frozen_none (by_kept old c h t k may mounted);
         local_is = parts.local_is;
-        asked_is = parts.asked_is ∙ may.act.done;
+        asked_is = parts.asked_is ∙ may.done;
       };
-      works = failed ∙ may.act.works;
+      works = failed ∙ may.works;
       selected = selected;
       local = n;
-      steps = subst (λ u. Steps after old new c u n kept.stack.frames) here steps;
+      ahead = ahead;
+      in_time = in_time;
+      steps = subst (λ u. Steps after old new c u n now k.stack.frames kept.stack.frames) here steps;
     }
   where
     frozen_none : MountedBy old c h k → h.frozen ≡ None
     frozen_none (ran run parts holds owes phase has) = parts.frozen_is
     frozen_none (waits parts holds owes not) = parts.frozen_is
+
+-- a step that wasn't made, since it reads the clock
+pub needs_clock : (after : After) (old new : Known) (c now n : ℕ) (h g : Hand) (k kept : Continuation) (cache : Kept) → after ≡ ReadsClock → h.mounted ≡ Some k
+    → (steps_of h.local ≡ 10001 → ⊥) → Steps after old new c k.thread n now k.stack.frames kept.stack.frames → kept ≡ k → AreSelected old.setting.world cache
+    → g ≡ record h { mounted = Some kept; cache = cache } → NeedsClock old new h g now
+needs_clock after old new c now n h g k kept cache is mounted few steps stays selected same =
+    let reads : HasToRead old new k.thread now k.stack.frames =
+    subst (λ a. Steps a old new c k.thread n now k.stack.frames kept.stack.frames) is steps in
+    record {
+      machine = reads.same;
+      cache = cache;
+      selected = selected;
+      hand = same ∙ ap (λ (o : Option Continuation). record h { mounted = o; cache = cache }) (ap Some stays ∙ sym mounted);
+      reads = record { kept = k; mounted = mounted; few = few; reads = reads.reads };
+      later = reads.later;
+    }
 
 -- ---- a thread that has ended is put down
 
@@ -184,7 +210,7 @@ may_retire old c t n k frames holds owes ended = λ v at.
     (or_left (s.owes t) (came_late l s t) (owes v at)))
 
 -- there is room for one entry more
-pub left_after : (old : Known) (c : ℕ) (what : What) → length old.history + 3 ≤ old.setting.limits.events → HasEntryLeft (with_entry old c what)
+pub left_after : (old : Known) (c : ℕ) (what : What) → length old.history + 2 ≤ old.setting.limits.events → HasEntryLeft (with_entry old c what)
 left_after old c what room = let e : Entry = record { carrier = c; what = what } in omega (arith, length-append old.history (e ∷ []))
 
 -- ---- a thread that goes on
@@ -232,3 +258,30 @@ off_leaves m c t n frames legal holds owes off = λ v at goes.
     let after = is_program_after m v legal at in
     late_leaves m.setting legal.first v c t after (ap is_some goes) (holds v at).mounted (owes v at)
     (nobody_is_pinned m.setting legal.first v after legal.accepted.typed legal.accepted.calls t) (off v at)
+
+-- ---- a step that was made, as one that reads the clock
+
+by_kept_in_time : (m : Known) (h : Hand) (now : ℕ) (k : Continuation) → h.mounted ≡ Some k
+    → ((steps_of h.local ≡ 10001 → ⊥) → Given m (λ v. reads_clock_next m.setting.world (with_frames v.state k.thread k.stack.frames) k.thread ≡ true → now ≤ v.state.now))
+    → ReadsInTime m h now
+by_kept_in_time m h now k mounted in_time r = λ v at.
+    in_time r.few v at
+    (subst (λ (x : Continuation). reads_clock_next m.setting.world (with_frames v.state x.thread x.stack.frames) x.thread ≡ true)
+    (same_kept r.kept k (sym r.mounted ∙ mounted)) (r.reads v at))
+
+-- one that goes on, leaves or ends is made in time
+pub gone_in_time : (after : After) (old new : Known) (c t now : ℕ) (h g : Hand) → HasGone after old new c t now h g → (after ≡ Halts → ⊥) → ReadsInTime old h now
+gone_in_time Goes old new c t now h g gone made r = by_kept_in_time old h now gone.was gone.had (λ few. gone.in_time few) r
+gone_in_time Leaves old new c t now h g gone made r = by_kept_in_time old h now gone.was gone.had (λ few. gone.in_time few) r
+gone_in_time Ends old new c t now h g gone made r = by_kept_in_time old h now gone.was gone.had (λ few. gone.in_time few) r
+gone_in_time ReadsClock old new c t now h g gone made r = absurd (gone.tried refl)
+gone_in_time Halts old new c t now h g gone made r = absurd (made refl)
+
+pub goes_made : Goes ≡ Halts → ⊥
+goes_made e = cc
+
+pub leaves_made : Leaves ≡ Halts → ⊥
+leaves_made e = cc
+
+pub ends_made : Ends ≡ Halts → ⊥
+ends_made e = cc

@@ -1,6 +1,7 @@
 pub mod LocalRuns
 pub mod Hands
 pub mod Turns
+pub mod Acts
 pub mod Steps
 pub mod Plays
 pub mod Runs

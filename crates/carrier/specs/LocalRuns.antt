@@ -1,10 +1,11 @@
 -- Runs of local instructions of a thread, in its top frame and in those to which it returns.
-use Rattle.std.specs.Prelude.{◌≡◌, ℕ, suc, ◌≤◌, Bool, true, false, not, List, Some, is_some, ◌||◌}
+use Rattle.std.specs.Prelude.{◌≡◌, ◌⊎◌, ℕ, suc, ◌≤◌, Bool, true, false, not, List, Option, None, Some, is_some, ◌||◌}
 use Rattle.link_model.specs.World.{World}
 use Rattle.state_model.specs.Frames.{Frame}
 use Rattle.ref_model.specs.LocalRows.{row, rows}
 use Rattle.ref_model.specs.Entries.{most_local_steps, stands_at_static_call}
 use Rattle.frame_soundness.specs.Typed.{Typed}
+use Rattle.interp_local.specs.declared.fetched.Fetched.{Fetched}
 use Rattle.interp_local.specs.Fetched.{IsTopAt}
 use Rattle.carrier.specs.declared.local.LocalRun.{LocalRun}
 
@@ -32,3 +33,17 @@ pub record HasStopped (w : World) (run : LocalRun) (frames : List Frame) : Type 
   pub few : run.steps ≤ suc most_local_steps
   pub ends : run.steps ≤ most_local_steps → ends_run w frames ≡ true
   pub next : IsTopAt w frames run.next
+
+-- ---- the local run in a hand, if there is one
+
+abbrev pub steps_of : Option LocalRun → ℕ
+steps_of None = 0
+steps_of (Some run) = run.steps
+
+abbrev pub stop_of : Option LocalRun → Option Fetched
+stop_of None = None
+stop_of (Some run) = Some run.next
+
+-- so many of its steps come before the last step of their entry: all, or all but one where an entry has no room for another step
+abbrev pub AreAhead : Option LocalRun → ℕ → Type 0
+AreAhead local n = (n ≡ steps_of local) ⊎ (steps_of local ≡ 10001)

@@ -1,6 +1,9 @@
 -- What a run of a program leaves.
-use Rattle.std.specs.Prelude.{◌≡◌, ◌+◌, ◌*◌, ◌<◌, ◌≤◌, ℕ, List, Some, None, length}
+use Rattle.std.specs.Prelude.{◌≡◌, ◌+◌, ◌*◌, ◌<◌, ◌≤◌, ℕ, Bool, true, List, Some, None, length}
+use Rattle.items.specs.First.{Each}
 use Rattle.history.specs.declared.entry.Entry.{Entry}
+use Rattle.history.specs.declared.entry.What.{What}
+use Rattle.history.specs.declared.entry.What.TheVariants.{Clock}
 use Rattle.history.specs.Java.{java}
 use Rattle.schedule_model.specs.Run.{Scheduled, schedule_of}
 use Rattle.ref_model.specs.declared.ending.Ending.{Ending}
@@ -13,8 +16,10 @@ use Rattle.ref_model.specs.Ending.{ending}
 use Rattle.ref_model.specs.Alone.{alone}
 use Rattle.ref_model.specs.Run.{run}
 use Rattle.ref_model.specs.Looks.{machine_from}
+pub use Rattle.schedule_soundness.specs.ClockLaws.{HaveReasons}
+use Rattle.machine.specs.Machines.{Known}
 pub use Rattle.machine.specs.Machines.{entries_left}
-pub use Rattle.machine.specs.Legal.{HasNoTicks, IsCause, LacksThreads}
+pub use Rattle.machine.specs.Legal.{IsCause, LacksThreads}
 pub use Rattle.machine.specs.Live.{live_threads}
 
 -- How a run ended after so many entries: as the program did; or the program went on, and no thread could go on, or the next step of a thread
@@ -30,11 +35,18 @@ pub data IsEndingOf (p : Setting) (v : Scheduled State) (entries : ℕ) (told : 
 abbrev pub IsComplete : Setting → State → Type 0
 IsComplete p last = (n : ℕ) (q : State) (e : Ending) → alone p n ≡ Some q → ending q ≡ Some e → 3 * n + 3 ≤ p.limits.events → last ≡ q
 
+-- where an entry is of time, the clock gives that number
+abbrev pub IsGivenTime : (ℕ → Bool) → What → Type 0
+IsGivenTime gives what = (now : ℕ) → what ≡ Clock now → gives now ≡ true
+
+abbrev pub AreGivenTimes : (ℕ → Bool) → List Entry → Type 0
+AreGivenTimes gives history = Each (λ (e : Entry). IsGivenTime gives e.what) history
+
 -- Each entry of the history may stand where it stands, on so many carriers; without its mount and unmount entries it is a history of the
 -- reference machine. The run ended so, and what the program wrote to its two streams is the output of that history; where no thread can go on,
--- the live ones are listed. The history has no more entries than the limit allows, none is of time that goes on, and a program that ends in
--- time has ended.
-pub record IsRun (p : Setting) (carriers : ℕ) (history : List Entry) (out err numbers : List ℕ) (told : Ending) : Type 0 where
+-- the live ones are listed. The history has no more entries than the limit allows; each entry of time has a number that the clock gives, and a
+-- reason; and a program that ends in time has ended.
+pub record IsRun (p : Setting) (gives : ℕ → Bool) (carriers : ℕ) (history : List Entry) (out err numbers : List ℕ) (told : Ending) : Type 0 where
   pub first : State
   pub begins : opening p ≡ Some first
   pub after : Scheduled State
@@ -44,6 +56,14 @@ pub record IsRun (p : Setting) (carriers : ℕ) (history : List Entry) (out err 
   pub prints : after.state.memory.out ≡ out
   pub tells : after.state.memory.err ≡ err
   pub live : told ≡ Stalled → numbers ≡ live_threads after.state
-  pub timeless : HasNoTicks history
+  pub times : AreGivenTimes gives history
+  pub reasons : HaveReasons p first carriers history
   pub few : length history ≤ p.limits.events
   pub complete : IsComplete p after.state
+
+-- ---- while it runs
+
+-- each entry of time in the history of a machine has a number that the clock gives, and a reason
+pub record IsTimed (gives : ℕ → Bool) (m : Known) : Type 0 where
+  pub times : AreGivenTimes gives m.history
+  pub reasons : (first : State) → opening m.setting ≡ Some first → HaveReasons m.setting first m.carriers m.history

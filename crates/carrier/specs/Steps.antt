@@ -1,17 +1,17 @@
 -- The parts of a turn.
-use Rattle.std.specs.Prelude.{◌≡◌, ◌≤◌, ℕ, true, false, Option, Some, None, is_some}
+use Rattle.std.specs.Prelude.{◌≡◌, ◌<◌, ◌≤◌, ◌+◌, ℕ, true, false, Some, None, is_some, length}
 use Rattle.continuation.specs.Continuation.{Continuation}
-use Rattle.interp_local.specs.declared.fetched.Fetched.{Fetched}
-use Rattle.invocation.specs.InvocationCache.{AreSelected}
+use Rattle.invocation.specs.InvocationCache.{AreSelected, Kept}
 use Rattle.ref_model.specs.declared.ending.Ending.TheVariants.{Halted, Stalled}
 use Rattle.ref_model.specs.Looks.{is_stalled}
 use Rattle.vthread_state.specs.declared.phase.Phase.TheVariants as phases
 use Rattle.machine.specs.declared.after.After.{After}
-use Rattle.machine.specs.declared.after.After.TheVariants.{Halts}
+use Rattle.machine.specs.declared.after.After.TheVariants.{Halts, ReadsClock}
 use Rattle.machine.specs.Machines.{Given, Known, machine_ending, with_ending}
-use Rattle.machine.specs.Hands.{HasPhase, MayStep}
-use Rattle.machine.specs.Legal.{IsLegal}
-use Rattle.machine.specs.Turns.{Steps}
+use Rattle.machine.specs.Clocks.{IsBefore}
+use Rattle.machine.specs.Hands.{HasPhase, Holds, MayStep, OwesNothing}
+use Rattle.machine.specs.Legal.{GoesOn, IsLegal}
+use Rattle.machine.specs.Turns.{IsInTime, Steps}
 use Rattle.carrier.specs.declared.ask.Ask.{Ask}
 use Rattle.carrier.specs.declared.ask.Ask.TheVariants.{Nothing, Local}
 use Rattle.carrier.specs.declared.hand.Hand.{Hand}
@@ -19,45 +19,67 @@ use Rattle.carrier.specs.declared.local.LocalRun.{LocalRun}
 use Rattle.carrier.specs.declared.ask.Turn.{Turn}
 use Rattle.carrier.specs.declared.ask.Turn.TheVariants.{Run, Over}
 use Rattle.carrier.specs.Hands.{Fits, HasDone, HasParts, HasThread, IsNotRunning}
-
--- ---- the local run in a hand
-
-abbrev pub steps_of : Option LocalRun → ℕ
-steps_of None = 0
-steps_of (Some run) = run.steps
-
-abbrev pub stop_of : Option LocalRun → Option Fetched
-stop_of None = None
-stop_of (Some run) = Some run.next
+use Rattle.carrier.specs.LocalRuns.{AreAhead, HasStopped, steps_of}
+use Rattle.carrier.specs.Turns.{StepReads}
 
 -- ---- before
 
--- A turn may append entries: the machine has no ending, and memory for them.
+-- A turn may append entries: the machine has no ending, and memory for a step and an unmount.
 pub record MayAct (m : Known) (c : ℕ) (h : Hand) : Type 0 where
   pub legal : IsLegal m
   pub fits : Fits m c h
   pub done : HasDone h
   pub works : h.failed ≡ false
   pub going : machine_ending m ≡ None
-  pub spare : 3 ≤ m.spare
+  pub spare : 2 ≤ m.spare
 
--- and the mounted thread may step
+-- A mounted thread has executed local instructions, or is in another phase than Run.
+pub data MountedBy (m : Known) (c : ℕ) (h : Hand) (k : Continuation) : Type 0 where
+  ran : (run : LocalRun) → HasParts h (Some k) None (Some run) Nothing → Holds m c k.thread run.steps k.stack.frames → OwesNothing m k.thread →
+      HasPhase m k.thread phases.Run → HasStopped m.setting.world run k.stack.frames → MountedBy m c h k
+  waits : HasParts h (Some k) None None Nothing → Holds m c k.thread 0 k.stack.frames → OwesNothing m k.thread → IsNotRunning m k.thread →
+      MountedBy m c h k
+
+-- The mounted thread may make a step: the program goes on, and the limit allows a step and an unmount, for which there is memory.
 pub record MayGoOn (m : Known) (c : ℕ) (h : Hand) (t : ℕ) : Type 0 where
-  pub act : MayAct m c h
+  pub legal : IsLegal m
+  pub below : c < m.carriers
+  pub selected : AreSelected m.setting.world h.cache
+  pub done : HasDone h
+  pub works : h.failed ≡ false
+  pub going : GoesOn m
+  pub left : length m.history + 2 ≤ m.setting.limits.events
+  pub spare : 2 ≤ m.spare
   pub mounted : HasThread h t
+  pub by : MountedBy m c h mounted.kept
   pub enabled : MayStep m t
 
 -- ---- in between
 
 -- The mounted thread made a step, or the run was given up.
-pub record HasGone (after : After) (old new : Known) (c t : ℕ) (g : Hand) : Type 0 where
+pub record HasGone (after : After) (old new : Known) (c t now : ℕ) (h g : Hand) : Type 0 where
+  pub tried : after ≡ ReadsClock → ⊥
+  pub was : Continuation
+  pub had : h.mounted ≡ Some was
   pub kept : Continuation
   pub thread : (after ≡ Halts → ⊥) → kept.thread ≡ t
   pub parts : HasParts g (Some kept) None None Nothing
   pub works : g.failed ≡ false
   pub selected : AreSelected old.setting.world g.cache
   pub local : ℕ
-  pub steps : Steps after old new c t local kept.stack.frames
+  pub ahead : AreAhead h.local local
+  pub in_time : (steps_of h.local ≡ 10001 → ⊥) → IsInTime after old was.thread now was.stack.frames
+  pub steps : Steps after old new c t local now was.stack.frames kept.stack.frames
+
+-- Nothing was done but that the hand knows more selected methods, since the step of the mounted thread reads the clock, and the time is less
+-- than this.
+pub record NeedsClock (old new : Known) (h g : Hand) (now : ℕ) : Type 0 where
+  pub machine : new ≡ old
+  pub cache : Kept
+  pub selected : AreSelected old.setting.world cache
+  pub hand : g ≡ record h { cache = cache }
+  pub reads : StepReads old h
+  pub later : IsBefore old now
 
 -- How a thread goes on that was mounted or made a step.
 pub data GoesOnBy (m : Known) (t : ℕ) (answer : Turn) : Type 0 where

@@ -2,18 +2,22 @@
 use Rattle.std.specs.Prelude.{◌≡◌, ◌<◌, ◌+◌, ◌-◌, ◌*◌, ◌||◌, ℕ, suc, Bool, true, false, List, [], ◌∷◌, ◌++◌, Option, Some, None, is_some, length, if◌then◌else◌}
 use Rattle.history.specs.declared.entry.Entry.{Entry}
 use Rattle.history.specs.declared.entry.What.{What}
-use Rattle.history.specs.declared.entry.What.TheVariants.{Mount, Unmount}
+use Rattle.history.specs.declared.entry.What.TheVariants.{Mount, Unmount, Clock}
 use Rattle.continuation.specs.Continuation.{Continuation}
 use Rattle.ref_model.specs.declared.ending.Ending.{Ending}
-use Rattle.ref_model.specs.declared.ending.Ending.TheVariants.{Stalled}
-use Rattle.ref_model.specs.Looks.{is_stalled}
+use Rattle.ref_model.specs.declared.ending.Ending.TheVariants.{Halted, Stalled}
+use Rattle.ref_model.specs.State.{State, with_frames}
+use Rattle.ref_model.specs.Looks.{is_stalled, reads_clock_next}
 use Rattle.ref_model.specs.Step.{enabled}
-use Rattle.machine.specs.Machines.{Given, Known, machine_ending}
+use Rattle.schedule_soundness.specs.ClockLaws.{HasReason}
+use Rattle.machine.specs.Clocks.{Awaits, AwaitsNothing, IsBefore, IsEarliestIn, IsNotBefore}
+use Rattle.machine.specs.Machines.{Given, Known, machine_ending, with_entry}
 use Rattle.machine.specs.Hands.{AreDequesEmpty, MayStep, OwesUnmount}
 use Rattle.machine.specs.Turns.{step_of}
 use Rattle.carrier.specs.declared.ask.Ask.{Ask}
 use Rattle.carrier.specs.declared.ask.Ask.TheVariants.{Nothing, Local, Freeze}
 use Rattle.carrier.specs.declared.hand.Hand.{Hand}
+use Rattle.carrier.specs.LocalRuns.{AreAhead, steps_of}
 use Rattle.carrier.specs.declared.ask.Turn.{Turn}
 use Rattle.carrier.specs.declared.ask.Turn.TheVariants.{Run, Nap, Over}
 
@@ -40,17 +44,23 @@ asked_by Over = Nothing
 abbrev pub entry_by : ℕ → What → Entry
 entry_by c what = record { carrier = c; what = what }
 
--- The entries that a turn of carrier c appends: none; a mount; an unmount; a step; or a step with which the thread ends, and its unmount.
-pub data AreOfTurn (c : ℕ) (entries : List Entry) : Type 0 where
-  none : entries ≡ [] → AreOfTurn c entries
-  mount : (t : ℕ) → entries ≡ entry_by c (Mount t) ∷ [] → AreOfTurn c entries
-  unmount : (t : ℕ) → entries ≡ entry_by c (Unmount t) ∷ [] → AreOfTurn c entries
-  step : (t n : ℕ) → entries ≡ entry_by c (step_of t (suc n)) ∷ [] → AreOfTurn c entries
-  last_step : (t n : ℕ) → entries ≡ entry_by c (step_of t (suc n)) ∷ entry_by c (Unmount t) ∷ [] → AreOfTurn c entries
+-- What a turn of carrier c does with its thread, as entries: nothing; a mount; an unmount; a step; or a step with which the thread ends, and
+-- its unmount.
+pub data AreActs (c : ℕ) (entries : List Entry) : Type 0 where
+  none : entries ≡ [] → AreActs c entries
+  mount : (t : ℕ) → entries ≡ entry_by c (Mount t) ∷ [] → AreActs c entries
+  unmount : (t : ℕ) → entries ≡ entry_by c (Unmount t) ∷ [] → AreActs c entries
+  step : (t n : ℕ) → entries ≡ entry_by c (step_of t (suc n)) ∷ [] → AreActs c entries
+  last_step : (t n : ℕ) → entries ≡ entry_by c (step_of t (suc n)) ∷ entry_by c (Unmount t) ∷ [] → AreActs c entries
 
-pub record Appends (old new : Known) (c : ℕ) : Type 0 where
+-- The entries that a turn appends: those, or before them that time goes on to the turn's time.
+pub data AreOfTurn (c now : ℕ) (entries : List Entry) : Type 0 where
+  acts : AreActs c entries → AreOfTurn c now entries
+  timed : (later : List Entry) → AreActs c later → entries ≡ entry_by c (Clock now) ∷ later → AreOfTurn c now entries
+
+pub record Appends (old new : Known) (c now : ℕ) : Type 0 where
   pub entries : List Entry
-  pub of_turn : AreOfTurn c entries
+  pub of_turn : AreOfTurn c now entries
   pub history : new.history ≡ old.history ++ entries
   pub setting : new.setting ≡ old.setting
   pub carriers : new.carriers ≡ old.carriers
@@ -75,21 +85,55 @@ pub record HoldsFrozen (h : Hand) : Type 0 where
 abbrev pub MayNotStep : Known → ℕ → Type 0
 MayNotStep m t = Given m (λ v. enabled v.state t ≡ false)
 
--- What a turn of carrier c does with a machine that has no ending, by what its hand holds.
-pub data IsDue (old new : Known) (c : ℕ) (h : Hand) (answer : Turn) : Type 0 where
+-- how long a carrier may nap from this time on: until the least deadline that is still to come
+abbrev pub NapsFor : State → ℕ → Option ℕ → Type 0
+NapsFor r now None = IsEarliestIn r None
+NapsFor r now (Some nanos) = (deadline : ℕ) × IsEarliestIn r (Some deadline) × (nanos ≡ deadline - now)
+
+abbrev pub IsNap : Known → ℕ → Option ℕ → Type 0
+IsNap m now nanos = Given m (λ v. NapsFor v.state now nanos)
+
+-- What a turn of carrier c does with its thread, by what its hand holds.
+pub data IsActDue (old new : Known) (c now : ℕ) (h : Hand) (answer : Turn) : Type 0 where
   -- a frozen continuation is put down
   puts_down : (k : Continuation) → h.frozen ≡ Some k → new.history ≡ old.history ++ entry_by c (Unmount k.thread) ∷ [] →
-      IsDue old new c h answer
+      IsActDue old new c now h answer
   -- an empty hand takes up a thread, and where there is none the carrier naps
-  takes_up : (t : ℕ) → HoldsNothing h → new.history ≡ old.history ++ entry_by c (Mount t) ∷ [] → IsDue old new c h answer
-  naps : HoldsNothing h → AreDequesEmpty old → new.history ≡ old.history → answer ≡ Nap None → IsDue old new c h answer
+  takes_up : (t : ℕ) → HoldsNothing h → new.history ≡ old.history ++ entry_by c (Mount t) ∷ [] → IsActDue old new c now h answer
+  naps : (nanos : Option ℕ) → HoldsNothing h → AreDequesEmpty old → new.history ≡ old.history → answer ≡ Nap nanos → IsNap old now nanos →
+      IsActDue old new c now h answer
   -- a mounted thread that is enabled makes a step, after which it is to be frozen only where its unmount is owed
-  steps : (k : Continuation) (n : ℕ) (rest : List Entry) → h.mounted ≡ Some k → MayStep old k.thread →
+  steps : (k : Continuation) (n : ℕ) (rest : List Entry) → h.mounted ≡ Some k → AreAhead h.local n → MayStep old k.thread →
       new.history ≡ old.history ++ entry_by c (step_of k.thread (suc n)) ∷ rest → (answer ≡ Run Freeze → OwesUnmount new k.thread) →
-      IsDue old new c h answer
+      IsActDue old new c now h answer
   -- one that isn't is to be frozen
   freezes : (k : Continuation) → h.mounted ≡ Some k → MayNotStep old k.thread → new.history ≡ old.history → answer ≡ Run Freeze →
-      IsDue old new c h answer
+      IsActDue old new c now h answer
+
+-- the step of the mounted thread, after the local instructions in the hand, reads the clock
+pub record StepReads (m : Known) (h : Hand) : Type 0 where
+  pub kept : Continuation
+  pub mounted : h.mounted ≡ Some kept
+  pub few : steps_of h.local ≡ 10001 → ⊥
+  pub reads : Given m (λ v. reads_clock_next m.setting.world (with_frames v.state kept.thread kept.stack.frames) kept.thread ≡ true)
+
+-- it is made only where the time isn't less than this
+abbrev pub ReadsInTime : Known → Hand → ℕ → Type 0
+ReadsInTime m h least = StepReads m h → IsNotBefore m least
+
+-- why a turn lets time go on: a live thread waits for that, or the step of its own thread reads the clock
+pub data MayTick (m : Known) (now : ℕ) (h : Hand) : Type 0 where
+  awaited : Awaits m now → MayTick m now h
+  reads : StepReads m h → IsBefore m now → MayTick m now h
+
+-- What a turn does with a machine that has no ending.
+pub data IsDue (old new : Known) (c now : ℕ) (h : Hand) (answer : Turn) : Type 0 where
+  -- no thread waits for this time, nor does the step read a clock that is ahead; what is due of its own thread is done
+  acts : AwaitsNothing old now → ReadsInTime old h now → IsActDue old new c now h answer → IsDue old new c now h answer
+  -- time goes on first, after which the run may have ended
+  ticks : (mid : Known) → MayTick old now h → mid ≡ with_entry old c (Clock now) → IsActDue mid new c now h answer → IsDue old new c now h answer
+  ends : Awaits old now → new.history ≡ old.history ++ entry_by c (Clock now) ∷ [] → is_some (machine_ending new) ≡ true →
+      IsDue old new c now h answer
 
 -- ---- stalls
 
@@ -117,14 +161,17 @@ turns_left m h = 2 * (m.setting.limits.events - length m.history) + (if is_press
 
 -- ---- a turn
 
-pub record IsTurn (old new : Known) (c : ℕ) (h g : Hand) (answer : Turn) : Type 0 where
+pub record IsTurn (old new : Known) (c now : ℕ) (h g : Hand) (answer : Turn) : Type 0 where
   -- it appends no entries but those of one turn of its carrier
-  pub appends : Appends old new c
+  pub appends : Appends old new c now
+  -- time goes on only for a reason
+  pub reason : (new.told ≡ Some Halted → ⊥) → (later : List Entry) → appends.entries ≡ entry_by c (Clock now) ∷ later →
+      Given old (λ v. HasReason old.setting v.state c now later)
   -- the run is over where there is an ending, and there alone
   pub over : is_over answer ≡ is_some (machine_ending new)
   pub asks : g.asked ≡ asked_by answer
   pub works : goes_on answer ≡ true → g.failed ≡ false
   -- where there was no ending, and memory, it does what is due
-  pub due : machine_ending old ≡ None → h.failed ≡ false → wants_nothing new.told ≡ true → IsDue old new c h answer
+  pub due : machine_ending old ≡ None → h.failed ≡ false → wants_nothing new.told ≡ true → IsDue old new c now h answer
   pub told : StallsAreTold old → StallsAreTold new
   pub nearer : goes_on answer ≡ true → turns_left new g < turns_left old h

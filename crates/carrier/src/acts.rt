@@ -1,16 +1,61 @@
 //! What a carrier does in its turn, by what its hand holds.
 
-ghost use Rattle.std.specs.Prelude.{◌≡◌, IfNone, IfSome, None};
+ghost use Rattle.std.specs.Prelude.{◌≡◌, ℕ, IfNone, IfSome, None, true};
+ghost use Rattle.carrier.specs.Acts.{IsAct};
 ghost use Rattle.carrier.specs.Hands.{Fits, HasThread};
-ghost use Rattle.carrier.specs.Steps.{MayAct};
-ghost use Rattle.carrier.specs.Turns.{HoldsFrozen, HoldsNothing, IsTurn};
+ghost use Rattle.carrier.specs.Steps.{MayAct, MayGoOn, NeedsClock};
+ghost use Rattle.carrier.specs.Turns.{HoldsFrozen, HoldsNothing, ReadsInTime, wants_nothing};
 
-use crate::answers::{asked, give_up, unless_over, unless_stalled, way_on};
+use crate::answers::{asked, give_up, nap_length, unless_over, unless_stalled, way_on};
 use crate::ask::{Ask, Turn};
 use crate::hand::Hand;
-use crate::mounted_steps::{is_off, make_step};
+use crate::mounted_steps::{is_off, make_step, may_go_on};
 use machine::{After, Machine};
 use std::alloc::Global;
+
+/// The step of the mounted thread, which may make it. `None`: it reads the clock, the time is less than `least`, and nothing was done.
+#[inline(always)]
+pub(crate) fn step_on<'p>(
+    alloc: Global,
+    machine: &mut Machine<'p>,
+    hand: &mut Hand<'p>,
+    carrier: u32,
+    thread: u32,
+    least: u64,
+) -> Option<Turn>
+    requires may { MayGoOn machine.old carrier hand.old thread }
+    ensures fits { IfSome result (λ answer. Fits machine.new carrier hand.new) }
+    ensures act { IfSome result (λ answer. (now : ℕ) →
+        IsAct machine.old machine.new carrier now hand.old hand.new answer) }
+    ensures in_time { IfSome result (λ answer.
+        wants_nothing machine.new.told ≡ true → ReadsInTime machine.old hand.old least) }
+    ensures none { IfNone result (NeedsClock machine.old machine.new hand.old hand.new least) }
+{
+    let after = make_step(alloc, machine, hand, carrier, thread, least)?;
+    machine.is_legal();
+    match after {
+        After::Goes => {
+            let answer = way_on(machine, thread);
+            hand.asked = asked(answer);
+            Some(answer)
+        }
+        After::Leaves => {
+            let answer = unless_stalled(machine, Ask::Freeze);
+            hand.asked = asked(answer);
+            Some(answer)
+        }
+        After::Ends => {
+            machine.retire(carrier, thread);
+            machine.is_legal();
+            hand.mounted = None;
+            Some(unless_stalled(machine, Ask::Nothing))
+        }
+        After::Halts | After::ReadsClock => {
+            hand.failed = true;
+            Some(Turn::Over)
+        }
+    }
+}
 
 // The turn of a carrier that has a thread mounted. The thread makes a step, if it is enabled; if not, it is to be frozen.
 #[inline(always)]
@@ -20,40 +65,23 @@ fn go_on<'p>(
     hand: &mut Hand<'p>,
     carrier: u32,
     thread: u32,
-) -> Turn
+    least: u64,
+) -> Option<Turn>
     requires may { MayAct machine.old carrier hand.old }
     requires mounted { HasThread hand.old thread }
-    ensures fits { Fits machine.new carrier hand.new }
-    ensures turn { IsTurn machine.old machine.new carrier hand.old hand.new result }
+    ensures fits { IfSome result (λ answer. Fits machine.new carrier hand.new) }
+    ensures act { IfSome result (λ answer. (now : ℕ) →
+        IsAct machine.old machine.new carrier now hand.old hand.new answer) }
+    ensures in_time { IfSome result (λ answer.
+        wants_nothing machine.new.told ≡ true → ReadsInTime machine.old hand.old least) }
+    ensures none { IfNone result (NeedsClock machine.old machine.new hand.old hand.new least) }
 {
     if is_off(machine, hand, carrier, thread) {
         hand.asked = Ask::Freeze;
-        return Turn::Run(Ask::Freeze);
+        return Some(Turn::Run(Ask::Freeze));
     }
-    let after = make_step(alloc, machine, hand, carrier, thread);
-    machine.is_legal();
-    match after {
-        After::Goes => {
-            let answer = way_on(machine, thread);
-            hand.asked = asked(answer);
-            answer
-        }
-        After::Leaves => {
-            let answer = unless_stalled(machine, Ask::Freeze);
-            hand.asked = asked(answer);
-            answer
-        }
-        After::Ends => {
-            machine.retire(carrier, thread);
-            machine.is_legal();
-            hand.mounted = None;
-            unless_stalled(machine, Ask::Nothing)
-        }
-        After::Halts => {
-            hand.failed = true;
-            Turn::Over
-        }
-    }
+    may_go_on(machine, hand, carrier, thread);
+    step_on(alloc, machine, hand, carrier, thread, least)
 }
 
 // The turn of a carrier that has frozen its thread: it puts the thread down.
@@ -61,7 +89,8 @@ fn put_down<'p>(machine: &mut Machine<'p>, hand: &mut Hand<'p>, carrier: u32) ->
     requires may { MayAct machine.old carrier hand.old }
     requires frozen { HoldsFrozen hand.old }
     ensures fits { Fits machine.new carrier hand.new }
-    ensures turn { IsTurn machine.old machine.new carrier hand.old hand.new result }
+    ensures act { (now : ℕ) →
+        IsAct machine.old machine.new carrier now hand.old hand.new result }
 {
     let Some(frozen) = hand.frozen.take() else {
         return Turn::Over;
@@ -72,14 +101,14 @@ fn put_down<'p>(machine: &mut Machine<'p>, hand: &mut Hand<'p>, carrier: u32) ->
 }
 
 // The turn of a carrier that has no thread: it takes one up, if there is one in a deque.
-fn take_up<'p>(machine: &mut Machine<'p>, hand: &mut Hand<'p>, carrier: u32) -> Turn
+fn take_up<'p>(machine: &mut Machine<'p>, hand: &mut Hand<'p>, carrier: u32, now: u64) -> Turn
     requires may { MayAct machine.old carrier hand.old }
     requires nothing { HoldsNothing hand.old }
     ensures fits { Fits machine.new carrier hand.new }
-    ensures turn { IsTurn machine.old machine.new carrier hand.old hand.new result }
+    ensures act { IsAct machine.old machine.new carrier now hand.old hand.new result }
 {
     let Some(frozen) = machine.next(carrier) else {
-        return Turn::Nap(None);
+        return Turn::Nap(nap_length(machine, now));
     };
     machine.is_legal();
     let thread = frozen.thread();
@@ -106,23 +135,30 @@ fn mounted_thread(hand: &Hand<'_>) -> Option<u32>
     }
 }
 
-/// The turn of a carrier with a machine that has no ending, and memory for the turn's entries.
+/// The turn of a carrier with a machine that has no ending, and memory for the turn's entries, time aside. `None`: the step of its thread reads
+/// the clock, the time is less than `least`, and nothing was done.
 #[inline(always)]
 pub(crate) fn act<'p>(
     alloc: Global,
     machine: &mut Machine<'p>,
     hand: &mut Hand<'p>,
     carrier: u32,
-) -> Turn
+    now: u64,
+    least: u64,
+) -> Option<Turn>
     requires { MayAct machine.old carrier hand.old }
-    ensures fits { Fits machine.new carrier hand.new }
-    ensures turn { IsTurn machine.old machine.new carrier hand.old hand.new result }
+    ensures fits { IfSome result (λ answer. Fits machine.new carrier hand.new) }
+    ensures act { IfSome result (λ answer.
+        IsAct machine.old machine.new carrier now hand.old hand.new answer) }
+    ensures in_time { IfSome result (λ answer.
+        wants_nothing machine.new.told ≡ true → ReadsInTime machine.old hand.old least) }
+    ensures none { IfNone result (NeedsClock machine.old machine.new hand.old hand.new least) }
 {
     if let Some(thread) = mounted_thread(hand) {
-        return go_on(alloc, machine, hand, carrier, thread);
+        return go_on(alloc, machine, hand, carrier, thread, least);
     }
     if hand.frozen.is_some() {
-        return put_down(machine, hand, carrier);
+        return Some(put_down(machine, hand, carrier));
     }
-    take_up(machine, hand, carrier)
+    Some(take_up(machine, hand, carrier, now))
 }

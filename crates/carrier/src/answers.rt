@@ -4,7 +4,7 @@ ghost use Rattle.std.specs.Prelude.{◌≡◌};
 ghost use Rattle.machine.specs.Hands.{Lives};
 ghost use Rattle.machine.specs.Legal.{Works};
 ghost use Rattle.carrier.specs.Steps.{AnswersUnlessOver, AnswersUnlessStalled, GoesOnBy, IsGivenUp};
-ghost use Rattle.carrier.specs.Turns.{asked_by};
+ghost use Rattle.carrier.specs.Turns.{IsNap, asked_by};
 
 use crate::ask::{Ask, Turn};
 use machine::Machine;
@@ -68,5 +68,16 @@ pub(crate) fn give_up(machine: &mut Machine<'_>)
 {
     if machine.ending().is_none() {
         machine.fail();
+    }
+}
+
+/// How long a carrier without a thread may nap, in nanoseconds from this time on. `None`: no live thread has a deadline to come.
+pub(crate) fn nap_length(machine: &Machine<'_>, now: u64) -> Option<u64>
+    requires { Works machine.now }
+    ensures { IsNap machine.now now result }
+{
+    match machine.earliest() {
+        Some(deadline) => Some(deadline.saturating_sub(now)),
+        None => None,
     }
 }

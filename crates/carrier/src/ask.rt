@@ -16,7 +16,7 @@ pub enum Ask {
 pub enum Turn {
     /// The carrier does what it is asked for, and then has its next turn.
     Run(Ask),
-    /// There is nothing to do until another carrier has had its turn, or until this time.
+    /// There is nothing to do until another carrier has had its turn, or for so many nanoseconds, after which a deadline is reached.
     Nap(Option<u64>),
     /// The run has ended.
     Over,

@@ -8,7 +8,7 @@ ghost use Rattle.carrier.specs.Turns.{KeepsPressing};
 ghost use Rattle.machine.specs.Ready.{IsReady};
 
 use crate::ask::Ask;
-use crate::local::{LocalRun, run_local};
+use crate::local::{LocalRun, is_call, run_local};
 use continuation::{Frozen, Mounted};
 use invocation::InvocationCache;
 use items::NoMemory;
@@ -43,6 +43,15 @@ impl<'p> Hand<'p> {
             asked: Ask::Nothing,
             failed: false,
         })
+    }
+
+    /// Whether its next turn may need the time: its thread makes a call next, or isn't in phase Run, or there is none.
+    #[inline(always)]
+    pub(crate) fn may_need_time(&self) -> bool {
+        match &self.local {
+            Some(run) => is_call(&run.next.instr.op),
+            None => true,
+        }
     }
 
     /// Executes the local instructions of its thread, for which the last turn asked. If there is no memory for it, the hand has failed, and

@@ -98,6 +98,18 @@ fn go_into(
     }
 }
 
+/// Whether an instruction calls a method.
+#[inline(always)]
+pub(crate) fn is_call(op: &Op) -> bool {
+    matches!(
+        op,
+        Op::InvokeVirtual(_)
+            | Op::InvokeSpecial(_)
+            | Op::InvokeStatic(_)
+            | Op::InvokeInterface(_, _)
+    )
+}
+
 // Whether an instruction is an invokestatic.
 #[inline(always)]
 fn is_static_call(op: &Op) -> bool

@@ -1,9 +1,10 @@
 //! The step of a mounted thread.
 
-ghost use Rattle.std.specs.Prelude.{◌≡◌, false, IsTrue};
+ghost use Rattle.std.specs.Prelude.{◌≡◌, false, IfNone, IfSome, IsTrue};
 ghost use Rattle.machine.specs.Hands.{MayStep};
 ghost use Rattle.carrier.specs.Hands.{HasThread};
-ghost use Rattle.carrier.specs.Steps.{HasGone, MayAct, MayGoOn, steps_of, stop_of};
+ghost use Rattle.carrier.specs.LocalRuns.{steps_of, stop_of};
+ghost use Rattle.carrier.specs.Steps.{HasGone, MayAct, MayGoOn, NeedsClock};
 ghost use Rattle.carrier.specs.Turns.{MayNotStep};
 
 use crate::hand::Hand;
@@ -49,7 +50,21 @@ pub(crate) fn is_off(machine: &Machine<'_>, hand: &Hand<'_>, carrier: u32, threa
     !machine.is_enabled(thread)
 }
 
-/// Makes the step of the mounted thread, with the local instructions that were executed.
+/// A turn whose mounted thread may step may go on with it. This does nothing.
+#[inline(always)]
+pub(crate) fn may_go_on(machine: &Machine<'_>, hand: &Hand<'_>, carrier: u32, thread: u32)
+    requires may { MayAct machine.now carrier hand.now }
+    requires mounted { HasThread hand.now thread }
+    requires enabled { MayStep machine.now thread }
+    ensures { MayGoOn machine.now carrier hand.now thread }
+{
+    let _ = machine;
+    let _ = hand;
+    let _ = (carrier, thread);
+}
+
+/// Makes the step of the mounted thread, with the local instructions that were executed. `None`: it reads the clock, the time is less than
+/// `least`, and nothing was done.
 #[inline(always)]
 pub(crate) fn make_step<'p>(
     alloc: Global,
@@ -57,26 +72,38 @@ pub(crate) fn make_step<'p>(
     hand: &mut Hand<'p>,
     carrier: u32,
     thread: u32,
-) -> After
+    least: u64,
+) -> Option<After>
     requires { MayGoOn machine.old carrier hand.old thread }
-    ensures { HasGone result machine.old machine.new carrier thread hand.new }
+    ensures gone { IfSome result (λ after.
+        HasGone after machine.old machine.new carrier thread least hand.old hand.new) }
+    ensures none { IfNone result (NeedsClock machine.old machine.new hand.old hand.new least) }
 {
     let _ = thread;
-    let local = hand.local.take();
+    let local = hand.local;
     let Some(mounted) = &mut hand.mounted else {
-        return After::Halts;
+        return Some(After::Halts);
     };
     let steps = steps_ahead(local);
     if steps == MOST_STEPS {
         machine.slice(carrier, mounted);
-        return After::Goes;
+        hand.local = None;
+        return Some(After::Goes);
     }
-    machine.step(
+    let after = machine.step(
         alloc,
         &mut hand.cache,
         mounted,
         carrier,
         steps,
         next_of(local),
-    )
+        least,
+    );
+    match after {
+        After::ReadsClock => None,
+        _ => {
+            hand.local = None;
+            Some(after)
+        }
+    }
 }

@@ -59,7 +59,8 @@ pub(crate) fn turn_and_do<'p, G: Gate>(
     requires program { program.now ≡ machine.old.setting.world }
     requires hand { IsReadyHand machine.old at.carrier hand.old }
     ensures hand { IsReadyHand machine.new at.carrier hand.new }
-    ensures turn { IsDoneTurn machine.old machine.new at.carrier hand.old hand.new result }
+    ensures turn { IsDoneTurn machine.old machine.new at.carrier at.now
+        hand.old hand.new result }
 {
     let answer = turn(alloc, machine, hand, at.carrier, at.now);
     machine.is_legal();

@@ -1,6 +1,6 @@
 //! Runs a program to its end, on one carrier.
 
-ghost use Rattle.std.specs.Prelude.{◌≡◌, ◌≢◌, IfOk, Some};
+ghost use Rattle.std.specs.Prelude.{◌≡◌, ◌≢◌, ℕ, Bool, IfOk, IsTrue, Some};
 ghost use Rattle.ref_model.specs.declared.ending.Ending.TheVariants.{Halted, Stalled};
 ghost use Rattle.ref_model.specs.Setting.{Setting};
 ghost use Rattle.step_soundness.specs.OpeningLaws.{IsMain};
@@ -10,7 +10,7 @@ ghost use Rattle.machine.specs.Legal.{Works};
 ghost use Rattle.machine.specs.Live.{ListsLive};
 ghost use Rattle.machine.specs.Machines.{machine_ending};
 ghost use Rattle.carrier.specs.Plays.{IsReadyHand};
-ghost use Rattle.carrier.specs.Runs.{IsRun};
+ghost use Rattle.carrier.specs.Runs.{IsRun, IsTimed};
 
 use crate::ask::Turn;
 use crate::execution::Execution;
@@ -18,34 +18,89 @@ use crate::hand::Hand;
 use crate::plays::{TurnOf, turn_and_do};
 use class_world::World;
 use items::NoMemory;
-use jvm_edges::Gate;
+use jvm_edges::{Clock, Gate};
 use machine::{Machine, ReadyProgram, Written};
 use ref_model::{Ending, Limits};
 use std::alloc::Global;
+use std::sync::Wait;
 use verify_code::Checked;
 
-// A turn of the one carrier.
-const FIRST: TurnOf = TurnOf { carrier: 0, now: 0 };
+// How long a nap takes at most, in nanoseconds.
+const LONGEST_NAP: u64 = 1_000_000;
 
-// Makes turns of the one carrier until the run has ended.
-fn run_on<'p, G: Gate>(
+// A reading of the clock may serve for so many turns, where no turn can need a later one.
+const MOST_AGE: u32 = 15;
+
+// A reading of the clock, in nanoseconds, and for how many turns it has served.
+#[derive(Clone, Copy)]
+struct Reading {
+    now: u64,
+    age: u32,
+}
+
+// The clock is read anew.
+fn read<C: Clock>(clock: &C) -> Reading
+    ensures { IsTrue (C.gives clock.now result.now) }
+{
+    Reading {
+        now: clock.now(),
+        age: 0,
+    }
+}
+
+// The reading for the next turn: a new one where the turn may need the time, and at the latest after sixteen turns.
+#[inline(always)]
+fn next_reading<C: Clock>(clock: &C, hand: &Hand<'_>, last: Reading) -> Reading
+    requires { IsTrue (C.gives clock.now last.now) }
+    ensures { IsTrue (C.gives clock.now result.now) }
+{
+    if last.age >= MOST_AGE || hand.may_need_time() {
+        return read(clock);
+    }
+    Reading {
+        now: last.now,
+        age: last.age + 1,
+    }
+}
+
+// Makes turns of the one carrier until the run has ended. Where there is nothing to run it naps.
+fn run_on<'p, R: Wait, C: Clock, G: Gate>(
+    rt: &R,
     alloc: Global,
     program: &'p ReadyProgram,
     machine: &mut Machine<'p>,
     hand: &mut Hand<'p>,
+    clock: &C,
     gate: &G,
-) -> Result<(), NoMemory>
+)
     requires program { program.now ≡ machine.old.setting.world }
     requires hand { IsReadyHand machine.old 0 hand.old }
+    requires timed { IsTimed (C.gives clock.now) machine.old }
     ensures setting { machine.new.setting ≡ machine.old.setting }
     ensures carriers { machine.new.carriers ≡ machine.old.carriers }
+    ensures timed { Works machine.new → IsTimed (C.gives clock.now) machine.new }
 {
-    'turns: loop {
-        match turn_and_do(alloc, program, machine, hand, FIRST, gate) {
+    let mut reading = read(clock);
+    for _ in rt.forever() {
+        machine.is_legal();
+        let at = TurnOf {
+            carrier: 0,
+            now: reading.now,
+        };
+        match turn_and_do(alloc, program, machine, hand, at, gate) {
             Turn::Run(_) => {}
-            Turn::Nap(_) => return Err(NoMemory),
-            Turn::Over => return Ok(()),
+            Turn::Nap(nanos) => clock.nap(nap_of(nanos)),
+            Turn::Over => break,
         }
+        reading = next_reading(clock, hand, reading);
+    }
+}
+
+// How long a carrier naps that may nap for so long, in nanoseconds.
+fn nap_of(nanos: Option<u64>) -> u64 {
+    match nanos {
+        Some(nanos) => nanos.min(LONGEST_NAP),
+        None => 0,
     }
 }
 
@@ -77,7 +132,8 @@ fn ending_of(machine: &Machine<'_>) -> Result<Ending, NoMemory>
 
 // What a machine leaves, unless its run was given up.
 fn leave(alloc: Global, machine: Machine<'_>) -> Result<Execution, NoMemory>
-    ensures { IfOk result (λ x. IsRun machine.entry.setting machine.entry.carriers
+    ensures { (gives : ℕ → Bool) → (Works machine.entry → IsTimed gives machine.entry)
+        → IfOk result (λ x. IsRun machine.entry.setting gives machine.entry.carriers
         x.history.items x.out.items x.err.items x.live.items x.ending) }
 {
     let ending = ending_of(&machine)?;
@@ -94,42 +150,46 @@ fn leave(alloc: Global, machine: Machine<'_>) -> Result<Execution, NoMemory>
 }
 
 // The same as `run`, of a program that is ready.
-fn run_ready<G: Gate>(
+fn run_ready<R: Wait, C: Clock, G: Gate>(
+    rt: &R,
     alloc: Global,
     program: &ReadyProgram,
     main: u32,
     limits: Limits,
+    clock: &C,
     gate: &G,
 ) -> Result<Execution, NoMemory>
     requires library { HasLibrary program.now.program }
     requires main { IsMain program.now main }
     requires names { NamesNoHold program.now }
     ensures { IfOk result (λ x. (p : Setting) → p.world ≡ program.now → p.main ≡ main
-        → p.limits ≡ limits → IsRun p 1 x.history.items x.out.items x.err.items x.live.items
+        → p.limits ≡ limits → IsRun p (C.gives clock.now) 1 x.history.items x.out.items x.err.items x.live.items
         x.ending) }
 {
     let mut machine = Machine::begin(alloc, program, main, limits, 1)?;
     let mut hand = Hand::new(alloc)?;
     machine.is_legal();
-    run_on(alloc, program, &mut machine, &mut hand, gate)?;
+    run_on(rt, alloc, program, &mut machine, &mut hand, clock, gate);
     leave(alloc, machine)
 }
 
 /// Runs the main method with this number, on one carrier, until the run has ended: the program has, or no thread can go on, or it came to a
-/// limit. The gate is passed before local instructions. The program has the built-in classes, and no instruction of it names jvt.Native.hold.
-pub fn run<G: Gate>(
+/// limit. Where there is nothing to run it naps by the clock, so a run may wait. The gate is passed before local instructions. The program has the built-in classes, and no instruction of it names jvt.Native.hold.
+pub fn run<R: Wait, C: Clock, G: Gate>(
+    rt: &R,
     alloc: Global,
     checked: Checked<World>,
     main: u32,
     limits: Limits,
+    clock: &C,
     gate: &G,
 ) -> Result<Execution, NoMemory>
     requires library { HasLibrary checked.program }
     requires main { IsMain checked main }
     requires names { NamesNoHold checked }
     ensures { IfOk result (λ x. (p : Setting) → p.world ≡ checked → p.main ≡ main
-        → p.limits ≡ limits → IsRun p 1 x.history.items x.out.items x.err.items x.live.items x.ending) }
+        → p.limits ≡ limits → IsRun p (C.gives clock.now) 1 x.history.items x.out.items x.err.items x.live.items x.ending) }
 {
     let program = ReadyProgram::new(alloc, checked)?;
-    run_ready(alloc, &program, main, limits, gate)
+    run_ready(rt, alloc, &program, main, limits, clock, gate)
 }

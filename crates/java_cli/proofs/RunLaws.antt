@@ -189,10 +189,10 @@ module _ {O E : Type 0} (bytes : O → Option (List ℕ)) (counts : O → ℕ) (
       Unwritten old_out new_out contents faults old new r ⊎ Wrote bytes counts old_out new_out contents faults old new no_command history text errors why r
 
   -- the report of a run that was written
-  ran_is : (p : Setting) (carriers : ℕ) (history : List Entry) (text errors live : List ℕ) (told : Ending) (r : Report) → IsRun p carriers history text errors live told
+  ran_is : (p : Setting) (gives : ℕ → Bool) (carriers : ℕ) (history : List Entry) (text errors live : List ℕ) (told : Ending) (r : Report) → IsRun p gives carriers history text errors live told
       → Wrote bytes counts old_out new_out contents faults old new no_command history text errors (ending_answer live told) r
-      → RanProgram p carriers (bytes old_out) (bytes new_out) (Told no_command r) r
-  ran_is p carriers history text errors live told r run_is wrote =
+      → RanProgram p gives carriers (bytes old_out) (bytes new_out) (Told no_command r) r
+  ran_is p gives carriers history text errors live told r run_is wrote =
       let none = names_no_sink live told in
       let short = fault_short bytes counts old_out new_out text wrote.out_fault wrote.out in
       let ended = ending_told p (length history) run_is.after live told run_is.ended run_is.live in
@@ -205,6 +205,8 @@ module _ {O E : Type 0} (bytes : O → Option (List ℕ)) (counts : O → ℕ) (
         runs = rw wrote.history run_is.runs;
         answer = rw (wrote.history, wrote.why_is) answer;
         few = rw wrote.history run_is.few;
+        times = rw wrote.history run_is.times;
+        reasons = rw wrote.history run_is.reasons;
         complete = run_is.complete;
         out = rw (run_is.prints, wrote.out_written) (takes_front bytes counts old_out new_out text wrote.out_fault wrote.out);
         out_taken = rw (wrote.why_is, run_is.prints, wrote.out_written) (taken_is (ending_answer live told) wrote.out_fault wrote.err_fault (length text) none short);
@@ -213,16 +215,17 @@ module _ {O E : Type 0} (bytes : O → Option (List ℕ)) (counts : O → ℕ) (
       }
 
   -- a run of main in this world was delivered: so much is known of its report
-  pub record IsDelivered (w : World) (main : ℕ) (most : Limits) (carriers : ℕ) (r : Report) : Type 0 where
-    pub headline : OnRun r.why ((p : Setting) → p.world ≡ w → p.main ≡ main → p.limits ≡ most → RanProgram p carriers (bytes old_out) (bytes new_out) (Told no_command r) r)
+  pub record IsDelivered (gives : ℕ → Bool) (w : World) (main : ℕ) (most : Limits) (carriers : ℕ) (r : Report) : Type 0 where
+    pub headline : OnRun r.why ((p : Setting) → p.world ≡ w → p.main ≡ main → p.limits ≡ most → RanProgram p gives carriers (bytes old_out) (bytes new_out) (Told no_command r) r)
     pub answer : IsRunOrNoMemory r.why
     pub idle : OnNoRun r.why (IsIdle (bytes old_out) (bytes new_out) r)
     pub out_faults : OutFaults r.why (counts old_out) (counts new_out)
     pub line : OnNoRun r.why (Told no_command r [])
 
   -- where memory ran out, nothing was run
-  pub unwritten_is : (w : World) (main : ℕ) (most : Limits) (carriers : ℕ) (r : Report) → Unwritten old_out new_out contents faults old new r → IsDelivered w main most carriers r
-  unwritten_is w main most carriers r none = record {
+  pub unwritten_is : (gives : ℕ → Bool) (w : World) (main : ℕ) (most : Limits) (carriers : ℕ) (r : Report) → Unwritten old_out new_out contents faults old new r
+      → IsDelivered gives w main most carriers r
+  unwritten_is gives w main most carriers r none = record {
     headline = λ of. absurd (subst IsOfRun none.why of);
     answer = inr none.why;
     idle = λ idle. record { history = none.history; out_written = none.out_written; err_written = none.err_written; same = ap bytes none.same };
@@ -232,14 +235,14 @@ module _ {O E : Type 0} (bytes : O → Option (List ℕ)) (counts : O → ℕ) (
         (subst (λ (n : ℕ). TakesLine contents faults old new memory_line [] n) (sym none.err_written) none.line);
   }
 
-  pub delivered_is : (w : World) (main : ℕ) (most : Limits) (carriers : ℕ) (history : List Entry) (text errors live : List ℕ) (told : Ending) (r : Report) → carriers ≡ 1
-      → ((p : Setting) → p.world ≡ w → p.main ≡ main → p.limits ≡ most → IsRun p 1 history text errors live told) → Delivered history text errors (ending_answer live told) r
-      → IsDelivered w main most carriers r
-  delivered_is w main most carriers history text errors live told r one run_is (inl none) = unwritten_is w main most carriers r none
-  delivered_is w main most carriers history text errors live told r one run_is (inr wrote) =
-      let ran : (p : Setting) → p.world ≡ w → p.main ≡ main → p.limits ≡ most → RanProgram p carriers (bytes old_out) (bytes new_out) (Told no_command r) r =
+  pub delivered_is : (gives : ℕ → Bool) (w : World) (main : ℕ) (most : Limits) (carriers : ℕ) (history : List Entry) (text errors live : List ℕ) (told : Ending) (r : Report) → carriers ≡ 1
+      → ((p : Setting) → p.world ≡ w → p.main ≡ main → p.limits ≡ most → IsRun p gives 1 history text errors live told) → Delivered history text errors (ending_answer live told) r
+      → IsDelivered gives w main most carriers r
+  delivered_is gives w main most carriers history text errors live told r one run_is (inl none) = unwritten_is gives w main most carriers r none
+  delivered_is gives w main most carriers history text errors live told r one run_is (inr wrote) =
+      let ran : (p : Setting) → p.world ≡ w → p.main ≡ main → p.limits ≡ most → RanProgram p gives carriers (bytes old_out) (bytes new_out) (Told no_command r) r =
       λ p in_world has_main has_limits.
-      subst (λ (k : ℕ). RanProgram p k (bytes old_out) (bytes new_out) (Told no_command r) r) (sym one) (ran_is p 1 history text errors live told r (run_is p in_world has_main has_limits) wrote) in
+      subst (λ (k : ℕ). RanProgram p gives k (bytes old_out) (bytes new_out) (Told no_command r) r) (sym one) (ran_is p gives 1 history text errors live told r (run_is p in_world has_main has_limits) wrote) in
       let p : Setting = record { world = w; main = main; limits = most } in
       let first = ran p refl refl refl in
       let of = answer_of_run p (length r.history.items) first.last r.why first.answer in
@@ -276,10 +279,10 @@ module _ {E : Type 0} (contents : E → Option (List ℕ)) (faults : E → ℕ) 
   pub line_is : OnNoRun r.why (TakesLine contents faults old new (line_of no_command r.why) [] r.err_written) → OnNoRun r.why (TakesLine contents faults old new (line_for command r.why) [] r.err_written)
   line_is line idle = subst (λ (o : Option Command). TakesLine contents faults old new (line_for o r.why) [] r.err_written) is (of_line [] r.err_written (line idle))
 
-  ran_for : (known : Option store.Files) (before after : Option (List ℕ)) (x : Runnable) → HasRead known c x
-      → RanProgram (record { world = x.checked; main = x.main; limits = run_limits }) 1 before after (λ text. TakesLine contents faults old new (line_of no_command r.why) text r.err_written) r
-      → Ran c known before after (λ text. TakesLine contents faults old new (line_of c r.why) text r.err_written) r
-  ran_for known before after x read ran = record {
+  ran_for : (known : Option store.Files) (gives : ℕ → Bool) (before after : Option (List ℕ)) (x : Runnable) → HasRead known c x
+      → RanProgram (record { world = x.checked; main = x.main; limits = run_limits }) gives 1 before after (λ text. TakesLine contents faults old new (line_of no_command r.why) text r.err_written) r
+      → Ran c known gives before after (λ text. TakesLine contents faults old new (line_of c r.why) text r.err_written) r
+  ran_for known gives before after x read ran = record {
     program = record { world = x.checked; main = x.main; limits = run_limits };
     given = read.given;
     ran = record {
@@ -290,6 +293,8 @@ module _ {E : Type 0} (contents : E → Option (List ℕ)) (faults : E → ℕ) 
       runs = ran.runs;
       answer = ran.answer;
       few = ran.few;
+      times = ran.times;
+      reasons = ran.reasons;
       complete = ran.complete;
       out = ran.out;
       out_taken = ran.out_taken;
@@ -298,10 +303,10 @@ module _ {E : Type 0} (contents : E → Option (List ℕ)) (faults : E → ℕ) 
     };
   }
 
-  pub headline_is : (known : Option store.Files) (before after : Option (List ℕ)) (x : Runnable) → HasRead known c x
-      → OnRun r.why ((p : Setting) → p.world ≡ x.checked → p.main ≡ x.main → p.limits ≡ run_limits → RanProgram p 1 before after (λ text. TakesLine contents faults old new (line_of no_command r.why) text r.err_written) r)
-      → OnRun r.why (IsSomeAnd command (λ d. Ran d known before after (λ text. TakesLine contents faults old new (line_of d r.why) text r.err_written) r))
-  headline_is known before after x read ran of = rw (← is) (ran_for known before after x read (ran of (record { world = x.checked; main = x.main; limits = run_limits }) refl refl refl))
+  pub headline_is : (known : Option store.Files) (gives : ℕ → Bool) (before after : Option (List ℕ)) (x : Runnable) → HasRead known c x
+      → OnRun r.why ((p : Setting) → p.world ≡ x.checked → p.main ≡ x.main → p.limits ≡ run_limits → RanProgram p gives 1 before after (λ text. TakesLine contents faults old new (line_of no_command r.why) text r.err_written) r)
+      → OnRun r.why (IsSomeAnd command (λ d. Ran d known gives before after (λ text. TakesLine contents faults old new (line_of d r.why) text r.err_written) r))
+  headline_is known gives before after x read ran of = rw (← is) (ran_for known gives before after x read (ran of (record { world = x.checked; main = x.main; limits = run_limits }) refl refl refl))
 
 -- ---- its cause
 

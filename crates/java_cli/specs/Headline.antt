@@ -1,5 +1,5 @@
 -- What a call of the machine did, from the words to what the sinks took.
-use Rattle.std.specs.Prelude.{◌≡◌, ◌⊎◌, ℕ, ◌+◌, ◌<◌, ◌≤◌, true, List, [], ◌++◌, Option, Some, None, length, take}
+use Rattle.std.specs.Prelude.{◌≡◌, ◌⊎◌, ℕ, ◌+◌, ◌<◌, ◌≤◌, Bool, true, List, [], ◌++◌, Option, Some, None, length, take}
 use Rattle.jvm_edges.specs.Bytes.{Appends}
 use Rattle.jvm_edges.specs.Causes.{Rose}
 use Rattle.jvm_edges.specs.Files.{Files}
@@ -15,7 +15,7 @@ use Rattle.ref_model.specs.Opening.{opening}
 use Rattle.ref_model.specs.Ending.{ending}
 use Rattle.ref_model.specs.Run.{run}
 use Rattle.ref_model.specs.Looks.{is_stalled, machine_from}
-use Rattle.carrier.specs.Runs.{IsComplete, LacksThreads, entries_left, live_threads}
+use Rattle.carrier.specs.Runs.{AreGivenTimes, HaveReasons, IsComplete, LacksThreads, entries_left, live_threads}
 use Rattle.java_cli.specs.declared.report.Report.{Report}
 use Rattle.command_line.specs.declared.answer.SinkName.TheVariants.{Out, Err}
 use Rattle.command_line.specs.declared.answer.Which.TheVariants.{Threads, Events}
@@ -71,8 +71,9 @@ pub record TakesLine {E : Type 0} (contents : E → Option (List ℕ)) (faults :
 -- Each entry of the report's history may stand where it stands, under the schedule of so many carriers; without its mounts and unmounts the
 -- history is one of the reference machine for the program; the answer says how it ends; and what the sinks took is its output and error
 -- output, or their fronts after a fault of the sink. Of the err sink, `Errs` says what it took where the error output is this. The history
--- has no more entries than the limit allows; and a program whose main thread alone ends in time has ended.
-pub record RanProgram (p : Setting) (carriers : ℕ) (before after : Option (List ℕ)) (Errs : List ℕ → Type 0) (r : Report) : Type 0 where
+-- has no more entries than the limit allows; each of its entries of time has a number that the clock gives, and a reason; and a program whose
+-- main thread alone ends in time has ended.
+pub record RanProgram (p : Setting) (gives : ℕ → Bool) (carriers : ℕ) (before after : Option (List ℕ)) (Errs : List ℕ → Type 0) (r : Report) : Type 0 where
   pub first : State
   pub last : Scheduled State
   pub begins : opening p ≡ Some first
@@ -80,6 +81,8 @@ pub record RanProgram (p : Setting) (carriers : ℕ) (before after : Option (Lis
   pub runs : run p (java r.history.items) ≡ Some last.state
   pub answer : IsRunAnswer p (length r.history.items) last r.why
   pub few : length r.history.items ≤ p.limits.events
+  pub times : AreGivenTimes gives r.history.items
+  pub reasons : HaveReasons p first carriers r.history.items
   pub complete : IsComplete p last.state
   pub out : Appends before (take r.out_written last.state.memory.out) after
   pub out_taken : IsOutTaken r.why r.out_written (length last.state.memory.out)
@@ -87,10 +90,10 @@ pub record RanProgram (p : Setting) (carriers : ℕ) (before after : Option (Lis
   pub err_taken : IsErrTaken r.why r.err_written (length last.state.memory.err)
 
 -- so it is for the program that the command's files are, on one carrier
-pub record Ran (c : Command) (known : Option Files) (before after : Option (List ℕ)) (Errs : List ℕ → Type 0) (r : Report) : Type 0 where
+pub record Ran (c : Command) (known : Option Files) (gives : ℕ → Bool) (before after : Option (List ℕ)) (Errs : List ℕ → Type 0) (r : Report) : Type 0 where
   pub program : Setting
   pub given : IsGiven known c program
-  pub ran : RanProgram program 1 before after Errs r
+  pub ran : RanProgram program gives 1 before after Errs r
 
 -- a command without arguments, for the lines that name none
 abbrev pub no_command : Command

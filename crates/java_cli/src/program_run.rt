@@ -20,11 +20,14 @@ use items::Items;
 use jvm_edges::{Clock, Gate, Sink, put_all};
 use ref_model::{Ending, Limits, Which as Limited};
 use std::alloc::Global;
+use std::sync::Wait;
 use verify_code::Checked;
 
 /// Runs the main method with this number of a checked program, with these limits. Writes the program's output to `out`, and its error
-/// output and then the answer's line to `err`. For now there is one carrier, and `trace` has no effect.
-pub fn run_checked<O: Sink, E: Sink, C: Clock + Sync, G: Gate + Sync>(
+/// output and then the answer's line to `err`. Where no thread can go on before a time, it naps by the clock. For now there is one carrier, and
+/// `trace` has no effect.
+pub fn run_checked<R: Wait, O: Sink, E: Sink, C: Clock + Sync, G: Gate + Sync>(
+    rt: &R,
     alloc: Global,
     checked: Checked<World>,
     main: u32,
@@ -43,7 +46,8 @@ pub fn run_checked<O: Sink, E: Sink, C: Clock + Sync, G: Gate + Sync>(
     requires threads { 0 < limits.threads }
     // Where the program ran, its history is legal, the answer is how it ends, and what is written is its output.
     ensures headline { OnRun result.why ((p : Setting) → p.world ≡ checked → p.main ≡ main
-        → p.limits ≡ limits → RanProgram p carriers (O.contents out.old) (O.contents out.new)
+        → p.limits ≡ limits → RanProgram p (C.gives clock.now) carriers
+        (O.contents out.old) (O.contents out.new)
         (λ text. TakesLine E.contents E.faults err.old err.new (line_of no_command result.why)
         text result.err_written) result) }
     // Otherwise memory ran out; the history is empty, and neither sink took any output of a program.
@@ -54,7 +58,7 @@ pub fn run_checked<O: Sink, E: Sink, C: Clock + Sync, G: Gate + Sync>(
     ensures line { OnNoRun result.why (TakesLine E.contents E.faults err.old err.new
         (line_of no_command result.why) [] result.err_written) }
 {
-    match run(alloc, checked, main, limits, gate) {
+    match run(rt, alloc, checked, main, limits, clock, gate) {
         Ok(execution) => deliver(alloc, execution, out, err),
         Err(_) => no_memory(alloc, err),
     }

@@ -15,6 +15,7 @@ use command_line::{Command, NO_MEMORY, USAGE, Why, make_line, read_command};
 use jvm_edges::{Clock, Gate, Sink, Store, put_all};
 use ref_model::Limits;
 use std::alloc::Global;
+use std::sync::Wait;
 
 /// The limits of a run.
 const RUN_LIMITS: Limits = Limits {
@@ -24,8 +25,10 @@ const RUN_LIMITS: Limits = Limits {
 };
 
 /// Does all that the program does. Reads the command that the arguments spell, of which the first is the program's name, and runs it. Writes
-/// the program's output to `out`, and its error output and then the answer's line to `err`.
-pub fn jvt<S: Store, O: Sink, E: Sink, C: Clock + Sync, G: Gate + Sync>(
+/// the program's output to `out`, and its error output and then the answer's line to `err`. A program whose threads all wait for a time waits
+/// for it by the clock.
+pub fn jvt<R: Wait, S: Store, O: Sink, E: Sink, C: Clock + Sync, G: Gate + Sync>(
+    rt: &R,
     alloc: Global,
     args: &[String],
     store: &mut S,
@@ -36,7 +39,7 @@ pub fn jvt<S: Store, O: Sink, E: Sink, C: Clock + Sync, G: Gate + Sync>(
 ) -> Report
     // Where a program was run, its history is legal, the answer is how it ends, and what is written is its output.
     ensures headline { OnRun result.why (IsSomeAnd (command_of (texts args.now)) (λ c.
-        Ran c (S.files store.old) (O.contents out.old) (O.contents out.new)
+        Ran c (S.files store.old) (C.gives clock.now) (O.contents out.old) (O.contents out.new)
         (λ text. TakesLine E.contents E.faults err.old err.new (line_of c result.why)
         text result.err_written) result)) }
     // Where none was run, the history is empty, and neither sink took any output of a program.
@@ -53,6 +56,7 @@ pub fn jvt<S: Store, O: Sink, E: Sink, C: Clock + Sync, G: Gate + Sync>(
     match read_command(args) {
         Some(command) => match read_program(alloc, &command, store) {
             Ok(runnable) => run_checked(
+                rt,
                 alloc,
                 runnable.checked,
                 runnable.main,

@@ -6,7 +6,11 @@ use java_cli::jvt;
 use jvm_edges::{FileStore, OpenGate, Sink, StdSink, StepClock, Store};
 use std::alloc::{AllocError, Global};
 use std::process::ExitCode;
+use std::sync::Wait;
 use std::{fs, io};
+
+// What the clock of each run first gives, in nanoseconds.
+const FIRST_TIME: u64 = 1_000_000_000;
 
 fn main(rt: HostRuntime) -> io::Result<ExitCode> {
     let alloc = rt.alloc();
@@ -16,7 +20,7 @@ fn main(rt: HostRuntime) -> io::Result<ExitCode> {
     let table = fs::read_to_string(&rt, "programs.txt")?;
     for line in table.lines() {
         println!(rt; "== {line}")?;
-        let status = run_program(alloc, line, store, out, err)?;
+        let status = run_program(&rt, alloc, line, store, out, err)?;
         println!(rt; "== status {status}")?;
     }
     Ok(ExitCode::SUCCESS)
@@ -33,7 +37,8 @@ fn arguments_of(alloc: Global, line: &str) -> Result<Vec<String>, AllocError> {
 }
 
 // Calls `jvt` with the arguments in a line, and gives the status.
-fn run_program<S: Store, O: Sink, E: Sink>(
+fn run_program<R: Wait, S: Store, O: Sink, E: Sink>(
+    rt: &R,
     alloc: Global,
     line: &str,
     store: &mut S,
@@ -41,8 +46,8 @@ fn run_program<S: Store, O: Sink, E: Sink>(
     err: &mut E,
 ) -> Result<u8, AllocError> {
     let args = arguments_of(alloc, line)?;
-    let (clock, gate) = (StepClock::new(0), OpenGate::new());
-    let report = jvt(alloc, &args, store, out, err, &clock, &gate);
+    let (clock, gate) = (StepClock::new(FIRST_TIME), OpenGate::new());
+    let report = jvt(rt, alloc, &args, store, out, err, &clock, &gate);
     Ok(report.why.status())
 }
 

@@ -13,6 +13,7 @@ use jvm_edges::{Gate, ListClock, MapStore, MemSink, OpenGate};
 use program_files::{accept_files, read_files, start};
 use ref_model::Limits;
 use std::alloc::{AllocError, Global};
+use std::sync::Wait;
 use std::sync::atomic::{AtomicU64, Ordering};
 use std::test::Fail;
 use verify_code::Checked;
@@ -112,17 +113,18 @@ fn store_of(alloc: Global, bytes: &[u8]) -> Result<MapStore, AllocError> {
 }
 
 // The call of `run A A.class`, where `A.class` has these bytes.
-fn run_a<G: Gate + Sync>(
-    alloc: Global,
+fn run_a<R: Wait + AllocGlobal, G: Gate + Sync>(
+    rt: &R,
     bytes: &[u8],
     out: &mut MemSink,
     err: &mut MemSink,
     gate: &G,
 ) -> Result<Report, AllocError> {
+    let alloc = rt.alloc();
     let args = arguments_of(alloc, "run A A.class")?;
     let mut store = store_of(alloc, bytes)?;
     let clock = ListClock::new(vec![in alloc; 0]?);
-    Ok(jvt(alloc, &args, &mut store, out, err, &clock, gate))
+    Ok(jvt(rt, alloc, &args, &mut store, out, err, &clock, gate))
 }
 
 // The class A of these bytes with the built-in classes, and the number of its main method.
@@ -141,8 +143,8 @@ fn load(alloc: Global, bytes: &[u8]) -> Result<(Checked<World>, u32), Fail>
 }
 
 // The run of the class A of these bytes, with room for so many threads and entries.
-fn run_with(
-    alloc: Global,
+fn run_with<R: Wait + AllocGlobal>(
+    rt: &R,
     bytes: &[u8],
     threads: u32,
     events: u32,
@@ -150,6 +152,7 @@ fn run_with(
 ) -> Result<Report, Fail>
     requires { 0 < threads }
 {
+    let alloc = rt.alloc();
     let (checked, main) = load(alloc, bytes)?;
     let limits = Limits {
         heap_cells: 1000,
@@ -160,7 +163,7 @@ fn run_with(
     let clock = ListClock::new(vec![in alloc; 0]?);
     let gate = OpenGate::new();
     Ok(run_checked(
-        alloc, checked, main, limits, 1, false, out, err, &clock, &gate,
+        rt, alloc, checked, main, limits, 1, false, out, err, &clock, &gate,
     ))
 }
 
@@ -182,7 +185,7 @@ fn the_smallest_program_has_five_entries_and_passes_the_gate_before_each_step(
         main: AtomicU64::new(0),
         others: AtomicU64::new(0),
     };
-    let report = run_a(rt.alloc(), &A_CLASS, out, err, &gate)?;
+    let report = run_a(&rt, &A_CLASS, out, err, &gate)?;
     let text = print(rt.alloc(), 1, &report.history)?;
     assert_eq!(rt; text.as_slice(), A_HISTORY);
     assert_eq!(rt; gate.main.load(Ordering::SeqCst), 3);
@@ -201,7 +204,7 @@ fn a_thread_past_the_limit_is_told(rt: HostRuntime) -> Result<(), Fail> {
             *byte = count;
         }
         let err = &mut sink(rt.alloc(), &[])?;
-        let report = run_with(rt.alloc(), &bytes, 3, 1000, err)?;
+        let report = run_with(&rt, &bytes, 3, 1000, err)?;
         assert_eq!(rt; report.why.status(), status);
         if status == 71 {
             assert_eq!(rt; err.bytes(), b"jvt: limit Threads 3\n".as_slice());
@@ -215,7 +218,7 @@ fn a_program_that_yields_for_ever_comes_to_the_limit_of_events(
     rt: HostRuntime,
 ) -> Result<(), Fail> {
     let err = &mut sink(rt.alloc(), &[])?;
-    let report = run_with(rt.alloc(), &YIELDS_FOR_EVER, 1, 1000, err)?;
+    let report = run_with(&rt, &YIELDS_FOR_EVER, 1, 1000, err)?;
     assert_eq!(rt; report.why.status(), 71);
     assert_eq!(rt; report.history.len(), 998);
     assert_eq!(rt; err.bytes(), b"jvt: limit Events 1000\n".as_slice());
@@ -227,7 +230,7 @@ fn a_sink_that_fails_has_its_line_on_the_other(rt: HostRuntime) -> Result<(), Fa
     for (fails_at, written) in [(1, 0), (2, 2)] {
         let out = &mut sink(rt.alloc(), &[fails_at])?;
         let err = &mut sink(rt.alloc(), &[])?;
-        let report = run_a(rt.alloc(), &A_CLASS, out, err, &OpenGate::new())?;
+        let report = run_a(&rt, &A_CLASS, out, err, &OpenGate::new())?;
         assert!(rt;
             matches!(
                 report.why,
@@ -246,7 +249,7 @@ fn a_sink_that_fails_has_its_line_on_the_other(rt: HostRuntime) -> Result<(), Fa
 fn a_file_of_one_byte_too_many_is_refused(rt: HostRuntime) -> Result<(), Fail> {
     let (out, err) = (&mut sink(rt.alloc(), &[])?, &mut sink(rt.alloc(), &[])?);
     let bytes = vec![in rt.alloc(); 0u8; 4_194_305]?;
-    let report = run_a(rt.alloc(), &bytes, out, err, &OpenGate::new())?;
+    let report = run_a(&rt, &bytes, out, err, &OpenGate::new())?;
     assert!(rt;
         matches!(
             report.why,

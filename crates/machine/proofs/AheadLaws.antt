@@ -1,12 +1,10 @@
 -- The state with the frames that a carrier has made ahead.
-use Rattle.std.proofs.Common.{◌≡◌, ◌≢◌, ◌<◌, ℕ, zero, suc, Bool, true, false, List, [], ◌∷◌, Option, None, Some, refl, ap, sym, subst, ◌∙◌, arith, cond, ◌&&◌}
-use Rattle.std.specs.Prelude.{is_none, slice_get, slice_set, if◌then◌else◌}
+use Rattle.std.proofs.Common.{◌≡◌, ◌≢◌, ℕ, zero, suc, true, false, List, Option, None, Some, refl, ap, sym, subst, ◌∙◌, arith, cond}
+use Rattle.std.specs.Prelude.{is_none, slice_get, slice_set}
 use Rattle.std.proofs.Math.ListN.{length-set}
 use Rattle.std.specs.Option.{option_map_or}
 use Rattle.std.proofs.lemmas.Bool.{and_parts}
-use Rattle.items.specs.Options.{◌>>=◌}
 use Rattle.items.proofs.Binds.{bind_is}
-use Rattle.vthread_state.specs.declared.phase.Phase.{Phase}
 use Rattle.vthread_state.specs.declared.phase.Phase.TheVariants.{Run}
 use Rattle.vthread_state.specs.declared.thread.Status.{Status}
 use Rattle.vthread_state.specs.declared.thread.Status.TheVariants.{New, Live, Done}
@@ -18,12 +16,12 @@ use Rattle.ref_model.specs.State.{JavaThread, State, frames_at, running_frames, 
 use Rattle.ref_model.specs.Enabled.{has_ended, is_done, is_ready}
 use Rattle.ref_model.specs.Ending.{ending}
 use Rattle.ref_model.specs.Step.{enabled, step, thread_step}
-use Rattle.ref_model.proofs.StateLaws.{frames_is, get_set, set_same}
+use Rattle.ref_model.proofs.StateLaws.{frames_is, set_same}
 use Rattle.schedule_soundness.specs.EntryLaws.{IsAhead}
 use Rattle.schedule_soundness.specs.PutLaws.{OthersStay, Stays}
 use Rattle.schedule_soundness.proofs.LocalSteps.{frames_local}
 use Rattle.schedule_soundness.proofs.ThreadLists.{set_other}
-use Rattle.program_state.specs.Steps.{IsWoken, Starts, Wakes}
+use Rattle.program_state.specs.Steps.{Starts, Wakes}
 use Rattle.machine.specs.Hands.{HasHand}
 
 -- ---- whether it may step

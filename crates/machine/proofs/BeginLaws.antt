@@ -1,16 +1,14 @@
 -- A machine that begins.
-use Rattle.std.proofs.Common.{◌≡◌, ◌≤◌, ◌<◌, ◌-◌, ℕ, zero, suc, Bool, true, false, List, [], ◌∷◌, Option, None, Some, length, slice_get, refl, ap, sym, subst, ◌∙◌, arith}
+use Rattle.std.proofs.Common.{◌≡◌, ◌<◌, ℕ, zero, suc, true, false, List, [], ◌∷◌, Option, None, Some, length, slice_get, refl, ap, sym, subst, ◌∙◌, arith}
 use Rattle.std.specs.Prelude.{replicate}
 use Rattle.std.proofs.lemmas.List.{length-replicate}
-use Rattle.history.specs.declared.entry.Entry.{Entry}
 use Rattle.vthread_state.specs.declared.phase.Phase.TheVariants.{Run}
 use Rattle.vthread_state.specs.declared.thread.Status.TheVariants.{Live}
 use Rattle.vthread_state.specs.Threads.{Threads}
 use Rattle.thread_lists.specs.Lists.{Lists, push}
-use Rattle.schedule_model.specs.Schedule.{on_carriers, opening_schedule}
-use Rattle.schedule_model.specs.Run.{Scheduled, with_schedule}
+use Rattle.schedule_model.specs.Schedule.{opening_schedule}
+use Rattle.schedule_model.specs.Run.{with_schedule}
 use Rattle.ref_model.specs.declared.limits.Limits.{Limits}
-use Rattle.ref_model.specs.Memory.{Memory}
 use Rattle.ref_model.specs.Setting.{Setting}
 use Rattle.ref_model.specs.State.{JavaThread, State}
 use Rattle.ref_model.specs.Opening.{opening, opening_thread}
@@ -25,7 +23,7 @@ use Rattle.sleep_wheel.specs.Sleepers.{sleeper_at, slot_at}
 use Rattle.program_state.specs.Deadlines.{HoldsDeadlines, IsTimed, untimed, deadlines_of, key_at}
 use Rattle.program_state.specs.States.{IsKept, IsState, absent, waiting, is_plain_status}
 use Rattle.machine.specs.Begin.{main_row}
-use Rattle.machine.specs.Insides.{AreParts, IsConsistent, is_out}
+use Rattle.machine.specs.Insides.{IsConsistent, is_out}
 use Rattle.machine.specs.Legal.{IsAccepted}
 use Rattle.machine.proofs.PlaceLaws.{in_from, push_length}
 use Rattle.machine.proofs.StateLaws.{others_out}
@@ -88,7 +86,6 @@ module _ (p : Setting) (n : ℕ) (first : State) (state : ProgramState) (deques 
     begins = begins;
     after = with_schedule first (opening_schedule n);
     runs = refl;
-    timeless = tt;
     few = omega arith;
     cause = λ e there. absurd cc;
     parts = λ works. record {

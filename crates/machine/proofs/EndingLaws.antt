@@ -1,5 +1,5 @@
 -- What it means that a run has no ending yet.
-use Rattle.std.proofs.Common.{inl, inr, ◌≡◌, ◌+◌, ◌≤◌, ℕ, Bool, true, false, Option, None, Some, length, refl, ap, sym, ◌∙◌, arith, cond, not}
+use Rattle.std.proofs.Common.{inl, inr, ◌≡◌, ◌+◌, ◌≤◌, ℕ, Bool, true, false, Option, None, Some, length, refl, ap, sym, ◌∙◌, cond, not}
 use Rattle.std.specs.Prelude.{is_none, is_some, nat_lt}
 use Rattle.std.specs.Option.{option_or}
 use Rattle.std.proofs.lemmas.Bool.{cases_Bool, ltb-false}

@@ -1,7 +1,5 @@
 -- The history of a machine with one entry more.
-use Rattle.std.proofs.Common.{◌≡◌, ◌+◌, ◌<◌, ◌≤◌, ◌-◌, ℕ, Bool, true, false, List, [], ◌∷◌, ◌++◌, Option, None, Some, length, refl, ap, sym, subst, ◌∙◌, arith}
-use Rattle.items.specs.First.{Each}
-use Rattle.items.specs.Options.{◌>>=◌}
+use Rattle.std.proofs.Common.{◌≡◌, ◌+◌, ◌<◌, ◌-◌, ℕ, List, [], ◌∷◌, ◌++◌, Option, None, Some, length, refl, ap, subst, ◌∙◌, arith}
 use Rattle.items.proofs.Binds.{bind_is}
 use Rattle.history.specs.declared.entry.Entry.{Entry}
 use Rattle.history.specs.declared.entry.What.{What}
@@ -16,12 +14,10 @@ use Rattle.ref_model.specs.Setting.{Setting}
 use Rattle.ref_model.specs.State.{State}
 use Rattle.ref_model.specs.Opening.{opening}
 use Rattle.ref_model.specs.Looks.{look_of, machine_from}
-use Rattle.schedule_soundness.specs.AloneLaws.{is_tick}
 use Rattle.schedule_soundness.specs.HistoryLaws.{IsProgramAfter}
 use Rattle.schedule_soundness.proofs.Histories.{is_after}
 use Rattle.program_state.specs.declared.state.ProgramState.{ProgramState}
 use Rattle.machine.specs.Insides.{AreParts, IsConsistent}
-use Rattle.machine.specs.Legal.{HasNoTicks}
 use Rattle.machine.specs.Machines.{Given, Known, scheduled}
 
 -- ---- lists
@@ -29,10 +25,6 @@ use Rattle.machine.specs.Machines.{Given, Known, scheduled}
 pub one_longer : {A : Type 0} (xs : List A) (x : A) → length (xs ++ x ∷ []) ≡ length xs + 1
 one_longer [] x = refl
 one_longer (y ∷ ys) x = let more = one_longer ys x in omega arith
-
-pub each_more : {A : Type 0} (P : A → Type 0) (xs : List A) (x : A) → Each P xs → P x → Each P (xs ++ x ∷ [])
-each_more P [] x all here = (here, tt)
-each_more P (y ∷ ys) x all here = (all.0, each_more P ys x all.1 here)
 
 -- ---- what a history gives
 
@@ -82,16 +74,15 @@ goes_on p n state deques mounted h told x c what w e =
 
 pub with_one_more : (p : Setting) (n : ℕ) (state new : ProgramState) (deques left : Lists) (mounted on : List (Option ℕ)) (h : List Entry) (told : Option Ending)
     (x : IsConsistent p n state deques mounted h told) (c : ℕ) (what : What) (w : Scheduled State)
-    → scheduled_after (machine_from p x.first) x.after c what ≡ Some w → is_tick what ≡ false → length h < p.limits.events → AreParts n new left on w
+    → scheduled_after (machine_from p x.first) x.after c what ≡ Some w → length h < p.limits.events → AreParts n new left on w
     → IsConsistent p n new left on (h ++ entry_of c what ∷ []) None
-with_one_more p n state new deques left mounted on h told x c what w e timeless room parts = record {
+with_one_more p n state new deques left mounted on h told x c what w e room parts = record {
   accepted = x.accepted;
   some = x.some;
   first = x.first;
   begins = x.begins;
   after = w;
   runs = goes_on p n state deques mounted h told x c what w e;
-  timeless = each_more (λ (e : Entry). is_tick e.what ≡ false) h (entry_of c what) x.timeless timeless;
   few = let longer = one_longer h (entry_of c what) in omega arith;
   cause = λ e is. absurd cc;
   parts = λ works. parts;

@@ -1,17 +1,15 @@
 -- Whom the end of a thread puts: those that wait for it and are in no place.
-use Rattle.std.proofs.Common.{◌≡◌, ◌≢◌, ◌+◌, ◌<◌, ◌≤◌, inl, inr, ℕ, zero, suc, Bool, true, false, List, [], ◌∷◌, Option, None, Some, length, refl, ap, sym, subst, ◌∙◌, arith, cond}
+use Rattle.std.proofs.Common.{◌≡◌, ◌≢◌, inl, inr, ℕ, zero, suc, Bool, true, false, List, [], ◌∷◌, Option, None, Some, refl, ap, sym, subst, ◌∙◌, arith, cond}
 use Rattle.std.specs.Prelude.{◌↔◌, Contains, filter, is_some, map, slice_get}
 use Rattle.std.specs.Option.{option_map_or}
 use Rattle.std.proofs.lemmas.Bool.{cases_Bool, eq-eqb, eqb-true}
 use Rattle.items.specs.Options.{◌>>=◌}
-use Rattle.vthread_state.specs.declared.phase.Phase.{Phase}
 use Rattle.vthread_state.specs.declared.phase.Phase.TheVariants.{Run, Throwing, Entering, Waiting, Reenter, Parked, Asleep, Joining}
 use Rattle.vthread_state.specs.declared.thread.Status.{Status}
 use Rattle.vthread_state.specs.declared.thread.Status.TheVariants.{New, Live, Done}
-use Rattle.vthread_state.specs.declared.thread.Thread.{Thread}
-use Rattle.vthread_state.specs.Threads.{joins, joins_in, target_of, target_of_status}
+use Rattle.vthread_state.specs.Threads.{joins, joins_in, target_of_status}
 use Rattle.continuation.specs.Continuation.{Continuation}
-use Rattle.schedule_model.specs.Schedule.{Schedule, in_deques, on_carriers, places}
+use Rattle.schedule_model.specs.Schedule.{Schedule, in_deques, places}
 use Rattle.schedule_model.specs.Run.{Scheduled}
 use Rattle.ref_model.specs.Setting.{Setting}
 use Rattle.ref_model.specs.State.{JavaThread, State}
@@ -21,10 +19,10 @@ use Rattle.schedule_soundness.specs.HistoryLaws.{IsProgramAfter}
 use Rattle.schedule_soundness.specs.PutLaws.{OthersStay, Stays, no_thread, is_new, is_kept, rows_of}
 use Rattle.program_state.specs.declared.state.ProgramState.{ProgramState}
 use Rattle.program_state.specs.States.{IsKept, IsState, absent, mounted, waiting, idle}
-use Rattle.program_state.specs.Waiting.{AreWoken, lies_in}
+use Rattle.program_state.specs.Waiting.{AreWoken}
 use Rattle.machine.specs.Insides.{is_out}
 use Rattle.machine.specs.Puts.{is_loose}
-use Rattle.machine.proofs.PlaceLaws.{in_from, in_none, out_from}
+use Rattle.machine.proofs.PlaceLaws.{in_from, in_none}
 
 no_both : (b : Bool) → b ≡ true → b ≡ false → ⊥
 no_both b i j = absurd cc

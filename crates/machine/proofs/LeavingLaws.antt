@@ -1,5 +1,5 @@
 -- The live threads of a machine, by what its history gives.
-use Rattle.std.proofs.Common.{◌≡◌, ℕ, List, length, Option, Some, None, Result, Ok, Err, refl, ap, sym, ◌∙◌}
+use Rattle.std.proofs.Common.{◌≡◌, ℕ, List, length, Option, Some, Result, Ok, Err, ap, sym, ◌∙◌}
 use Rattle.std.specs.Prelude.{IfOk}
 use Rattle.items.proofs.Binds.{bind_is}
 use Rattle.schedule_model.specs.Run.{Scheduled, schedule_of}

@@ -24,5 +24,7 @@ mod OperandLaws
 mod MoveLaws
 mod LocalLaws
 mod StepCallLaws
+mod TickLaws
+mod ClockLaws
 pub mod LiveLaws
 pub mod LeavingLaws

@@ -1,5 +1,5 @@
 -- The live threads, counted by number.
-use Rattle.std.proofs.Common.{◌≡◌, ◌↔◌, ◌+◌, ◌<◌, ℕ, zero, suc, Bool, true, false, List, [], ◌∷◌, ◌++◌, filter, length, map, slice_get, Option, Some, None, refl, ap, sym, ◌∙◌, cond, zero-add}
+use Rattle.std.proofs.Common.{◌≡◌, ◌↔◌, ◌+◌, ℕ, zero, suc, Bool, true, false, List, [], ◌∷◌, ◌++◌, filter, length, map, slice_get, Option, Some, None, refl, ap, sym, ◌∙◌, cond, zero-add}
 use Rattle.std.specs.Prelude.{IsSome, IsTrue, if◌then◌else◌, is_some}
 use Rattle.std.specs.List.{range_with_len}
 use Rattle.std.specs.Option.{option_map, option_map_or}
@@ -12,7 +12,7 @@ use Rattle.vthread_state.specs.declared.thread.Thread.{Thread}
 use Rattle.vthread_state.specs.Threads.{Threads, phase_at, phase_of}
 use Rattle.ref_model.specs.State.{JavaThread, State}
 use Rattle.ref_model.specs.Ending.{is_live}
-use Rattle.machine.specs.Live.{is_live_at, is_live_row, live_below, live_threads}
+use Rattle.machine.specs.Live.{is_live_row, live_below, live_threads}
 
 -- ---- one number more
 

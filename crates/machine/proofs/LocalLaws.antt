@@ -1,12 +1,11 @@
 -- A local instruction asks nothing.
-use Rattle.std.proofs.Common.{◌≡◌, ℕ, Bool, true, false, List, [], ◌∷◌, Option, None, Some, length, drop, refl, ap, sym, ◌∙◌, cond, not, ◌&&◌}
+use Rattle.std.proofs.Common.{◌≡◌, ℕ, Bool, true, false, List, [], ◌∷◌, Option, None, Some, length, drop, refl, ap, ◌∙◌, cond, not, ◌&&◌}
 use Rattle.std.specs.Prelude.{is_none, nat_lt}
 use Rattle.std.proofs.lemmas.Bool.{and_parts, not-true}
 use Rattle.items.specs.Options.{◌>>=◌}
 use Rattle.items.proofs.Binds.{bind_is, some_is}
-use Rattle.instruction_rows.specs.Rows.{LocalRow, Row, Invocation, local, constant, wide_constant, returns, invoke, event, refused, virtual, special, static, interface, dynamic}
+use Rattle.instruction_rows.specs.Rows.{LocalRow, Row, local, constant, wide_constant, returns, invoke, event, refused, virtual, special, static, interface, dynamic}
 use Rattle.instruction_rows.specs.Table.{row as row_of}
-use Rattle.lib_table.specs.declared.native.Native.{Native}
 use Rattle.link_model.specs.Initializers.{is_synchronized}
 use Rattle.link_model.specs.Decoded.{code_at}
 use Rattle.link_model.specs.World.{World}
@@ -14,9 +13,9 @@ use Rattle.verify_types.specs.Environment.{Instruction}
 use Rattle.state_model.specs.Frames.{Frame}
 use Rattle.schedule_model.proofs.RunLaws.{under_is}
 use Rattle.ref_model.specs.Asking.{Asking}
-use Rattle.ref_model.specs.Calls.{called, code_entered, frame_entered, method_entered, native_entered, receiver_of}
+use Rattle.ref_model.specs.Calls.{called, code_entered, frame_entered, native_entered, receiver_of}
 use Rattle.ref_model.specs.declared.exception.Exception.TheVariants as exceptions
-use Rattle.ref_model.specs.Effects.{Effect, asks, invokes, throws}
+use Rattle.ref_model.specs.Effects.{asks, invokes, throws}
 use Rattle.ref_model.specs.Fetch.{Named, fetched, named_method}
 use Rattle.ref_model.specs.Frames.{callee, contents}
 use Rattle.ref_model.specs.Kinds.{argument_slots}

@@ -1,12 +1,10 @@
 -- The step of a thread, by what the crate of its state says of it in its phase.
-use Rattle.std.proofs.Common.{◌≡◌, ◌≤◌, ℕ, zero, suc, length, arith, Bool, true, false, List, [], ◌∷◌, Option, None, Some, refl, ap, sym, subst, ◌∙◌, not, ◌&&◌}
+use Rattle.std.proofs.Common.{◌≡◌, ◌<◌, ◌≤◌, ℕ, zero, suc, length, arith, Bool, true, false, List, [], ◌∷◌, None, Some, refl, ap, sym, subst, ◌∙◌, not, ◌&&◌}
 use Rattle.std.specs.Prelude.{map, slice_get}
 use Rattle.std.specs.Option.{option_map_or}
 use Rattle.items.specs.Options.{◌>>=◌}
-use Rattle.items.proofs.Binds.{bind_is}
 use Rattle.vthread_state.specs.declared.phase.Phase.{Phase}
 use Rattle.vthread_state.specs.declared.phase.Phase.TheVariants.{Run, Throwing, Entering, Waiting, Reenter, Parked, Asleep, Joining}
-use Rattle.vthread_state.specs.declared.thread.Status.{Status}
 use Rattle.vthread_state.specs.declared.thread.Status.TheVariants.{Live}
 use Rattle.vthread_state.specs.Threads.{phase_at}
 use Rattle.link_model.specs.World.{World}
@@ -15,11 +13,11 @@ use Rattle.continuation.specs.Continuation.{Continuation}
 use Rattle.frames.specs.Frames.{top_method, top_pc}
 use Rattle.ref_model.specs.State.{JavaThread, State, frames_at, is_interrupted, running_frames}
 use Rattle.ref_model.specs.Asking.{Asking}
-use Rattle.ref_model.specs.Requests.{Request, request_of}
+use Rattle.ref_model.specs.Requests.{Request, reads_clock, request_of}
 use Rattle.ref_model.specs.Resuming.{asking_at, asking_in, next_asks}
 use Rattle.ref_model.specs.Starting.{may_create}
 use Rattle.ref_model.specs.Step.{phase_step, status_step, thread_step}
-use Rattle.ref_model.specs.Looks.{is_create, is_yield, lacks_threads_next, yields_next}
+use Rattle.ref_model.specs.Looks.{is_create, is_yield, reads_clock_next, yields_next}
 use Rattle.interp_local.specs.declared.fetched.Fetched.{Fetched}
 use Rattle.interp_local.specs.Fetched.{IsTopAt, instruction_at, instruction_of}
 use Rattle.thread_steps.specs.States.{memory_of}
@@ -33,7 +31,7 @@ use Rattle.machine.specs.declared.made.Move.{Move}
 use Rattle.frame_soundness.specs.Typed.{Typed}
 use Rattle.frame_soundness.specs.TypedStates.{AreOfPhase}
 use Rattle.machine.specs.AtHand.{is_waiting}
-use Rattle.machine.specs.Moves.{LacksRoom, Moves, others_of}
+use Rattle.machine.specs.Moves.{IsInTime, LacksRoom, Moves, ReadsFirst, others_of}
 use Rattle.machine.proofs.AheadLaws.{frames_running}
 use Rattle.machine.proofs.StateLaws.{status_is}
 
@@ -159,3 +157,50 @@ lacks_room w q t old new m n at asks lacks = record {
       and_true (not (may_create r)) (next_asks w r t is_create) (ap not (lacks.full r out is))
       (ap (λ o. option_map_or (λ (x : Request × Asking). is_create x.0) o false) (asks_there w old r out t m.stack.frames is h ∙ asks.asks.asking) ∙ lacks.creates);
 }
+
+-- ---- a step that reads the clock
+
+no_both : (b : Bool) → b ≡ true → b ≡ false → ⊥
+no_both b i j = absurd cc
+
+pub reads_first : (w : World) (q : PendingRequest) (now t : ℕ) (a : ProgramState) (before : List Frame) → phase_at a.threads t ≡ Some Run → IsPending w q a.memory before
+    → reads_clock (request_of q.request) ≡ true → a.time < now → ReadsFirst w now t a before a
+reads_first w q now t a before at asks asked later = record {
+  same = refl;
+  later = later;
+  reads = λ r out is has.
+      let h = in_phase a r out t Run before is at has in
+      ap (λ o. option_map_or (λ (x : Request × Asking). reads_clock x.0) o false) (asks_there w a r out t before is h ∙ asks.asks.asking) ∙ asked;
+}
+
+-- a step that asks nothing doesn't
+pub quiet_in_time : (w : World) (now t : ℕ) (a : ProgramState) (before : List Frame) → phase_at a.threads t ≡ Some Run → asking_in w (memory_of a.memory) before ≡ None
+    → IsInTime w now t a before
+quiet_in_time w now t a before at quiet r out is has reads =
+    let h = in_phase a r out t Run before is at has in
+    absurd (no_both (reads_clock_next w r t) reads
+    (ap (λ o. option_map_or (λ (x : Request × Asking). reads_clock x.0) o false) (asks_there w a r out t before is h ∙ quiet)))
+
+-- one that asks something may, where the time isn't less
+pub pending_in_time : (w : World) (q : PendingRequest) (now t : ℕ) (a : ProgramState) (before : List Frame) → phase_at a.threads t ≡ Some Run → IsPending w q a.memory before
+    → (reads_clock (request_of q.request) ≡ true → now ≤ a.time) → IsInTime w now t a before
+pending_in_time w q now t a before at asks late r out is has reads =
+    let h = in_phase a r out t Run before is at has in
+    late (sym (ap (λ o. option_map_or (λ (x : Request × Asking). reads_clock x.0) o false) (asks_there w a r out t before is h ∙ asks.asks.asking)) ∙ reads)
+
+-- a thread that doesn't run asks nothing
+pub throwing_in_time : (w : World) (now t o : ℕ) (a : ProgramState) (before : List Frame) → phase_at a.threads t ≡ Some (Throwing o) → IsInTime w now t a before
+throwing_in_time w now t o a before at r out is has reads =
+    let h = in_phase a r out t (Throwing o) before is at has in
+    absurd (no_both (reads_clock_next w r t) reads
+    (ap (λ fs. option_map_or (λ (x : Request × Asking). reads_clock x.0) (fs >>= asking_in w r.memory) false)
+    (ap (λ x. x >>= λ (y : JavaThread). running_frames y.frames y.thread.status) h.at ∙ ap (running_frames h.thread.frames) h.status)))
+
+pub waiting_in_time : (w : World) (now t : ℕ) (phase : Phase) (a : ProgramState) (before : List Frame) → is_waiting phase ≡ true → phase_at a.threads t ≡ Some phase
+    → IsInTime w now t a before
+waiting_in_time w now t phase a before waits at r out is has reads =
+    let h = in_phase a r out t phase before is at has in
+    absurd (no_both (reads_clock_next w r t) reads
+    (ap (λ fs. option_map_or (λ (x : Request × Asking). reads_clock x.0) (fs >>= asking_in w r.memory) false)
+    (ap (λ x. x >>= λ (y : JavaThread). running_frames y.frames y.thread.status) h.at ∙ ap (running_frames h.thread.frames) h.status
+    ∙ waiting_frames h.thread.frames phase waits)))

@@ -1,5 +1,5 @@
 -- A machine whose idle carrier takes up a thread.
-use Rattle.std.proofs.Common.{◌≡◌, ◌+◌, ◌<◌, ◌≤◌, ◌-◌, ◌==◌, ℕ, Bool, true, false, List, [], ◌∷◌, ◌++◌, Option, None, Some, length, slice_get, refl, ap, sym, subst, ◌∙◌, arith, cond}
+use Rattle.std.proofs.Common.{◌≡◌, ◌<◌, ℕ, false, List, [], ◌∷◌, ◌++◌, Option, None, Some, length, slice_get, refl, ap, sym, subst, arith, cond}
 use Rattle.std.specs.Prelude.{All, slice_set}
 use Rattle.std.proofs.lemmas.Bool.{eq-eqb}
 use Rattle.history.specs.declared.entry.Entry.{Entry}
@@ -16,7 +16,7 @@ use Rattle.program_state.specs.declared.state.ProgramState.{ProgramState}
 use Rattle.machine.specs.Hands.{AreDequesEmpty, HasHand, Holds, Idle, IsLive, Lives, OwesNothing}
 use Rattle.machine.specs.Insides.{AreParts, IsConsistent, IsFrozen}
 use Rattle.machine.specs.Legal.{GoesOn}
-use Rattle.machine.specs.Machines.{Given, Known, machine_ending, scheduled, with_entry}
+use Rattle.machine.specs.Machines.{Given, Known, machine_ending, scheduled}
 use Rattle.machine.proofs.EndingLaws.{HasNone, has_none}
 use Rattle.machine.proofs.EntryLaws.{entry_of, given, gives, goes_on, parts_are, program_after, with_one_more}
 use Rattle.machine.proofs.MountLaws.{Before, is_frozen, is_live, mount_enters, mounted_hand, mounted_number, mounted_parts, then}
@@ -72,7 +72,7 @@ module _ (p : Setting) (n : ℕ) (state : ProgramState) (deques : Lists) (mounte
         let z = none_there none in
         subst (λ e. IsConsistent p n new left on (h ++ entry_of c (Mount t) ∷ []) e) (sym z.told)
         (with_one_more p n state new deques left mounted on h told x c (Mount t) (then p x.first x.after n state deques mounted c d t before)
-        (mount_enters p x.first x.after n state deques mounted c d t before) refl (let few = z.room in omega arith)
+        (mount_enters p x.first x.after n state deques mounted c d t before) (let few = z.room in omega arith)
         (mounted_parts p x.first x.after n state deques mounted c d t before new left on taken is same frozen lists puts))
 
     pub number : (k : Continuation) → slice_get state.frozen.items t ≡ Some (Some k) → k.thread ≡ t

@@ -1,7 +1,7 @@
 -- What becomes of a thread after its step.
 use Rattle.std.proofs.Common.{◌≡◌, Bool, true, false, refl}
 use Rattle.machine.specs.declared.after.After.{After}
-use Rattle.machine.specs.declared.after.After.TheVariants.{Goes, Leaves, Ends}
+use Rattle.machine.specs.declared.after.After.TheVariants.{Goes, Leaves}
 use Rattle.machine.specs.Steps.{outcome_of}
 
 pub leaves_yield : (ended yields goes : Bool) → ended ≡ false → yields ≡ true → ◌≡◌ {A = After} Leaves (outcome_of ended yields goes)

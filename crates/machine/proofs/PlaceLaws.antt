@@ -1,19 +1,18 @@
 -- Who is mounted, and who is in a deque, after a mount and an unmount.
-use Rattle.std.proofs.Common.{◌≡◌, ◌≢◌, ◌+◌, ◌<◌, ◌≤◌, ◌==◌, ◌&&◌, ℕ, zero, suc, Bool, true, false, List, [], ◌∷◌, ◌++◌, Option, None, Some, length, slice_get, set, drop, refl, ap, sym, ◌∙◌, cond, not, arith}
-use Rattle.std.specs.Prelude.{nat_lt, slice_set}
+use Rattle.std.proofs.Common.{◌≡◌, ◌≢◌, ◌<◌, ◌≤◌, ◌==◌, ◌&&◌, ℕ, zero, suc, true, false, List, [], ◌∷◌, ◌++◌, Option, None, Some, length, slice_get, drop, refl, ap, sym, ◌∙◌, cond, not, arith}
+use Rattle.std.specs.Prelude.{nat_lt}
 use Rattle.std.proofs.lemmas.Bool.{and_from, eq-eqb, le-ltb, lt-ltb, ltb-true, ltb-false, ne_eqb}
 use Rattle.std.proofs.lemmas.List.{append-nil}
 use Rattle.std.proofs.lemmas.Option.{slice_get_within}
 use Rattle.std.proofs.Math.ListN.{length-set}
-use Rattle.items.specs.Options.{◌>>=◌}
 use Rattle.items.proofs.Binds.{bind_is}
-use Rattle.thread_lists.specs.Lists.{count, list_at, push}
+use Rattle.thread_lists.specs.Lists.{list_at, push}
 use Rattle.run_deques.specs.Take.{after_take, next}
 use Rattle.schedule_model.specs.Look.{Look}
 use Rattle.schedule_model.specs.Schedule.{Schedule, in_deques, on_carriers, places}
 use Rattle.schedule_model.specs.Entries.{after_unmount, has_mounted, holds, is_idle, is_vacant, may_unmount, mount, mounted_from, unmount, where_allowed}
 use Rattle.schedule_model.proofs.EntryLaws.{holds_is, on-set, on_there, taken_in, vacant_is}
-use Rattle.ref_model.proofs.StateLaws.{get_set, set_same}
+use Rattle.ref_model.proofs.StateLaws.{get_set}
 use Rattle.machine.specs.Insides.{is_out}
 
 -- ---- who is mounted

@@ -1,22 +1,18 @@
 -- No thread of a linked program begins pinned, where its main method isn't jvt.Native.hold.
-use Rattle.std.proofs.Common.{◌≡◌, ℕ, false, List, [], ◌∷◌, Option, Some, None, refl, ap, sym, ◌∙◌, ◌&&◌, ◌==◌}
-use Rattle.std.specs.Prelude.{codes, position, slice_get}
-use Rattle.std.specs.Option.{option_and_then}
+use Rattle.std.proofs.Common.{◌≡◌, ℕ, false, List, [], ◌∷◌, Some, refl, ap, sym, ◌∙◌, ◌&&◌}
+use Rattle.std.specs.Prelude.{codes, slice_get}
 use Rattle.std.proofs.lemmas.Bool.{and_right}
 use Rattle.items.specs.First.{Each}
 use Rattle.class_grammar.specs.Text.{same_text}
-use Rattle.class_model.specs.declared.access_flags.TheConstants.{ACC_PUBLIC, ACC_STATIC}
-use Rattle.link_rules.specs.Program.{class_named, has_flag}
 use Rattle.link_model.specs.declared.members.MethodInfo.{MethodInfo}
 use Rattle.link_model.specs.Initializers.{is_of_initializer, is_static_method}
-use Rattle.link_model.specs.MainMethod.{is_main, is_of_main, main_of}
 use Rattle.link_model.specs.World.{World}
 use Rattle.verify_types.proofs.ListLaws.{and_true}
 use Rattle.ref_model.specs.Members.{is_hold}
 use Rattle.ref_model.specs.Opening.{initializers}
 use Rattle.step_soundness.specs.OpeningLaws.{IsClassInitializer}
 use Rattle.step_soundness.proofs.LinkedWorlds.{initializers_are_such}
-use Rattle.step_soundness.proofs.Selections.{position_found, text_same}
+use Rattle.step_soundness.proofs.Selections.{text_same}
 use Rattle.step_soundness.proofs.Starts.{named_run}
 use Rattle.schedule_soundness.specs.PromiseLaws.{BeginsUnpinned, IsPlain}
 use Rattle.schedule_soundness.proofs.ThreadLists.{same_some}

@@ -1,5 +1,5 @@
 -- Threads that are put into a deque one after the other.
-use Rattle.std.proofs.Common.{◌≡◌, ◌+◌, ◌<◌, ◌≤◌, ◌==◌, inl, inr, ℕ, zero, suc, List, [], ◌∷◌, ◌++◌, length, get_or, take, refl, ap, sym, subst, ◌∙◌, arith, cond, Bool}
+use Rattle.std.proofs.Common.{◌≡◌, ◌+◌, ◌<◌, ◌≤◌, ◌==◌, inl, inr, ℕ, zero, suc, List, [], ◌∷◌, ◌++◌, length, get_or, take, refl, ap, sym, subst, ◌∙◌, arith, cond, Bool, ◌&&◌}
 use Rattle.std.specs.Prelude.{Contains, filter}
 use Rattle.std.specs.List.{AllPairs}
 use Rattle.std.specs.List.Sorted.{IsStrictlyIncreasing}
@@ -67,33 +67,38 @@ none_before ts i within once =
     let less = take_less x ts (i + 1) in
     omega (arith, sum, less, once, count-here x [])
 
--- ---- one more
+-- ---- one more, of those that pass a test and are in none of the deques
 
-module _ (lists : List (List ℕ)) (c : ℕ) (ts : List ℕ) (i : ℕ) (within : i < length ts) where
+module _ (passes : ℕ → Bool) (lists : List (List ℕ)) (c : ℕ) (ts : List ℕ) (i : ℕ) (within : i < length ts) where
+  abbrev test : List (List ℕ) → ℕ → Bool
+  test these u = passes u && is_loose these u
+
   abbrev pub so_far : List (List ℕ)
-  so_far = push lists c (filter (is_loose lists) (take i ts))
+  so_far = push lists c (filter (λ u. passes u && is_loose lists u) (take i ts))
 
-  same_loose : c < length lists → count (get_or ts i 0) ts ≤ 1 → is_loose so_far (get_or ts i 0) ≡ is_loose lists (get_or ts i 0)
+  same_loose : c < length lists → count (get_or ts i 0) ts ≤ 1 → test so_far (get_or ts i 0) ≡ test lists (get_or ts i 0)
   same_loose carrier once =
       let x = get_or ts i 0 in
       let before = none_before ts i within once in
-      let kept = filter_less (is_loose lists) x (take i ts) in
-      let sum = total-push x lists c (filter (is_loose lists) (take i ts)) carrier in
+      let kept = filter_less (test lists) x (take i ts) in
+      let sum = total-push x lists c (filter (test lists) (take i ts)) carrier in
       let same : total (count x) so_far ≡ total (count x) lists = omega arith in
-      ap (λ n. n == 0) same
+      ap (λ n. passes x && (n == 0)) same
 
   pub one_more : c < length lists → count (get_or ts i 0) ts ≤ 1
-      → push so_far c (filter (is_loose so_far) (get_or ts i 0 ∷ [])) ≡ push lists c (filter (is_loose lists) (take (i + 1) ts))
+      → push so_far c (filter (λ u. passes u && is_loose so_far u) (get_or ts i 0 ∷ []))
+      ≡ push lists c (filter (λ u. passes u && is_loose lists u) (take (i + 1) ts))
   one_more carrier once =
       let x = get_or ts i 0 in
       ap (λ b. push so_far c (cond b (x ∷ []) [])) (same_loose carrier once)
-      ∙ push_push lists c (filter (is_loose lists) (take i ts)) (cond (is_loose lists x) (x ∷ []) [])
-      ∙ ap (push lists c) (sym (filter_more (is_loose lists) ts i 0 within))
+      ∙ push_push lists c (filter (test lists) (take i ts)) (cond (test lists x) (x ∷ []) [])
+      ∙ ap (push lists c) (sym (filter_more (test lists) ts i 0 within))
 
-  pub is_one : Contains ts (get_or ts i 0)
-  is_one = (i, within, same ts i within)
-    where
-      same : (xs : List ℕ) (k : ℕ) → k < length xs → get_or xs k (get_or xs k 0) ≡ get_or xs k 0
-      same [] k h = absurd (omega arith)
-      same (x ∷ xs) zero h = refl
-      same (x ∷ xs) (suc k) h = same xs k (omega arith)
+-- the one at hand is one of them
+pub is_one : (ts : List ℕ) (i : ℕ) → i < length ts → Contains ts (get_or ts i 0)
+is_one ts i within = (i, within, same ts i within)
+  where
+    same : (xs : List ℕ) (k : ℕ) → k < length xs → get_or xs k (get_or xs k 0) ≡ get_or xs k 0
+    same [] k h = absurd (omega arith)
+    same (x ∷ xs) zero h = refl
+    same (x ∷ xs) (suc k) h = same xs k (omega arith)

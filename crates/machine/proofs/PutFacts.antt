@@ -1,9 +1,8 @@
 -- Whom code puts.
-use Rattle.std.proofs.Common.{◌≡◌, ◌<◌, ◌≤◌, ◌&&◌, ℕ, Bool, true, false, List, [], ◌∷◌, Option, None, Some, length, refl, ap, sym, subst, ◌∙◌, arith, cond}
+use Rattle.std.proofs.Common.{◌≡◌, ◌<◌, ◌≤◌, ◌&&◌, ℕ, Bool, true, false, List, [], ◌∷◌, Option, None, Some, length, refl, ap, sym, ◌∙◌, arith, cond}
 use Rattle.std.specs.Prelude.{Contains, filter, is_some, slice_get}
 use Rattle.std.proofs.lemmas.Bool.{and_parts, eqb-true}
 use Rattle.std.proofs.lemmas.Option.{slice_get_within}
-use Rattle.items.specs.Options.{◌>>=◌}
 use Rattle.items.proofs.Binds.{some_is}
 use Rattle.vthread_state.specs.declared.thread.Thread.{Thread}
 use Rattle.vthread_state.specs.Threads.{joins, target_of_status}
@@ -12,7 +11,7 @@ use Rattle.ref_model.specs.declared.ending.Ending.{Ending}
 use Rattle.program_state.specs.declared.state.ProgramState.{ProgramState}
 use Rattle.program_state.specs.Waiting.{AreWoken, has_ended_in, lies_in}
 use Rattle.machine.specs.declared.made.Others.TheVariants as moves
-use Rattle.machine.specs.Puts.{ArePut, EndsSo, GoesSo, HasPut, IsOver, nobody, started, woken, nobody_over, joiners, is_loose, is_nowhere}
+use Rattle.machine.specs.Puts.{EndsSo, GoesSo, HasPut, nobody, started, woken, nobody_over, joiners, is_loose, is_nowhere}
 use Rattle.machine.proofs.PlaceLaws.{push_none}
 use Rattle.machine.proofs.PushLaws.{rising_once}
 
@@ -70,3 +69,9 @@ pub nowhere_free : (state : ProgramState) (lists : List (List ℕ)) (u : ℕ) (n
 nowhere_free state lists u nowhere goes is both =
     eqb-true (total (count u) lists) 0
     (and_parts (lies_in state.frozen.items u) (is_loose lists u) (sym is ∙ (and_parts nowhere goes both).0)).1
+
+-- who is nowhere is in no deque
+pub nowhere_loose : (state : ProgramState) (lists : List (List ℕ)) (u : ℕ) (nowhere : Bool) → nowhere ≡ is_nowhere state lists u → nowhere ≡ true
+    → total (count u) lists ≡ 0
+nowhere_loose state lists u nowhere is so =
+    eqb-true (total (count u) lists) 0 (and_parts (lies_in state.frozen.items u) (is_loose lists u) (sym is ∙ so)).1

@@ -1,5 +1,5 @@
 -- A machine whose carrier puts down a thread.
-use Rattle.std.proofs.Common.{◌≡◌, ◌+◌, ◌<◌, ◌≤◌, ◌-◌, ◌==◌, ℕ, Bool, true, false, List, [], ◌∷◌, ◌++◌, Option, None, Some, length, slice_get, refl, ap, sym, subst, ◌∙◌, arith, cond}
+use Rattle.std.proofs.Common.{◌≡◌, ◌<◌, ℕ, Bool, true, false, List, [], ◌∷◌, ◌++◌, Option, None, Some, length, slice_get, refl, ap, sym, subst, arith, cond}
 use Rattle.std.specs.Prelude.{◌↔◌, is_some, slice_set}
 use Rattle.std.proofs.lemmas.Option.{slice_get_within}
 use Rattle.history.specs.declared.entry.Entry.{Entry}
@@ -9,7 +9,6 @@ use Rattle.vthread_state.specs.Threads.{phase_at}
 use Rattle.continuation.specs.Continuation.{Continuation}
 use Rattle.thread_lists.specs.Lists.{Lists, count, push, total}
 use Rattle.schedule_model.specs.Entries.{is_idle}
-use Rattle.schedule_model.specs.Run.{Scheduled}
 use Rattle.ref_model.specs.declared.ending.Ending.{Ending}
 use Rattle.ref_model.specs.Setting.{Setting}
 use Rattle.ref_model.specs.State.{State}
@@ -18,7 +17,6 @@ use Rattle.program_state.specs.declared.state.ProgramState.{ProgramState}
 use Rattle.program_state.specs.States.{IsState}
 use Rattle.machine.specs.Hands.{HasEnded, HasHand, Holds, Idle, IsLive, MayUnmount}
 use Rattle.machine.specs.Insides.{AreParts, IsConsistent, is_out}
-use Rattle.machine.specs.Machines.{Given, Known}
 use Rattle.machine.proofs.EntryLaws.{entry_of, given, goes_on, parts_are, program_after, with_one_more}
 use Rattle.machine.proofs.NextLaws.{known_of, there}
 use Rattle.machine.proofs.StateLaws.{Over, SameBut, below_count, gone, out_live, out_over}
@@ -67,7 +65,7 @@ module _ (p : Setting) (n : ℕ) (state : ProgramState) (deques : Lists) (mounte
     unmount_kept new left on few parts =
         subst (λ e. IsConsistent p n new left on (h ++ entry_of c (Unmount t) ∷ []) e) (sym none)
         (with_one_more p n state new deques left mounted on h told x c (Unmount t) (then p x.first x.after n state deques mounted c t before)
-        (unmount_enters p x.first x.after n state deques mounted c t before) refl few parts)
+        (unmount_enters p x.first x.after n state deques mounted c t before) few parts)
 
     pub retire_kept : (on : List (Option ℕ)) → length h < p.limits.events → HasEnded (known_of p n h spare told) t → on ≡ slice_set mounted c None
         → IsConsistent p n state deques on (h ++ entry_of c (Unmount t) ∷ []) told

@@ -1,6 +1,6 @@
 -- The entry of as many local instructions as an entry may have.
-use Rattle.std.proofs.Common.{◌≡◌, ◌≢◌, ◌==◌, ◌+◌, ◌<◌, ◌≤◌, ◌-◌, ℕ, zero, suc, Bool, true, false, List, [], ◌∷◌, ◌++◌, Option, None, Some, length, slice_get, refl, ap, sym, subst, ◌∙◌, arith, ◌&&◌, ◌||◌}
-use Rattle.std.specs.Prelude.{is_none, nat_le, slice_set}
+use Rattle.std.proofs.Common.{◌≡◌, ◌==◌, ◌<◌, ◌-◌, ℕ, zero, suc, Bool, true, false, List, [], ◌∷◌, ◌++◌, Option, None, Some, length, slice_get, refl, ap, sym, subst, ◌∙◌, arith, ◌||◌}
+use Rattle.std.specs.Prelude.{is_none, nat_le}
 use Rattle.std.specs.Option.{option_map_or}
 use Rattle.std.proofs.lemmas.Bool.{and_from, eq-eqb, le-leb}
 use Rattle.items.specs.Options.{◌>>=◌}
@@ -15,10 +15,10 @@ use Rattle.state_model.specs.Frames.{Frame}
 use Rattle.schedule_model.specs.Run.{Scheduled, scheduled_after}
 use Rattle.ref_model.specs.declared.ending.Ending.{Ending}
 use Rattle.ref_model.specs.Setting.{Setting}
-use Rattle.ref_model.specs.State.{JavaThread, State, frames_at, with_frames}
+use Rattle.ref_model.specs.State.{JavaThread, State, with_frames}
 use Rattle.ref_model.specs.Enabled.{has_ended, is_ready}
 use Rattle.ref_model.specs.Ending.{ending}
-use Rattle.ref_model.specs.Entries.{are_grouped_steps, ends_behind, is_grouped, may_be_last, most_local_steps, stands_at_static_call}
+use Rattle.ref_model.specs.Entries.{are_grouped_steps, ends_behind, may_be_last, most_local_steps}
 use Rattle.ref_model.specs.LocalRows.{row, rows}
 use Rattle.ref_model.specs.Step.{enabled, row_or_event, status_step, thread_step}
 use Rattle.ref_model.specs.Looks.{machine_from, yields_next}
@@ -27,7 +27,7 @@ use Rattle.schedule_soundness.specs.PutLaws.{OthersStay, Stays, no_thread, is_ke
 use Rattle.schedule_soundness.proofs.ThreadLists.{set_other}
 use Rattle.thread_steps.specs.States.{memory_of}
 use Rattle.program_state.specs.declared.state.ProgramState.{ProgramState}
-use Rattle.program_state.specs.States.{IsInPhase, IsState}
+use Rattle.program_state.specs.States.{IsState}
 use Rattle.program_state.proofs.StateLaws.{frames_had, other_frames}
 use Rattle.machine.specs.declared.after.After.TheVariants.{Goes}
 use Rattle.machine.specs.declared.made.Move.{Move}
@@ -35,13 +35,13 @@ use Rattle.machine.specs.declared.made.Others.TheVariants as moves
 use Rattle.machine.specs.Hands.{HasHand, Holds, OwesNothing}
 use Rattle.machine.specs.Insides.{AreParts, IsConsistent, is_out}
 use Rattle.machine.specs.Legal.{GoesOn}
-use Rattle.machine.specs.Machines.{Given, Known, scheduled}
+use Rattle.machine.specs.Machines.{Given, scheduled}
 use Rattle.machine.specs.Moves.{IsMoved}
 use Rattle.machine.specs.Puts.{HasPut, nobody}
 use Rattle.machine.specs.Steps.{IsTold, StepsFrom, outcome_of}
 use Rattle.machine.specs.Turns.{HasStepped}
 use Rattle.machine.proofs.AheadLaws.{ahead_enabled, enabled_alive, frames_running, hand_ahead}
-use Rattle.machine.proofs.EntryLaws.{entry_of, given, goes_on, one_longer, parts_are, program_after, with_one_more}
+use Rattle.machine.proofs.EntryLaws.{entry_of, given, goes_on, parts_are, program_after, with_one_more}
 use Rattle.machine.proofs.LocalLaws.{row_quiet}
 use Rattle.machine.proofs.MoveLaws.{quiet_yields}
 use Rattle.machine.proofs.NextLaws.{known_of, there}
@@ -193,7 +193,7 @@ module _ (p : Setting) (n : ℕ) (state : ProgramState) (deques : Lists) (on : L
     pub slice_kept : length h < p.limits.events → IsConsistent p n state deques on (h ++ entry_of c (Step t (suc k) None) ∷ []) told
     slice_kept few =
         subst (λ e. IsConsistent p n state deques on (h ++ entry_of c (Step t (suc k) None) ∷ []) e) (sym goes.told)
-        (with_one_more p n state state deques deques on on h told x c (Step t (suc k) None) slice_then slice_enters refl few slice_parts)
+        (with_one_more p n state state deques deques on on h told x c (Step t (suc k) None) slice_then slice_enters few slice_parts)
 
     pub slice_stepped : (room : ℕ) → room ≡ spare - 1
         → HasStepped Goes (known_of p n h spare told) (known_of p n (h ++ entry_of c (Step t (suc k) None) ∷ []) room told) c t k frames

@@ -1,5 +1,5 @@
 -- A machine that looks whether its program can go on.
-use Rattle.std.proofs.Common.{◌≡◌, ◌<◌, ◌==◌, ℕ, Bool, true, false, List, [], ◌∷◌, Option, None, Some, length, slice_get, refl, ap, sym, subst, ◌∙◌, arith}
+use Rattle.std.proofs.Common.{◌≡◌, ℕ, Bool, true, false, List, Option, None, Some, length, slice_get, refl, ap, sym, subst, ◌∙◌}
 use Rattle.std.specs.Prelude.{◌↔◌, IfSome, IsNone, is_some}
 use Rattle.std.specs.List.{list_any}
 use Rattle.std.proofs.lemmas.Bool.{eq-eqb}
@@ -8,7 +8,7 @@ use Rattle.thread_lists.specs.Lists.{Lists}
 use Rattle.run_deques.specs.Take.{next}
 use Rattle.schedule_model.specs.Entries.{holds}
 use Rattle.ref_model.specs.declared.ending.Ending.{Ending}
-use Rattle.ref_model.specs.declared.ending.Ending.TheVariants.{Halted, Stalled}
+use Rattle.ref_model.specs.declared.ending.Ending.TheVariants.{Stalled}
 use Rattle.ref_model.specs.Setting.{Setting}
 use Rattle.ref_model.specs.State.{State}
 use Rattle.ref_model.specs.Looks.{is_stalled}
@@ -17,7 +17,7 @@ use Rattle.program_state.specs.Deadlines.{IsLeast, deadlines_of}
 use Rattle.program_state.specs.States.{IsState}
 use Rattle.machine.specs.Insides.{AreParts, IsConsistent, is_out}
 use Rattle.machine.specs.Legal.{HasNotStalled, IsCause}
-use Rattle.machine.specs.Machines.{Known, machine_ending}
+use Rattle.machine.specs.Machines.{machine_ending}
 use Rattle.machine.specs.Stalls.{AreBelow, goes_on}
 use Rattle.machine.proofs.EntryLaws.{given, program_after}
 use Rattle.machine.proofs.NextLaws.{known_of, none_there, parts_there}
@@ -82,7 +82,6 @@ module _ (p : Setting) (n : ℕ) (state : ProgramState) (deques : Lists) (mounte
     begins = x.begins;
     after = x.after;
     runs = x.runs;
-    timeless = x.timeless;
     few = x.few;
     cause = λ e there. subst (IsCause p x.after) (same_ending Stalled e there)
         (none_goes p x.first x.after (program_after p n state deques mounted h told x) (none_there p n state deques mounted h told spare x none).going

@@ -1,5 +1,5 @@
 -- When a program can go on no more, by those that are mounted and by the deques.
-use Rattle.std.proofs.Common.{◌≡◌, ◌≢◌, ◌⊎◌, ◌+◌, ◌<◌, ◌≤◌, ◌==◌, inl, inr, ℕ, zero, suc, Bool, true, false, List, [], ◌∷◌, Option, None, Some, length, slice_get, refl, ap, sym, subst, ◌∙◌, arith, cond, not, ◌&&◌, ◌||◌}
+use Rattle.std.proofs.Common.{◌≡◌, ◌+◌, ◌<◌, ◌≤◌, inl, inr, ℕ, zero, suc, Bool, true, false, List, [], ◌∷◌, Option, None, Some, length, slice_get, refl, ap, sym, subst, ◌∙◌, arith, cond, not, ◌&&◌, ◌||◌}
 use Rattle.std.specs.Prelude.{is_some, nat_lt, sum_by}
 use Rattle.std.specs.List.{list_any, range_with_len}
 use Rattle.std.specs.Option.{option_map_or}
@@ -10,30 +10,27 @@ use Rattle.std.proofs.lemmas.Option.{slice_get_within}
 use Rattle.vthread_state.specs.declared.phase.Phase.TheVariants.{Run, Throwing, Entering, Waiting, Reenter, Parked, Asleep, Joining}
 use Rattle.vthread_state.specs.declared.thread.Status.{Status}
 use Rattle.vthread_state.specs.declared.thread.Status.TheVariants.{New, Live, Done}
-use Rattle.thread_lists.specs.Lists.{Lists, count, total}
+use Rattle.thread_lists.specs.Lists.{count, total}
 use Rattle.thread_lists.proofs.CountLaws.{count-here}
 use Rattle.run_deques.specs.Take.{front, next, or}
 use Rattle.schedule_model.specs.Look.{Look, is_in_line, is_live}
-use Rattle.schedule_model.specs.Schedule.{Schedule, in_deques, on_carriers, places, times}
-use Rattle.schedule_model.specs.Entries.{has_mounted}
+use Rattle.schedule_model.specs.Schedule.{in_deques, times}
 use Rattle.schedule_model.specs.Puts.{all_threads}
 use Rattle.schedule_model.specs.Run.{Scheduled}
-use Rattle.schedule_model.specs.Stalled.{can_go_on, has_time, is_stalled as is_stalled_look}
+use Rattle.schedule_model.specs.Stalled.{can_go_on, has_time}
 use Rattle.run_deques.proofs.TakeLaws.{AreEmpty, AreEmpty-next}
-use Rattle.schedule_model.proofs.EntryLaws.{on_there}
 use Rattle.ref_model.specs.State.{JavaThread, State}
 use Rattle.ref_model.specs.Ending.{ending}
 use Rattle.ref_model.specs.Setting.{Setting}
 use Rattle.ref_model.specs.Enabled.{is_ready}
 use Rattle.ref_model.specs.Step.{enabled}
-use Rattle.ref_model.specs.Looks.{deadline_in, is_stalled, look_of, spot_in, spot_of}
+use Rattle.ref_model.specs.Looks.{deadline_in, is_stalled, look_of, spot_of}
 use Rattle.schedule_soundness.specs.HistoryLaws.{IsProgramAfter}
 use Rattle.schedule_soundness.proofs.Histories.{no_wake_up_is_lost}
 use Rattle.schedule_soundness.proofs.OtherMoves.{spot_at}
 use Rattle.schedule_soundness.proofs.Stalls.{stalls_by_places}
 use Rattle.program_state.specs.Deadlines.{coming_deadline, deadlines_of, later_than}
 use Rattle.program_state.specs.States.{is_plain_status}
-use Rattle.machine.specs.Insides.{is_out}
 use Rattle.machine.specs.Stalls.{goes_on}
 
 no_both : (b : Bool) → b ≡ true → b ≡ false → ⊥

@@ -25,7 +25,7 @@ use Rattle.sleep_wheel.specs.Sleepers.{sleeper_at}
 use Rattle.program_state.specs.declared.state.ProgramState.{ProgramState}
 use Rattle.program_state.specs.Deadlines.{HoldsDeadlines, deadlines_of, key_at}
 use Rattle.program_state.specs.States.{IsKept, IsState, absent, mounted, waiting, idle, is_started}
-use Rattle.machine.specs.Hands.{IsLive, IsLiveIn}
+use Rattle.machine.specs.Hands.{IsLive}
 
 no_both : (b : Bool) → b ≡ true → b ≡ false → ⊥
 no_both b i j = absurd cc

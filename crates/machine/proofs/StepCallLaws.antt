@@ -1,11 +1,10 @@
 -- A machine whose carrier makes a step of its thread.
-use Rattle.std.proofs.Common.{◌≡◌, ◌+◌, ◌<◌, ◌≤◌, ◌-◌, ◌==◌, ℕ, zero, suc, Bool, true, false, List, [], ◌∷◌, ◌++◌, Option, None, Some, length, slice_get, refl, ap, sym, subst, ◌∙◌, arith, cond, ◌&&◌}
+use Rattle.std.proofs.Common.{◌≡◌, ◌<◌, ◌≤◌, ℕ, zero, suc, Bool, true, List, Option, None, Some, length, slice_get, refl, ap, sym, subst, ◌∙◌, arith}
 use Rattle.std.specs.Prelude.{is_some, nat_le}
 use Rattle.std.specs.Option.{option_or}
 use Rattle.std.proofs.lemmas.Bool.{and_from, le-leb}
 use Rattle.items.specs.Options.{◌>>=◌}
 use Rattle.history.specs.declared.entry.Entry.{Entry}
-use Rattle.history.specs.declared.entry.What.TheVariants.{Step}
 use Rattle.vthread_state.specs.declared.phase.Phase.{Phase}
 use Rattle.vthread_state.specs.declared.phase.Phase.TheVariants.{Run, Throwing, Entering, Waiting, Reenter, Parked, Asleep, Joining}
 use Rattle.vthread_state.specs.Threads.{phase_at}
@@ -14,25 +13,24 @@ use Rattle.vthread_state.specs.declared.thread.Status.TheVariants.{New, Live, Do
 use Rattle.thread_lists.specs.Lists.{Lists}
 use Rattle.link_model.specs.World.{World}
 use Rattle.state_model.specs.Frames.{Frame}
-use Rattle.schedule_model.specs.Run.{Scheduled}
 use Rattle.ref_model.specs.declared.ending.Ending.{Ending}
 use Rattle.ref_model.specs.Setting.{Setting}
-use Rattle.ref_model.specs.State.{JavaThread, State, frames_at, running_frames}
+use Rattle.ref_model.specs.State.{JavaThread, State, running_frames}
 use Rattle.ref_model.specs.LocalRows.{rows}
 use Rattle.ref_model.specs.Entries.{are_grouped_steps, ends_behind, is_grouped, may_be_last, most_local_steps}
 use Rattle.frame_soundness.specs.Typed.{Typed}
 use Rattle.ref_model.specs.Ending.{ending}
 use Rattle.ref_model.specs.Step.{enabled}
 use Rattle.program_state.specs.States.{IsState}
-use Rattle.frame_soundness.specs.TypedStates.{AreOfPhase, AreOfStatus, IsTypedState}
+use Rattle.frame_soundness.specs.TypedStates.{AreOfPhase, AreOfStatus}
 use Rattle.interp_local.specs.declared.fetched.Fetched.{Fetched}
 use Rattle.schedule_soundness.proofs.TypedHistories.{histories_are_typed}
 use Rattle.program_state.specs.declared.state.ProgramState.{ProgramState}
-use Rattle.machine.specs.AtHand.{AreTyped, HasNext, IsAt, IsNext}
+use Rattle.machine.specs.AtHand.{AreTyped, HasNext, IsAt}
 use Rattle.machine.specs.Hands.{AreTypedInRun, HasHand, HasPhase, Holds, IsLive, IsLiveIn, IsMounted, Lives, MayStep, OwesNothing}
 use Rattle.machine.specs.Legal.{Works}
 use Rattle.machine.specs.Machines.{Given, limit_reached, machine_ending}
-use Rattle.machine.specs.Insides.{AreParts, IsConsistent, is_out}
+use Rattle.machine.specs.Insides.{IsConsistent, is_out}
 use Rattle.machine.specs.Ready.{IsReady}
 use Rattle.machine.specs.Steps.{MayBeMade, StepsFrom}
 use Rattle.machine.specs.Turns.{IsAtLast, IsStepReady, IsStepReadyIn}

@@ -5,14 +5,12 @@ use Rattle.std.specs.Option.{option_map_or}
 use Rattle.std.proofs.lemmas.Bool.{and_parts, cases_lt, eq-eqb, ne_eqb}
 use Rattle.std.proofs.lemmas.List.Kept.{IsStrictlyIncreasing-filter}
 use Rattle.std.proofs.lemmas.Option.{slice_get_within}
-use Rattle.items.specs.Options.{◌>>=◌}
 use Rattle.history.specs.declared.entry.What.TheVariants.{Step}
 use Rattle.vthread_state.specs.declared.phase.Phase.{Phase}
 use Rattle.vthread_state.specs.declared.phase.Phase.TheVariants.{Run, Throwing, Entering, Waiting, Reenter, Parked, Asleep, Joining}
 use Rattle.vthread_state.specs.declared.thread.Status.{Status}
 use Rattle.vthread_state.specs.declared.thread.Status.TheVariants.{New, Live, Done}
 use Rattle.vthread_state.specs.declared.thread.Thread.{Thread}
-use Rattle.vthread_state.specs.Threads.{thread_at}
 use Rattle.thread_lists.specs.Lists.{Lists, count, push, total}
 use Rattle.link_model.specs.World.{World}
 use Rattle.state_model.specs.Frames.{Frame}
@@ -20,9 +18,8 @@ use Rattle.continuation.specs.Continuation.{Continuation}
 use Rattle.schedule_model.specs.Look.{Look, is_done as is_done_spot, is_entering, is_live as is_live_spot}
 use Rattle.schedule_model.specs.Schedule.{Schedule, in_deques, places}
 use Rattle.schedule_model.specs.Puts.{all_threads, beginning_with, put_by, updated_list}
-use Rattle.schedule_model.specs.Entries.{after_step, has_mounted, has_to_leave}
+use Rattle.schedule_model.specs.Entries.{after_step, has_to_leave}
 use Rattle.schedule_model.specs.Run.{Scheduled, scheduled_after, with_schedule}
-use Rattle.ref_model.specs.declared.ending.Ending.{Ending}
 use Rattle.ref_model.specs.Setting.{Setting}
 use Rattle.ref_model.specs.State.{JavaThread, State, with_frames}
 use Rattle.ref_model.specs.Enabled.{has_ended, is_done, is_ready}
@@ -31,9 +28,8 @@ use Rattle.ref_model.specs.Ending.{ending, is_live}
 use Rattle.ref_model.specs.Step.{enabled, step, thread_step}
 use Rattle.ref_model.specs.Looks.{look_of, machine_from, spot_of, yields_next}
 use Rattle.ref_model.proofs.StateLaws.{frames_is, get_set}
-use Rattle.schedule_soundness.specs.EntryLaws.{MayStep}
 use Rattle.schedule_soundness.specs.HistoryLaws.{IsProgramAfter}
-use Rattle.schedule_soundness.specs.PutLaws.{EndsNoWait, OthersStay, OthersStayBeside}
+use Rattle.schedule_soundness.specs.PutLaws.{EndsNoWait, OthersStay}
 use Rattle.schedule_soundness.proofs.Ahead.{steps_are_entries}
 use Rattle.schedule_soundness.proofs.Histories.{deques_have_live, histories_go_on}
 use Rattle.schedule_soundness.proofs.OtherMoves.{spot_at}
@@ -44,16 +40,14 @@ use Rattle.program_state.specs.States.{HasFrames, IsKept, IsState, absent, mount
 use Rattle.program_state.specs.Steps.{Starts, Wakes}
 use Rattle.program_state.specs.Waiting.{AreWoken, has_ended_in}
 use Rattle.program_state.proofs.StateLaws.{frames_had, other_frames}
-use Rattle.machine.specs.declared.after.After.{After}
-use Rattle.machine.specs.declared.after.After.TheVariants.{Goes, Leaves, Ends, Halts}
 use Rattle.machine.specs.declared.made.Move.{Move}
 use Rattle.machine.specs.Hands.{HasHand, IsLive}
 use Rattle.machine.specs.Insides.{AreParts, is_out}
-use Rattle.machine.specs.Moves.{IsMade, IsMoved, LacksRoom, Moves, others_of}
+use Rattle.machine.specs.Moves.{IsMoved, others_of}
 use Rattle.machine.specs.declared.made.Others.{Others}
 use Rattle.machine.specs.declared.made.Others.TheVariants as moves
-use Rattle.machine.specs.Puts.{ArePut, EndsSo, HasPut, IsOver, IsTouched, nobody, started, woken, nobody_over, joiners, is_loose, is_nowhere}
-use Rattle.machine.specs.Steps.{Enters, IsTold, Lacks, StepsFrom, outcome_of}
+use Rattle.machine.specs.Puts.{ArePut, HasPut, IsTouched, nobody, started, woken, nobody_over, joiners, is_loose, is_nowhere}
+use Rattle.machine.specs.Steps.{IsTold, StepsFrom, outcome_of}
 use Rattle.machine.proofs.AheadLaws.{ahead_starts, ahead_stays, ahead_step, ahead_wakes, enabled_alive, enabled_going, hand_ahead}
 use Rattle.machine.proofs.PlaceLaws.{in_none, mounted_out, out_on, push_length}
 use Rattle.machine.proofs.StallLaws.{off_line}

@@ -16,7 +16,7 @@ pub use Rattle.startup.specs.Openings.{setting}
 use Rattle.program_state.specs.declared.state.ProgramState.{ProgramState}
 use Rattle.program_state.specs.States.{IsState}
 use Rattle.machine.specs.declared.machine.Machine.TheInside.{Inside}
-use Rattle.machine.specs.Legal.{HasNoTicks, IsAccepted, IsCause}
+use Rattle.machine.specs.Legal.{IsAccepted, IsCause}
 use Rattle.machine.specs.Machines.{Known}
 
 -- some carrier has the thread mounted
@@ -45,7 +45,6 @@ pub record IsConsistent (p : Setting) (carriers : ℕ) (state : ProgramState) (d
   pub begins : opening p ≡ Some first
   pub after : Scheduled State
   pub runs : schedule_of (machine_from p first) carriers history ≡ Some after
-  pub timeless : HasNoTicks history
   pub few : length history ≤ p.limits.events
   pub cause : ForSome told (IsCause p after)
   pub parts : (told ≡ Some Halted → ⊥) → AreParts carriers state deques mounted after

@@ -1,8 +1,6 @@
 -- What holds of the history of a machine, and of an ending that was told.
-use Rattle.std.specs.Prelude.{◌≡◌, ◌<◌, ◌≤◌, ℕ, suc, true, false, List, Option, Some, None, length}
+use Rattle.std.specs.Prelude.{◌≡◌, ◌<◌, ◌≤◌, ℕ, true, false, List, Some, None, length}
 use Rattle.std.specs.Option.{ForSome}
-use Rattle.items.specs.First.{Each}
-use Rattle.history.specs.declared.entry.Entry.{Entry}
 use Rattle.state_model.specs.Frames.{Frame}
 use Rattle.link_soundness.specs.Library.{HasLibrary}
 use Rattle.schedule_model.specs.Run.{Scheduled, schedule_of}
@@ -14,7 +12,6 @@ use Rattle.ref_model.specs.State.{State, with_frames}
 use Rattle.ref_model.specs.Opening.{opening}
 use Rattle.ref_model.specs.Ending.{ending}
 use Rattle.ref_model.specs.Looks.{is_stalled, lacks_threads_next, machine_from}
-use Rattle.schedule_soundness.specs.AloneLaws.{is_tick}
 use Rattle.schedule_soundness.specs.PinLaws.{CallsPinNobody}
 use Rattle.schedule_soundness.specs.PromiseLaws.{BeginsUnpinned}
 use Rattle.schedule_soundness.specs.TypedLaws.{IsTypedProgram}
@@ -50,10 +47,6 @@ pub record IsAccepted (p : Setting) : Type 0 where
   pub unpinned : BeginsUnpinned p
   pub calls : CallsPinNobody p.world
 
--- no time has passed
-abbrev pub HasNoTicks : List Entry → Type 0
-HasNoTicks history = Each (λ (e : Entry). is_tick e.what ≡ false) history
-
 -- Each entry may stand where it stands. There are no more than the limit allows.
 pub record IsLegal (m : Known) : Type 0 where
   pub accepted : IsAccepted m.setting
@@ -62,7 +55,6 @@ pub record IsLegal (m : Known) : Type 0 where
   pub begins : opening m.setting ≡ Some first
   pub after : Scheduled State
   pub runs : schedule_of (machine_from m.setting first) m.carriers m.history ≡ Some after
-  pub timeless : HasNoTicks m.history
   pub few : length m.history ≤ m.setting.limits.events
   pub cause : ForSome m.told (IsCause m.setting after)
 

@@ -11,3 +11,4 @@ pub mod Puts
 pub mod Steps
 pub mod Stalls
 pub mod Live
+pub mod Clocks

@@ -1,14 +1,17 @@
 -- What a step of a thread makes of the state of a program.
-use Rattle.std.specs.Prelude.{◌≡◌, ℕ, Bool, true, false, List, Option, Some, None}
+use Rattle.std.specs.Prelude.{◌≡◌, ◌<◌, ◌≤◌, ℕ, Bool, true, List}
 use Rattle.link_model.specs.World.{World}
 use Rattle.state_model.specs.Frames.{Frame}
+use Rattle.continuation.specs.Continuation.{Continuation}
 use Rattle.ref_model.specs.State.{State}
 use Rattle.ref_model.specs.Step.{thread_step}
-use Rattle.ref_model.specs.Looks.{lacks_threads_next, yields_next}
+use Rattle.ref_model.specs.Looks.{lacks_threads_next, reads_clock_next, yields_next}
 use Rattle.schedule_soundness.specs.PutLaws.{OthersStay}
 use Rattle.program_state.specs.declared.state.ProgramState.{ProgramState}
 use Rattle.program_state.specs.States.{HasFrames, IsState}
 use Rattle.program_state.specs.Steps.{Leads, Starts, Wakes}
+use Rattle.machine.specs.declared.made.Attempt.{Attempt}
+use Rattle.machine.specs.declared.made.Attempt.TheVariants.{Made, LacksThreads, ReadsClock}
 use Rattle.machine.specs.declared.made.Move.{Move}
 use Rattle.machine.specs.declared.made.Others.{Others}
 use Rattle.machine.specs.declared.made.Others.TheVariants as moves
@@ -34,7 +37,25 @@ pub record LacksRoom (w : World) (t : ℕ) (old : ProgramState) (before : List F
   pub same : new ≡ old
   pub lacks : (r : State) (out : ℕ → Bool) → IsState old r out → HasFrames r t before → lacks_threads_next w r t ≡ true
 
--- it was made; or it makes a thread where there may be no more
-abbrev pub IsMade : World → Option Move → ℕ → ProgramState → List Frame → ProgramState → List Frame → Type 0
-IsMade w (Some made) t old before new after = Moves w made t old before new after
-IsMade w None t old before new after = LacksRoom w t old before new
+-- It reads the clock, and the time is less than this. Nothing has changed.
+pub record ReadsFirst (w : World) (now t : ℕ) (old : ProgramState) (before : List Frame) (new : ProgramState) : Type 0 where
+  pub same : new ≡ old
+  pub later : old.time < now
+  pub reads : (r : State) (out : ℕ → Bool) → IsState old r out → HasFrames r t before → reads_clock_next w r t ≡ true
+
+-- It doesn't read the clock, or the time isn't less than this.
+abbrev pub IsInTime : World → ℕ → ℕ → ProgramState → List Frame → Type 0
+IsInTime w now t old before =
+    (r : State) (out : ℕ → Bool) → IsState old r out → HasFrames r t before → reads_clock_next w r t ≡ true → now ≤ old.time
+
+-- it was made; or it makes a thread where there may be no more; or it reads the clock, which is ahead of the time
+abbrev pub IsMade : World → Attempt Move → ℕ → ℕ → ProgramState → List Frame → ProgramState → List Frame → Type 0
+IsMade w (Made made) now t old before new after = Moves w made t old before new after × IsInTime w now t old before
+IsMade w LacksThreads now t old before new after = LacksRoom w t old before new
+IsMade w ReadsClock now t old before new after = ReadsFirst w now t old before new
+
+-- what is mounted stays where the step wasn't made since it reads the clock
+abbrev pub StaysIfReading : {A : Type 0} → Attempt A → Continuation → Continuation → Type 0
+StaysIfReading (Made made) old new = Unit {0}
+StaysIfReading LacksThreads old new = Unit {0}
+StaysIfReading ReadsClock old new = new ≡ old

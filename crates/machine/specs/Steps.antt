@@ -1,5 +1,5 @@
 -- The step of a mounted thread as an entry of the history.
-use Rattle.std.specs.Prelude.{◌≡◌, ◌++◌, ◌∷◌, [], ℕ, suc, Bool, true, false, List, Option, Some, None, Result, Ok, Err}
+use Rattle.std.specs.Prelude.{◌≡◌, ◌<◌, ◌≤◌, ◌++◌, ◌∷◌, [], ℕ, suc, Bool, true, false, List, Option, Some, None, Result, Ok, Err}
 use Rattle.items.specs.declared.no_memory.NoMemory.{NoMemory}
 use Rattle.history.specs.declared.entry.Entry.{Entry}
 use Rattle.history.specs.declared.entry.What.{What}
@@ -14,14 +14,16 @@ use Rattle.schedule_model.specs.Run.{Scheduled, scheduled_after}
 use Rattle.ref_model.specs.Setting.{Setting}
 use Rattle.ref_model.specs.State.{State, with_frames}
 use Rattle.ref_model.specs.Enabled.{has_ended}
-use Rattle.ref_model.specs.Ending.{ending}
 use Rattle.ref_model.specs.Entries.{is_grouped}
 use Rattle.ref_model.specs.Step.{enabled}
-use Rattle.ref_model.specs.Looks.{lacks_threads_next, machine_from}
+use Rattle.ref_model.specs.Looks.{lacks_threads_next, machine_from, reads_clock_next}
 use Rattle.schedule_soundness.specs.HistoryLaws.{IsProgramAfter}
 use Rattle.program_state.specs.declared.state.ProgramState.{ProgramState}
 use Rattle.machine.specs.declared.after.After.{After}
+use Rattle.machine.specs.declared.after.After.TheVariants as afters
 use Rattle.machine.specs.declared.after.After.TheVariants.{Goes, Leaves, Ends, Halts}
+use Rattle.machine.specs.declared.made.Attempt.{Attempt}
+use Rattle.machine.specs.declared.made.Attempt.TheVariants.{Made, LacksThreads, ReadsClock}
 use Rattle.machine.specs.Hands.{HasHand, IsLive}
 use Rattle.machine.specs.Insides.{AreParts}
 use Rattle.machine.specs.Legal.{IsAccepted}
@@ -59,11 +61,14 @@ abbrev pub IsTold : After → Scheduled State → ℕ → Type 0
 IsTold Goes v t = v.schedule.owes t ≡ false
 IsTold Leaves v t = (v.schedule.owes t ≡ true) × IsLive v.state t
 IsTold Ends v t = (v.schedule.owes t ≡ true) × (has_ended v.state t ≡ true)
+IsTold afters.ReadsClock v t = ⊥
 IsTold Halts v t = ⊥
 
--- The history goes on with the step, after which these are the parts, and the thread has these frames.
+-- The history goes on with the step, after which these are the parts, and the thread has these frames. A step that reads the clock isn't made
+-- before this time.
 pub record Enters (w : World) (carriers : ℕ) (state : ProgramState) (deques : Lists) (on : List (Option ℕ)) (c t n : ℕ) (frames : List Frame)
-    (from : StepsFrom w carriers state deques on c t n frames) (told : After) (new : ProgramState) (left : Lists) (after : List Frame) : Type 0 where
+    (from : StepsFrom w carriers state deques on c t n frames) (now : ℕ) (told : After) (new : ProgramState) (left : Lists) (after : List Frame) : Type 0 where
+  pub in_time : reads_clock_next w (with_frames from.before.state t frames) t ≡ true → now ≤ from.before.state.now
   pub then : Scheduled State
   pub makes : scheduled_after (machine_from from.setting from.first) from.before c (Step t (suc n) None) ≡ Some then
   pub parts : AreParts carriers new left on then
@@ -76,17 +81,28 @@ pub record Lacks (w : World) (carriers : ℕ) (state : ProgramState) (deques : L
   pub parts : AreParts carriers new left on from.before
   pub lacks : lacks_threads_next w (with_frames from.before.state t frames) t ≡ true
 
-abbrev pub EntersOrLacks : (w : World) (carriers : ℕ) (state : ProgramState) (deques : Lists) (on : List (Option ℕ)) (c t n : ℕ) (frames : List Frame) →
-    StepsFrom w carriers state deques on c t n frames → Option After → ProgramState → Lists → List Frame → Type 0
-EntersOrLacks w carriers state deques on c t n frames from (Some told) new left after = Enters w carriers state deques on c t n frames from told new left after
-EntersOrLacks w carriers state deques on c t n frames from None new left after = Lacks w carriers state deques on c t n frames from new left
+-- No step was made, since it reads the clock, and the time is less than this. Nothing has changed.
+pub record WaitsForClock (w : World) (carriers : ℕ) (state : ProgramState) (deques : Lists) (on : List (Option ℕ)) (c t n : ℕ) (frames : List Frame)
+    (from : StepsFrom w carriers state deques on c t n frames) (now : ℕ) (new : ProgramState) (left : Lists) : Type 0 where
+  pub parts : AreParts carriers new left on from.before
+  pub later : from.before.state.now < now
+  pub reads : reads_clock_next w (with_frames from.before.state t frames) t ≡ true
+
+abbrev pub IsTried : (w : World) (carriers : ℕ) (state : ProgramState) (deques : Lists) (on : List (Option ℕ)) (c t n : ℕ) (frames : List Frame) →
+    StepsFrom w carriers state deques on c t n frames → ℕ → Attempt After → ProgramState → Lists → List Frame → Type 0
+IsTried w carriers state deques on c t n frames from now (Made told) new left after =
+    Enters w carriers state deques on c t n frames from now told new left after
+IsTried w carriers state deques on c t n frames from now LacksThreads new left after = Lacks w carriers state deques on c t n frames from new left
+IsTried w carriers state deques on c t n frames from now ReadsClock new left after = WaitsForClock w carriers state deques on c t n frames from now new left
 
 -- ---- the history after a step
 
--- the entry comes last to it; or nothing was made, and the run has ended so
-abbrev pub IsEntered : Result (Option After) NoMemory → List Entry → Option Ending → ℕ → What → ℕ → List Entry → Option Ending → After → Type 0
-IsEntered (Ok (Some after)) history told c step most entries tells result =
+-- the entry comes last to it; or nothing was made, and time has to go on first, or the run has ended so
+abbrev pub IsEntered : Result (Attempt After) NoMemory → List Entry → Option Ending → ℕ → What → ℕ → List Entry → Option Ending → After → Type 0
+IsEntered (Ok (Made after)) history told c step most entries tells result =
     (entries ≡ history ++ record { carrier = c; what = step } ∷ []) × (tells ≡ told) × (result ≡ after)
-IsEntered (Ok None) history told c step most entries tells result =
+IsEntered (Ok LacksThreads) history told c step most entries tells result =
     (entries ≡ history) × (tells ≡ Some (Limit Threads most)) × (result ≡ Halts)
+IsEntered (Ok ReadsClock) history told c step most entries tells result =
+    (entries ≡ history) × (tells ≡ told) × (result ≡ afters.ReadsClock)
 IsEntered (Err e) history told c step most entries tells result = (entries ≡ history) × (tells ≡ Some Halted) × (result ≡ Halts)

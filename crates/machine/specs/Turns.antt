@@ -1,21 +1,23 @@
 -- The steps of a mounted thread.
-use Rattle.std.specs.Prelude.{◌≡◌, ◌≤◌, ℕ, zero, suc, true, false, List, Option, Some, None, slice_get}
+use Rattle.std.specs.Prelude.{◌≡◌, ◌≤◌, ℕ, suc, true, List, Option, Some, None, slice_get}
 use Rattle.history.specs.declared.entry.What.{What}
 use Rattle.history.specs.declared.entry.What.TheVariants.{Step}
 use Rattle.vthread_state.specs.declared.phase.Phase.TheVariants.{Run}
 use Rattle.vthread_state.specs.declared.thread.Status.{Status}
-use Rattle.vthread_state.specs.declared.thread.Status.TheVariants.{New, Live, Done}
+use Rattle.vthread_state.specs.declared.thread.Status.TheVariants.{Live}
 use Rattle.link_model.specs.World.{World}
 use Rattle.state_model.specs.Frames.{Frame}
 use Rattle.ref_model.specs.declared.ending.Ending.TheVariants.{Limit, Halted}
 use Rattle.ref_model.specs.declared.ending.Which.TheVariants.{Threads}
-use Rattle.ref_model.specs.State.{JavaThread}
+use Rattle.ref_model.specs.State.{JavaThread, with_frames}
+use Rattle.ref_model.specs.Looks.{lacks_threads_next, reads_clock_next}
 use Rattle.ref_model.specs.Entries.{may_be_last, most_local_steps}
 use Rattle.frame_soundness.specs.Typed.{Typed}
 use Rattle.interp_local.specs.declared.fetched.Fetched.{Fetched}
 use Rattle.interp_local.specs.Fetched.{IsTopAt}
 use Rattle.machine.specs.declared.after.After.{After}
-use Rattle.machine.specs.declared.after.After.TheVariants.{Goes, Leaves, Ends, Halts}
+use Rattle.machine.specs.declared.after.After.TheVariants.{Goes, Leaves, Ends, ReadsClock, Halts}
+use Rattle.machine.specs.Clocks.{IsBefore}
 use Rattle.machine.specs.Machines.{Given, Known, with_ending, with_entry}
 use Rattle.machine.specs.Hands.{Holds, HasEnded, Lives, OwesNothing, OwesUnmount}
 
@@ -50,6 +52,7 @@ abbrev pub IsOutcome : After → Known → ℕ → Type 0
 IsOutcome Goes m t = OwesNothing m t
 IsOutcome Leaves m t = OwesUnmount m t × Lives m t
 IsOutcome Ends m t = OwesUnmount m t × HasEnded m t
+IsOutcome ReadsClock m t = ⊥
 IsOutcome Halts m t = ⊥
 
 -- one entry more, of n local instructions and one step, after which the thread has these frames
@@ -58,11 +61,27 @@ pub record HasStepped (after : After) (old new : Known) (c t n : ℕ) (frames : 
   pub hand : Holds new c t 0 frames
   pub outcome : IsOutcome after new t
 
--- No entry was made. No more threads may be made, or there was no memory.
-pub data HasHalted (old new : Known) : Type 0 where
-  given_up : new ≡ with_ending old Halted → HasHalted old new
-  lacks_threads : new ≡ with_ending old (Limit Threads old.setting.limits.threads) → HasHalted old new
+-- No entry was made. There was no memory; or the step of the thread, with these frames, makes a thread where there may be no more.
+pub data HasHalted (old new : Known) (t : ℕ) (frames : List Frame) : Type 0 where
+  given_up : new ≡ with_ending old Halted → HasHalted old new t frames
+  lacks_threads : new ≡ with_ending old (Limit Threads old.setting.limits.threads) →
+      Given old (λ v. lacks_threads_next old.setting.world (with_frames v.state t frames) t ≡ true) → HasHalted old new t frames
 
-abbrev pub Steps : After → Known → Known → ℕ → ℕ → ℕ → List Frame → Type 0
-Steps Halts old new c t n frames = HasHalted old new
-Steps after old new c t n frames = HasStepped after old new c t n frames
+-- Nothing was done: after n local instructions the thread, with these frames, makes a step that reads the clock, and the time is less than
+-- this.
+pub record HasToRead (old new : Known) (t now : ℕ) (frames : List Frame) : Type 0 where
+  pub same : new ≡ old
+  pub reads : Given old (λ v. reads_clock_next old.setting.world (with_frames v.state t frames) t ≡ true)
+  pub later : IsBefore old now
+
+-- A step that reads the clock isn't made before this time.
+abbrev pub IsInTime : After → Known → ℕ → ℕ → List Frame → Type 0
+IsInTime Halts m t now frames = Unit {0}
+IsInTime ReadsClock m t now frames = Unit {0}
+IsInTime after m t now frames =
+    Given m (λ v. reads_clock_next m.setting.world (with_frames v.state t frames) t ≡ true → now ≤ v.state.now)
+
+abbrev pub Steps : After → Known → Known → ℕ → ℕ → ℕ → ℕ → List Frame → List Frame → Type 0
+Steps Halts old new c t n now before frames = HasHalted old new t before
+Steps ReadsClock old new c t n now before frames = HasToRead old new t now before
+Steps after old new c t n now before frames = HasStepped after old new c t n frames

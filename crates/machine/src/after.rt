@@ -7,6 +7,8 @@ pub enum After {
     Leaves,
     /// The thread has ended.
     Ends,
+    /// Nothing was done: the step reads the clock, and time has to go on first.
+    ReadsClock,
     /// No entry was made, and the run has ended: no more threads may be made, or there was no memory.
     Halts,
 }

@@ -7,11 +7,13 @@ ghost use Rattle.ref_model.specs.Step.{enabled};
 ghost use Rattle.invocation.specs.InvocationCache.{AreSelected};
 ghost use Rattle.program_state.specs.States.{IsState};
 ghost use Rattle.machine.specs.AtHand.{AreTyped, HasNext};
+ghost use Rattle.machine.specs.Moves.{StaysIfReading};
 ghost use Rattle.machine.specs.Ready.{IsReady};
-ghost use Rattle.machine.specs.Steps.{EntersOrLacks, IsEntered, MayBeMade, StepsFrom, outcome_of};
+ghost use Rattle.machine.specs.Steps.{IsEntered, IsTried, MayBeMade, StepsFrom, outcome_of};
 
 use crate::after::After;
 use crate::endings::may_step;
+use crate::made::Attempt;
 use crate::moves::thread_move;
 use crate::puts::{is_done, put_woken};
 use continuation::Mounted;
@@ -45,7 +47,7 @@ fn outcome(state: &ProgramState, t: u32, yields: bool) -> After
     }
 }
 
-/// Makes the step of a thread that carrier c has mounted. `None`: it makes a thread where there may be no more, and nothing has changed.
+/// Makes the step of a thread that carrier c has mounted. One that reads the clock is made only where the time isn't less than `now`.
 #[inline(always)]
 pub(crate) fn make_step(
     alloc: Global,
@@ -56,7 +58,8 @@ pub(crate) fn make_step(
     mounted: &mut Mounted,
     c: u32,
     next: Option<Fetched<'_>>,
-) -> Result<Option<After>, NoMemory>
+    now: u64,
+) -> Result<Attempt<After>, NoMemory>
     requires from { MayBeMade program.now state.old deques.old c mounted.old.thread
         mounted.old.stack.frames }
     requires ready { IsReady program.now }
@@ -66,47 +69,53 @@ pub(crate) fn make_step(
     ensures made { (carriers n : ℕ) (on : List (Option ℕ))
         (from : StepsFrom program.now carriers state.old deques.old on c
         mounted.old.thread n mounted.old.stack.frames) →
-        IfOk result (λ told. EntersOrLacks program.now carriers state.old deques.old on c
-        mounted.old.thread n mounted.old.stack.frames from told
+        IfOk result (λ tried. IsTried program.now carriers state.old deques.old on c
+        mounted.old.thread n mounted.old.stack.frames from now tried
         state.new deques.new mounted.new.stack.frames) }
     ensures thread { OnOk result (mounted.new.thread ≡ mounted.old.thread) }
+    ensures kept { IfOk result (λ tried. StaysIfReading tried mounted.old mounted.new) }
     ensures cache { AreSelected program.now cache.new }
 {
     let t = mounted.thread();
-    let Some(made) = thread_move(alloc, program, cache, state, mounted, next)? else {
-        return Ok(None);
-    };
-    put_woken(alloc, state, deques, c, t, made.others)?;
-    Ok(Some(outcome(state, t, made.yields)))
+    match thread_move(alloc, program, cache, state, mounted, next, now)? {
+        Attempt::Made(made) => {
+            put_woken(alloc, state, deques, c, t, made.others)?;
+            Ok(Attempt::Made(outcome(state, t, made.yields)))
+        }
+        Attempt::LacksThreads => Ok(Attempt::LacksThreads),
+        Attempt::ReadsClock => Ok(Attempt::ReadsClock),
+    }
 }
 
 /// How many steps an entry has at most.
 pub(crate) const MOST_STEPS: u32 = 10_001;
 
-/// What becomes of the run after a step: the entry goes to the history, or nothing was made, and the run halts.
+/// What becomes of the run after a step was tried: the entry goes to the history, or nothing was made, and the run halts unless the step reads the
+/// clock.
 #[inline(always)]
 pub(crate) fn enter_step(
     history: &mut Vec<Entry>,
     told: &mut Option<Ending>,
     c: u32,
     step: What,
-    made: Result<Option<After>, NoMemory>,
+    tried: Result<Attempt<After>, NoMemory>,
     most_threads: u32,
 ) -> After
     requires { length history.old.items < vec_capacity history.old }
-    ensures entered { IsEntered made history.old.items told.old c step most_threads history.new.items
+    ensures entered { IsEntered tried history.old.items told.old c step most_threads history.new.items
         told.new result }
     ensures capacity { vec_capacity history.new ≡ vec_capacity history.old }
 {
-    match made {
-        Ok(Some(after)) => {
+    match tried {
+        Ok(Attempt::Made(after)) => {
             history.push_reserved(Entry {
                 carrier: c,
                 what: step,
             });
             after
         }
-        Ok(None) => {
+        Ok(Attempt::ReadsClock) => After::ReadsClock,
+        Ok(Attempt::LacksThreads) => {
             *told = Some(Ending::Limit(Which::Threads, most_threads));
             After::Halts
         }

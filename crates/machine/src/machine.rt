@@ -1,6 +1,6 @@
 //! A machine: the state in which a program is, and what its carriers have, with the history that gives both.
 
-ghost use Rattle.std.specs.Prelude.{◌≡◌, ◌≤◌, ◌<◌, ◌-◌, ℕ, None, Some, drop, length, vec_capacity, IfNone, IfOk, IfSome, MatchBool, OnOk, ◌≢◌};
+ghost use Rattle.std.specs.Prelude.{◌≡◌, ◌≤◌, ◌<◌, ◌-◌, ℕ, None, Some, drop, length, vec_capacity, IfNone, IfOk, IfSome, IsTrue, MatchBool, OnErr, OnOk, false, ◌≢◌};
 ghost use Rattle.history.specs.declared.entry.What.TheVariants as whats;
 ghost use Rattle.ref_model.specs.declared.ending.Ending.TheVariants as endings;
 ghost use Rattle.ref_model.specs.Looks.{is_stalled};
@@ -13,8 +13,9 @@ ghost use Rattle.startup.specs.Openings.{setting};
 ghost use Rattle.machine.specs.Machines.{Given, Known, at_first, errors, machine_ending, output, with_ending, with_entry};
 ghost use Rattle.machine.specs.Hands.{AreDequesEmpty, AreTypedInRun, HasEnded, HasPhase, Holds, Idle, IsMounted, Lives, MayStep, MayUnmount, OwesNothing};
 ghost use Rattle.machine.specs.Legal.{GoesOn, HasEntryLeft, HasNotStalled, IsLegal, Works};
+ghost use Rattle.machine.specs.Clocks.{Awaits, AwaitsNothing, IsBefore, IsEarliest};
 ghost use Rattle.machine.specs.Live.{ListsLive};
-ghost use Rattle.machine.specs.Turns.{HasStepped, IsStepReady, Steps};
+ghost use Rattle.machine.specs.Turns.{HasStepped, IsInTime, IsStepReady, Steps};
 ghost use Rattle.machine.specs.declared.after.After.TheVariants as After;
 ghost use Rattle.invocation.specs.InvocationCache.{AreSelected};
 
@@ -25,13 +26,14 @@ use crate::endings::{ended_within, may_step};
 use crate::entries::{MOST_STEPS, enter_step, make_step};
 use crate::laws::{is_accepted, main_pins};
 use crate::live::live_in;
+use crate::puts::put_due;
 use crate::stalls::any_enabled;
 use continuation::{Frozen, Mounted};
 use history::{Entry, What};
 use interp_local::Fetched;
 use invocation::InvocationCache;
 use items::NoMemory;
-use program_state::{ProgramState, earliest};
+use program_state::{ProgramState, earliest, pass_time};
 use ref_model::{Ending, Limits};
 use run_deques::Deques;
 use startup::{ReadyProgram, open_typed};
@@ -176,6 +178,48 @@ impl<'p> Machine<'p> {
         self.state.memory.natives.err.split_at(n).1
     }
 
+    /// Whether a live thread has a deadline that is still to come and is reached at this time, in nanoseconds.
+    #[inline(always)]
+    pub fn is_awaited(&self, now: u64) -> bool
+        requires works { Works self.now }
+        ensures yes { IsTrue result → Awaits self.now now }
+        ensures no { result ≡ false → AwaitsNothing self.now now }
+    {
+        match earliest(&self.state) {
+            Some(deadline) => deadline <= now,
+            None => false,
+        }
+    }
+
+    /// The least deadline of a live thread that is still to come, in nanoseconds. `None`: there is none.
+    pub fn earliest(&self) -> Option<u64>
+        requires works { Works self.now }
+        ensures { IsEarliest self.now result }
+    {
+        earliest(&self.state)
+    }
+
+    /// Lets time go on to this, in nanoseconds. Threads whose deadlines it reaches, and that are in no place, come to the deque of the carrier, in
+    /// the order of the deadlines, and of their numbers at one deadline. Where memory runs out nothing changes.
+    pub fn clock(&mut self, c: u32, now: u64) -> Result<(), NoMemory>
+        requires carrier { c < self.old.carriers }
+        requires going { GoesOn self.old }
+        requires left { HasEntryLeft self.old }
+        requires spare { 0 < self.old.spare }
+        requires later { IsBefore self.old now }
+        ensures entry { OnOk result (self.new ≡ with_entry self.old c (whats.Clock now)) }
+        ensures goes_on { OnOk result (GoesOn self.new) }
+        ensures err { OnErr result (self.new ≡ self.old) }
+    {
+        let due = pass_time(&mut self.state, now)?;
+        put_due(&self.state, &mut self.deques, c, due.as_slice());
+        self.history.push_reserved(Entry {
+            carrier: c,
+            what: What::Clock(now),
+        });
+        Ok(())
+    }
+
     /// Gives the run up.
     pub fn fail(&mut self)
         requires { machine_ending self.old ≡ None }
@@ -268,7 +312,8 @@ impl<'p> Machine<'p> {
     }
 
     /// The next step of the thread that a carrier has mounted, after n local instructions that the history doesn't have yet. Where the thread
-    /// runs `next` is its instruction, which isn't one that stays in its frame. The entry goes to the history, unless the run halts.
+    /// runs `next` is its instruction, which isn't one that stays in its frame. The entry goes to the history, unless the run halts. Where the
+    /// step reads the clock, and the time is less than `now` in nanoseconds, nothing is done.
     #[inline(always)]
     pub fn step(
         &mut self,
@@ -278,6 +323,7 @@ impl<'p> Machine<'p> {
         c: u32,
         n: u32,
         next: Option<Fetched<'p>>,
+        now: u64,
     ) -> After
         requires going { GoesOn self.old }
         requires left { HasEntryLeft self.old }
@@ -287,13 +333,16 @@ impl<'p> Machine<'p> {
         requires enabled { MayStep self.old mounted.old.thread }
         requires ready { IsStepReady self.old mounted.old.thread n mounted.old.stack.frames next }
         requires selected { AreSelected self.old.setting.world cache.old }
-        ensures step { Steps result self.old self.new c mounted.old.thread n
-            mounted.new.stack.frames }
+        ensures step { Steps result self.old self.new c mounted.old.thread n now
+            mounted.old.stack.frames mounted.new.stack.frames }
+        ensures in_time { IsInTime result self.old mounted.old.thread now
+            mounted.old.stack.frames }
         ensures thread { result ≢ After.Halts → mounted.new.thread ≡ mounted.old.thread }
+        ensures kept { result ≡ After.ReadsClock → mounted.new ≡ mounted.old }
         ensures cache { AreSelected self.old.setting.world cache.new }
     {
         let t = mounted.thread();
-        let made = make_step(
+        let tried = make_step(
             alloc,
             self.program,
             cache,
@@ -302,6 +351,7 @@ impl<'p> Machine<'p> {
             mounted,
             c,
             next,
+            now,
         );
         let step = What::Step {
             thread: t,
@@ -313,7 +363,7 @@ impl<'p> Machine<'p> {
             &mut self.told,
             c,
             step,
-            made,
+            tried,
             self.limits.threads,
         )
     }

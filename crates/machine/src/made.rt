@@ -16,3 +16,14 @@ pub(crate) struct Move {
     /// Whether it was a yield.
     pub(crate) yields: bool,
 }
+
+/// What came of a step that was tried.
+#[derive(Clone, Copy)]
+pub(crate) enum Attempt<T> {
+    /// It was made.
+    Made(T),
+    /// It makes a thread where there may be no more, and wasn't made.
+    LacksThreads,
+    /// It reads the clock, and wasn't made, since time has to go on first. Nothing has changed.
+    ReadsClock,
+}

@@ -1,9 +1,10 @@
 //! The step of a mounted thread, by its phase.
 
-ghost use Rattle.std.specs.Prelude.{◌≡◌, ℕ, Bool, true, IfOk, IsSome, OnOk};
+ghost use Rattle.std.specs.Prelude.{◌≡◌, ◌<◌, ◌≤◌, ℕ, Bool, false, true, IfOk, IsSome, IsTrue, OnOk};
 ghost use Rattle.vthread_state.specs.declared.phase.Phase.TheVariants.{Run, Throwing};
 ghost use Rattle.vthread_state.specs.Threads.{phase_at};
 ghost use Rattle.ref_model.specs.Looks as looks;
+ghost use Rattle.ref_model.specs.Requests as requests;
 ghost use Rattle.ref_model.specs.Requests.{request_of};
 ghost use Rattle.frame_soundness.specs.Typed.{Typed};
 ghost use Rattle.interp_local.specs.Fetched.{IsTopAt};
@@ -13,16 +14,16 @@ ghost use Rattle.program_state.specs.States.{IsState};
 ghost use Rattle.ref_model.specs.State as model;
 ghost use Rattle.machine.specs.AtHand as spec;
 ghost use Rattle.machine.specs.AtHand.{AreTyped, HasNext, IsAt};
-ghost use Rattle.machine.specs.Moves.{IsMade};
+ghost use Rattle.machine.specs.Moves.{IsMade, StaysIfReading};
 ghost use Rattle.machine.specs.Ready.{IsReady};
 
-use crate::made::{Move, Others};
+use crate::made::{Attempt, Move, Others};
 use continuation::Mounted;
 use interp_local::Fetched;
 use invocation::InvocationCache;
 use items::NoMemory;
 use program_state::{
-    ProgramState, RequestOutcome, finish_wait, make_request, run_step, throwing_step,
+    ProgramState, RequestOutcome, finish_wait, make_request, reads_clock, run_step, throwing_step,
 };
 use ref_model::ThreadRequest;
 use startup::ReadyProgram;
@@ -49,29 +50,44 @@ fn is_yield(interrupted: bool, request: ThreadRequest) -> bool
     }
 }
 
-// The step of a thread whose instruction asks this. `None`: it makes a thread where there may be no more.
+// Whether a request reads the clock, and the time is less than this.
+fn is_early(state: &ProgramState, request: ThreadRequest, now: u64) -> bool
+    ensures reads { IsTrue result → requests.reads_clock (request_of request) ≡ true }
+    ensures early { IsTrue result → state.now.time < now }
+    ensures in_time { result ≡ false → requests.reads_clock (request_of request) ≡ true
+        → now ≤ state.now.time }
+{
+    reads_clock(request) && state.time < now
+}
+
+// The step of a thread whose instruction asks this.
 fn asking_move(
     alloc: Global,
     program: &ReadyProgram,
     state: &mut ProgramState,
     mounted: &mut Mounted,
     pending: PendingRequest,
-) -> Result<Option<Move>, NoMemory>
+    now: u64,
+) -> Result<Attempt<Move>, NoMemory>
     requires runs { IsAt state.old mounted.old.thread Run }
     requires asks { IsPending program.now pending state.old.memory mounted.old.stack.frames }
-    ensures made { IfOk result (λ made. IsMade program.now made mounted.old.thread
+    ensures made { IfOk result (λ made. IsMade program.now made now mounted.old.thread
         state.old mounted.old.stack.frames state.new mounted.new.stack.frames) }
     ensures thread { OnOk result (mounted.new.thread ≡ mounted.old.thread) }
+    ensures kept { IfOk result (λ made. StaysIfReading made mounted.old mounted.new) }
 {
+    if is_early(state, pending.request, now) {
+        return Ok(Attempt::ReadsClock);
+    }
     let interrupted = is_interrupted(state, mounted.thread());
     let yields = is_yield(interrupted, pending.request);
     let others = match make_request(alloc, program, state, mounted, pending)? {
         RequestOutcome::Done => Others::Stay,
         RequestOutcome::Starts(thread) => Others::Starts(thread),
         RequestOutcome::Wakes(thread) => Others::Wakes(thread),
-        RequestOutcome::LacksThreads => return Ok(None),
+        RequestOutcome::LacksThreads => return Ok(Attempt::LacksThreads),
     };
-    Ok(Some(Move { others, yields }))
+    Ok(Attempt::Made(Move { others, yields }))
 }
 
 // The step of a thread that runs.
@@ -83,15 +99,17 @@ fn running_move(
     state: &mut ProgramState,
     mounted: &mut Mounted,
     next: Fetched<'_>,
-) -> Result<Option<Move>, NoMemory>
+    now: u64,
+) -> Result<Attempt<Move>, NoMemory>
     requires ready { IsReady program.now }
     requires runs { IsAt state.old mounted.old.thread Run }
     requires typed { Typed program.now mounted.old.stack.frames }
     requires next { IsTopAt program.now mounted.old.stack.frames next }
     requires selected { AreSelected program.now cache.old }
-    ensures made { IfOk result (λ made. IsMade program.now made mounted.old.thread
+    ensures made { IfOk result (λ made. IsMade program.now made now mounted.old.thread
         state.old mounted.old.stack.frames state.new mounted.new.stack.frames) }
     ensures thread { OnOk result (mounted.new.thread ≡ mounted.old.thread) }
+    ensures kept { IfOk result (λ made. StaysIfReading made mounted.old mounted.new) }
     ensures cache { AreSelected program.now cache.new }
 {
     let progress = run_step(
@@ -104,11 +122,11 @@ fn running_move(
         next.resolution,
     )?;
     match progress {
-        Progress::Stepped => Ok(Some(Move {
+        Progress::Stepped => Ok(Attempt::Made(Move {
             others: Others::Stay,
             yields: false,
         })),
-        Progress::Asks(pending) => asking_move(alloc, program, state, mounted, pending),
+        Progress::Asks(pending) => asking_move(alloc, program, state, mounted, pending, now),
     }
 }
 
@@ -119,14 +137,16 @@ fn throwing_move(
     state: &mut ProgramState,
     mounted: &mut Mounted,
     o: u32,
-) -> Result<Option<Move>, NoMemory>
+) -> Result<Attempt<Move>, NoMemory>
     requires throws { IsAt state.old mounted.old.thread (Throwing o) }
-    ensures made { IfOk result (λ made. IsMade program.now made mounted.old.thread
-        state.old mounted.old.stack.frames state.new mounted.new.stack.frames) }
+    ensures made { (now : ℕ) → IfOk result (λ made. IsMade program.now made now
+        mounted.old.thread state.old mounted.old.stack.frames
+        state.new mounted.new.stack.frames) }
     ensures thread { OnOk result (mounted.new.thread ≡ mounted.old.thread) }
+    ensures kept { IfOk result (λ made. StaysIfReading made mounted.old mounted.new) }
 {
     throwing_step(alloc, program, state, mounted, o)?;
-    Ok(Some(Move {
+    Ok(Attempt::Made(Move {
         others: Others::Stay,
         yields: false,
     }))
@@ -164,15 +184,17 @@ fn waiting_move(
     state: &mut ProgramState,
     mounted: &mut Mounted,
     phase: Phase,
-) -> Result<Option<Move>, NoMemory>
+) -> Result<Attempt<Move>, NoMemory>
     requires ready { IsReady program.now }
     requires waits { IsAt state.old mounted.old.thread phase }
     requires waiting { spec.is_waiting phase ≡ true }
     requires typed { Typed program.now mounted.old.stack.frames }
     requires selected { AreSelected program.now cache.old }
-    ensures made { IfOk result (λ made. IsMade program.now made mounted.old.thread
-        state.old mounted.old.stack.frames state.new mounted.new.stack.frames) }
+    ensures made { (now : ℕ) → IfOk result (λ made. IsMade program.now made now
+        mounted.old.thread state.old mounted.old.stack.frames
+        state.new mounted.new.stack.frames) }
     ensures thread { OnOk result (mounted.new.thread ≡ mounted.old.thread) }
+    ensures kept { IfOk result (λ made. StaysIfReading made mounted.old mounted.new) }
     ensures cache { AreSelected program.now cache.new }
 {
     let next = top_instruction(program, mounted)?;
@@ -185,14 +207,14 @@ fn waiting_move(
         next.instr,
         next.resolution,
     )?;
-    Ok(Some(Move {
+    Ok(Attempt::Made(Move {
         others: Others::Stay,
         yields: false,
     }))
 }
 
-/// The step of a mounted thread; where it runs `next` is its instruction, which isn't one that stays in its frame. `None`: it makes a thread
-/// where there may be no more.
+/// The step of a mounted thread; where it runs `next` is its instruction, which isn't one that stays in its frame. A step that reads the clock
+/// is made only where the time isn't less than `now`.
 #[inline(always)]
 pub(crate) fn thread_move(
     alloc: Global,
@@ -201,22 +223,24 @@ pub(crate) fn thread_move(
     state: &mut ProgramState,
     mounted: &mut Mounted,
     next: Option<Fetched<'_>>,
-) -> Result<Option<Move>, NoMemory>
+    now: u64,
+) -> Result<Attempt<Move>, NoMemory>
     requires ready { IsReady program.now }
     requires live { IsSome (phase_at state.old.threads mounted.old.thread) }
     requires typed { AreTyped program.now state.old mounted.old.thread mounted.old.stack.frames }
     requires next { HasNext program.now state.old mounted.old.thread mounted.old.stack.frames next }
     requires selected { AreSelected program.now cache.old }
-    ensures made { IfOk result (λ made. IsMade program.now made mounted.old.thread
+    ensures made { IfOk result (λ made. IsMade program.now made now mounted.old.thread
         state.old mounted.old.stack.frames state.new mounted.new.stack.frames) }
     ensures thread { OnOk result (mounted.new.thread ≡ mounted.old.thread) }
+    ensures kept { IfOk result (λ made. StaysIfReading made mounted.old mounted.new) }
     ensures cache { AreSelected program.now cache.new }
 {
     let phase = state.threads.phase(mounted.thread());
     match phase {
         Phase::Run => {
             let next = next.ok_or(NoMemory)?;
-            running_move(alloc, program, cache, state, mounted, next)
+            running_move(alloc, program, cache, state, mounted, next, now)
         }
         Phase::Throwing(o) => throwing_move(alloc, program, state, mounted, o),
         _ => {

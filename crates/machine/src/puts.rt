@@ -1,6 +1,6 @@
 //! Whom a step puts into the deque of its carrier.
 
-ghost use Rattle.std.specs.Prelude.{◌≡◌, ◌<◌, ◌≤◌, ℕ, false, length, true, OnOk};
+ghost use Rattle.std.specs.Prelude.{◌≡◌, ◌<◌, ◌≤◌, ℕ, false, [], ◌∷◌, Contains, filter, length, true, OnOk};
 ghost use Rattle.thread_lists.specs.Lists.{count, push, total};
 ghost use Rattle.program_state.specs.Waiting.{has_ended_in, lies_in};
 ghost use Rattle.machine.specs.Puts.{HasPut, IsTouched, is_nowhere as is_nowhere_in};
@@ -64,6 +64,32 @@ fn is_nowhere(state: &ProgramState, deques: &Deques, u: u32) -> bool
     ensures { result ≡ is_nowhere_in state.now deques.now.lists u }
 {
     lies(&state.frozen, u) && !deques.holds(u)
+}
+
+// Puts a thread that is neither mounted nor in a deque.
+fn put_if_nowhere(state: &ProgramState, deques: &mut Deques, c: u32, t: u32)
+    requires carrier { c < length deques.old.lists }
+    requires room { t < deques.old.threads }
+    ensures lists { deques.new.lists
+        ≡ push deques.old.lists c (filter (is_nowhere_in state.now deques.old.lists) (t ∷ [])) }
+    ensures room { deques.new.threads ≡ deques.old.threads }
+{
+    let nowhere = is_nowhere(state, deques, t);
+    put_if(deques, c, t, nowhere);
+}
+
+/// Puts those of some threads that are neither mounted nor in a deque into that of a carrier, in this order.
+pub(crate) fn put_due(state: &ProgramState, deques: &mut Deques, c: u32, threads: &[u32])
+    requires carrier { c < length deques.old.lists }
+    requires room { (u : ℕ) → Contains threads.now u → u < deques.old.threads }
+    requires once { (u : ℕ) → count u threads.now ≤ 1 }
+    ensures lists { deques.new.lists
+        ≡ push deques.old.lists c (filter (is_nowhere_in state.now deques.old.lists) threads.now) }
+    ensures room { deques.new.threads ≡ deques.old.threads }
+{
+    for t in threads {
+        put_if_nowhere(state, deques, c, *t);
+    }
 }
 
 // Puts a thread that got a permit or an interrupt, if it is nowhere and may step.

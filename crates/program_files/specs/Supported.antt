@@ -1,4 +1,4 @@
--- What the machine has no step for: monitors, waits for a time, clocks and pins.
+-- What the machine has no step for: monitors and pins.
 use Rattle.std.specs.Prelude.{ℕ, Bool, true, false, not, List, [], codes, get_or, length, nat_le, nat_lt, slice_get, ◌&&◌, ◌||◌}
 use Rattle.std.specs.Option.{option_map_or}
 use Rattle.std.specs.List.{list_any, range_with_len}
@@ -18,32 +18,13 @@ use Rattle.link_model.specs.Decoded.{code_at}
 use Rattle.ref_model.specs.Members.{is_synchronized}
 use Rattle.schedule_soundness.specs.PinLaws.{names_hold}
 
--- whether the machine has no step for the method of this name of java.lang.Object, or of java.lang.System
+-- whether the machine has no step for the method of this name of java.lang.Object
 abbrev pub is_unsupported_of_object : List ℕ → Bool
 is_unsupported_of_object name = same_text name (codes "wait") || same_text name (codes "notify") || same_text name (codes "notifyAll")
 
-abbrev pub is_unsupported_of_system : List ℕ → Bool
-is_unsupported_of_system name = same_text name (codes "nanoTime") || same_text name (codes "currentTimeMillis")
-
--- or of java.util.concurrent.locks.LockSupport
-abbrev pub is_unsupported_of_locks : List ℕ → Bool
-is_unsupported_of_locks name = same_text name (codes "parkNanos")
-
--- whether it has a descriptor with arguments, as `join(J)V` is one of the methods `join`
-abbrev pub has_arguments : MethodInfo → Bool
-has_arguments m = nat_lt 0 (length m.signature.args)
-
--- whether the machine has no step for this method of java.lang.Thread
-abbrev pub is_unsupported_of_thread : MethodInfo → Bool
-is_unsupported_of_thread m = same_text m.name (codes "sleep") || (same_text m.name (codes "join") && has_arguments m)
-
 -- whether the machine has no step for this method of the built-in class of that name
 abbrev pub is_unsupported_method : List ℕ → MethodInfo → Bool
-is_unsupported_method class m =
-    (same_text class (codes "java/util/concurrent/locks/LockSupport") && is_unsupported_of_locks m.name)
-    || (same_text class (codes "java/lang/Object") && is_unsupported_of_object m.name)
-    || (same_text class (codes "java/lang/System") && is_unsupported_of_system m.name)
-    || (same_text class (codes "java/lang/Thread") && is_unsupported_of_thread m)
+is_unsupported_method class m = same_text class (codes "java/lang/Object") && is_unsupported_of_object m.name
 
 abbrev pub class_name : World → ℕ → List ℕ
 class_name w class = class_at own_name [] w.program class

@@ -1,5 +1,4 @@
-//! Whether the machine has a step for all that the classes of the files do. It has none for monitors, waits for a time, clocks and
-//! pins.
+//! Whether the machine has a step for all that the classes of the files do. It has none for monitors and pins.
 
 ghost use Rattle.std.specs.Prelude.{◌≡◌, false, codes};
 ghost use Rattle.class_grammar.specs.Text.{same_text};
@@ -23,44 +22,11 @@ fn is_unsupported_of_object(name: &[u16]) -> bool
     is_same(name, b"wait") || is_same(name, b"notify") || is_same(name, b"notifyAll")
 }
 
-// Whether the machine has no step for the method of this name of java.lang.System.
-fn is_unsupported_of_system(name: &[u16]) -> bool
-    ensures { result ≡ spec.is_unsupported_of_system name.now }
-{
-    is_same(name, b"nanoTime") || is_same(name, b"currentTimeMillis")
-}
-
-// Whether the machine has no step for the method of this name of java.util.concurrent.locks.LockSupport.
-fn is_unsupported_of_locks(name: &[u16]) -> bool
-    ensures { result ≡ spec.is_unsupported_of_locks name.now }
-{
-    is_same(name, b"parkNanos")
-}
-
-// Whether a method has a descriptor with arguments.
-fn has_arguments(method: &MethodInfo) -> bool
-    ensures { result ≡ spec.has_arguments method.now }
-{
-    method.signature.args.len() > 0
-}
-
-// Whether the machine has no step for this method of java.lang.Thread.
-fn is_unsupported_of_thread(method: &MethodInfo) -> bool
-    ensures { result ≡ spec.is_unsupported_of_thread method.now }
-{
-    let name = method.name.as_slice();
-    is_same(name, b"sleep") || is_same(name, b"join") && has_arguments(method)
-}
-
 // Whether the machine has no step for this method of the built-in class of that name.
 fn is_unsupported_method(class: &[u16], method: &MethodInfo) -> bool
     ensures { result ≡ spec.is_unsupported_method class.now method.now }
 {
-    let name = method.name.as_slice();
-    is_same(class, b"java/util/concurrent/locks/LockSupport") && is_unsupported_of_locks(name)
-        || is_same(class, b"java/lang/Object") && is_unsupported_of_object(name)
-        || is_same(class, b"java/lang/System") && is_unsupported_of_system(name)
-        || is_same(class, b"java/lang/Thread") && is_unsupported_of_thread(method)
+    is_same(class, b"java/lang/Object") && is_unsupported_of_object(method.name.as_slice())
 }
 
 // The name of a class.

@@ -8,5 +8,5 @@ turn_and_do-requires-clause-hand c =
 
 pub returns-clause-hands : goal.returns-clause-hands
 returns-clause-hands c =
-    hands_fit c.args.machine.now c.turn_and_do.new.machine c.args.at.carrier c.args.hands.now _ _ c.turn_and_do.new.hand c.turn_and_do.result c.is_legal.ensures
+    hands_fit c.args.machine.now c.turn_and_do.new.machine c.args.at.carrier c.args.at.now c.args.hands.now _ _ c.turn_and_do.new.hand c.turn_and_do.result c.is_legal.ensures
     c.requires.hands refl c.turn_and_do.ensures.turn c.turn_and_do.ensures.hand

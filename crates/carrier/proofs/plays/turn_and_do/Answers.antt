@@ -17,5 +17,5 @@ returns-clause-hand g c = record {
 
 pub returns-clause-turn : goal.returns-clause-turn
 returns-clause-turn g c =
-    done_turn c.args.machine.now c.turn-answer.new.machine c.args.at.carrier c.args.hand.now c.turn-answer.new.hand c.do_asked.new.hand c.turn-answer.result
+    done_turn c.args.machine.now c.turn-answer.new.machine c.args.at.carrier c.args.at.now c.args.hand.now c.turn-answer.new.hand c.do_asked.new.hand c.turn-answer.result
     c.turn-answer.ensures.turn c.turn-answer.ensures.ended c.do_asked.ensures.presses

@@ -13,4 +13,4 @@ run_ready-requires-clause-names g c = subst NamesNoHold (sym c.in_ok-program.ens
 pub returns : goal.returns
 returns g c =
     subst (λ (w : World). IfOk c.run_ready.result (λ (x : Execution). (p : Setting) → p.world ≡ w → p.main ≡ c.args.main → p.limits ≡ c.args.limits
-    → IsRun p 1 x.history.items x.out.items x.err.items x.live.items x.ending)) c.in_ok-program.ensures c.run_ready.ensures
+    → IsRun p (g.C.Clock.gives c.args.clock.now) 1 x.history.items x.out.items x.err.items x.live.items x.ending)) c.in_ok-program.ensures c.run_ready.ensures

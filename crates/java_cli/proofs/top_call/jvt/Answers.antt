@@ -7,7 +7,7 @@ use Rattle.java_cli.proofs.top_call.jvt.Goals as goal
 pub returns-in-Ok-clause-headline : goal.returns-in-Ok-clause-headline
 returns-in-Ok-clause-headline g c =
     headline_is g.E.Sink.contents g.E.Sink.faults c.args.err.now c.run_checked.new.err _ (command_texts c.in-Some.command) c.run_checked.result c.in-Some.ensures c.run_checked.ensures.answer
-    _ _ _ c.in-Ok.runnable c.in-Ok.ensures.read c.run_checked.ensures.headline
+    _ _ _ _ c.in-Ok.runnable c.in-Ok.ensures.read c.run_checked.ensures.headline
 
 pub returns-in-Ok-clause-exact : goal.returns-in-Ok-clause-exact
 returns-in-Ok-clause-exact g c =

@@ -1,4 +1,4 @@
-use Rattle.std.proofs.Common.{ℕ, ◌≡◌, ◌<◌, ◌∙◌, ap, arith, length, take, List, ◌∷◌, []}
+use Rattle.std.proofs.Common.{ℕ, true, ◌<◌, ◌∙◌, ap, arith, length, take, List, ◌∷◌, []}
 use Rattle.std.specs.Prelude.{filter, slice_index_or}
 use Rattle.thread_lists.specs.Lists.{push}
 use Rattle.machine.specs.Puts.{is_loose}
@@ -18,7 +18,7 @@ put_if_loose-requires-clause-room c =
     let ts = c.args.threads.now in
     let i = c.loop-t.t-index in
     let within : i < length ts = omega arith in
-    let below = c.requires.room (slice_index_or ts i 0) (is_one c.args.deques.now.lists c.args.c ts i within) in
+    let below = c.requires.room (slice_index_or ts i 0) (is_one ts i within) in
     omega (arith, below, c.loop-t.invariant.room)
 
 pub loop-t-preserved : goal.loop-t-preserved
@@ -29,6 +29,6 @@ loop-t-preserved c =
     record {
       lists =
           c.put_if_loose.ensures.lists ∙ ap (λ (ls : List (List ℕ)). push ls c.args.c (filter (is_loose ls) (slice_index_or ts i 0 ∷ []))) c.loop-t.invariant.lists
-          ∙ one_more c.args.deques.now.lists c.args.c ts i within c.requires.carrier (c.requires.once (slice_index_or ts i 0));
+          ∙ one_more (λ u. true) c.args.deques.now.lists c.args.c ts i within c.requires.carrier (c.requires.once (slice_index_or ts i 0));
       room = c.put_if_loose.ensures.room ∙ c.loop-t.invariant.room;
     }

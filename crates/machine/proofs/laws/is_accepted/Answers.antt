@@ -1,6 +1,5 @@
 use Rattle.std.proofs.Common.{ap, sym, subst}
 use Rattle.link_model.specs.World.{World}
-use Rattle.link_model.specs.Worlds.{world_of}
 use Rattle.verify_types.specs.Typing.{AreTyped}
 use Rattle.step_soundness.specs.OpeningLaws.{IsMain}
 use Rattle.startup.specs.Openings.{setting}

@@ -1,10 +1,10 @@
-use Rattle.std.proofs.Common.{◌≡◌, ap, subst, sym, ◌∙◌}
+use Rattle.std.proofs.Common.{ap, subst, sym, ◌∙◌}
 use Rattle.vthread_state.specs.declared.phase.Phase.TheVariants.{Run}
 use Rattle.program_state.specs.declared.requests.RequestOutcome.{RequestOutcome}
 use Rattle.program_state.specs.Requests.{IsRequestMade}
 use Rattle.ref_model.specs.State.{is_interrupted}
 use Rattle.machine.specs.declared.made.Others.TheVariants as moves
-use Rattle.machine.proofs.MoveLaws.{lacks_room, moves_by, pending_yields}
+use Rattle.machine.proofs.MoveLaws.{lacks_room, moves_by, pending_in_time, pending_yields, reads_first}
 use Rattle.machine.proofs.moves.asking_move.Goals as goal
 
 pub returns-in-Done-clause-made : goal.returns-in-Done-clause-made
@@ -14,11 +14,14 @@ returns-in-Done-clause-made c =
     let n = c.make_request.new.mounted in
     let old = c.args.state.now in
     let new = c.make_request.new.state in
-    let steps = subst (λ (o : RequestOutcome). IsRequestMade w c.args.pending o old m new n) c.in-Done.is c.in_ok-make_request.ensures.made in
-    moves_by w (record { others = moves.Stay; yields = c.is_yield-yields.result }) m.thread Run old new m.stack.frames n.stack.frames c.requires.runs steps
-    (λ r out is h.
-    pending_yields w c.args.pending old r out m.thread m.stack.frames c.is_interrupted-interrupted.result is h c.requires.asks
-    (c.is_interrupted-interrupted.ensures r out is ∙ ap (is_interrupted r) c.thread.ensures) ∙ sym c.is_yield-yields.ensures)
+    let steps = subst (λ (o : RequestOutcome). IsRequestMade w c.args.pending o old m new n) c.in-Done.is c.in_ok-make_request.ensures.made in (
+      moves_by w (record { others = moves.Stay; yields = c.is_yield-yields.result }) m.thread Run old new m.stack.frames n.stack.frames c.requires.runs steps
+          (λ r out is h.
+          pending_yields w c.args.pending old r out m.thread m.stack.frames c.is_interrupted-interrupted.result is h c.requires.asks
+          (c.is_interrupted-interrupted.ensures r out is ∙ ap (is_interrupted r) c.thread.ensures) ∙ sym c.is_yield-yields.ensures),
+      pending_in_time w c.args.pending c.args.now m.thread old m.stack.frames c.requires.runs c.requires.asks
+          (c.is_early.ensures.in_time c.if-is_early.false),
+    )
 
 pub returns-in-Starts-clause-made : goal.returns-in-Starts-clause-made
 returns-in-Starts-clause-made c =
@@ -27,11 +30,14 @@ returns-in-Starts-clause-made c =
     let n = c.make_request.new.mounted in
     let old = c.args.state.now in
     let new = c.make_request.new.state in
-    let steps = subst (λ (o : RequestOutcome). IsRequestMade w c.args.pending o old m new n) c.in-Starts.is c.in_ok-make_request.ensures.made in
-    moves_by w (record { others = moves.Starts c.in-Starts.thread; yields = c.is_yield-yields.result }) m.thread Run old new m.stack.frames n.stack.frames c.requires.runs steps
-    (λ r out is h.
-    pending_yields w c.args.pending old r out m.thread m.stack.frames c.is_interrupted-interrupted.result is h c.requires.asks
-    (c.is_interrupted-interrupted.ensures r out is ∙ ap (is_interrupted r) c.thread.ensures) ∙ sym c.is_yield-yields.ensures)
+    let steps = subst (λ (o : RequestOutcome). IsRequestMade w c.args.pending o old m new n) c.in-Starts.is c.in_ok-make_request.ensures.made in (
+      moves_by w (record { others = moves.Starts c.in-Starts.thread; yields = c.is_yield-yields.result }) m.thread Run old new m.stack.frames n.stack.frames c.requires.runs steps
+          (λ r out is h.
+          pending_yields w c.args.pending old r out m.thread m.stack.frames c.is_interrupted-interrupted.result is h c.requires.asks
+          (c.is_interrupted-interrupted.ensures r out is ∙ ap (is_interrupted r) c.thread.ensures) ∙ sym c.is_yield-yields.ensures),
+      pending_in_time w c.args.pending c.args.now m.thread old m.stack.frames c.requires.runs c.requires.asks
+          (c.is_early.ensures.in_time c.if-is_early.false),
+    )
 
 pub returns-in-Wakes-clause-made : goal.returns-in-Wakes-clause-made
 returns-in-Wakes-clause-made c =
@@ -40,11 +46,14 @@ returns-in-Wakes-clause-made c =
     let n = c.make_request.new.mounted in
     let old = c.args.state.now in
     let new = c.make_request.new.state in
-    let steps = subst (λ (o : RequestOutcome). IsRequestMade w c.args.pending o old m new n) c.in-Wakes.is c.in_ok-make_request.ensures.made in
-    moves_by w (record { others = moves.Wakes c.in-Wakes.thread; yields = c.is_yield-yields.result }) m.thread Run old new m.stack.frames n.stack.frames c.requires.runs steps
-    (λ r out is h.
-    pending_yields w c.args.pending old r out m.thread m.stack.frames c.is_interrupted-interrupted.result is h c.requires.asks
-    (c.is_interrupted-interrupted.ensures r out is ∙ ap (is_interrupted r) c.thread.ensures) ∙ sym c.is_yield-yields.ensures)
+    let steps = subst (λ (o : RequestOutcome). IsRequestMade w c.args.pending o old m new n) c.in-Wakes.is c.in_ok-make_request.ensures.made in (
+      moves_by w (record { others = moves.Wakes c.in-Wakes.thread; yields = c.is_yield-yields.result }) m.thread Run old new m.stack.frames n.stack.frames c.requires.runs steps
+          (λ r out is h.
+          pending_yields w c.args.pending old r out m.thread m.stack.frames c.is_interrupted-interrupted.result is h c.requires.asks
+          (c.is_interrupted-interrupted.ensures r out is ∙ ap (is_interrupted r) c.thread.ensures) ∙ sym c.is_yield-yields.ensures),
+      pending_in_time w c.args.pending c.args.now m.thread old m.stack.frames c.requires.runs c.requires.asks
+          (c.is_early.ensures.in_time c.if-is_early.false),
+    )
 
 pub returns-in-LacksThreads-clause-made : goal.returns-in-LacksThreads-clause-made
 returns-in-LacksThreads-clause-made c =
@@ -55,3 +64,9 @@ returns-in-LacksThreads-clause-made c =
     let new = c.make_request.new.state in
     lacks_room w c.args.pending m.thread old new m n c.requires.runs c.requires.asks
     (subst (λ (o : RequestOutcome). IsRequestMade w c.args.pending o old m new n) c.in-LacksThreads.is c.in_ok-make_request.ensures.made)
+
+pub returns-then-is_early-clause-made : goal.returns-then-is_early-clause-made
+returns-then-is_early-clause-made c =
+    let m = c.args.mounted.now in
+    reads_first c.args.program.now c.args.pending c.args.now m.thread c.args.state.now m.stack.frames c.requires.runs c.requires.asks
+    (c.is_early.ensures.reads c.if-is_early.true) (c.is_early.ensures.early c.if-is_early.true)

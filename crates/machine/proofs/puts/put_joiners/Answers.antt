@@ -1,4 +1,4 @@
-use Rattle.std.proofs.Common.{◌≡◌, ◌≤◌, ℕ, List, ap, sym, subst, ◌∙◌}
+use Rattle.std.proofs.Common.{◌≤◌, ℕ, List, ap, sym, subst, ◌∙◌}
 use Rattle.std.specs.Prelude.{Contains, filter}
 use Rattle.thread_lists.specs.Lists.{count, push}
 use Rattle.machine.specs.Puts.{is_loose}

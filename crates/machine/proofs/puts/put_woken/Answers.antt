@@ -1,1 +1,0 @@
-use Rattle.machine.proofs.puts.put_woken.Goals as goal

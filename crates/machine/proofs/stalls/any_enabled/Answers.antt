@@ -1,6 +1,4 @@
-use Rattle.std.proofs.Common.{◌≡◌, ◌<◌, Option, None, arith, ap, length, refl, sym, ◌∙◌}
-use Rattle.std.specs.Prelude.{slice_index_or}
-use Rattle.std.specs.List.{list_any}
+use Rattle.std.proofs.Common.{None, arith, sym, ◌∙◌}
 use Rattle.machine.specs.Stalls.{goes_on}
 use Rattle.machine.proofs.AnyLaws.{any_behind, any_end, any_here}
 use Rattle.machine.proofs.stalls.any_enabled.Goals as goal

@@ -1,9 +1,6 @@
-use Rattle.std.proofs.Common.{◌≡◌, ◌-◌, ◌<◌, ℕ, List, None, Some, Option, ap, length, refl, subst, sym, vec_capacity, rules, ◌∙◌}
-use Rattle.machine.specs.Hands.{AreTypedInRun, HasPhase, Holds, IsMounted, Lives}
+use Rattle.std.proofs.Common.{◌-◌, ap, length, vec_capacity, rules, ◌∙◌}
 use Rattle.machine.specs.Insides.{setting_in}
-use Rattle.machine.specs.Legal.{Works}
-use Rattle.machine.specs.Machines.{Given, Known, machine_ending}
-use Rattle.ref_model.specs.Step.{enabled}
+use Rattle.machine.specs.Machines.{machine_ending}
 use Rattle.machine.proofs.StepCallLaws.{ending_there}
 use Rattle.machine.proofs.machine.Machine.ending.Goals as goal
 

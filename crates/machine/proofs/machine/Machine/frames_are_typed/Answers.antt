@@ -1,9 +1,7 @@
-use Rattle.std.proofs.Common.{◌≡◌, ◌-◌, ◌<◌, ℕ, List, None, Some, Option, ap, length, refl, subst, sym, vec_capacity, rules, ◌∙◌}
-use Rattle.machine.specs.Hands.{AreTypedInRun, HasPhase, Holds, IsMounted, Lives}
+use Rattle.std.proofs.Common.{◌-◌, length, subst, sym, vec_capacity}
+use Rattle.machine.specs.Hands.{AreTypedInRun, Holds}
 use Rattle.machine.specs.Insides.{setting_in}
-use Rattle.machine.specs.Legal.{Works}
-use Rattle.machine.specs.Machines.{Given, Known, machine_ending}
-use Rattle.ref_model.specs.Step.{enabled}
+use Rattle.machine.specs.Machines.{Known}
 use Rattle.machine.proofs.StepCallLaws.{typed_hand}
 use Rattle.machine.proofs.machine.Machine.frames_are_typed.Goals as goal
 

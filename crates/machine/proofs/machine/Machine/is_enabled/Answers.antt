@@ -1,8 +1,8 @@
-use Rattle.std.proofs.Common.{◌≡◌, ◌-◌, ◌<◌, ℕ, List, None, Some, Option, ap, length, refl, subst, sym, vec_capacity, rules, ◌∙◌}
-use Rattle.machine.specs.Hands.{AreTypedInRun, HasPhase, Holds, IsMounted, Lives}
+use Rattle.std.proofs.Common.{◌≡◌, ◌-◌, length, subst, sym, vec_capacity}
+use Rattle.machine.specs.Hands.{IsMounted}
 use Rattle.machine.specs.Insides.{setting_in}
 use Rattle.machine.specs.Legal.{Works}
-use Rattle.machine.specs.Machines.{Given, Known, machine_ending}
+use Rattle.machine.specs.Machines.{Given, Known}
 use Rattle.ref_model.specs.Step.{enabled}
 use Rattle.machine.proofs.StepCallLaws.{enabled_given, mounted_below}
 use Rattle.machine.proofs.machine.Machine.is_enabled.Goals as goal

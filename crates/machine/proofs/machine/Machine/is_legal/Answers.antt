@@ -12,7 +12,6 @@ returns c =
       begins = x.begins;
       after = x.after;
       runs = x.runs;
-      timeless = x.timeless;
       few = x.few;
       cause = x.cause;
     })

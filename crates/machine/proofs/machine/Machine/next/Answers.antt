@@ -1,4 +1,4 @@
-use Rattle.std.proofs.Common.{◌≡◌, ◌-◌, ℕ, List, None, Some, ap, length, refl, subst, sym, vec_capacity, ◌∙◌}
+use Rattle.std.proofs.Common.{◌-◌, ℕ, List, ap, length, refl, subst, sym, vec_capacity, ◌∙◌}
 use Rattle.history.specs.declared.entry.Entry.{Entry}
 use Rattle.machine.specs.Hands.{Holds, Idle, Lives, OwesNothing}
 use Rattle.machine.specs.Insides.{IsConsistent, setting_in}

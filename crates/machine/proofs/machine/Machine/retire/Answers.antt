@@ -1,4 +1,4 @@
-use Rattle.std.proofs.Common.{◌≡◌, ◌-◌, ◌<◌, ℕ, List, None, Some, ap, arith, length, refl, subst, sym, vec_capacity, ◌∙◌}
+use Rattle.std.proofs.Common.{◌-◌, ◌<◌, List, ap, length, subst, sym, vec_capacity, ◌∙◌}
 use Rattle.history.specs.declared.entry.Entry.{Entry}
 use Rattle.machine.specs.Hands.{HasEnded, Idle, MayUnmount}
 use Rattle.machine.specs.Insides.{IsConsistent, setting_in}

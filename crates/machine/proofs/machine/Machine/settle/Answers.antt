@@ -1,6 +1,6 @@
-use Rattle.std.proofs.Common.{◌≡◌, ◌-◌, ◌<◌, ℕ, List, None, Some, ap, arith, length, refl, subst, sym, vec_capacity, ◌∙◌}
+use Rattle.std.proofs.Common.{◌≡◌, ◌-◌, ◌<◌, ℕ, List, ap, length, refl, subst, sym, vec_capacity, ◌∙◌}
 use Rattle.history.specs.declared.entry.Entry.{Entry}
-use Rattle.thread_lists.specs.Lists.{Lists, count, total}
+use Rattle.thread_lists.specs.Lists.{count, total}
 use Rattle.machine.specs.Hands.{Holds, Idle, MayUnmount}
 use Rattle.machine.specs.Insides.{IsConsistent, setting_in}
 use Rattle.machine.specs.Machines.{Known}

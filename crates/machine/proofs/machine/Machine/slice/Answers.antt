@@ -1,4 +1,4 @@
-use Rattle.std.proofs.Common.{◌≡◌, ◌-◌, ◌<◌, ◌+◌, ◌++◌, ◌∷◌, [], ℕ, suc, List, None, Some, ap, arith, length, refl, subst, sym, vec_capacity, ◌∙◌}
+use Rattle.std.proofs.Common.{◌-◌, ◌<◌, ◌++◌, ◌∷◌, [], ℕ, List, None, ap, length, refl, subst, sym, vec_capacity, ◌∙◌}
 use Rattle.history.specs.declared.entry.Entry.{Entry}
 use Rattle.machine.specs.declared.after.After.TheVariants.{Goes}
 use Rattle.machine.specs.Hands.{Holds, OwesNothing}

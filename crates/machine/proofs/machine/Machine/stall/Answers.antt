@@ -1,4 +1,4 @@
-use Rattle.std.proofs.Common.{◌≡◌, ◌-◌, ◌<◌, ℕ, List, Option, None, Some, ap, length, refl, subst, sym, vec_capacity, ◌∙◌}
+use Rattle.std.proofs.Common.{◌-◌, ℕ, List, Option, ap, length, subst, sym, vec_capacity, ◌∙◌}
 use Rattle.std.specs.List.{list_any}
 use Rattle.machine.specs.Insides.{setting_in}
 use Rattle.machine.specs.Legal.{HasNotStalled}

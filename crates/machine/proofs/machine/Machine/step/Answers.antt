@@ -1,19 +1,18 @@
-use Rattle.std.proofs.Common.{◌≡◌, ◌-◌, ◌+◌, ◌<◌, ◌≤◌, ℕ, suc, List, None, Some, Option, ap, arith, length, refl, subst, sym, vec_capacity, rules, ◌∙◌}
-use Rattle.history.specs.declared.entry.Entry.{Entry}
+use Rattle.std.proofs.Common.{◌≡◌, ◌-◌, ◌+◌, ◌<◌, suc, None, ap, arith, length, refl, subst, sym, vec_capacity, ◌∙◌}
 use Rattle.history.specs.declared.entry.What.{What}
 use Rattle.history.specs.declared.entry.What.TheVariants as whats
 use Rattle.machine.specs.Hands.{Holds, MayStep, OwesNothing}
-use Rattle.machine.specs.Insides.{IsConsistent, setting_in}
+use Rattle.machine.specs.Insides.{setting_in}
 use Rattle.machine.specs.Machines.{Known}
 use Rattle.machine.specs.Steps.{IsEntered}
-use Rattle.machine.specs.Turns.{IsStepReady, Steps}
+use Rattle.machine.specs.Turns.{IsInTime, IsStepReady, Steps}
 use Rattle.machine.proofs.NextLaws.{known_of}
 use Rattle.machine.proofs.StepCallLaws.{few_local, may_be_made, next_at, steps_from, typed_at}
-use Rattle.machine.proofs.StepEndLaws.{made_kept, made_steps, on_step}
+use Rattle.machine.proofs.StepEndLaws.{made_in_time, made_kept, made_stays, made_steps, on_step}
 use Rattle.machine.proofs.machine.Machine.step.Goals as goal
 
-pub make_step-made-requires-clause-from : goal.make_step-made-requires-clause-from
-make_step-made-requires-clause-from c =
+pub make_step-tried-requires-clause-from : goal.make_step-tried-requires-clause-from
+make_step-tried-requires-clause-from c =
     let a = c.self.inside in
     let m = c.args.mounted.now in
     let none = ap (λ (k : Known). k.told) c.self.view_is ∙ c.requires.going.told in
@@ -24,8 +23,8 @@ make_step-made-requires-clause-from c =
     may_be_made (setting_in a) a.carriers a.state a.deques a.mounted.items a.history.items a.told (vec_capacity a.history - length a.history.items) c.self.invariant
     c.args.c m.thread c.args.n m.stack.frames c.args.next none holds free may ready
 
-pub make_step-made-requires-clause-typed : goal.make_step-made-requires-clause-typed
-make_step-made-requires-clause-typed c =
+pub make_step-tried-requires-clause-typed : goal.make_step-tried-requires-clause-typed
+make_step-tried-requires-clause-typed c =
     let a = c.self.inside in
     let m = c.args.mounted.now in
     let none = ap (λ (k : Known). k.told) c.self.view_is ∙ c.requires.going.told in
@@ -36,8 +35,8 @@ make_step-made-requires-clause-typed c =
     typed_at (setting_in a) a.carriers a.state a.deques a.mounted.items a.history.items a.told (vec_capacity a.history - length a.history.items) c.self.invariant
     c.args.c m.thread c.args.n m.stack.frames c.args.next none holds free may ready
 
-pub make_step-made-requires-clause-next : goal.make_step-made-requires-clause-next
-make_step-made-requires-clause-next c =
+pub make_step-tried-requires-clause-next : goal.make_step-tried-requires-clause-next
+make_step-tried-requires-clause-next c =
     let a = c.self.inside in
     let m = c.args.mounted.now in
     let none = ap (λ (k : Known). k.told) c.self.view_is ∙ c.requires.going.told in
@@ -74,14 +73,14 @@ invariant_of-self c =
     let more : c.args.n + 1 ≡ suc c.args.n = omega arith in
     let step : ◌≡◌ {A = What} (whats.Step c.thread-t.result (c.args.n + 1) None) (whats.Step m.thread (suc c.args.n) None) =
     ap (λ u. whats.Step u (c.args.n + 1) None) t ∙ ap (λ i. whats.Step m.thread i None) more in
-    let made = c.make_step-made.result in
+    let made = c.make_step-tried.result in
     let entered = subst (λ (s : What). IsEntered made a.history.items a.told c.args.c s a.limits.threads c.enter_step.new.history.items c.enter_step.new.told c.enter_step.result)
     step c.enter_step.ensures.entered in
-    let says = c.make_step-made.ensures.made a.carriers c.args.n a.mounted.items (steps_from (setting_in a) a.carriers a.state a.deques a.mounted.items a.history.items a.told (vec_capacity a.history - length a.history.items) c.self.invariant
+    let says = c.make_step-tried.ensures.made a.carriers c.args.n a.mounted.items (steps_from (setting_in a) a.carriers a.state a.deques a.mounted.items a.history.items a.told (vec_capacity a.history - length a.history.items) c.self.invariant
     c.args.c m.thread c.args.n m.stack.frames c.args.next none holds free may ready) in
     made_kept (setting_in a) a.carriers a.state a.deques a.mounted.items a.history.items a.told (vec_capacity a.history - length a.history.items) c.self.invariant
-    c.args.c m.thread c.args.n m.stack.frames c.args.next none holds free may ready
-    made c.make_step-made.new.state c.make_step-made.new.deques c.make_step-made.new.mounted.stack.frames c.enter_step.new.history.items c.enter_step.new.told c.enter_step.result
+    c.args.c m.thread c.args.n c.args.now m.stack.frames c.args.next none holds free may ready
+    made c.make_step-tried.new.state c.make_step-tried.new.deques c.make_step-tried.new.mounted.stack.frames c.enter_step.new.history.items c.enter_step.new.told c.enter_step.result
     (subst (λ (k : Known). length k.history < k.setting.limits.events) (sym c.self.view_is) c.requires.left) says entered
 
 pub returns-clause-step : goal.returns-clause-step
@@ -97,22 +96,69 @@ returns-clause-step c =
     let more : c.args.n + 1 ≡ suc c.args.n = omega arith in
     let step : ◌≡◌ {A = What} (whats.Step c.thread-t.result (c.args.n + 1) None) (whats.Step m.thread (suc c.args.n) None) =
     ap (λ u. whats.Step u (c.args.n + 1) None) t ∙ ap (λ i. whats.Step m.thread i None) more in
-    let made = c.make_step-made.result in
+    let made = c.make_step-tried.result in
     let entered = subst (λ (s : What). IsEntered made a.history.items a.told c.args.c s a.limits.threads c.enter_step.new.history.items c.enter_step.new.told c.enter_step.result)
     step c.enter_step.ensures.entered in
-    let says = c.make_step-made.ensures.made a.carriers c.args.n a.mounted.items (steps_from (setting_in a) a.carriers a.state a.deques a.mounted.items a.history.items a.told (vec_capacity a.history - length a.history.items) c.self.invariant
+    let says = c.make_step-tried.ensures.made a.carriers c.args.n a.mounted.items (steps_from (setting_in a) a.carriers a.state a.deques a.mounted.items a.history.items a.told (vec_capacity a.history - length a.history.items) c.self.invariant
     c.args.c m.thread c.args.n m.stack.frames c.args.next none holds free may ready) in
     let room = vec_capacity c.enter_step.new.history - length c.enter_step.new.history.items in
     let capacity = c.enter_step.ensures.capacity in
-    subst (λ (k : Known). Steps c.enter_step.result k (known_of (setting_in a) a.carriers c.enter_step.new.history.items room c.enter_step.new.told) c.args.c m.thread c.args.n
-    c.make_step-made.new.mounted.stack.frames) c.self.view_is
+    subst (λ (k : Known). Steps c.enter_step.result k (known_of (setting_in a) a.carriers c.enter_step.new.history.items room c.enter_step.new.told) c.args.c m.thread c.args.n c.args.now
+    m.stack.frames c.make_step-tried.new.mounted.stack.frames) c.self.view_is
     (made_steps (setting_in a) a.carriers a.state a.deques a.mounted.items a.history.items a.told (vec_capacity a.history - length a.history.items) c.self.invariant
-    c.args.c m.thread c.args.n m.stack.frames c.args.next none holds free may ready
-    made c.make_step-made.new.state c.make_step-made.new.deques c.make_step-made.new.mounted.stack.frames c.enter_step.new.history.items c.enter_step.new.told c.enter_step.result
+    c.args.c m.thread c.args.n c.args.now m.stack.frames c.args.next none holds free may ready
+    made c.make_step-tried.new.state c.make_step-tried.new.deques c.make_step-tried.new.mounted.stack.frames c.enter_step.new.history.items c.enter_step.new.told c.enter_step.result
     room (vec_capacity a.history) says entered (ap (λ i. i - length c.enter_step.new.history.items) capacity) refl)
 
 pub returns-clause-thread : goal.returns-clause-thread
 returns-clause-thread c =
-    let made = c.make_step-made.result in
-    on_step made c.enter_step.result c.make_step-made.new.mounted.thread c.args.mounted.now.thread c.self.inside.history.items c.enter_step.new.history.items
-    c.self.inside.told c.enter_step.new.told c.args.c c.self.inside.limits.threads _ c.make_step-made.ensures.thread c.enter_step.ensures.entered
+    let made = c.make_step-tried.result in
+    on_step made c.enter_step.result c.make_step-tried.new.mounted.thread c.args.mounted.now.thread c.self.inside.history.items c.enter_step.new.history.items
+    c.self.inside.told c.enter_step.new.told c.args.c c.self.inside.limits.threads _ c.make_step-tried.ensures.thread c.enter_step.ensures.entered
+
+pub returns-clause-in_time : goal.returns-clause-in_time
+returns-clause-in_time c =
+    let a = c.self.inside in
+    let m = c.args.mounted.now in
+    let none = ap (λ (k : Known). k.told) c.self.view_is ∙ c.requires.going.told in
+    let holds = subst (λ (k : Known). Holds k c.args.c m.thread c.args.n m.stack.frames) (sym c.self.view_is) c.requires.hand in
+    let free = subst (λ (k : Known). OwesNothing k m.thread) (sym c.self.view_is) c.requires.free in
+    let may = subst (λ (k : Known). MayStep k m.thread) (sym c.self.view_is) c.requires.enabled in
+    let ready = subst (λ (k : Known). IsStepReady k m.thread c.args.n m.stack.frames c.args.next) (sym c.self.view_is) c.requires.ready in
+    let t : c.thread-t.result ≡ m.thread = c.thread-t.ensures in
+    let more : c.args.n + 1 ≡ suc c.args.n = omega arith in
+    let step : ◌≡◌ {A = What} (whats.Step c.thread-t.result (c.args.n + 1) None) (whats.Step m.thread (suc c.args.n) None) =
+    ap (λ u. whats.Step u (c.args.n + 1) None) t ∙ ap (λ i. whats.Step m.thread i None) more in
+    let made = c.make_step-tried.result in
+    let entered = subst (λ (s : What). IsEntered made a.history.items a.told c.args.c s a.limits.threads c.enter_step.new.history.items c.enter_step.new.told c.enter_step.result)
+    step c.enter_step.ensures.entered in
+    let says = c.make_step-tried.ensures.made a.carriers c.args.n a.mounted.items (steps_from (setting_in a) a.carriers a.state a.deques a.mounted.items a.history.items a.told (vec_capacity a.history - length a.history.items) c.self.invariant
+    c.args.c m.thread c.args.n m.stack.frames c.args.next none holds free may ready) in
+    subst (λ (k : Known). IsInTime c.enter_step.result k m.thread c.args.now m.stack.frames) c.self.view_is
+    (made_in_time (setting_in a) a.carriers a.state a.deques a.mounted.items a.history.items a.told (vec_capacity a.history - length a.history.items) c.self.invariant
+    c.args.c m.thread c.args.n c.args.now m.stack.frames c.args.next none holds free may ready
+    made c.make_step-tried.new.state c.make_step-tried.new.deques c.make_step-tried.new.mounted.stack.frames c.enter_step.new.history.items c.enter_step.new.told c.enter_step.result
+    says entered)
+
+pub returns-clause-kept : goal.returns-clause-kept
+returns-clause-kept c = λ reads.
+    let a = c.self.inside in
+    let m = c.args.mounted.now in
+    let none = ap (λ (k : Known). k.told) c.self.view_is ∙ c.requires.going.told in
+    let holds = subst (λ (k : Known). Holds k c.args.c m.thread c.args.n m.stack.frames) (sym c.self.view_is) c.requires.hand in
+    let free = subst (λ (k : Known). OwesNothing k m.thread) (sym c.self.view_is) c.requires.free in
+    let may = subst (λ (k : Known). MayStep k m.thread) (sym c.self.view_is) c.requires.enabled in
+    let ready = subst (λ (k : Known). IsStepReady k m.thread c.args.n m.stack.frames c.args.next) (sym c.self.view_is) c.requires.ready in
+    let t : c.thread-t.result ≡ m.thread = c.thread-t.ensures in
+    let more : c.args.n + 1 ≡ suc c.args.n = omega arith in
+    let step : ◌≡◌ {A = What} (whats.Step c.thread-t.result (c.args.n + 1) None) (whats.Step m.thread (suc c.args.n) None) =
+    ap (λ u. whats.Step u (c.args.n + 1) None) t ∙ ap (λ i. whats.Step m.thread i None) more in
+    let made = c.make_step-tried.result in
+    let entered = subst (λ (s : What). IsEntered made a.history.items a.told c.args.c s a.limits.threads c.enter_step.new.history.items c.enter_step.new.told c.enter_step.result)
+    step c.enter_step.ensures.entered in
+    let says = c.make_step-tried.ensures.made a.carriers c.args.n a.mounted.items (steps_from (setting_in a) a.carriers a.state a.deques a.mounted.items a.history.items a.told (vec_capacity a.history - length a.history.items) c.self.invariant
+    c.args.c m.thread c.args.n m.stack.frames c.args.next none holds free may ready) in
+    made_stays (setting_in a) a.carriers a.state a.deques a.mounted.items a.history.items a.told (vec_capacity a.history - length a.history.items) c.self.invariant
+    c.args.c m.thread c.args.n c.args.now m.stack.frames c.args.next none holds free may ready
+    made c.make_step-tried.new.state c.make_step-tried.new.deques c.make_step-tried.new.mounted.stack.frames c.enter_step.new.history.items c.enter_step.new.told c.enter_step.result
+    m c.make_step-tried.new.mounted says entered c.make_step-tried.ensures.kept reads

@@ -1,0 +1,28 @@
+import java.util.concurrent.locks.LockSupport;
+
+/** Two virtual threads that give each other permits in turn. */
+public class Handovers implements Runnable {
+    static final int TURNS = 100_000;
+    static final Thread[] THREADS = new Thread[2];
+
+    private final int number;
+
+    Handovers(int number) {
+        this.number = number;
+    }
+
+    public void run() {
+        for (int i = 0; i < TURNS; i++) {
+            if (number == 1) LockSupport.park();
+            LockSupport.unpark(THREADS[1 - number]);
+            if (number == 0) LockSupport.park();
+        }
+    }
+
+    public static void main(String[] args) throws InterruptedException {
+        for (int i = 0; i < 2; i++) THREADS[i] = Thread.ofVirtual().unstarted(new Handovers(i));
+        for (Thread thread : THREADS) thread.start();
+        for (Thread thread : THREADS) thread.join();
+        System.out.println(TURNS);
+    }
+}

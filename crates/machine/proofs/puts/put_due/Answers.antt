@@ -1,0 +1,37 @@
+use Rattle.std.proofs.Common.{ℕ, ◌<◌, ◌∙◌, ap, arith, length, take, List, ◌∷◌, []}
+use Rattle.std.specs.Prelude.{filter, slice_index_or}
+use Rattle.thread_lists.specs.Lists.{push}
+use Rattle.program_state.specs.Waiting.{lies_in}
+use Rattle.machine.specs.Puts.{is_nowhere}
+use Rattle.machine.proofs.PlaceLaws.{push_length}
+use Rattle.machine.proofs.PushLaws.{is_one, one_more}
+use Rattle.machine.proofs.puts.put_due.Goals as goal
+
+pub put_if_nowhere-requires-clause-carrier : goal.put_if_nowhere-requires-clause-carrier
+put_if_nowhere-requires-clause-carrier c =
+    let ts = c.args.threads.now in
+    let lists = c.args.deques.now.lists in
+    let same = ap (λ ls. length ls) c.loop-t.invariant.lists ∙ push_length lists c.args.c (filter (is_nowhere c.args.state.now lists) (take c.loop-t.t-index ts)) in
+    omega (arith, same, c.requires.carrier)
+
+pub put_if_nowhere-requires-clause-room : goal.put_if_nowhere-requires-clause-room
+put_if_nowhere-requires-clause-room c =
+    let ts = c.args.threads.now in
+    let i = c.loop-t.t-index in
+    let within : i < length ts = omega arith in
+    let below = c.requires.room (slice_index_or ts i 0) (is_one ts i within) in
+    omega (arith, below, c.loop-t.invariant.room)
+
+pub loop-t-preserved : goal.loop-t-preserved
+loop-t-preserved c =
+    let ts = c.args.threads.now in
+    let i = c.loop-t.t-index in
+    let state = c.args.state.now in
+    let within : i < length ts = omega arith in
+    record {
+      lists =
+          c.put_if_nowhere.ensures.lists
+          ∙ ap (λ (ls : List (List ℕ)). push ls c.args.c (filter (is_nowhere state ls) (slice_index_or ts i 0 ∷ []))) c.loop-t.invariant.lists
+          ∙ one_more (lies_in state.frozen.items) c.args.deques.now.lists c.args.c ts i within c.requires.carrier (c.requires.once (slice_index_or ts i 0));
+      room = c.put_if_nowhere.ensures.room ∙ c.loop-t.invariant.room;
+    }
