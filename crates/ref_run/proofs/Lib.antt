@@ -1,0 +1,12 @@
+mod AllLaws
+mod AnyLaws
+mod CreateLaws
+mod EntryLaws
+mod GoingOnLaws
+mod OperandLaws
+mod PhaseLaws
+mod ReplayLaws
+mod StageLaws
+mod StartLaws
+mod StepLaws
+mod TimeLaws

@@ -1,0 +1,107 @@
+-- The steps of a thread, and what is known of the program that it runs.
+use Rattle.std.specs.Prelude.{◌≡◌, ◌<◌, ◌≤◌, ℕ, zero, suc, Bool, true, false, List, ◌∷◌, Option, Some, None, Result, Ok, Err, if◌then◌else◌}
+use Rattle.items.specs.Options.{◌>>=◌}
+use Rattle.history.specs.declared.entry.What.{What}
+use Rattle.history.specs.declared.entry.What.TheVariants.{Mount, Unmount, Step, Clock}
+use Rattle.vthread_state.specs.declared.phase.Phase.{Phase}
+use Rattle.vthread_state.specs.declared.phase.Phase.TheVariants.{Run}
+use Rattle.vthread_state.specs.declared.thread.Status.{Status}
+use Rattle.vthread_state.specs.declared.thread.Status.TheVariants.{New, Live, Done}
+use Rattle.link_model.specs.World.{World}
+use Rattle.state_model.specs.Frames.{Frame}
+use Rattle.frame_soundness.specs.StepKinds.{IsLinkedWorld}
+use Rattle.frame_soundness.specs.Typed.{Typed}
+use Rattle.link_soundness.specs.Names.{AreNamed}
+use Rattle.step_soundness.specs.Resolutions.{RunsFit}
+use Rattle.ref_model.specs.Enabled.{enabled}
+use Rattle.ref_model.specs.LocalRows.{row}
+use Rattle.ref_model.specs.Requests.{request_of}
+use Rattle.ref_model.specs.Resuming.{asking_in}
+use Rattle.ref_model.specs.State.{State}
+use Rattle.ref_model.specs.Step.{picking_step, row_or_event, thread_step}
+use Rattle.ref_model.specs.Waiting.{at_time}
+use Rattle.thread_steps.specs.Asking.{asking_of}
+use Rattle.thread_steps.specs.declared.progress.PendingRequest.{PendingRequest}
+use Rattle.thread_steps.specs.declared.progress.Progress.{Progress}
+use Rattle.thread_steps.specs.declared.progress.Progress.TheVariants.{Stepped, Asks}
+use Rattle.ref_run.specs.declared.fault.Fault.{Fault}
+use Rattle.ref_run.specs.declared.fault.Fault.TheVariants as faults
+use Rattle.ref_run.specs.declared.state.RefState.{RefState}
+use Rattle.ref_run.specs.GoingOn.{Comes}
+use Rattle.ref_run.specs.States.{frames_of, state_of}
+
+-- ---- the program
+
+-- It keeps to the typing, and its instructions name what their steps ask for.
+pub record IsReady (w : World) : Type 0 where
+  pub linked : IsLinkedWorld w
+  pub named : AreNamed w
+  pub runs : RunsFit w
+
+-- the frames of thread t are at an instruction, and keep to the typing
+abbrev pub HasTyped : World → State → ℕ → Type 0
+HasTyped w r t = (frames : List Frame) → frames_of r t ≡ Some frames → Typed w frames
+
+-- ---- the instruction at hand
+
+-- The next instruction of these frames asks this, and is no local one.
+pub record IsPending (w : World) (r : State) (q : PendingRequest) (frames : List Frame) : Type 0 where
+  pub frame : Frame
+  pub below : List Frame
+  pub top : frames ≡ frame ∷ below
+  pub asks : asking_in w r.memory frames ≡ Some (request_of q.request, asking_of q frame below)
+  pub event : row w frames ≡ None
+
+-- the instruction of these frames of thread t leads to this state, and asks nothing
+pub record HasStepped (w : World) (r : State) (t : ℕ) (frames : List Frame) (s : State) : Type 0 where
+  pub step : row_or_event w r t frames (row w frames) ≡ Some s
+  pub quiet : asking_in w r.memory frames ≡ None
+
+-- The instruction at hand of thread t leads to this state; or it asks this, and nothing has changed.
+abbrev pub IsProgress : World → State → ℕ → Progress → State → Type 0
+IsProgress w r t Stepped s = (frames : List Frame) → frames_of r t ≡ Some frames → HasStepped w r t frames s
+IsProgress w r t (Asks q) s = ((frames : List Frame) → frames_of r t ≡ Some frames → IsPending w r q frames) × (s ≡ r)
+
+-- What an act on the frames of thread t makes of the state.
+abbrev pub Acts : (List Frame → Option State) → State → ℕ → Result (Unit {0}) Fault → RefState → Type 0
+Acts act r t result a = (frames : List Frame) → frames_of r t ≡ Some frames → Comes (act frames) result a
+
+-- ---- steps
+
+-- a step of a thread, as the definitions have it for every setting with this world
+abbrev pub stepped : World → State → ℕ → Option ℕ → Option State
+stepped w r t (Some pick) = if enabled r t then picking_step w r t pick else None
+stepped w r t None = if enabled r t then thread_step w r t else None
+
+-- whether a thread runs
+abbrev pub is_run_phase : Phase → Bool
+is_run_phase Run = true
+is_run_phase phase = false
+
+abbrev pub is_running_status : Status → Bool
+is_running_status New = false
+is_running_status (Live phase) = is_run_phase phase
+is_running_status Done = false
+
+-- so many steps, each of which picks none
+abbrev pub made_steps : World → ℕ → State → ℕ → Option State
+made_steps w zero r t = Some r
+made_steps w (suc n) r t = made_steps w n r t >>= λ q. stepped w q t None
+
+-- the same, of which the last may pick a thread
+abbrev pub made_entry : World → State → ℕ → ℕ → Option ℕ → Option State
+made_entry w r t zero pick = None
+made_entry w r t (suc n) pick = made_steps w n r t >>= λ q. stepped w q t pick
+
+-- what an entry makes of the state: a mount and an unmount make nothing
+abbrev pub entry_after : World → State → What → Option State
+entry_after w r (Mount t) = Some r
+entry_after w r (Unmount t) = Some r
+entry_after w r (Step t n pick) = made_entry w r t n pick
+entry_after w r (Clock now) = at_time r now
+
+-- at least one step, and at most so many; or the first one isn't defined
+abbrev pub IsAdvance : World → State → ℕ → ℕ → Result ℕ Fault → RefState → Type 0
+IsAdvance w r t most (Ok n) a = (0 < n) × (n ≤ most) × (made_steps w n r t ≡ Some (state_of a))
+IsAdvance w r t most (Err faults.NoStep) a = stepped w r t None ≡ None
+IsAdvance w r t most (Err faults.NoMemory) a = Unit {0}

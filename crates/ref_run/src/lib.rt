@@ -1,0 +1,32 @@
+//! Runs a history again by plain code of its own, one step after the other, with all threads in one table.
+#![tactic(auto)]
+
+mod asking;
+mod changes;
+mod clock;
+mod creating;
+mod endings;
+mod entries;
+mod fault;
+mod going_on;
+mod instructions;
+mod monitors;
+mod owners;
+mod phases;
+mod picks;
+mod replaying;
+mod replies;
+mod reply;
+mod requests;
+mod starting;
+mod state;
+mod statuses;
+mod stepping;
+mod taking;
+mod tells;
+mod thread_row;
+mod waiters;
+mod waits;
+
+pub use replaying::{ReplayError, replay};
+pub use state::RefState;
