@@ -15,6 +15,7 @@ from player import Player
 from turn_lists import randoms_of
 
 CRATE = Path(__file__).resolve().parents[2] / "crates/java_programs"
+NANOS_IN_A_TURN = 1_000_000
 MOST_TURNS = 400_000
 # The folders of the programs that java ran too.
 RELEASES = ("8", "11", "17", "21")
@@ -40,10 +41,10 @@ def run(program, main, randoms):
     state = opening(program, main, CELLS, THREADS)
     carriers = randoms.randint(1, 5)
     player = Player(state, carriers, EVENTS)
-    for _ in range(MOST_TURNS):
+    for number in range(MOST_TURNS):
         if player.has_ended():
             break
-        player.turn(randoms.randrange(carriers))
+        player.turn(randoms.randrange(carriers), number * NANOS_IN_A_TURN)
     text = (bytes(state.memory.out) + bytes(state.memory.err)).decode()
     return text, status_of(player.told or state.ending() or "none")
 

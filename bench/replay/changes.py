@@ -75,8 +75,8 @@ def changed(randoms, history, change, carriers):
 
 def history_of(case, program):
     player = Player(opening(program, case.main, *case.limits[:2]), case.carriers, case.limits[2])
-    for carrier, _ in case.turns:
-        player.turn(carrier)
+    for carrier, now in case.turns:
+        player.turn(carrier, now)
     return player.history
 
 

@@ -92,8 +92,8 @@ def trace_differences(case, told, entries, program):
     """Where the history isn't that which the list of turns gives, or the one that stands beside a case."""
     found = []
     player = Player(opening(program, case.main, *case.limits[:2]), case.carriers, case.limits[2])
-    for carrier, _ in case.turns:
-        player.turn(carrier)
+    for carrier, now in case.turns:
+        player.turn(carrier, now)
     if player.history != entries:
         pairs = enumerate(zip(player.history + [None], entries + [None]))
         place, pair = next((place, pair) for place, pair in pairs if pair[0] != pair[1])

@@ -16,9 +16,9 @@ OWN = Path(__file__).resolve().parent / "own"
 # that no compiler writes.
 ALONE = """Accounts BalancedTree Codes ConstructorOrder Corners DeepRecursion DefaultMethods ExitInHandler ExpressionParser FinallyOrders
 Initializers Jagged MachineExceptions MergeSort NegativeExit OutAndErr SwitchForms UncaughtMemory UncaughtMine UnicodeTexts
-Limits FirstObjects OtherInitializers SynchronizedInitializer Main 267a 290a 291a 292a""".split()
+Limits FirstObjects OtherInitializers SynchronizedInitializer Main 267a 277a 278a 279a""".split()
 # Programs with threads whose outcome is a matter of the machine's own rules: stalls, abstract methods, numbers.
-OWN_THREADS = ["JoinsItself", "JoinsInARing", "ThreadNumbers", "AbstractRun", "FramesOfThreads"]
+OWN_THREADS = ["JoinsItself", "JoinsInARing", "ThreadNumbers", "AbstractRun", "FramesOfThreads", "ParkedForEver"]
 # How many cases of a program are played in one run.
 GROUP = 12
 # One case in so many is of a program with one thread.

@@ -2,16 +2,18 @@
 
 In a turn a carrier that has a thread mounted makes a step of it, and with a step that ends the thread puts it down; a thread that has to leave is
 put down in its next turn. A thread that isn't enabled is made ready to be put down in one turn, and put down in the next. An idle carrier takes
-up a thread. Before its step a thread has executed its local instructions, at most 10,000.
+up a thread. Before its step a thread has executed its local instructions, at most 10,000. A turn is at a time; time goes on to it first where a
+live thread waits for that, after which the run may have ended, or where the step reads the clock, and the time is less.
 """
 
 from judge import ENTRIES_OF_A_TURN, make_entry
+from invocations import reads_clock
 from local_steps import is_local, make_local_step
 from requests import LacksThreads
 from schedule import Schedule
 from state import DONE, Run
 from steps import MOST_LOCAL_STEPS
-from traces import Mount, Step, Unmount
+from traces import Clock, Mount, Step, Unmount
 
 
 def run_ahead(thread):
@@ -50,9 +52,11 @@ class Player:
         if not self.has_ended() and self.state.is_stalled():
             self.told = "Stalled"
 
-    def step(self, carrier, number):
+    def step(self, carrier, number, now):
         thread = self.state.threads[number]
         ahead = run_ahead(thread)
+        if self.state.now < now and thread.is_in(Run) and reads_clock(self.state, thread):
+            self.enter(Clock(carrier, now))
         try:
             self.schedule.step(carrier, number, ahead + 1, None, ahead)
         except LacksThreads:
@@ -67,9 +71,17 @@ class Player:
             self.frozen.add(carrier)
             self.tell_stall()
 
-    def turn(self, carrier):
+    def turn(self, carrier, now):
         if self.has_ended():
             return
+        if self.state.is_awaited(now):
+            self.enter(Clock(carrier, now))
+            self.tell_stall()
+            if self.has_ended():
+                return
+        self.act(carrier, now)
+
+    def act(self, carrier, now):
         number = self.schedule.mounted[carrier]
         if number is None:
             deque = self.schedule.next_deque(carrier)
@@ -78,6 +90,6 @@ class Player:
         elif carrier in self.frozen:
             self.put_down(carrier, number)
         elif number in self.schedule.look.enabled:
-            self.step(carrier, number)
+            self.step(carrier, number, now)
         else:
             self.frozen.add(carrier)

@@ -295,6 +295,11 @@ class State:
         """Whether a live thread has a deadline that is still to come."""
         return thread.deadline() is not None and thread.deadline() > self.now
 
+    def is_awaited(self, now):
+        """Whether a live thread waits for a time that is still to come, and not later than this."""
+        deadlines = [thread.deadline() for thread in self.threads]
+        return any(deadline is not None and self.now < deadline <= now for deadline in deadlines)
+
     def is_stalled(self):
         """Whether no thread can go on, and no time will change that."""
         goes_on = any(self.is_enabled(thread) or self.has_time(thread) for thread in self.threads)

@@ -163,8 +163,8 @@ fn run_ready<R: Wait, C: Clock, G: Gate>(
     requires main { IsMain program.now main }
     requires names { NamesNoHold program.now }
     ensures { IfOk result (λ x. (p : Setting) → p.world ≡ program.now → p.main ≡ main
-        → p.limits ≡ limits → IsRun p (C.gives clock.now) 1 x.history.items x.out.items x.err.items x.live.items
-        x.ending) }
+        → p.limits ≡ limits → IsRun p (C.gives clock.now) 1 x.history.items
+        x.out.items x.err.items x.live.items x.ending) }
 {
     let mut machine = Machine::begin(alloc, program, main, limits, 1)?;
     let mut hand = Hand::new(alloc)?;
@@ -174,7 +174,8 @@ fn run_ready<R: Wait, C: Clock, G: Gate>(
 }
 
 /// Runs the main method with this number, on one carrier, until the run has ended: the program has, or no thread can go on, or it came to a
-/// limit. Where there is nothing to run it naps by the clock, so a run may wait. The gate is passed before local instructions. The program has the built-in classes, and no instruction of it names jvt.Native.hold.
+/// limit. Where there is nothing to run it naps by the clock, so a run may wait. The gate is passed before local instructions. The program has
+/// the built-in classes, and no instruction of it names jvt.Native.hold.
 pub fn run<R: Wait, C: Clock, G: Gate>(
     rt: &R,
     alloc: Global,
@@ -188,7 +189,8 @@ pub fn run<R: Wait, C: Clock, G: Gate>(
     requires main { IsMain checked main }
     requires names { NamesNoHold checked }
     ensures { IfOk result (λ x. (p : Setting) → p.world ≡ checked → p.main ≡ main
-        → p.limits ≡ limits → IsRun p (C.gives clock.now) 1 x.history.items x.out.items x.err.items x.live.items x.ending) }
+        → p.limits ≡ limits → IsRun p (C.gives clock.now) 1 x.history.items
+        x.out.items x.err.items x.live.items x.ending) }
 {
     let program = ReadyProgram::new(alloc, checked)?;
     run_ready(rt, alloc, &program, main, limits, clock, gate)

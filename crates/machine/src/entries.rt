@@ -102,8 +102,8 @@ pub(crate) fn enter_step(
     most_threads: u32,
 ) -> After
     requires { length history.old.items < vec_capacity history.old }
-    ensures entered { IsEntered tried history.old.items told.old c step most_threads history.new.items
-        told.new result }
+    ensures entered { IsEntered tried history.old.items told.old c step most_threads
+        history.new.items told.new result }
     ensures capacity { vec_capacity history.new ≡ vec_capacity history.old }
 {
     match tried {
