@@ -1,0 +1,6 @@
+pub mod Filters
+pub mod ListLaws
+pub mod Stays
+pub mod MonitorPuts
+pub mod Times
+pub mod TickLaws

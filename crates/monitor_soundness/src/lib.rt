@@ -1,0 +1,53 @@
+//! What monitors have to do with the schedule of threads: whom a step or a tick puts into a deque, and what it makes of the lists of
+//! monitors. Laws on the definitions of `ref_model` and `schedule_model`, each as a call that does nothing.
+#![tactic(auto)]
+
+ghost use Rattle.monitor_soundness.specs.ListLaws.{StepsKeepLists, TicksKeepLists, ListedAreInLine, StepsMoveOne, StepsMoveOneBeside, OneMovesInLists, NotifyMovesTheFirst, NotifyAllMovesAll};
+ghost use Rattle.monitor_soundness.specs.MonitorPuts.{EntersPutNobody, ExitsPutTheFirst, EndsPutJoinersAndTheFirst, NotifiesPutNobody, InterruptsPutTheWaiter, WakesInLinePutNobody};
+ghost use Rattle.monitor_soundness.specs.TickLaws.{TicksWakeWaiters, TicksLeaveOthers, TicksChangeTime, TicksMoveTheDue, TicksPutTheDue};
+
+/// The lists of monitors have the threads that are there, each once, after a step or a tick too, whether or not the program ends with it.
+pub fn lists_keep_their_threads()
+    ensures steps { StepsKeepLists }
+    ensures ticks { TicksKeepLists }
+    ensures in_line { ListedAreInLine }
+{}
+
+/// What a step makes of the lists of monitors: where one thread alone goes elsewhere, it leaves a list or comes last to one; notify moves the
+/// first that waits, and notifyAll all in their order (JLS 17.2).
+pub fn lists_are_seen_by_threads()
+    ensures stays { StepsMoveOne }
+    ensures beside { StepsMoveOneBeside }
+    ensures one { OneMovesInLists }
+    ensures notify { NotifyMovesTheFirst }
+    ensures notify_all { NotifyAllMovesAll }
+{}
+
+/// Whom a step that does something to one monitor puts: nobody where the monitor is owned afterwards; the first in line where it loses its
+/// owner; with the end of the owner those that join it, too (JLS 17.1).
+pub fn puts_are_seen_by_monitors()
+    ensures enters { EntersPutNobody }
+    ensures exits { ExitsPutTheFirst }
+    ensures ends { EndsPutJoinersAndTheFirst }
+{}
+
+/// Whom a step puts that ends the waits of others: nobody by a notification; by an interrupt the thread that waited, where nobody owns its
+/// monitor; and who is in line is put by none of these (JLS 17.2).
+pub fn puts_are_seen_by_waits()
+    ensures notified { NotifiesPutNobody }
+    ensures interrupted { InterruptsPutTheWaiter }
+    ensures in_line { WakesInLinePutNobody }
+{}
+
+/// What a tick of time does: it ends the waits on monitors whose deadlines it reaches, and changes nothing else but the time (JLS 17.2).
+pub fn ticks_are_seen_by_threads()
+    ensures woken { TicksWakeWaiters }
+    ensures others { TicksLeaveOthers }
+    ensures time { TicksChangeTime }
+{}
+
+/// What a tick makes of the lists of monitors, and whom it puts: those that are due, by their deadlines and then by their numbers.
+pub fn ticks_are_seen_by_deadlines()
+    ensures lists { TicksMoveTheDue }
+    ensures put { TicksPutTheDue }
+{}
