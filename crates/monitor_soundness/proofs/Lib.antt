@@ -4,3 +4,4 @@ pub mod Stays
 pub mod MonitorPuts
 pub mod Times
 pub mod TickLaws
+pub mod OpenWaits

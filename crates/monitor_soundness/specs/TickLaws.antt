@@ -13,7 +13,7 @@ use Rattle.ref_model.specs.Setting.{Setting}
 use Rattle.ref_model.specs.State.{JavaThread, State}
 use Rattle.ref_model.specs.Ending.{ending}
 use Rattle.ref_model.specs.Enabled.{enabled}
-use Rattle.ref_model.specs.Waiting.{at_time, thread_woken}
+use Rattle.ref_model.specs.Waiting.{at_time, latest, thread_woken}
 use Rattle.ref_model.specs.Looks.{look_of, spot_of}
 use Rattle.schedule_soundness.specs.HistoryLaws.{IsProgramAfter}
 use Rattle.schedule_soundness.specs.TimeLaws.{AreDue, IsDue}
@@ -23,6 +23,10 @@ use Rattle.monitor_soundness.specs.ListLaws.{moved_list}
 abbrev pub NoWaitIsOver : State → Type 0
 NoWaitIsOver r = (t o count deadline : ℕ) (x : JavaThread) → slice_get r.threads t ≡ Some x →
     x.thread.status ≡ Live (Waiting o count (Some deadline)) → r.now < deadline
+
+-- It is so after each legal history, while there is a later time: a deadline is the greatest number of 64 bits at most (own).
+abbrev pub WaitsAreOpen : Type 0
+WaitsAreOpen = (p : Setting) (first : State) (v : Scheduled State) → IsProgramAfter p first v → v.state.now < latest → NoWaitIsOver v.state
 
 -- ---- the threads
 

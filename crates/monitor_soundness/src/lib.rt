@@ -4,7 +4,7 @@
 
 ghost use Rattle.monitor_soundness.specs.ListLaws.{StepsKeepLists, TicksKeepLists, ListedAreInLine, StepsMoveOne, StepsMoveOneBeside, OneMovesInLists, NotifyMovesTheFirst, NotifyAllMovesAll};
 ghost use Rattle.monitor_soundness.specs.MonitorPuts.{EntersPutNobody, ExitsPutTheFirst, EndsPutJoinersAndTheFirst, NotifiesPutNobody, InterruptsPutTheWaiter, WakesInLinePutNobody};
-ghost use Rattle.monitor_soundness.specs.TickLaws.{TicksWakeWaiters, TicksLeaveOthers, TicksChangeTime, TicksMoveTheDue, TicksPutTheDue};
+ghost use Rattle.monitor_soundness.specs.TickLaws.{WaitsAreOpen, TicksWakeWaiters, TicksLeaveOthers, TicksChangeTime, TicksMoveTheDue, TicksPutTheDue};
 
 /// The lists of monitors have the threads that are there, each once, after a step or a tick too, whether or not the program ends with it.
 pub fn lists_keep_their_threads()
@@ -39,8 +39,10 @@ pub fn puts_are_seen_by_waits()
     ensures in_line { WakesInLinePutNobody }
 {}
 
-/// What a tick of time does: it ends the waits on monitors whose deadlines it reaches, and changes nothing else but the time (JLS 17.2).
+/// What a tick of time does: it ends the waits on monitors whose deadlines it reaches, of which none was reached before, and changes nothing
+/// else but the time (JLS 17.2).
 pub fn ticks_are_seen_by_threads()
+    ensures open { WaitsAreOpen }
     ensures woken { TicksWakeWaiters }
     ensures others { TicksLeaveOthers }
     ensures time { TicksChangeTime }
