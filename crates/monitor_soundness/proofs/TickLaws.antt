@@ -34,8 +34,7 @@ use Rattle.schedule_soundness.proofs.LookLaws.{ready_at, spot_at}
 use Rattle.schedule_soundness.proofs.Placed.{dead_off}
 use Rattle.schedule_soundness.proofs.PutLaws.{kept_runs, unplaced_waits}
 use Rattle.schedule_soundness.proofs.DeadlineOrder.{filter_by_deadline}
-use Rattle.monitor_soundness.specs.ListLaws.{moved_list}
-use Rattle.monitor_soundness.specs.TickLaws.{NoWaitIsOver, TicksMoveTheDue, TicksPutTheDue, moved_by}
+use Rattle.monitor_soundness.specs.TickLaws.{NoWaitIsOver, TicksMoveTheDue, TicksPutTheDue, left_by, lined_up_by}
 use Rattle.monitor_soundness.proofs.Filters.{filter_all, filter_both, filter_in}
 use Rattle.monitor_soundness.proofs.ListLaws.{all_kept, only_kept, was_there}
 use Rattle.monitor_soundness.proofs.Stays.{no_both, same_status_runs}
@@ -167,29 +166,6 @@ module _ (w : World) (r : State) (now o : ℕ) (open_waits : NoWaitIsOver r) whe
   enters_still t (lines_up n due was is) e = let z : false ≡ true = sym (ap (is_entering o) was) ∙ e in absurd cc
   enters_still t (stays why same) e = ap (is_entering o) same ∙ e
 
-  -- ---- one due thread
-
-  due_waits : (u : ℕ) (list : List ℕ) → is_due r now u ≡ true → Goes w r now u
-      → moved_list (is_waiting o) u (before.spot u) (after.spot u) list ≡ cond (is_waiting o (before.spot u)) (without u list) list
-  due_waits u list due go =
-      let gone : is_waiting o (after.spot u) ≡ false =
-      waits_still u go ∙ ap (λ b. is_waiting o (before.spot u) && not b) due ∙ and_right (is_waiting o (before.spot u)) false refl in
-      ap (λ b. cond b (cond (is_waiting o (before.spot u)) list (list ++ u ∷ [])) (cond (is_waiting o (before.spot u)) (without u list) list)) gone
-
-  due_enters : (u : ℕ) (list : List ℕ) → is_due r now u ≡ true → Goes w r now u
-      → moved_list (is_entering o) u (before.spot u) (after.spot u) list ≡ cond (is_waiting o (before.spot u)) (list ++ u ∷ []) list
-  due_enters u list due (lines_up n there was is) =
-      ap (λ x. moved_list (is_entering o) u x (after.spot u) list) was ∙ ap (λ x. moved_list (is_entering o) u (in_wait_list n) x list) is
-      ∙ sym (ap (λ x. cond (is_waiting o x) (list ++ u ∷ []) list) was)
-  due_enters u list due (stays (inl off) same) = absurd (no_both (is_due r now u) due off)
-  due_enters u list due (stays (inr free) same) =
-      ap (λ x. moved_list (is_entering o) u (before.spot u) x list) same ∙ either (is_entering o (before.spot u))
-      ∙ sym (ap (λ b. cond b (list ++ u ∷ []) list) (wait_list_off o (before.spot u) free))
-    where
-      either : (b : Bool) → cond b (cond b list (list ++ u ∷ [])) (cond b (without u list) list) ≡ list
-      either true = refl
-      either false = refl
-
   -- ---- one after the other
 
   -- a list of threads that wait, without one of them or another
@@ -215,25 +191,19 @@ module _ (w : World) (r : State) (now o : ℕ) (open_waits : NoWaitIsOver r) whe
             ∙ sym (ap (λ n. n == 0) (count-other t u us (λ same. other.1 (sym same))))
       ]
 
-  all_waits : (us list : List ℕ) → ((u : ℕ) → 0 < count u us → is_due r now u ≡ true)
-      → ((t : ℕ) → 0 < count t list → is_waiting o (before.spot t) ≡ true)
-      → moved_by (is_waiting o) before after us list ≡ filter (λ t. count t us == 0) list
-  all_waits [] list due all = sym (filter_all (λ t. count t [] == 0) list (λ t there. refl))
-  all_waits (u ∷ us) list due all =
-      ap (moved_by (is_waiting o) before after us)
-      (due_waits u list (due u (count-here u us)) (goes w r now u open_waits) ∙ without_is u list all)
-      ∙ all_waits us (without u list) (λ t there. due t (count-there t u us there))
-      (λ t there. all t (omega (arith, there, count-filter_le t (λ x. not (x == u)) list)))
+  all_leave : (us list : List ℕ) → ((t : ℕ) → 0 < count t list → is_waiting o (before.spot t) ≡ true)
+      → left_by before o us list ≡ filter (λ t. count t us == 0) list
+  all_leave [] list all = sym (filter_all (λ t. count t [] == 0) list (λ t there. refl))
+  all_leave (u ∷ us) list all =
+      ap (left_by before o us) (without_is u list all)
+      ∙ all_leave us (without u list) (λ t there. all t (omega (arith, there, count-filter_le t (λ x. not (x == u)) list)))
       ∙ sym (filter_both (λ t. not (t == u)) (λ t. count t us == 0) list)
       ∙ filter_in (λ t. not (t == u) && (count t us == 0)) (λ t. count t (u ∷ us) == 0) list (λ t there. not_among t u us)
 
-  all_enter : (us list : List ℕ) → ((u : ℕ) → 0 < count u us → is_due r now u ≡ true)
-      → moved_by (is_entering o) before after us list ≡ list ++ filter (λ u. is_waiting o (before.spot u)) us
-  all_enter [] list due = sym (append-nil list)
-  all_enter (u ∷ us) list due =
-      ap (moved_by (is_entering o) before after us) (due_enters u list (due u (count-here u us)) (goes w r now u open_waits))
-      ∙ all_enter us (cond (is_waiting o (before.spot u)) (list ++ u ∷ []) list) (λ t there. due t (count-there t u us there))
-      ∙ by (is_waiting o (before.spot u))
+  all_line_up : (us list : List ℕ) → lined_up_by before o us list ≡ list ++ filter (λ u. is_waiting o (before.spot u)) us
+  all_line_up [] list = sym (append-nil list)
+  all_line_up (u ∷ us) list =
+      all_line_up us (cond (is_waiting o (before.spot u)) (list ++ u ∷ []) list) ∙ by (is_waiting o (before.spot u))
     where
       rest : List ℕ
       rest = filter (λ u. is_waiting o (before.spot u)) us
@@ -264,11 +234,11 @@ module _ (w : World) (r : State) (now o : ℕ) (open_waits : NoWaitIsOver r) whe
               | inr some ↦ absurd (no_both (is_due r now t) (there_due w r now due these t (omega (arith, some.1))) e)
             ]
 
-    pub waits_after : updated_list (is_waiting o) before after order (s.wait_list o) ≡ moved_by (is_waiting o) before after due (s.wait_list o)
+    pub waits_after : updated_list (is_waiting o) before after order (s.wait_list o) ≡ left_by before o due (s.wait_list o)
     waits_after =
         only_kept (is_waiting o) before after order (s.wait_list o) (λ t. listed.waits t o) (λ t there. off t)
         ∙ filter_in (λ t. is_waiting o (after.spot t)) (λ t. count t due == 0) (s.wait_list o) (λ t there. still t there)
-        ∙ sym (all_waits due (s.wait_list o) (there_due w r now due these) (λ t there. waited t there))
+        ∙ sym (all_leave due (s.wait_list o) (λ t there. waited t there))
       where
         waited : (t : ℕ) → 0 < count t (s.wait_list o) → is_waiting o (before.spot t) ≡ true
         waited t there = was_there (is_waiting o) before after order (s.wait_list o) (λ u. listed.waits u o) t there
@@ -288,7 +258,7 @@ module _ (w : World) (r : State) (now o : ℕ) (open_waits : NoWaitIsOver r) whe
             waits_still t (goes w r now t open_waits) ∙ ap (λ b. b && not (is_due r now t)) (waited t there) ∙ not_due t
 
     pub enters_after : updated_list (is_entering o) before after order (s.entry_list o)
-        ≡ moved_by (is_entering o) before after due (s.entry_list o)
+        ≡ lined_up_by before o due (s.entry_list o)
     enters_after =
         all_kept (is_entering o) before after order (s.entry_list o) (λ t. listed.enters t o)
         (λ t there. enters_still t (goes w r now t open_waits) (was_there (is_entering o) before after order (s.entry_list o) (λ u. listed.enters u o) t there))
@@ -297,16 +267,16 @@ module _ (w : World) (r : State) (now o : ℕ) (open_waits : NoWaitIsOver r) whe
         (λ t. is_due r now t && is_waiting o (before.spot t)) (λ t. comes_due t (goes w r now t open_waits)) order
         ∙ filter_both (is_due r now) (λ t. is_waiting o (before.spot t)) order
         ∙ ap (filter (λ t. is_waiting o (before.spot t))) (due_is w r now due these))
-        ∙ sym (all_enter due (s.entry_list o) (there_due w r now due these))
+        ∙ sym (all_line_up due (s.entry_list o))
 
 pub ticks_move_the_due : TicksMoveTheDue
 ticks_move_the_due w r q s now o due listed tick open_waits these =
     at_later r q now
     (λ (z : State).
     (updated_list (is_waiting o) (look_of w r) (look_of w z) (by_deadline (look_of w r) (look_of w z)) (s.wait_list o) ≡
-    moved_by (is_waiting o) (look_of w r) (look_of w z) due (s.wait_list o)) ×
+    left_by (look_of w r) o due (s.wait_list o)) ×
     (updated_list (is_entering o) (look_of w r) (look_of w z) (by_deadline (look_of w r) (look_of w z)) (s.entry_list o) ≡
-    moved_by (is_entering o) (look_of w r) (look_of w z) due (s.entry_list o)))
+    lined_up_by (look_of w r) o due (s.entry_list o)))
     tick (waits_after w r now o open_waits due these s listed, enters_after w r now o open_waits due these s listed)
 
 -- ---- who is put

@@ -1,10 +1,11 @@
 -- What a tick of time does to the threads, to the lists of monitors, and to a deque (JLS 17.2: a wait ends when its time has passed).
-use Rattle.std.specs.Prelude.{◌≡◌, ◌⊎◌, ◌<◌, ◌==◌, ◌&&◌, ℕ, Bool, true, false, List, [], ◌∷◌, None, Some, filter, length, slice_get}
+use Rattle.std.specs.Prelude.{◌≡◌, ◌⊎◌, ◌<◌, ◌==◌, ◌&&◌, ℕ, true, false, List, [], ◌∷◌, ◌++◌, None, Some, filter, if◌then◌else◌, length, slice_get}
 use Rattle.vthread_state.specs.declared.phase.Phase.TheVariants.{Waiting}
 use Rattle.vthread_state.specs.declared.phase.Wake.TheVariants.{TimedOut}
 use Rattle.vthread_state.specs.declared.thread.Status.TheVariants.{Live}
+use Rattle.thread_lists.specs.Lists.{without}
 use Rattle.link_model.specs.World.{World}
-use Rattle.schedule_model.specs.Look.{Look, Spot, is_entering, is_in_wait_list, is_waiting}
+use Rattle.schedule_model.specs.Look.{Look, is_entering, is_in_wait_list, is_waiting}
 use Rattle.schedule_model.specs.Schedule.{Schedule, places}
 use Rattle.schedule_model.specs.Puts.{by_deadline, put_by, updated_list}
 use Rattle.schedule_model.specs.Run.{Scheduled}
@@ -17,7 +18,6 @@ use Rattle.ref_model.specs.Waiting.{at_time, latest, thread_woken}
 use Rattle.ref_model.specs.Looks.{look_of, spot_of}
 use Rattle.schedule_soundness.specs.HistoryLaws.{IsProgramAfter}
 use Rattle.schedule_soundness.specs.TimeLaws.{AreDue, IsDue}
-use Rattle.monitor_soundness.specs.ListLaws.{moved_list}
 
 -- each thread that waits on a monitor has a deadline that is still to come, or none
 abbrev pub NoWaitIsOver : State → Type 0
@@ -54,20 +54,24 @@ TicksChangeTime = (r q : State) (now : ℕ) → at_time r now ≡ Some q → IsT
 
 -- ---- the lists of monitors
 
--- a list after these threads went elsewhere, one after the other
-abbrev pub moved_by : (Spot → Bool) → Look → Look → List ℕ → List ℕ → List ℕ
-moved_by belongs before after [] list = list
-moved_by belongs before after (u ∷ us) list =
-    moved_by belongs before after us (moved_list belongs u (before.spot u) (after.spot u) list)
+-- the wait list of a monitor after those of these threads that wait on it have left it, one after the other
+abbrev pub left_by : Look → ℕ → List ℕ → List ℕ → List ℕ
+left_by before o [] list = list
+left_by before o (u ∷ us) list = left_by before o us (if is_waiting o (before.spot u) then without u list else list)
 
--- Those that are due go where they go one after the other, in their order.
+-- its entry list after they have come last to it, one after the other
+abbrev pub lined_up_by : Look → ℕ → List ℕ → List ℕ → List ℕ
+lined_up_by before o [] list = list
+lined_up_by before o (u ∷ us) list = lined_up_by before o us (if is_waiting o (before.spot u) then list ++ u ∷ [] else list)
+
+-- Those that are due do so in their order.
 abbrev pub TicksMoveTheDue : Type 0
 TicksMoveTheDue = (w : World) (r q : State) (s : Schedule) (now o : ℕ) (due : List ℕ) → AreListed (look_of w r) s →
     at_time r now ≡ Some q → NoWaitIsOver r → AreDue (look_of w r) now due →
     (updated_list (is_waiting o) (look_of w r) (look_of w q) (by_deadline (look_of w r) (look_of w q)) (s.wait_list o) ≡
-    moved_by (is_waiting o) (look_of w r) (look_of w q) due (s.wait_list o)) ×
+    left_by (look_of w r) o due (s.wait_list o)) ×
     (updated_list (is_entering o) (look_of w r) (look_of w q) (by_deadline (look_of w r) (look_of w q)) (s.entry_list o) ≡
-    moved_by (is_entering o) (look_of w r) (look_of w q) due (s.entry_list o))
+    lined_up_by (look_of w r) o due (s.entry_list o))
 
 -- ---- who is put
 
