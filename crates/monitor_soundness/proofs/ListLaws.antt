@@ -1,5 +1,5 @@
 -- What a step makes of the lists of monitors.
-use Rattle.std.proofs.Common.{◌≡◌, ◌≢◌, ◌⊎◌, inl, inr, eqb, ◌==◌, ◌<◌, ◌≤◌, ◌+◌, ℕ, Bool, true, false, List, [], ◌∷◌, ◌++◌, append-nil, length, Option, Some, None, refl, ap, sym, subst, ◌∙◌, ◌&&◌, not, arith, cond, take}
+use Rattle.std.proofs.Common.{◌≡◌, ◌≢◌, ◌⊎◌, inl, inr, eqb, ◌==◌, ◌<◌, ◌≤◌, ◌+◌, ℕ, Bool, true, false, List, [], ◌∷◌, ◌++◌, append-nil, length, Option, Some, None, refl, ap, sym, subst, ◌∙◌, ◌&&◌, not, arith, cond, drop, take}
 use Rattle.std.specs.Prelude.{slice_get}
 use Rattle.std.specs.List.{filter}
 use Rattle.std.proofs.lemmas.Bool.{cases_Bool, eq-eqb, ne_eqb}
@@ -20,7 +20,7 @@ use Rattle.ref_model.specs.State.{JavaThread, State}
 use Rattle.ref_model.specs.Looks.{look_of, spot_of}
 use Rattle.schedule_soundness.specs.PutLaws.{Stays, no_thread, is_new, is_kept}
 use Rattle.schedule_soundness.proofs.OtherMoves.{spot_at}
-use Rattle.monitor_soundness.specs.ListLaws.{IsWhereItWas, stayed, was_made, ListedAreInLine, NotifyAllMovesAll, NotifyMovesTheFirst, OneMovesInLists, StepsKeepLists, StepsMoveOne, StepsMoveOneBeside, TicksKeepLists, entry_list_after, moved_list, wait_list_after}
+use Rattle.monitor_soundness.specs.ListLaws.{ListsBecome, OneMoves, IsWhereItWas, stayed, was_made, is_in_a_list, OtherStepsKeepLists, WhoEntersLeavesTheLine, WhoLinesUpIsLast, WhoWaitsIsLast, WhoseWaitEndsIsLast, ListedAreInLine, NotifyAllMovesAll, NotifyMovesTheFirst, OneMovesInLists, StepsKeepLists, StepsMoveOne, StepsMoveOneBeside, TicksKeepLists, entry_list_after, moved_list, wait_list_after}
 use Rattle.monitor_soundness.proofs.Filters.{filter_all, filter_in, filter_none, filter_one}
 
 -- ---- spots
@@ -286,41 +286,145 @@ in_other_wait o n ne = ne_eqb o n (λ e. ne (sym e))
 in_other_line : (o n : ℕ) → n ≢ o → is_entering n (in_entry_list o) ≡ false
 in_other_line o n ne = ne_eqb o n (λ e. ne (sym e))
 
+-- who is in no list is in none of a monitor
+free_waits : (n : ℕ) (x : Spot) → is_in_a_list x ≡ false → is_waiting n x ≡ false
+free_waits n absent e = refl
+free_waits n unstarted e = refl
+free_waits n in_no_list e = refl
+free_waits n (in_wait_list p) e = absurd cc
+free_waits n (in_entry_list p) e = refl
+free_waits n done e = refl
+
+free_enters : (n : ℕ) (x : Spot) → is_in_a_list x ≡ false → is_entering n x ≡ false
+free_enters n absent e = refl
+free_enters n unstarted e = refl
+free_enters n in_no_list e = refl
+free_enters n (in_wait_list p) e = refl
+free_enters n (in_entry_list p) e = absurd cc
+free_enters n done e = refl
+
+-- a list by whether the thread was in it, and whether it is
+moved_as : (belongs : Spot → Bool) (u : ℕ) (old new : Spot) (was is : Bool) (list : List ℕ) → belongs old ≡ was → belongs new ≡ is
+    → moved_list belongs u old new list ≡ cond is (cond was list (list ++ u ∷ [])) (cond was (without u list) list)
+moved_as belongs u old new was is list was_is is_is =
+    ap (λ b. cond b (cond (belongs old) list (list ++ u ∷ [])) (cond (belongs old) (without u list) list)) is_is
+    ∙ ap (λ b. cond is (cond b list (list ++ u ∷ [])) (cond b (without u list) list)) was_is
+
+module _ (w : World) (r q : State) (s : Schedule) (u o : ℕ) (listed : AreListed (look_of w r) s) (others : OneMoves u (look_of w r) (look_of w q)) where
+  abbrev old : Spot
+  old = (look_of w r).spot u
+
+  abbrev new : Spot
+  new = (look_of w q).spot u
+
+  waits_as : (n : ℕ) (was is : Bool) → is_waiting n old ≡ was → is_waiting n new ≡ is
+      → wait_list_after (look_of w r) (look_of w q) s n
+      ≡ cond is (cond was (s.wait_list n) (s.wait_list n ++ u ∷ [])) (cond was (without u (s.wait_list n)) (s.wait_list n))
+  waits_as n was is was_is is_is =
+      (one_moves_in_lists w r q s u n listed others).0 ∙ moved_as (is_waiting n) u old new was is (s.wait_list n) was_is is_is
+
+  enters_as : (n : ℕ) (was is : Bool) → is_entering n old ≡ was → is_entering n new ≡ is
+      → entry_list_after (look_of w r) (look_of w q) s n
+      ≡ cond is (cond was (s.entry_list n) (s.entry_list n ++ u ∷ [])) (cond was (without u (s.entry_list n)) (s.entry_list n))
+  enters_as n was is was_is is_is =
+      (one_moves_in_lists w r q s u n listed others).1 ∙ moved_as (is_entering n) u old new was is (s.entry_list n) was_is is_is
+
+  -- what a spot says of the lists of this monitor, and of those of another
+  waits_here : (x : Spot) → x ≡ in_wait_list o → is_waiting o x ≡ true
+  waits_here x e = waiting_at o x e
+
+  waits_there : (n : ℕ) (x : Spot) → n ≢ o → x ≡ in_wait_list o → is_waiting n x ≡ false
+  waits_there n x ne e = ap (is_waiting n) e ∙ in_other_wait o n ne
+
+  enters_there : (n : ℕ) (x : Spot) → n ≢ o → x ≡ in_entry_list o → is_entering n x ≡ false
+  enters_there n x ne e = ap (is_entering n) e ∙ in_other_line o n ne
+
+  line_waits : (n : ℕ) (x : Spot) → x ≡ in_entry_list o → is_waiting n x ≡ false
+  line_waits n x e = ap (is_waiting n) e
+
+  wait_enters : (n : ℕ) (x : Spot) → x ≡ in_wait_list o → is_entering n x ≡ false
+  wait_enters n x e = ap (is_entering n) e
+
+  lines_up : is_in_a_list old ≡ false → new ≡ in_entry_list o
+      → ListsBecome (look_of w r) (look_of w q) s o (s.wait_list o) (s.entry_list o ++ u ∷ [])
+  lines_up free at =
+      record {
+        waits_are = waits_as o false false (free_waits o old free) (line_waits o new at);
+        enters_are = enters_as o false true (free_enters o old free) (entering_at o new at);
+        others_wait = λ n ne. waits_as n false false (free_waits n old free) (line_waits n new at);
+        others_enter = λ n ne. enters_as n false false (free_enters n old free) (enters_there n new ne at);
+      }
+
+  leaves_line : old ≡ in_entry_list o → is_in_a_list new ≡ false
+      → ListsBecome (look_of w r) (look_of w q) s o (s.wait_list o) (without u (s.entry_list o))
+  leaves_line at free =
+      record {
+        waits_are = waits_as o false false (line_waits o old at) (free_waits o new free);
+        enters_are = enters_as o true false (entering_at o old at) (free_enters o new free);
+        others_wait = λ n ne. waits_as n false false (line_waits n old at) (free_waits n new free);
+        others_enter = λ n ne. enters_as n false false (enters_there n old ne at) (free_enters n new free);
+      }
+
+  begins_wait : is_in_a_list old ≡ false → new ≡ in_wait_list o
+      → ListsBecome (look_of w r) (look_of w q) s o (s.wait_list o ++ u ∷ []) (s.entry_list o)
+  begins_wait free at =
+      record {
+        waits_are = waits_as o false true (free_waits o old free) (waits_here new at);
+        enters_are = enters_as o false false (free_enters o old free) (wait_enters o new at);
+        others_wait = λ n ne. waits_as n false false (free_waits n old free) (waits_there n new ne at);
+        others_enter = λ n ne. enters_as n false false (free_enters n old free) (wait_enters n new at);
+      }
+
+  ends_wait : old ≡ in_wait_list o → new ≡ in_entry_list o
+      → ListsBecome (look_of w r) (look_of w q) s o (without u (s.wait_list o)) (s.entry_list o ++ u ∷ [])
+  ends_wait was at =
+      record {
+        waits_are = waits_as o true false (waits_here old was) (line_waits o new at);
+        enters_are = enters_as o false true (wait_enters o old was) (entering_at o new at);
+        others_wait = λ n ne. waits_as n false false (waits_there n old ne was) (line_waits n new at);
+        others_enter = λ n ne. enters_as n false false (wait_enters n old was) (enters_there n new ne at);
+      }
+
+  is_free_still : is_in_a_list old ≡ false → is_in_a_list new ≡ false
+      → ListsBecome (look_of w r) (look_of w q) s o (s.wait_list o) (s.entry_list o)
+  is_free_still was is =
+      record {
+        waits_are = waits_as o false false (free_waits o old was) (free_waits o new is);
+        enters_are = enters_as o false false (free_enters o old was) (free_enters o new is);
+        others_wait = λ n ne. waits_as n false false (free_waits n old was) (free_waits n new is);
+        others_enter = λ n ne. enters_as n false false (free_enters n old was) (free_enters n new is);
+      }
+
+  -- the first that waits
+  notified : slice_get (s.wait_list o) 0 ≡ Some u → new ≡ in_entry_list o
+      → ListsBecome (look_of w r) (look_of w q) s o (drop 1 (s.wait_list o)) (s.entry_list o ++ take 1 (s.wait_list o))
+  notified first at =
+      let there = belongs_from (is_waiting o old) (count u (s.wait_list o)) (listed.waits u o) (first-held (s.wait_list o) u first) in
+      let moves = ends_wait (waiting_is o old there) at in
+      record {
+        waits_are = moves.waits_are ∙ without-first (s.wait_list o) u first (waits_once (look_of w r) s o listed u);
+        enters_are = moves.enters_are ∙ ap (λ xs. s.entry_list o ++ xs) (sym (first_alone (s.wait_list o) u first));
+        others_wait = moves.others_wait;
+        others_enter = moves.others_enter;
+      }
+
+pub who_lines_up_is_last : WhoLinesUpIsLast
+who_lines_up_is_last w r q s u o listed others free at = lines_up w r q s u o listed others free at
+
+pub who_enters_leaves_the_line : WhoEntersLeavesTheLine
+who_enters_leaves_the_line w r q s u o listed others at free = leaves_line w r q s u o listed others at free
+
+pub who_waits_is_last : WhoWaitsIsLast
+who_waits_is_last w r q s u o listed others free at = begins_wait w r q s u o listed others free at
+
+pub whose_wait_ends_is_last : WhoseWaitEndsIsLast
+whose_wait_ends_is_last w r q s u o listed others was at = ends_wait w r q s u o listed others was at
+
 pub notify_moves_the_first : NotifyMovesTheFirst
-notify_moves_the_first w r q s u o listed others first now =
-    record {
-      waits_are =
-          (one_moves_in_lists w r q s u o listed others).0
-          ∙ ap (λ x. moved_list (is_waiting o) u x (after.spot u) (s.wait_list o)) was
-          ∙ ap (λ x. moved_list (is_waiting o) u (in_wait_list o) x (s.wait_list o)) now
-          ∙ ap (λ b. cond b (without u (s.wait_list o)) (s.wait_list o)) (eq-eqb o o refl)
-          ∙ without-first (s.wait_list o) u first (waits_once before s o listed u);
-      enters_are =
-          (one_moves_in_lists w r q s u o listed others).1
-          ∙ ap (λ x. moved_list (is_entering o) u x (after.spot u) (s.entry_list o)) was
-          ∙ ap (λ x. moved_list (is_entering o) u (in_wait_list o) x (s.entry_list o)) now
-          ∙ ap (λ b. cond b (s.entry_list o ++ u ∷ []) (s.entry_list o)) (eq-eqb o o refl)
-          ∙ ap (λ xs. s.entry_list o ++ xs) (sym (first_alone (s.wait_list o) u first));
-      others_wait = λ n ne.
-          (one_moves_in_lists w r q s u n listed others).0
-          ∙ ap (λ x. moved_list (is_waiting n) u x (after.spot u) (s.wait_list n)) was
-          ∙ ap (λ x. moved_list (is_waiting n) u (in_wait_list o) x (s.wait_list n)) now
-          ∙ ap (λ b. cond b (without u (s.wait_list n)) (s.wait_list n)) (in_other_wait o n ne);
-      others_enter = λ n ne.
-          (one_moves_in_lists w r q s u n listed others).1
-          ∙ ap (λ x. moved_list (is_entering n) u x (after.spot u) (s.entry_list n)) was
-          ∙ ap (λ x. moved_list (is_entering n) u (in_wait_list o) x (s.entry_list n)) now
-          ∙ ap (λ b. cond b (s.entry_list n ++ u ∷ []) (s.entry_list n)) (in_other_line o n ne);
-    }
-  where
-    before : Look
-    before = look_of w r
+notify_moves_the_first w r q s u o listed others first at = notified w r q s u o listed others first at
 
-    after : Look
-    after = look_of w q
-
-    was : before.spot u ≡ in_wait_list o
-    was = waiting_is o (before.spot u) (belongs_from (is_waiting o (before.spot u)) (count u (s.wait_list o)) (listed.waits u o) (first-held (s.wait_list o) u first))
+pub other_steps_keep_lists : OtherStepsKeepLists
+other_steps_keep_lists w r q s u o listed others was is = is_free_still w r q s u o listed others was is
 
 -- ---- all that wait on a monitor go elsewhere
 

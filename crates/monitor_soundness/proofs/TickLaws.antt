@@ -9,7 +9,7 @@ use Rattle.std.proofs.lemmas.List.Elements.{filter_agree}
 use Rattle.std.proofs.lemmas.Option.{slice_get_within}
 use mathlib.Core.Bool.{and-true}
 use Rattle.thread_lists.specs.Lists.{count, without}
-use Rattle.thread_lists.proofs.CountLaws.{count-here, count-other, count-there}
+use Rattle.thread_lists.proofs.CountLaws.{count-here, count-other}
 use Rattle.vthread_state.specs.declared.phase.Phase.TheVariants.{Run, Throwing, Entering, Waiting, Reenter, Parked, Asleep, Joining}
 use Rattle.vthread_state.specs.declared.phase.Wake.TheVariants.{TimedOut}
 use Rattle.vthread_state.specs.declared.thread.Status.{Status}

@@ -1,5 +1,5 @@
 -- What a step makes of the lists of monitors: who waits for a notification, and who is in line (JLS 17.1, 17.2).
-use Rattle.std.specs.Prelude.{◌≡◌, ◌≢◌, ℕ, Bool, Contains, List, [], ◌∷◌, ◌++◌, Some, drop, if◌then◌else◌, slice_get, take}
+use Rattle.std.specs.Prelude.{◌≡◌, ◌≢◌, ℕ, Bool, true, false, Contains, List, [], ◌∷◌, ◌++◌, Some, drop, if◌then◌else◌, slice_get, take}
 use Rattle.thread_lists.specs.Lists.{without}
 use Rattle.link_model.specs.World.{World}
 use Rattle.schedule_model.specs.Look.{Look, Spot, absent, unstarted, in_entry_list, in_wait_list, is_entering, is_waiting}
@@ -80,11 +80,49 @@ OneMovesInLists = (w : World) (r q : State) (s : Schedule) (u o : ℕ) → AreLi
     (entry_list_after (look_of w r) (look_of w q) s o ≡
     moved_list (is_entering o) u ((look_of w r).spot u) ((look_of w q).spot u) (s.entry_list o))
 
--- Where that is the first of a wait list, and comes in line for the monitor (notify), the first of that list comes last to the other.
+-- ---- so each call of a monitor is met
+
+-- in a list of some monitor
+abbrev pub is_in_a_list : Spot → Bool
+is_in_a_list (in_wait_list o) = true
+is_in_a_list (in_entry_list o) = true
+is_in_a_list spot = false
+
+-- Who comes in line for a monitor comes last: by monitorenter, or as it is started.
+abbrev pub WhoLinesUpIsLast : Type 0
+WhoLinesUpIsLast = (w : World) (r q : State) (s : Schedule) (u o : ℕ) → AreListed (look_of w r) s →
+    OneMoves u (look_of w r) (look_of w q) → is_in_a_list ((look_of w r).spot u) ≡ false → (look_of w q).spot u ≡ in_entry_list o →
+    ListsBecome (look_of w r) (look_of w q) s o (s.wait_list o) (s.entry_list o ++ u ∷ [])
+
+-- Who takes the monitor leaves the line.
+abbrev pub WhoEntersLeavesTheLine : Type 0
+WhoEntersLeavesTheLine = (w : World) (r q : State) (s : Schedule) (u o : ℕ) → AreListed (look_of w r) s →
+    OneMoves u (look_of w r) (look_of w q) → (look_of w r).spot u ≡ in_entry_list o → is_in_a_list ((look_of w q).spot u) ≡ false →
+    ListsBecome (look_of w r) (look_of w q) s o (s.wait_list o) (without u (s.entry_list o))
+
+-- Who waits comes last to the wait list.
+abbrev pub WhoWaitsIsLast : Type 0
+WhoWaitsIsLast = (w : World) (r q : State) (s : Schedule) (u o : ℕ) → AreListed (look_of w r) s →
+    OneMoves u (look_of w r) (look_of w q) → is_in_a_list ((look_of w r).spot u) ≡ false → (look_of w q).spot u ≡ in_wait_list o →
+    ListsBecome (look_of w r) (look_of w q) s o (s.wait_list o ++ u ∷ []) (s.entry_list o)
+
+-- Whose wait ends leaves that list, and comes last in line.
+abbrev pub WhoseWaitEndsIsLast : Type 0
+WhoseWaitEndsIsLast = (w : World) (r q : State) (s : Schedule) (u o : ℕ) → AreListed (look_of w r) s →
+    OneMoves u (look_of w r) (look_of w q) → (look_of w r).spot u ≡ in_wait_list o → (look_of w q).spot u ≡ in_entry_list o →
+    ListsBecome (look_of w r) (look_of w q) s o (without u (s.wait_list o)) (s.entry_list o ++ u ∷ [])
+
+-- Where that is the first of the wait list (notify) it is the first of that which comes last to the other.
 abbrev pub NotifyMovesTheFirst : Type 0
 NotifyMovesTheFirst = (w : World) (r q : State) (s : Schedule) (u o : ℕ) → AreListed (look_of w r) s →
     OneMoves u (look_of w r) (look_of w q) → slice_get (s.wait_list o) 0 ≡ Some u → (look_of w q).spot u ≡ in_entry_list o →
     ListsBecome (look_of w r) (look_of w q) s o (drop 1 (s.wait_list o)) (s.entry_list o ++ take 1 (s.wait_list o))
+
+-- Where it is in no list before and after no list changes.
+abbrev pub OtherStepsKeepLists : Type 0
+OtherStepsKeepLists = (w : World) (r q : State) (s : Schedule) (u o : ℕ) → AreListed (look_of w r) s →
+    OneMoves u (look_of w r) (look_of w q) → is_in_a_list ((look_of w r).spot u) ≡ false → is_in_a_list ((look_of w q).spot u) ≡ false →
+    ListsBecome (look_of w r) (look_of w q) s o (s.wait_list o) (s.entry_list o)
 
 -- ---- all that wait on a monitor go elsewhere
 

@@ -1,4 +1,4 @@
-use Rattle.monitor_soundness.proofs.ListLaws.{notify_all_moves_all, notify_moves_the_first, one_moves_in_lists, steps_move_one, steps_move_one_beside}
+use Rattle.monitor_soundness.proofs.ListLaws.{one_moves_in_lists, steps_move_one, steps_move_one_beside}
 use Rattle.monitor_soundness.proofs.lists_are_seen_by_threads.Goals as goal
 
 pub returns-clause-stays : goal.returns-clause-stays
@@ -9,9 +9,3 @@ returns-clause-beside c = λ w r q t u others own. steps_move_one_beside w r q t
 
 pub returns-clause-one : goal.returns-clause-one
 returns-clause-one c = λ w r q s u o listed others. one_moves_in_lists w r q s u o listed others
-
-pub returns-clause-notify : goal.returns-clause-notify
-returns-clause-notify c = λ w r q s u o listed others first now. notify_moves_the_first w r q s u o listed others first now
-
-pub returns-clause-notify_all : goal.returns-clause-notify_all
-returns-clause-notify_all c = λ w r q s o listed moves. notify_all_moves_all w r q s o listed moves
