@@ -1,16 +1,14 @@
 -- Whom a step puts that does something to a monitor.
 use Rattle.std.proofs.Common.{◌≡◌, ◌≢◌, ◌⊎◌, inl, inr, eqb, ◌==◌, ◌<◌, ℕ, zero, Bool, true, false, List, [], ◌∷◌, length, Option, Some, None, refl, ap, sym, subst, ◌∙◌, ◌&&◌, ◌||◌, not, arith, cond}
-use Rattle.std.specs.Prelude.{Contains, if◌then◌else◌, is_none, is_some, map, slice_get}
+use Rattle.std.specs.Prelude.{Contains, if◌then◌else◌, is_none, is_some, slice_get}
 use Rattle.std.specs.Option.{option_map_or}
-use Rattle.std.proofs.lemmas.Bool.{and_from, and_parts, and_right, cases_Bool, eq-eqb, eqb-true, ne_eqb, or_left, or_right}
+use Rattle.std.proofs.lemmas.Bool.{and_from, and_right, cases_Bool, eq-eqb, eqb-true, ne_eqb}
 use Rattle.std.proofs.lemmas.Bool.Decides.{eqb_tells}
 use Rattle.std.proofs.lemmas.Option.{slice_get_within}
-use Rattle.items.specs.Options.{◌>>=◌}
-use Rattle.vthread_state.specs.declared.phase.Phase.TheVariants.{Entering, Waiting, Reenter, Joining}
+use Rattle.vthread_state.specs.declared.phase.Phase.TheVariants.{Entering, Waiting, Reenter}
 use Rattle.vthread_state.specs.declared.phase.Wake.TheVariants.{Notified}
 use Rattle.vthread_state.specs.declared.thread.Status.{Status}
 use Rattle.vthread_state.specs.declared.thread.Status.TheVariants.{New, Live, Done}
-use Rattle.vthread_state.specs.Threads.{joins_in, target_of_status}
 use Rattle.link_model.specs.World.{World}
 use Rattle.schedule_model.specs.Look.{Look, Spot, absent, unstarted, in_no_list, in_wait_list, in_entry_list, done, is_in_line}
 use Rattle.schedule_model.specs.Schedule.{places}
@@ -21,17 +19,14 @@ use Rattle.schedule_model.proofs.ListLaws.{all_in_order}
 use Rattle.schedule_model.proofs.WordLaws.{nobody_is_put, one_is_put}
 use Rattle.ref_model.specs.State.{JavaThread, State}
 use Rattle.ref_model.specs.Ending.{ending}
-use Rattle.ref_model.specs.Waiting.{is_reached, status_waits_on, status_woken}
+use Rattle.ref_model.specs.Waiting.{status_waits_on, status_woken}
 use Rattle.ref_model.specs.Enabled.{enabled, has_ended, is_done, is_free, is_ready}
 use Rattle.ref_model.specs.Looks.{look_of, spot_of}
-use Rattle.schedule_soundness.specs.PutLaws.{Stays, no_thread, is_new, is_kept, EndsNoWait, OthersStayBeside, rows_of}
-use Rattle.schedule_soundness.proofs.ThreadLists.{map_none, map_there}
+use Rattle.schedule_soundness.specs.PutLaws.{EndsNoWait, OthersStayBeside}
 use Rattle.schedule_soundness.proofs.LookLaws.{ready_at, spot_at}
-use Rattle.schedule_soundness.proofs.Filters.{filter_below}
-use Rattle.schedule_soundness.proofs.PutLaws.{unplaced_waits}
 use Rattle.monitor_soundness.specs.ListLaws.{AreInLine}
-use Rattle.monitor_soundness.specs.MonitorPuts.{MonitorStep, LosesOwner, StaysOrIsNotified, stays, is_notified, if_loose, EntersPutNobody, ExitsPutTheFirst, EndsPutJoinersAndTheFirst, NotifiesPutNobody, InterruptsPutTheWaiter, WakesInLinePutNobody}
-use Rattle.monitor_soundness.proofs.Stays.{Quiet, ended_back, is_next, joined, mounted_off, no_both, no_next, old_ends, owned_is, same_status_runs, stays_runs, unplaced_off, unplaced_other}
+use Rattle.monitor_soundness.specs.MonitorPuts.{MonitorStep, LosesOwner, StaysOrIsNotified, stays, is_notified, if_loose, EntersPutNobody, ExitsPutTheFirst, NotifiesPutNobody, InterruptsPutTheWaiter, WakesInLinePutNobody}
+use Rattle.monitor_soundness.proofs.Stays.{Quiet, ended_back, is_next, mounted_off, no_next, old_ends, owned_is, same_status_runs, stays_runs, unplaced_off, unplaced_other}
 
 -- ---- nobody is put, where no other thread is to run
 
@@ -64,7 +59,7 @@ module _ (w : World) (v : Scheduled State) (q : State) (t o : ℕ) (goes : endin
       → is_to_run (look_of w v.state) (look_of w q) lists u ≡ is_next w v.state q lists u
   step_runs ends lists u ne = stays_runs w v.state q lists u (step_quiet ends u) (step.threads u ne)
 
-  owner_kept : is_free q o ≡ false → (n : ℕ) → (is_free q n ≡ false) ⊎ (q.owners n ≡ v.state.owners n)
+  pub owner_kept : is_free q o ≡ false → (n : ℕ) → (is_free q n ≡ false) ⊎ (q.owners n ≡ v.state.owners n)
   owner_kept owned n = by (eqb_tells n o)
     where
       by : ((eqb n o ≡ true) × (n ≡ o)) ⊎ ((eqb n o ≡ false) × (n ≢ o)) → (is_free q n ≡ false) ⊎ (q.owners n ≡ v.state.owners n)
@@ -74,7 +69,7 @@ module _ (w : World) (v : Scheduled State) (q : State) (t o : ℕ) (goes : endin
   -- ---- the monitor loses its owner
 
   module _ (lists : ℕ → List ℕ) (lost : LosesOwner o v.state q) where
-    next_here : (u : ℕ) → is_next_in_line (look_of w v.state) (look_of w q) lists u (in_entry_list o) ≡ is_first (lists o) u
+    pub next_here : (u : ℕ) → is_next_in_line (look_of w v.state) (look_of w q) lists u (in_entry_list o) ≡ is_first (lists o) u
     next_here u =
         ap (λ b. b && (not ((look_of w q).owned o) && is_first (lists o) u)) (owned_is w v.state o false lost.was)
         ∙ ap (λ b. not b && is_first (lists o) u) (owned_is w q o true lost.is)
@@ -89,7 +84,7 @@ module _ (w : World) (v : Scheduled State) (q : State) (t o : ℕ) (goes : endin
         both false b = refl
 
     -- who isn't the first in this line isn't the next
-    next_other : (u : ℕ) → is_first (lists o) u ≡ false → (x : Spot)
+    pub next_other : (u : ℕ) → is_first (lists o) u ≡ false → (x : Spot)
         → is_next_in_line (look_of w v.state) (look_of w q) lists u x ≡ false
     next_other u last absent = refl
     next_other u last unstarted = refl
@@ -118,7 +113,7 @@ enters_put_nobody p v q c t o lists mounts goes step ends owned =
 -- ---- the first in line
 
 -- who is somewhere was made
-made_there : (xs : List JavaThread) (u n : ℕ) → spot_at (slice_get xs u) ≡ in_entry_list n → u < length xs
+pub made_there : (xs : List JavaThread) (u n : ℕ) → spot_at (slice_get xs u) ≡ in_entry_list n → u < length xs
 made_there xs u n e = by (slice_get xs u) refl
   where
     by : (m : Option JavaThread) → slice_get xs u ≡ m → u < length xs
@@ -202,139 +197,6 @@ module _ (w : World) (v : Scheduled State) (q : State) (c t o : ℕ) (lists : �
 pub exits_put_the_first : ExitsPutTheFirst
 exits_put_the_first p v q c t o lists mounts goes step ends lost line =
     exit_puts p.world v q c t o lists mounts goes step ends lost line
-
--- ---- the end of the owner
-
-joined_in : (xs : List JavaThread) (u : ℕ) → joins_in (map (λ (x : JavaThread). x.thread) xs) u ≡ joined (slice_get xs u)
-joined_in xs u = by (slice_get xs u) refl
-  where
-    by : (m : Option JavaThread) → slice_get xs u ≡ m → joins_in (map (λ (x : JavaThread). x.thread) xs) u ≡ joined (slice_get xs u)
-    by None e =
-        ap (λ m. m >>= λ thread. target_of_status thread.status) (map_none (λ (x : JavaThread). x.thread) xs u e) ∙ sym (ap joined e)
-    by (Some x) e =
-        ap (λ m. m >>= λ thread. target_of_status thread.status) (map_there (λ (x : JavaThread). x.thread) xs u x e) ∙ sym (ap joined e)
-
-joining : (t : ℕ) (status : Status) → target_of_status status ≡ Some t → (deadline : Option ℕ) × (status ≡ Live (Joining t deadline))
-joining t New e = absurd cc
-joining t Done e = absurd cc
-joining t (Live (Joining u deadline)) e = let same : u ≡ t = cc in (deadline, ap (λ n. Live (Joining n deadline)) same)
-joining t (Live phase) e = absurd cc
-
-first_is_first : (xs : List ℕ) (u : ℕ) → slice_get xs 0 ≡ Some u → is_first xs u ≡ true
-first_is_first [] u e = absurd cc
-first_is_first (x ∷ xs) u e = let same : x ≡ u = cc in eq-eqb x u same
-
-first_of : (xs : List ℕ) (u : ℕ) → is_first xs u ≡ true → slice_get xs 0 ≡ Some u
-first_of [] u e = absurd cc
-first_of (x ∷ xs) u e = ap (λ n. Some n) (eqb-true x u e)
-
-first_within : (xs : List ℕ) (u : ℕ) → slice_get xs 0 ≡ Some u → Contains xs u
-first_within [] u e = absurd cc
-first_within (x ∷ xs) u e = let same : x ≡ u = cc in (zero, omega arith, same)
-
-pub ends_put_joiners_and_the_first : EndsPutJoinersAndTheFirst
-ends_put_joiners_and_the_first p first v q c t o lists woken a mounts goes on step ended lost line rising just =
-    filter_below (λ u. runs u && (places u v.schedule == 0)) (length q.threads) woken rising
-    (λ u there. let h = (just u).0 there in these u h.1 h.0)
-    (λ u low e. all u e)
-  where
-    w : World
-    w = p.world
-
-    before : Look
-    before = look_of w v.state
-
-    after : Look
-    after = look_of w q
-
-    runs : ℕ → Bool
-    runs = is_to_run before after lists
-
-    IsPut : ℕ → Type 0
-    IsPut u = (u < length q.threads) × ((runs u && (places u v.schedule == 0)) ≡ true)
-
-    another : (u : ℕ) → places u v.schedule ≡ 0 → u ≢ t
-    another u none = unplaced_other v.schedule c t u mounts none
-
-    -- who waits for the end, and is in no place, wasn't enabled, and is made enabled
-    joiner_runs : (u : ℕ) (x y : JavaThread) (deadline : Option ℕ) → places u v.schedule ≡ 0 → slice_get v.state.threads u ≡ Some x
-        → slice_get q.threads u ≡ Some y → x.thread.status ≡ Live (Joining t deadline) → y.thread.status ≡ Live (Joining t deadline)
-        → runs u ≡ true
-    joiner_runs u x y deadline none was now joins still =
-        let off : before.enabled u ≡ false =
-        unplaced_waits p first v u a goes none (ap (λ m. is_in_line (spot_at m)) was ∙ ap (λ s. is_in_line (spot_of s)) joins) in
-        let ready : after.enabled u ≡ true =
-        and_from (is_none (ending q)) (ready_at q (slice_get q.threads u)) (ap is_none on)
-        (ap (ready_at q) now ∙ ap (is_ready q y) still ∙ or_left (has_ended q t) (y.interrupted || is_reached q.now deadline) ended) in
-        let loose : is_in_line (after.spot u) ≡ false = ap (λ m. is_in_line (spot_at m)) now ∙ ap (λ s. is_in_line (spot_of s)) still in
-        or_right (is_started (before.spot u) (after.spot u)) _
-        (or_left (is_made_enabled before after u) _
-        (and_from (not (before.enabled u)) (after.enabled u && not (is_in_line (after.spot u))) (ap not off)
-        (and_from (after.enabled u) (not (is_in_line (after.spot u))) ready (ap not loose))))
-
-    joiner_put : (u : ℕ) → places u v.schedule ≡ 0 → joined (slice_get v.state.threads u) ≡ Some t
-        → Stays (slice_get v.state.threads u) (slice_get q.threads u) → IsPut u
-    joiner_put u none joins (no_thread was now) = let z : None ≡ Some t = sym (ap joined was) ∙ joins in absurd cc
-    joiner_put u none joins (is_new y was now status) = let z : None ≡ Some t = sym (ap joined was) ∙ joins in absurd cc
-    joiner_put u none joins (is_kept x y was now status permit told) =
-        let j = joining t x.thread.status (sym (ap joined was) ∙ joins) in (
-          slice_get_within q.threads u y now,
-          and_from (runs u) (places u v.schedule == 0) (joiner_runs u x y j.0 none was now j.1 (status ∙ j.1)) (eq-eqb (places u v.schedule) 0 none),
-        )
-
-    -- the first in line is the next
-    first_put : (u : ℕ) → places u v.schedule ≡ 0 → slice_get (lists o) 0 ≡ Some u → IsPut u
-    first_put u none is =
-        let spot = line u (first_within (lists o) u is) in
-        let next = next_first w v q t o goes step lists lost u spot (first_is_first (lists o) u is) in (
-          made_there q.threads u o spot,
-          and_from (runs u) (places u v.schedule == 0)
-              (or_right (is_started (before.spot u) (after.spot u)) _
-              (or_right (is_made_enabled before after u) _ (or_right (is_moved_to_free after (before.spot u) (after.spot u)) _ next)))
-              (eq-eqb (places u v.schedule) 0 none),
-        )
-
-    these : (u : ℕ) → places u v.schedule ≡ 0 → (joins_in (rows_of v.state) u ≡ Some t) ⊎ (slice_get (lists o) 0 ≡ Some u) → IsPut u
-    these u none (inl joins) = joiner_put u none (sym (joined_in v.state.threads u) ∙ joins) (step.threads u (another u none))
-    these u none (inr is) = first_put u none is
-
-    -- who waits for no end, or for that of another thread, and isn't the first in line, isn't put
-    quiet_off : (u : ℕ) → u ≢ t → is_first (lists o) u ≡ false
-        → ((x : ℕ) → joined (slice_get v.state.threads u) ≡ Some x → x ≢ t) → runs u ≡ false
-    quiet_off u ne last apart =
-        let quiet : Quiet v.state q u = record {
-          goes = goes;
-          now = step.now;
-          ends = λ x j none e.
-              ended_back (slice_get v.state.threads x) (slice_get q.threads x) (step.threads x (apart x j)) e;
-        } in
-        stays_runs w v.state q lists u quiet (step.threads u ne) ∙ next_other w v q t o goes step lists lost u last (after.spot u)
-
-    by : (u : ℕ) → places u v.schedule ≡ 0 → runs u ≡ true → is_first (lists o) u ≡ false → (m : Option ℕ)
-        → joined (slice_get v.state.threads u) ≡ m → Contains woken u
-    by u none run last None joins =
-        absurd (no_both (runs u) run (quiet_off u (another u none) last (λ x j. nobody x (sym joins ∙ j))))
-      where
-        nobody : (x : ℕ) → None ≡ Some x → x ≢ t
-        nobody x e = absurd cc
-    by u none run last (Some k) joins =
-        elim (eqb_tells k t) [
-          | inl me ↦ (just u).1 (inl (joined_in v.state.threads u ∙ joins ∙ ap (λ n. Some n) me.1), none)
-          | inr other ↦
-              absurd (no_both (runs u) run (quiet_off u (another u none) last (λ x j. subst (λ n. n ≢ t) (same k x (sym joins ∙ j)) other.1)))
-        ]
-      where
-        same : (k x : ℕ) → Some k ≡ Some x → k ≡ x
-        same k x e = cc
-
-    all : (u : ℕ) → (runs u && (places u v.schedule == 0)) ≡ true → Contains woken u
-    all u e =
-        let parts = and_parts (runs u) (places u v.schedule == 0) e in
-        let none = eqb-true (places u v.schedule) 0 parts.1 in
-        elim (cases_Bool (is_first (lists o) u)) [
-          | inl is ↦ (just u).1 (inr (first_of (lists o) u is), none)
-          | inr last ↦ by u none parts.0 last (joined (slice_get v.state.threads u)) refl
-        ]
 
 -- ---- waits that end
 

@@ -80,6 +80,14 @@ EndsPutJoinersAndTheFirst = (p : Setting) (first : State) (v : Scheduled State) 
     IsStrictlyIncreasing woken → ((u : ℕ) → Contains woken u ↔ IsToBeWoken v t (entry_list o) u) →
     put_by (look_of p.world v.state) (look_of p.world q) entry_list v.schedule (all_threads (look_of p.world q)) ≡ woken
 
+-- Where the monitor keeps an owner, since it was entered more often than it was left, those are put alone.
+abbrev pub EndsPutJoinersAlone : Type 0
+EndsPutJoinersAlone = (p : Setting) (first : State) (v : Scheduled State) (q : State) (c t o : ℕ) (entry_list : ℕ → List ℕ)
+    (joiners : List ℕ) → IsProgramAfter p first v → has_mounted v.schedule c t ≡ true → ending v.state ≡ None → ending q ≡ None →
+    MonitorStep t o v.state q → has_ended q t ≡ true → is_free q o ≡ false → IsStrictlyIncreasing joiners →
+    ((u : ℕ) → Contains joiners u ↔ ((joins_in (rows_of v.state) u ≡ Some t) × (places u v.schedule ≡ 0))) →
+    put_by (look_of p.world v.state) (look_of p.world q) entry_list v.schedule (all_threads (look_of p.world q)) ≡ joiners
+
 -- A notification puts nobody, since the thread that notifies owns the monitor.
 abbrev pub NotifiesPutNobody : Type 0
 NotifiesPutNobody = (p : Setting) (v : Scheduled State) (q : State) (c t o : ℕ) (entry_list : ℕ → List ℕ) →

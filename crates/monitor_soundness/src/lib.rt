@@ -3,7 +3,7 @@
 #![tactic(auto)]
 
 ghost use Rattle.monitor_soundness.specs.ListLaws.{StepsKeepLists, TicksKeepLists, ListedAreInLine, StepsMoveOne, StepsMoveOneBeside, OneMovesInLists, WhoLinesUpIsLast, WhoEntersLeavesTheLine, WhoWaitsIsLast, WhoseWaitEndsIsLast, NotifyMovesTheFirst, NotifyAllMovesAll, OtherStepsKeepLists};
-ghost use Rattle.monitor_soundness.specs.MonitorPuts.{EntersPutNobody, ExitsPutTheFirst, EndsPutJoinersAndTheFirst, NotifiesPutNobody, InterruptsPutTheWaiter, WakesInLinePutNobody};
+ghost use Rattle.monitor_soundness.specs.MonitorPuts.{EntersPutNobody, ExitsPutTheFirst, EndsPutJoinersAndTheFirst, EndsPutJoinersAlone, NotifiesPutNobody, InterruptsPutTheWaiter, WakesInLinePutNobody};
 ghost use Rattle.monitor_soundness.specs.TickLaws.{WaitsAreOpen, TicksWakeWaiters, TicksLeaveOthers, TicksChangeTime, TicksMoveTheDue, TicksPutTheDue};
 
 /// The lists of monitors have the threads that are there, each once, after a step or a tick, too, whether or not the program ends by it.
@@ -32,11 +32,12 @@ pub fn lists_change_as_monitors_do()
 {}
 
 /// Whom a step that does something to one monitor puts: nobody where the monitor is owned afterwards; the first in line where it loses its
-/// owner; with the end of the owner those that join it, too (JLS 17.1).
+/// owner; with the end of a thread those that join it, too (JLS 17.1).
 pub fn puts_are_seen_by_monitors()
     ensures enters { EntersPutNobody }
     ensures exits { ExitsPutTheFirst }
     ensures ends { EndsPutJoinersAndTheFirst }
+    ensures keeps { EndsPutJoinersAlone }
 {}
 
 /// Whom a step puts that ends the waits of others: nobody by a notification; by an interrupt the thread that waited, where nobody owns its
