@@ -1,16 +1,19 @@
 -- What each way through a turn gives its callers.
-use Rattle.std.proofs.Common.{◌≡◌, ◌⊎◌, inl, inr, ◌<◌, ◌≤◌, ℕ, suc, arith, Bool, true, false, Some, None, Result, Ok, Err, refl, ap, sym, ◌∙◌, subst}
-use Rattle.std.specs.Prelude.{OnOk, is_err, is_some}
+use Rattle.std.proofs.Common.{◌≡◌, ◌⊎◌, inl, inr, ◌<◌, ◌≤◌, ℕ, suc, arith, Bool, true, false, Option, Some, None, Result, Ok, Err, refl, ap, sym, ◌∙◌, subst}
+use Rattle.std.specs.Prelude.{OnOk, is_err, is_none, is_some}
+use Rattle.std.proofs.lemmas.Bool.{and_parts}
 use Rattle.continuation.specs.Continuation.{Continuation}
 use Rattle.invocation.specs.InvocationCache.{AreSelected, Kept}
 use Rattle.history.specs.declared.entry.What.TheVariants.{Mount}
+use Rattle.ref_model.specs.declared.ending.Ending.{Ending}
 use Rattle.ref_model.specs.declared.ending.Ending.TheVariants.{Halted, Stalled}
+use Rattle.ref_model.specs.Ending.{ending}
 use Rattle.ref_model.specs.Setting.{Setting}
 use Rattle.ref_model.specs.Step.{enabled}
 use Rattle.machine.specs.declared.after.After.{After}
-use Rattle.machine.specs.declared.after.After.TheVariants.{Goes, Leaves, Ends, Halts, ReadsClock}
+use Rattle.machine.specs.declared.after.After.TheVariants.{Goes, Runs, Leaves, Ends, Halts, ReadsClock}
 use Rattle.machine.specs.Hands.{HasEnded, Holds, IsMounted, Lives, MayStep, MayUnmount, OwesNothing, OwesUnmount}
-use Rattle.machine.specs.Legal.{IsLegal}
+use Rattle.machine.specs.Legal.{GoesOn, IsLegal}
 use Rattle.machine.specs.Machines.{Known, machine_ending, with_ending, with_entry}
 use Rattle.machine.specs.Turns.{HasStepped, step_of}
 use Rattle.carrier.specs.declared.ask.Ask.{Ask}
@@ -18,7 +21,7 @@ use Rattle.carrier.specs.declared.ask.Ask.TheVariants.{Nothing, Freeze}
 use Rattle.carrier.specs.declared.ask.Turn.{Turn}
 use Rattle.carrier.specs.declared.hand.Hand.{Hand}
 use Rattle.carrier.specs.Hands.{Fits, HasDone, HasParts, HasThread}
-use Rattle.carrier.specs.Steps.{AnswersUnlessStalled, GoesOnBy, HasGone, MayAct, MayGoOn, MountedBy, ran, waits, looks_over, looks_stalled, looks_on}
+use Rattle.carrier.specs.Steps.{AnswersUnlessStalled, GoesOnBy, HasGone, MayAct, MayGoOn, MountedBy, is_runs, ran, waits, looks_over, looks_stalled, looks_on}
 use Rattle.carrier.specs.Turns.{HoldsNothing, IsTurn, MayNotStep, asked_by}
 use Rattle.carrier.proofs.EndingLaws.{goes_on, is_scheduled, room_for, told_ends}
 use Rattle.carrier.proofs.FitLaws.{empty_by, fits_told, goes_fits, leaving_fits, mounted_by, over_fits, owed_leaves, running_steps}
@@ -162,6 +165,45 @@ leaves_on_fits old mid new c t now h g x answer act gone legal look parts failed
         subst (λ m. Fits m c x) (sym same)
         (leaving_fits mid c t gone.kept x below (gone.thread (λ e. cc)) s.hand s.outcome.1 (owed_leaves mid c t 0 gone.kept.stack.frames s.hand s.outcome.0)
         (asks Freeze (ap asked_by is)) works selected)
+
+-- ---- a thread that goes on and runs
+
+pub runs_so : (after : After) → is_runs after ≡ true → after ≡ Runs
+runs_so Runs e = refl
+runs_so Goes e = absurd cc
+runs_so Leaves e = absurd cc
+runs_so Ends e = absurd cc
+runs_so ReadsClock e = absurd cc
+runs_so Halts e = absurd cc
+
+pub runs_too : {old mid : Known} {c t now : ℕ} {h g : Hand} → HasGone Runs old mid c t now h g → HasGone Goes old mid c t now h g
+runs_too gone =
+    record {
+      tried = λ e. cc;
+      was = gone.was;
+      had = gone.had;
+      kept = gone.kept;
+      thread = λ goes. gone.thread (λ e. cc);
+      parts = gone.parts;
+      works = gone.works;
+      selected = gone.selected;
+      local = gone.local;
+      ahead = gone.ahead;
+      in_time = gone.in_time;
+      steps = record { entry = gone.steps.entry; hand = gone.steps.hand; outcome = gone.steps.outcome.0 };
+    }
+
+no_ending : (o : Option Ending) → is_none o ≡ true → o ≡ None
+no_ending None e = refl
+no_ending (Some x) e = absurd cc
+
+-- the program goes on, since the thread may step
+pub runs_going : (old mid : Known) (c t now : ℕ) (h g : Hand) → MayGoOn old c h t → HasGone Runs old mid c t now h g → IsLegal mid → GoesOn mid
+runs_going old mid c t now h g may gone legal =
+    record {
+      told = ap (λ (m : Known). m.told) gone.steps.entry ∙ may.going.told;
+      going = λ v at. no_ending (ending v.state) (and_parts (is_none (ending v.state)) _ (goes_may old mid c t now h g (runs_too gone) legal v at)).0;
+    }
 
 -- ---- a thread that was taken up
 

@@ -40,6 +40,10 @@ pub none_is_no : {A : Type 0} (o : Option A) → o ≡ None → is_some o ≡ fa
 none_is_no None e = refl
 none_is_no (Some x) e = absurd cc
 
+pub none_by : {A : Type 0} (o : Option A) → is_some o ≡ false → o ≡ None
+none_by None e = refl
+none_by (Some x) e = absurd cc
+
 -- an ending that was told is one
 pub told_ends : (m : Known) (e : Ending) → IsLegal m → is_some (machine_ending (with_ending m e)) ≡ true
 told_ends m e x = ap is_some (ending_at (with_ending m e) x.after (is_scheduled m x))
@@ -67,6 +71,13 @@ going m v at none =
     let all = both_none m.told rest (sym (ending_at m v at) ∙ none) in
     let own = both_none (ending v.state) (limit_reached m.setting.limits (length m.history)) all.1 in
     record { told = all.0; own = own.0; room = room_within m.setting.limits (length m.history) own.1 }
+
+-- while the program goes on, the run ends at the limit of events alone
+pub ends_by_limit : (m : Known) → IsLegal m → GoesOn m → machine_ending m ≡ limit_reached m.setting.limits (length m.history)
+ends_by_limit m x goes =
+    let at = is_scheduled m x in
+    let limit = limit_reached m.setting.limits (length m.history) in
+    ending_at m x.after at ∙ ap (λ o. option_or o (option_or (ending x.after.state) limit)) goes.told ∙ ap (λ o. option_or o limit) (goes.going x.after at)
 
 pub goes_on : (m : Known) → IsLegal m → machine_ending m ≡ None → GoesOn m
 goes_on m x none = record { told = (going m x.after (is_scheduled m x) none).told; going = λ v at. (going m v at none).own }

@@ -17,6 +17,7 @@ pub mod OutlastLaws
 pub mod ReadLaws
 pub mod TimedTurnLaws
 pub mod CacheLaws
+pub mod ReachedLaws
 pub mod TimeLaws
 pub mod AloneLaws
 pub mod RunLaws

@@ -26,7 +26,7 @@ use Rattle.ref_model.specs.Step.{is_ready}
 use Rattle.schedule_soundness.proofs.Pins.{nobody_is_pinned}
 use Rattle.ref_model.specs.Looks.{look_of, reads_clock_next, spot_of}
 use Rattle.machine.specs.declared.after.After.{After}
-use Rattle.machine.specs.declared.after.After.TheVariants.{Goes, Leaves, Ends, Halts, ReadsClock}
+use Rattle.machine.specs.declared.after.After.TheVariants.{Goes, Runs, Leaves, Ends, Halts, ReadsClock}
 use Rattle.machine.specs.Hands.{HasEnded, HasPhase, Holds, IsLive, IsMounted, Lives, MayStep, MayUnmount, OwesNothing, OwesUnmount}
 use Rattle.machine.specs.Legal.{HasEntryLeft, IsLegal, Works}
 use Rattle.machine.specs.Machines.{Given, Known, machine_ending, scheduled, with_entry}
@@ -272,6 +272,7 @@ by_kept_in_time m h now k mounted in_time r = λ v at.
 -- one that goes on, leaves or ends is made in time
 pub gone_in_time : (after : After) (old new : Known) (c t now : ℕ) (h g : Hand) → HasGone after old new c t now h g → (after ≡ Halts → ⊥) → ReadsInTime old h now
 gone_in_time Goes old new c t now h g gone made r = by_kept_in_time old h now gone.was gone.had (λ few. gone.in_time few) r
+gone_in_time Runs old new c t now h g gone made r = by_kept_in_time old h now gone.was gone.had (λ few. gone.in_time few) r
 gone_in_time Leaves old new c t now h g gone made r = by_kept_in_time old h now gone.was gone.had (λ few. gone.in_time few) r
 gone_in_time Ends old new c t now h g gone made r = by_kept_in_time old h now gone.was gone.had (λ few. gone.in_time few) r
 gone_in_time ReadsClock old new c t now h g gone made r = absurd (gone.tried refl)

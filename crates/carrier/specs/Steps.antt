@@ -1,14 +1,15 @@
 -- The parts of a turn.
-use Rattle.std.specs.Prelude.{◌≡◌, ◌<◌, ◌≤◌, ◌+◌, ℕ, true, false, Some, None, is_some, length}
+use Rattle.std.specs.Prelude.{◌≡◌, ◌<◌, ◌≤◌, ◌+◌, ℕ, Bool, true, false, Some, None, is_some, length}
 use Rattle.continuation.specs.Continuation.{Continuation}
+use Rattle.history.specs.declared.entry.What.TheVariants.{Clock}
 use Rattle.invocation.specs.InvocationCache.{AreSelected, Kept}
 use Rattle.ref_model.specs.declared.ending.Ending.TheVariants.{Halted, Stalled}
 use Rattle.ref_model.specs.Looks.{is_stalled}
 use Rattle.vthread_state.specs.declared.phase.Phase.TheVariants as phases
 use Rattle.machine.specs.declared.after.After.{After}
-use Rattle.machine.specs.declared.after.After.TheVariants.{Halts, ReadsClock}
-use Rattle.machine.specs.Machines.{Given, Known, machine_ending, with_ending}
-use Rattle.machine.specs.Clocks.{IsBefore}
+use Rattle.machine.specs.declared.after.After.TheVariants.{Halts, ReadsClock, Runs}
+use Rattle.machine.specs.Machines.{Given, Known, machine_ending, with_ending, with_entry}
+use Rattle.machine.specs.Clocks.{Awaits, AwaitsNothing, IsBefore}
 use Rattle.machine.specs.Hands.{HasPhase, Holds, MayStep, OwesNothing}
 use Rattle.machine.specs.Legal.{GoesOn, IsLegal}
 use Rattle.machine.specs.Turns.{IsInTime, Steps}
@@ -20,7 +21,7 @@ use Rattle.carrier.specs.declared.ask.Turn.{Turn}
 use Rattle.carrier.specs.declared.ask.Turn.TheVariants.{Run, Over}
 use Rattle.carrier.specs.Hands.{Fits, HasDone, HasParts, HasThread, IsNotRunning}
 use Rattle.carrier.specs.LocalRuns.{AreAhead, HasStopped, steps_of}
-use Rattle.carrier.specs.Turns.{StepReads}
+use Rattle.carrier.specs.Turns.{StallsAreTold, StepReads}
 
 -- ---- before
 
@@ -71,6 +72,19 @@ pub record HasGone (after : After) (old new : Known) (c t now : ℕ) (h g : Hand
   pub in_time : (steps_of h.local ≡ 10001 → ⊥) → IsInTime after old was.thread now was.stack.frames
   pub steps : Steps after old new c t local now was.stack.frames kept.stack.frames
 
+-- So it was, by a carrier that might go on with it.
+pub record HasJustGone (after : After) (new : Known) (c t : ℕ) (g : Hand) : Type 0 where
+  pub old : Known
+  pub held : Hand
+  pub least : ℕ
+  pub may : MayGoOn old c held t
+  pub gone : HasGone after old new c t least held g
+
+-- the thread goes on, and runs
+abbrev pub is_runs : After → Bool
+is_runs Runs = true
+is_runs after = false
+
 -- Nothing was done but that the hand knows more selected methods, since the step of the mounted thread reads the clock, and the time is less
 -- than this.
 pub record NeedsClock (old new : Known) (h g : Hand) (now : ℕ) : Type 0 where
@@ -80,6 +94,13 @@ pub record NeedsClock (old new : Known) (h g : Hand) (now : ℕ) : Type 0 where
   pub hand : g ≡ record h { cache = cache }
   pub reads : StepReads old h
   pub later : IsBefore old now
+
+-- A turn's time is reached, and the turn's step may read the clock where the time isn't less than `least`: no live thread waits for it, and
+-- nothing was done; or time went on to it, and some thread can go on.
+pub data IsReached (old new : Known) (c now least : ℕ) : Type 0 where
+  not_awaited : AwaitsNothing old now → new ≡ old → least ≡ now → IsReached old new c now least
+  gone_on : Awaits old now → new ≡ with_entry old c (Clock now) → machine_ending new ≡ None → StallsAreTold new → least ≡ 0 →
+      IsReached old new c now least
 
 -- How a thread goes on that was mounted or made a step.
 pub data GoesOnBy (m : Known) (t : ℕ) (answer : Turn) : Type 0 where

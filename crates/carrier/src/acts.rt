@@ -1,17 +1,68 @@
 //! What a carrier does in its turn, by what its hand holds.
 
-ghost use Rattle.std.specs.Prelude.{◌≡◌, ℕ, IfNone, IfSome, None, true};
+ghost use Rattle.std.specs.Prelude.{◌≡◌, ℕ, IfNone, IfSome, None, false, true};
 ghost use Rattle.carrier.specs.Acts.{IsAct};
 ghost use Rattle.carrier.specs.Hands.{Fits, HasThread};
-ghost use Rattle.carrier.specs.Steps.{MayAct, MayGoOn, NeedsClock};
+ghost use Rattle.carrier.specs.Steps.{HasJustGone, MayAct, MayGoOn, NeedsClock, is_runs};
 ghost use Rattle.carrier.specs.Turns.{HoldsFrozen, HoldsNothing, ReadsInTime, wants_nothing};
 
-use crate::answers::{asked, give_up, nap_length, unless_over, unless_stalled, way_on};
+use crate::answers::{asked, give_up, nap_length, run_on, unless_over, unless_stalled, way_on};
 use crate::ask::{Ask, Turn};
 use crate::hand::Hand;
 use crate::mounted_steps::{is_off, make_step, may_go_on};
 use machine::{After, Machine};
 use std::alloc::Global;
+
+// Whether a thread goes on after its step, and runs.
+#[inline(always)]
+fn runs_on(after: After) -> bool
+    ensures { result ≡ is_runs after }
+{
+    matches!(after, After::Runs)
+}
+
+// What a turn answers after any other step of its thread.
+#[inline(never)]
+fn answer_to<'p>(
+    machine: &mut Machine<'p>,
+    hand: &mut Hand<'p>,
+    carrier: u32,
+    thread: u32,
+    after: After,
+) -> Turn
+    requires other { is_runs after ≡ false }
+    requires gone { HasJustGone after machine.old carrier thread hand.old }
+    ensures fits { Fits machine.new carrier hand.new }
+    ensures act { (x : HasJustGone after machine.old carrier thread hand.old) (now : ℕ)
+        → IsAct x.old machine.new carrier now x.held hand.new result }
+    ensures in_time { (x : HasJustGone after machine.old carrier thread hand.old)
+        → wants_nothing machine.new.told ≡ true → ReadsInTime x.old x.held x.least }
+{
+    machine.is_legal();
+    match after {
+        After::Goes => {
+            let answer = way_on(machine, thread);
+            hand.asked = asked(answer);
+            answer
+        }
+        After::Runs => unreachable!(),
+        After::Leaves => {
+            let answer = unless_stalled(machine, Ask::Freeze);
+            hand.asked = asked(answer);
+            answer
+        }
+        After::Ends => {
+            machine.retire(carrier, thread);
+            machine.is_legal();
+            hand.mounted = None;
+            unless_stalled(machine, Ask::Nothing)
+        }
+        After::Halts | After::ReadsClock => {
+            hand.failed = true;
+            Turn::Over
+        }
+    }
+}
 
 /// The step of the mounted thread, which may make it. `None`: it reads the clock, the time is less than `least`, and nothing was done.
 #[inline(always)]
@@ -33,28 +84,10 @@ pub(crate) fn step_on<'p>(
 {
     let after = make_step(alloc, machine, hand, carrier, thread, least)?;
     machine.is_legal();
-    match after {
-        After::Goes => {
-            let answer = way_on(machine, thread);
-            hand.asked = asked(answer);
-            Some(answer)
-        }
-        After::Leaves => {
-            let answer = unless_stalled(machine, Ask::Freeze);
-            hand.asked = asked(answer);
-            Some(answer)
-        }
-        After::Ends => {
-            machine.retire(carrier, thread);
-            machine.is_legal();
-            hand.mounted = None;
-            Some(unless_stalled(machine, Ask::Nothing))
-        }
-        After::Halts | After::ReadsClock => {
-            hand.failed = true;
-            Some(Turn::Over)
-        }
+    if runs_on(after) {
+        return Some(run_on(machine, &mut hand.asked, thread));
     }
+    Some(answer_to(machine, hand, carrier, thread, after))
 }
 
 // The turn of a carrier that has a thread mounted. The thread makes a step, if it is enabled; if not, it is to be frozen.

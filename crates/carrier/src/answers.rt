@@ -1,10 +1,13 @@
 //! What a turn answers after its entry.
 
 ghost use Rattle.std.specs.Prelude.{◌≡◌};
-ghost use Rattle.machine.specs.Hands.{Lives};
-ghost use Rattle.machine.specs.Legal.{Works};
+ghost use Rattle.vthread_state.specs.declared.phase.Phase.TheVariants.{Run};
+ghost use Rattle.machine.specs.Hands.{HasPhase, Lives};
+ghost use Rattle.machine.specs.Legal.{GoesOn, IsLegal, Works};
 ghost use Rattle.carrier.specs.Steps.{AnswersUnlessOver, AnswersUnlessStalled, GoesOnBy, IsGivenUp};
 ghost use Rattle.carrier.specs.Turns.{IsNap, asked_by};
+ghost use Rattle.carrier.specs.declared.ask.Ask.TheVariants.{Nothing};
+ghost use Rattle.carrier.specs.declared.ask.Turn.TheVariants.{Over};
 
 use crate::ask::{Ask, Turn};
 use machine::Machine;
@@ -60,6 +63,32 @@ pub(crate) fn way_on(machine: &Machine<'_>, thread: u32) -> Turn
         Phase::Run => Turn::Run(Ask::Local(thread)),
         _ => Turn::Run(Ask::Nothing),
     }
+}
+
+// That the run has ended, and that nothing is asked.
+#[inline(never)]
+fn stop(asked: &mut Ask) -> Turn
+    ensures asked { asked.new ≡ Nothing }
+    ensures over { result ≡ Over }
+{
+    *asked = Ask::Nothing;
+    Turn::Over
+}
+
+/// How a thread goes on that runs, in a program that goes on: it is to execute local instructions, if there are entries left.
+#[inline(always)]
+pub(crate) fn run_on(machine: &Machine<'_>, asked: &mut Ask, thread: u32) -> Turn
+    requires legal { IsLegal machine.now }
+    requires going { GoesOn machine.now }
+    requires runs { HasPhase machine.now thread Run }
+    ensures way { GoesOnBy machine.now thread result }
+    ensures asked { asked.new ≡ asked_by result }
+{
+    if machine.is_at_limit() {
+        return stop(asked);
+    }
+    *asked = Ask::Local(thread);
+    Turn::Run(Ask::Local(thread))
 }
 
 /// Gives the run up, unless it has ended.

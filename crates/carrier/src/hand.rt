@@ -8,7 +8,7 @@ ghost use Rattle.carrier.specs.Turns.{KeepsPressing};
 ghost use Rattle.machine.specs.Ready.{IsReady};
 
 use crate::ask::Ask;
-use crate::local::{LocalRun, is_call, run_local};
+use crate::local::{LocalRun, calls_clock, run_local};
 use continuation::{Frozen, Mounted};
 use invocation::InvocationCache;
 use items::NoMemory;
@@ -45,12 +45,12 @@ impl<'p> Hand<'p> {
         })
     }
 
-    /// Whether its next turn may need the time: its thread makes a call next, or isn't in phase Run, or there is none.
+    /// Whether the step of its next turn may read the clock: its thread runs, and calls a method that does.
     #[inline(always)]
-    pub(crate) fn may_need_time(&self) -> bool {
+    pub(crate) fn may_read_clock(&self, program: &ReadyProgram) -> bool {
         match &self.local {
-            Some(run) => is_call(&run.next.instr.op),
-            None => true,
+            Some(run) => calls_clock(program, &run.next),
+            None => false,
         }
     }
 

@@ -15,6 +15,8 @@ use continuation::Mounted;
 use interp_local::{Fetched, TopRun, run_and_fetch};
 use invocation::{Entered, InvocationCache, Left, enter, leave, static_callee};
 use items::NoMemory;
+use lib_table::Native;
+use link_model::{Resolution, Site};
 use machine::ReadyProgram;
 use opcodes::Op;
 use thread_steps::return_at;
@@ -98,9 +100,34 @@ fn go_into(
     }
 }
 
-/// Whether an instruction calls a method.
+// Whether a native method may read the clock.
+fn is_timed(native: Native) -> bool {
+    matches!(
+        native,
+        Native::SystemNanoTime
+            | Native::SystemCurrentTimeMillis
+            | Native::ThreadSleep
+            | Native::ThreadJoinMillis
+            | Native::LockSupportParkNanos
+            | Native::LockSupportParkNanosBlocker
+            | Native::ObjectWaitMillis
+    )
+}
+
+// Whether an instruction names a native method that may read the clock.
+fn names_timed(program: &ReadyProgram, resolution: &Resolution) -> bool {
+    match resolution.site {
+        Site::Method(n) => match program.native(n) {
+            Some(native) => is_timed(native),
+            None => false,
+        },
+        _ => false,
+    }
+}
+
+// Whether an instruction calls a method.
 #[inline(always)]
-pub(crate) fn is_call(op: &Op) -> bool {
+fn is_call(op: &Op) -> bool {
     matches!(
         op,
         Op::InvokeVirtual(_)
@@ -108,6 +135,12 @@ pub(crate) fn is_call(op: &Op) -> bool {
             | Op::InvokeStatic(_)
             | Op::InvokeInterface(_, _)
     )
+}
+
+/// Whether an instruction calls a method that may read the clock.
+#[inline(always)]
+pub(crate) fn calls_clock(program: &ReadyProgram, next: &Fetched<'_>) -> bool {
+    is_call(&next.instr.op) && names_timed(program, next.resolution)
 }
 
 // Whether an instruction is an invokestatic.

@@ -15,8 +15,8 @@ use std::alloc::Global;
 
 // How many local instructions were executed ahead of the history.
 #[inline(always)]
-fn steps_ahead(local: Option<LocalRun<'_>>) -> u32
-    ensures { result ≡ steps_of local.entry }
+fn steps_ahead(local: &Option<LocalRun<'_>>) -> u32
+    ensures { result ≡ steps_of local.now }
 {
     match local {
         Some(run) => run.steps,
@@ -26,8 +26,8 @@ fn steps_ahead(local: Option<LocalRun<'_>>) -> u32
 
 // The instruction before which they stopped.
 #[inline(always)]
-fn next_of<'p>(local: Option<LocalRun<'p>>) -> Option<Fetched<'p>>
-    ensures { result ≡ stop_of local.entry }
+fn next_of<'p>(local: &Option<LocalRun<'p>>) -> Option<Fetched<'p>>
+    ensures { result ≡ stop_of local.now }
 {
     match local {
         Some(run) => Some(run.next),
@@ -80,25 +80,17 @@ pub(crate) fn make_step<'p>(
     ensures none { IfNone result (NeedsClock machine.old machine.new hand.old hand.new least) }
 {
     let _ = thread;
-    let local = hand.local;
+    let steps = steps_ahead(&hand.local);
+    let next = next_of(&hand.local);
     let Some(mounted) = &mut hand.mounted else {
         return Some(After::Halts);
     };
-    let steps = steps_ahead(local);
     if steps == MOST_STEPS {
         machine.slice(carrier, mounted);
         hand.local = None;
         return Some(After::Goes);
     }
-    let after = machine.step(
-        alloc,
-        &mut hand.cache,
-        mounted,
-        carrier,
-        steps,
-        next_of(local),
-        least,
-    );
+    let after = machine.step(alloc, &mut hand.cache, mounted, carrier, steps, next, least);
     match after {
         After::ReadsClock => None,
         _ => {

@@ -1,14 +1,15 @@
 //! Turns of several carriers, one after another.
 
-ghost use Rattle.std.specs.Prelude.{◌≡◌, ◌<◌, IfOk};
+ghost use Rattle.std.specs.Prelude.{◌≡◌, ◌<◌, IfOk, None};
 ghost use Rattle.carrier.specs.Hands.{FitsAsBefore, HasDone};
 ghost use Rattle.carrier.specs.Plays.{AreCarriersIdle, AreTurnsOf, GoesOnFrom, HandsFit, IsDoneTurn, IsReadyHand, MayDo};
 ghost use Rattle.carrier.specs.Turns.{KeepsPressing};
+ghost use Rattle.machine.specs.Machines.{machine_ending};
 ghost use Rattle.machine.specs.Ready.{IsReady};
 
 use crate::ask::{Ask, Turn};
 use crate::hand::Hand;
-use crate::turns::turn;
+use crate::turns::{turn, turn_on};
 use items::NoMemory;
 use jvm_edges::{Gate, OpenGate};
 use machine::{Machine, ReadyProgram};
@@ -63,6 +64,29 @@ pub(crate) fn turn_and_do<'p, G: Gate>(
         hand.old hand.new result }
 {
     let answer = turn(alloc, machine, hand, at.carrier, at.now);
+    machine.is_legal();
+    do_asked(program, hand, at.carrier, answer, gate);
+    answer
+}
+
+/// The same with a machine that has no ending.
+#[inline(always)]
+pub(crate) fn turn_on_and_do<'p, G: Gate>(
+    alloc: Global,
+    program: &'p ReadyProgram,
+    machine: &mut Machine<'p>,
+    hand: &mut Hand<'p>,
+    at: TurnOf,
+    gate: &G,
+) -> Turn
+    requires program { program.now ≡ machine.old.setting.world }
+    requires hand { IsReadyHand machine.old at.carrier hand.old }
+    requires going { machine_ending machine.old ≡ None }
+    ensures hand { IsReadyHand machine.new at.carrier hand.new }
+    ensures turn { IsDoneTurn machine.old machine.new at.carrier at.now
+        hand.old hand.new result }
+{
+    let answer = turn_on(alloc, machine, hand, at.carrier, at.now);
     machine.is_legal();
     do_asked(program, hand, at.carrier, answer, gate);
     answer

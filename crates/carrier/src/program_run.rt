@@ -11,11 +11,12 @@ ghost use Rattle.machine.specs.Live.{ListsLive};
 ghost use Rattle.machine.specs.Machines.{machine_ending};
 ghost use Rattle.carrier.specs.Plays.{IsReadyHand};
 ghost use Rattle.carrier.specs.Runs.{IsRun, IsTimed};
+ghost use Rattle.carrier.specs.Turns as answers;
 
 use crate::ask::Turn;
 use crate::execution::Execution;
 use crate::hand::Hand;
-use crate::plays::{TurnOf, turn_and_do};
+use crate::plays::{TurnOf, turn_on_and_do};
 use class_world::World;
 use items::NoMemory;
 use jvm_edges::{Clock, Gate};
@@ -39,6 +40,7 @@ struct Reading {
 }
 
 // The clock is read anew.
+#[inline(never)]
 fn read<C: Clock>(clock: &C) -> Reading
     ensures { IsTrue (C.gives clock.now result.now) }
 {
@@ -48,19 +50,56 @@ fn read<C: Clock>(clock: &C) -> Reading
     }
 }
 
-// The reading for the next turn: a new one where the turn may need the time, and at the latest after sixteen turns.
+// How long a carrier naps that may nap for so long, in nanoseconds.
+fn nap_of(nanos: Option<u64>) -> u64 {
+    match nanos {
+        Some(nanos) => nanos.min(LONGEST_NAP),
+        None => 0,
+    }
+}
+
+// The reading after a nap. A carrier that found nothing to run at an older reading naps only where it finds nothing at a new one.
+#[inline(never)]
+fn nap<C: Clock>(clock: &C, nanos: Option<u64>, last: Reading) -> Reading
+    ensures { IsTrue (C.gives clock.now result.now) }
+{
+    if last.age == 0 {
+        clock.nap(nap_of(nanos));
+    }
+    read(clock)
+}
+
+// The reading for the next turn, after one that answered this: a new one where the turn's step may read the clock, and at the latest after
+// sixteen turns.
 #[inline(always)]
-fn next_reading<C: Clock>(clock: &C, hand: &Hand<'_>, last: Reading) -> Reading
+fn next_reading<C: Clock>(
+    clock: &C,
+    program: &ReadyProgram,
+    hand: &Hand<'_>,
+    last: Reading,
+    answer: Turn,
+) -> Reading
     requires { IsTrue (C.gives clock.now last.now) }
     ensures { IsTrue (C.gives clock.now result.now) }
 {
-    if last.age >= MOST_AGE || hand.may_need_time() {
+    if let Turn::Nap(nanos) = answer {
+        return nap(clock, nanos, last);
+    }
+    if last.age >= MOST_AGE || hand.may_read_clock(program) {
         return read(clock);
     }
     Reading {
         now: last.now,
         age: last.age + 1,
     }
+}
+
+// Whether a turn answers that the run has ended.
+#[inline(always)]
+fn is_over(answer: Turn) -> bool
+    ensures { result ≡ answers.is_over answer }
+{
+    matches!(answer, Turn::Over)
 }
 
 // Makes turns of the one carrier until the run has ended. Where there is nothing to run it naps.
@@ -80,6 +119,9 @@ fn run_on<'p, R: Wait, C: Clock, G: Gate>(
     ensures carriers { machine.new.carriers ≡ machine.old.carriers }
     ensures timed { Works machine.new → IsTimed (C.gives clock.now) machine.new }
 {
+    if machine.ending().is_some() {
+        return;
+    }
     let mut reading = read(clock);
     for _ in rt.forever() {
         machine.is_legal();
@@ -87,20 +129,11 @@ fn run_on<'p, R: Wait, C: Clock, G: Gate>(
             carrier: 0,
             now: reading.now,
         };
-        match turn_and_do(alloc, program, machine, hand, at, gate) {
-            Turn::Run(_) => {}
-            Turn::Nap(nanos) => clock.nap(nap_of(nanos)),
-            Turn::Over => break,
+        let answer = turn_on_and_do(alloc, program, machine, hand, at, gate);
+        if is_over(answer) {
+            break;
         }
-        reading = next_reading(clock, hand, reading);
-    }
-}
-
-// How long a carrier naps that may nap for so long, in nanoseconds.
-fn nap_of(nanos: Option<u64>) -> u64 {
-    match nanos {
-        Some(nanos) => nanos.min(LONGEST_NAP),
-        None => 0,
+        reading = next_reading(clock, program, hand, reading, answer);
     }
 }
 

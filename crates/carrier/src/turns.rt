@@ -1,11 +1,12 @@
 //! Turns of carriers.
 
-ghost use Rattle.std.specs.Prelude.{◌≡◌, ◌≤◌, None, true, is_some};
+ghost use Rattle.std.specs.Prelude.{◌≡◌, ◌≤◌, IfNone, IfSome, IsTrue, None, false, true, is_some};
 ghost use Rattle.machine.specs.Machines.{machine_ending};
 ghost use Rattle.machine.specs.Clocks.{Awaits, IsBefore};
 ghost use Rattle.carrier.specs.Hands.{Fits, HasDone};
-ghost use Rattle.carrier.specs.Steps.{MayAct};
+ghost use Rattle.carrier.specs.Steps.{IsReached, MayAct};
 ghost use Rattle.carrier.specs.Turns.{IsTurn, StepReads};
+ghost use Rattle.carrier.specs.declared.ask.Turn.TheVariants.{Over};
 
 use crate::acts::{act, step_on};
 use crate::answers::unless_stalled;
@@ -14,33 +15,45 @@ use crate::hand::Hand;
 use machine::Machine;
 use std::alloc::Global;
 
-// The turn of a carrier at a time for which a live thread waits: time goes on first.
+// Lets time go on to this, for which a live thread waits: whether the run goes on.
 #[inline(never)]
-fn turn_in_time<'p>(
-    alloc: Global,
-    machine: &mut Machine<'p>,
-    hand: &mut Hand<'p>,
-    carrier: u32,
-    now: u64,
-) -> Turn
-    requires may { MayAct machine.old carrier hand.old }
+fn let_time_go_on<'p>(machine: &mut Machine<'p>, hand: &Hand<'p>, carrier: u32, now: u64) -> bool
+    requires may { MayAct machine.old carrier hand.now }
     requires spare { 3 ≤ machine.old.spare }
     requires awaits { Awaits machine.old now }
-    ensures fits { Fits machine.new carrier hand.new }
-    ensures turn { IsTurn machine.old machine.new carrier now hand.old hand.new result }
+    ensures fits { result ≡ false → Fits machine.new carrier hand.now }
+    ensures over { result ≡ false
+        → IsTurn machine.old machine.new carrier now hand.now hand.now Over }
+    ensures reached { IsTrue result → IsReached machine.old machine.new carrier now 0 }
 {
     if machine.clock(carrier, now).is_err() {
         machine.fail();
-        return Turn::Over;
+        return false;
     }
     machine.is_legal();
     if let Turn::Over = unless_stalled(machine, Ask::Nothing) {
-        return Turn::Over;
+        return false;
     }
-    machine.is_legal();
-    match act(alloc, machine, hand, carrier, now, 0) {
-        Some(answer) => answer,
-        None => unreachable!(),
+    true
+}
+
+// Lets time go on where a live thread waits for that: the least time at which the turn's step may read the clock. `None`: the run has ended.
+#[inline(always)]
+fn least_time<'p>(machine: &mut Machine<'p>, hand: &Hand<'p>, carrier: u32, now: u64) -> Option<u64>
+    requires may { MayAct machine.old carrier hand.now }
+    requires spare { 3 ≤ machine.old.spare }
+    ensures fits { IfNone result (Fits machine.new carrier hand.now) }
+    ensures over { IfNone result
+        (IsTurn machine.old machine.new carrier now hand.now hand.now Over) }
+    ensures reached { IfSome result (IsReached machine.old machine.new carrier now) }
+{
+    if !machine.is_awaited(now) {
+        return Some(now);
+    }
+    if let_time_go_on(machine, hand, carrier, now) {
+        Some(0)
+    } else {
+        None
     }
 }
 
@@ -89,18 +102,19 @@ fn turn_at<'p>(
     ensures fits { Fits machine.new carrier hand.new }
     ensures turn { IsTurn machine.old machine.new carrier now hand.old hand.new result }
 {
-    if machine.is_awaited(now) {
-        return turn_in_time(alloc, machine, hand, carrier, now);
-    }
-    match act(alloc, machine, hand, carrier, now, now) {
+    let Some(least) = least_time(machine, hand, carrier, now) else {
+        return Turn::Over;
+    };
+    machine.is_legal();
+    match act(alloc, machine, hand, carrier, now, least) {
         Some(answer) => answer,
         None => turn_with_clock(alloc, machine, hand, carrier, now),
     }
 }
 
-// A turn with a machine that has no ending. Where there is no memory the run is given up.
+/// A turn with a machine that has no ending. Where there is no memory the run is given up.
 #[inline(always)]
-fn turn_on<'p>(
+pub(crate) fn turn_on<'p>(
     alloc: Global,
     machine: &mut Machine<'p>,
     hand: &mut Hand<'p>,

@@ -1,25 +1,46 @@
 -- A step that code made, as an entry.
-use Rattle.std.proofs.Common.{◌≡◌, ◌<◌, ◌≤◌, ℕ, Bool, List, Option, length, ap, sym, subst, arith}
+use Rattle.std.proofs.Common.{◌≡◌, ◌<◌, ◌≤◌, ◌++◌, ℕ, Bool, true, false, List, [], ◌∷◌, Option, None, Some, length, refl, ap, sym, subst, ◌∙◌, arith}
+use Rattle.std.specs.Prelude.{IfOk, Ok, Result, is_none}
+use Rattle.std.specs.Option.{option_map_or}
+use Rattle.std.proofs.lemmas.Bool.{and_from}
 use Rattle.std.proofs.lemmas.Option.{slice_get_within}
+use Rattle.std.proofs.lemmas.Result.{IfOk-weaker}
+use Rattle.items.specs.declared.no_memory.NoMemory.{NoMemory}
+use Rattle.history.specs.declared.entry.Entry.{Entry}
+use Rattle.history.specs.declared.entry.What.{What}
 use Rattle.thread_lists.specs.Lists.{Lists, count, total}
+use Rattle.vthread_state.specs.declared.phase.Phase.TheVariants.{Run}
+use Rattle.vthread_state.specs.Threads.{Threads, phase_at}
 use Rattle.link_model.specs.World.{World}
 use Rattle.state_model.specs.Frames.{Frame}
-use Rattle.ref_model.specs.State.{State, with_frames}
-use Rattle.ref_model.specs.Enabled.{has_ended}
+use Rattle.continuation.specs.Continuation.{Continuation}
+use Rattle.ref_model.specs.declared.ending.Ending.{Ending}
+use Rattle.ref_model.specs.State.{JavaThread, State, with_frames}
+use Rattle.ref_model.specs.Enabled.{has_ended, is_ready}
+use Rattle.ref_model.specs.Ending.{ending}
+use Rattle.ref_model.specs.Looks.{reads_clock_next}
 use Rattle.ref_model.specs.Step.{enabled}
 use Rattle.program_state.specs.declared.state.ProgramState.{ProgramState}
-use Rattle.program_state.specs.States.{IsState}
+use Rattle.program_state.specs.Running.{Stays}
+use Rattle.program_state.specs.States.{HasFrames, IsState}
 use Rattle.machine.specs.declared.after.After.{After}
+use Rattle.machine.specs.declared.after.After.TheVariants.{Runs}
+use Rattle.machine.specs.declared.made.Attempt.{Attempt}
+use Rattle.machine.specs.declared.made.Attempt.TheVariants.{Made, LacksThreads, ReadsClock}
 use Rattle.machine.specs.declared.made.Move.{Move}
+use Rattle.machine.specs.declared.made.StepResult.{StepResult}
 use Rattle.machine.specs.Insides.{AreParts, is_out}
-use Rattle.machine.specs.Moves.{IsInTime, IsMoved, LacksRoom, Moves, ReadsFirst}
+use Rattle.machine.specs.Moves.{IsInTime, IsMoved, LacksRoom, Moves, MovesAtAnyTime, ReadsFirst, StaysIfReading, alone}
 use Rattle.machine.specs.declared.made.Others.TheVariants as moves
 use Rattle.machine.specs.Puts.{HasPut, IsTouched}
-use Rattle.machine.specs.Steps.{Enters, IsTold, Lacks, StepsFrom, WaitsForClock, outcome_of}
+use Rattle.machine.specs.Steps.{Enters, IsConcluded, IsEntered, IsTold, IsTried, IsTriedSo, Lacks, StepsFrom, WaitsForClock, outcome_of, told_of}
+use Rattle.machine.proofs.AheadLaws.{enabled_alive}
 use Rattle.machine.proofs.EntryLaws.{is_scheduled}
+use Rattle.machine.proofs.OutcomeLaws.{goes_by}
 use Rattle.machine.proofs.PlaceLaws.{mounted_within}
-use Rattle.machine.proofs.StateLaws.{rows_length}
-use Rattle.machine.proofs.StepLaws.{ahead_has, ahead_is, ahead_out, start_free, step_enters, touched, then, then_hand, then_outcome, then_parts}
+use Rattle.machine.proofs.PutFacts.{put_nobody}
+use Rattle.machine.proofs.StateLaws.{rows_length, status_is}
+use Rattle.machine.proofs.StepLaws.{ahead_has, ahead_is, ahead_out, ended_in, start_free, step_enters, touched, then, then_hand, then_outcome, then_parts}
 
 module _ (w : World) (n : ℕ) (state : ProgramState) (deques : Lists) (on : List (Option ℕ)) (c t k : ℕ) (frames : List Frame) (x : StepsFrom w n state deques on c t k frames) where
   pub step_carrier : c < length deques.lists
@@ -41,6 +62,11 @@ module _ (w : World) (n : ℕ) (state : ProgramState) (deques : Lists) (on : Lis
     later = subst (λ i. i < now) x.parts.state.now h.later;
     reads = h.reads (with_frames x.before.state t frames) (is_out x.before.schedule) (ahead_is w n state deques on c t k frames x) (ahead_has w n state deques on c t k frames x);
   }
+
+  in_time_by : (now : ℕ) → IsInTime w now t state frames → reads_clock_next w (with_frames x.before.state t frames) t ≡ true → now ≤ x.before.state.now
+  in_time_by now in_time reads =
+      subst (λ i. now ≤ i) x.parts.state.now
+      (in_time (with_frames x.before.state t frames) (is_out x.before.schedule) (ahead_is w n state deques on c t k frames x) (ahead_has w n state deques on c t k frames x) reads)
 
   module _ (made : Move) (new : ProgramState) (after : List Frame) (made_so : Moves w made t state frames new after) where
     pub moved : IsMoved w made t new after (with_frames x.before.state t frames) (is_out x.before.schedule)
@@ -67,12 +93,95 @@ module _ (w : World) (n : ℕ) (state : ProgramState) (deques : Lists) (on : Lis
         let v = then w n state deques on c t k frames x made new after moved in
         let is = tells moved.leads.next (is_out x.before.schedule) moved.leads.is in
         record {
-          in_time = λ reads.
-              subst (λ i. now ≤ i) x.parts.state.now
-              (in_time (with_frames x.before.state t frames) (is_out x.before.schedule) (ahead_is w n state deques on c t k frames x) (ahead_has w n state deques on c t k frames x) reads);
+          in_time = in_time_by now in_time;
           then = v;
           makes = step_enters w n state deques on c t k frames x made new after moved;
           parts = then_parts w n state deques on c t k frames x made new after moved left put room;
           hand = then_hand w n state deques on c t k frames x made new after moved;
           outcome = subst (λ a. IsTold a v t) (sym is) (then_outcome w n state deques on c t k frames x made new after moved);
         }
+
+    pub concluded_by : (left : Lists) (now : ℕ) (tried : Attempt After) → IsInTime w now t state frames → IsConcluded new t made c deques left tried
+        → IsTried w n state deques on c t k frames x now tried new left after
+    concluded_by left now (Made told) in_time ends = enters_by left now told in_time ends.put ends.room ends.outcome
+    concluded_by left now LacksThreads in_time ends = absurd ends.outcome
+    concluded_by left now ReadsClock in_time ends = absurd ends.outcome
+
+  -- ---- the step of a thread that runs, which leaves the table of threads as it was, in a program that goes on
+
+  module _ (new : ProgramState) (after : List Frame) (made_so : MovesAtAnyTime w alone t state frames new after) (runs : phase_at state.threads t ≡ Some Run)
+      (same : new.threads ≡ state.threads) (going : (r : State) (out : ℕ → Bool) → IsState new r out → ending r ≡ None) where
+    still_runs : phase_at new.threads t ≡ Some Run
+    still_runs = ap (λ (table : Threads). phase_at table t) same ∙ runs
+
+    enabled_now : (r : State) (out : ℕ → Bool) → IsState new r out → HasFrames r t after → enabled r t ≡ true
+    enabled_now r out is has =
+        let status = status_is new r out t has.thread Run is has.at still_runs in
+        let ready : is_ready r has.thread has.thread.thread.status ≡ true = ap (is_ready r has.thread) status in
+        and_from (is_none (ending r)) _ (ap is_none (going r out is))
+        (ap (λ o. option_map_or (λ (y : JavaThread). is_ready r y y.thread.status) o false) has.at ∙ ready)
+
+    alive_now : (r : State) (out : ℕ → Bool) → IsState new r out → HasFrames r t after → has_ended r t ≡ false
+    alive_now r out is has = enabled_alive r t has.thread has.at (enabled_now r out is has)
+
+    pub enters_running : (now : ℕ) → Enters w n state deques on c t k frames x now Runs new deques after
+    enters_running now =
+        let m = moved alone new after made_so.0 in
+        let is = m.leads.is in
+        let has = m.leads.has in
+        let r = m.leads.next in
+        let out = is_out x.before.schedule in
+        let alive = alive_now r out is has in
+        let goes = goes_by (has_ended r t) false (enabled r t) alive refl (enabled_now r out is has) in
+        let v = then w n state deques on c t k frames x alone new after m in
+        let parts = then_parts w n state deques on c t k frames x alone new after m deques (put_nobody new t c deques.lists (ended_in new r out t is ∙ alive)) room in
+        let hand = then_hand w n state deques on c t k frames x alone new after m in
+        record {
+          in_time = in_time_by now (made_so.1 now);
+          then = v;
+          makes = step_enters w n state deques on c t k frames x alone new after m;
+          parts = parts;
+          hand = hand;
+          outcome = (
+            subst (λ a. IsTold a v t) (sym goes) (then_outcome w n state deques on c t k frames x alone new after m),
+            record { thread = hand.thread; at = hand.at; status = status_is new v.state (is_out v.schedule) t hand.thread Run parts.state hand.at still_runs },
+          );
+        }
+      where
+        room : length new.threads.threads ≤ deques.threads
+        room =
+            let table = ap (λ (table : Threads). length table.threads) same in
+            let old = rows_length state x.before.state (is_out x.before.schedule) x.parts.state in
+            let fits = x.parts.room in
+            omega arith
+
+-- ---- results in one word
+
+pub entered_by : (made : StepResult) (after result : After) (h entries : List Entry) (told tells : Option Ending) (c most : ℕ) (step : What) → told_of made ≡ Ok (Made after)
+    → entries ≡ h ++ record { carrier = c; what = step } ∷ [] → tells ≡ told → result ≡ after → IsEntered (told_of made) h told c step most entries tells result
+entered_by made after result h entries told tells c most step is items same so =
+    subst (λ r. IsEntered r h told c step most entries tells result) (sym is) (items, same, so)
+
+-- the end of a step that was made
+pub concluded_so : (w : World) (made : Move) (state new : ProgramState) (m : Continuation) (deques left : Lists) (c now : ℕ) (tried : Result (Attempt After) NoMemory) (after : List Frame)
+    → Moves w made m.thread state m.stack.frames new after → IsInTime w now m.thread state m.stack.frames → IfOk tried (IsConcluded new m.thread made c deques left)
+    → IsTriedSo w state deques c m now tried new left after
+concluded_so w made state new m deques left c now tried after made_so in_time ends carriers n on from =
+    IfOk-weaker tried (IsConcluded new m.thread made c deques left) (λ o. IsTried w carriers state deques on c m.thread n m.stack.frames from now o new left after)
+    (λ o is. concluded_by w carriers state deques on c m.thread n m.stack.frames from made new after made_so left now o in_time is) ends
+
+pub concluded_stays : (state : ProgramState) (t c : ℕ) (made : Move) (deques left : Lists) (m k : Continuation) (tried : Result (Attempt After) NoMemory)
+    → IfOk tried (IsConcluded state t made c deques left) → IfOk tried (λ o. StaysIfReading o m k)
+concluded_stays state t c made deques left m k tried ends = IfOk-weaker tried (IsConcluded state t made c deques left) (λ o. StaysIfReading o m k) by ends
+  where
+    by : (o : Attempt After) → IsConcluded state t made c deques left o → StaysIfReading o m k
+    by (Made told) is = tt
+    by LacksThreads is = tt
+    by ReadsClock is = absurd is.outcome
+
+-- what holds of a step that was tried holds where its instruction asks something, since nothing has changed
+pub still_tried : (w : World) (old mid new : ProgramState) (m n : Continuation) (deques left : Lists) (c now : ℕ) (tried : Result (Attempt After) NoMemory) (after : List Frame)
+    → Stays old m mid n → IsTriedSo w mid deques c n now tried new left after → IsTriedSo w old deques c m now tried new left after
+still_tried w old mid new m n deques left c now tried after stays is =
+    subst (λ (k : Continuation). IsTriedSo w old deques c k now tried new left after) stays.mounted
+    (subst (λ (s : ProgramState). IsTriedSo w s deques c n now tried new left after) stays.state is)

@@ -24,14 +24,16 @@ use Rattle.thread_steps.specs.States.{memory_of}
 use Rattle.thread_steps.specs.declared.progress.PendingRequest.{PendingRequest}
 use Rattle.program_state.specs.declared.state.ProgramState.{ProgramState}
 use Rattle.program_state.specs.Requests.{IsPending, LacksThreads}
-use Rattle.program_state.specs.Running.{StandsAt}
+use Rattle.thread_steps.specs.declared.progress.Progress.{Progress}
+use Rattle.thread_steps.specs.declared.progress.Progress.TheVariants.{Stepped, Asks}
+use Rattle.program_state.specs.Running.{IsProgress, StandsAt}
 use Rattle.program_state.specs.States.{HasFrames, IsInPhase, IsState}
 use Rattle.program_state.specs.Steps.{StepsTo}
 use Rattle.machine.specs.declared.made.Move.{Move}
 use Rattle.frame_soundness.specs.Typed.{Typed}
 use Rattle.frame_soundness.specs.TypedStates.{AreOfPhase}
 use Rattle.machine.specs.AtHand.{is_waiting}
-use Rattle.machine.specs.Moves.{IsInTime, LacksRoom, Moves, ReadsFirst, others_of}
+use Rattle.machine.specs.Moves.{IsInTime, LacksRoom, Moves, ReadsFirst, RunsOrAsks, alone, others_of}
 use Rattle.machine.proofs.AheadLaws.{frames_running}
 use Rattle.machine.proofs.StateLaws.{status_is}
 
@@ -180,6 +182,15 @@ quiet_in_time w now t a before at quiet r out is has reads =
     let h = in_phase a r out t Run before is at has in
     absurd (no_both (reads_clock_next w r t) reads
     (ap (λ o. option_map_or (λ (x : Request × Asking). reads_clock x.0) o false) (asks_there w a r out t before is h ∙ quiet)))
+
+-- it makes its step, or asks something
+pub runs_or_asks : (w : World) (progress : Progress) (old new : ProgramState) (m n : Continuation) → phase_at old.threads m.thread ≡ Some Run
+    → IsProgress w progress old m new n → RunsOrAsks w progress old m new n
+runs_or_asks w Stepped old new m n at stepped = (
+  moves_by w alone m.thread Run old new m.stack.frames n.stack.frames at stepped.steps (λ r out is h. quiet_yields w old r out m.thread m.stack.frames is h stepped.quiet),
+  λ now. quiet_in_time w now m.thread old m.stack.frames at stepped.quiet,
+)
+runs_or_asks w (Asks q) old new m n at asked = asked
 
 -- one that asks something may, where the time isn't less
 pub pending_in_time : (w : World) (q : PendingRequest) (now t : ℕ) (a : ProgramState) (before : List Frame) → phase_at a.threads t ≡ Some Run → IsPending w q a.memory before

@@ -141,10 +141,28 @@ module _ (p : Setting) (n : ℕ) (state : ProgramState) (deques : Lists) (on : L
     status_at phase at =
         status_is state x.after.state (is_out x.after.schedule) t hand.thread phase (parts_are p n state deques on h told x none).state hand.at at
 
+    no_next : (status : Status) → hand.thread.thread.status ≡ status → (status ≡ Live Run → ⊥) → next ≡ None → HasNext p.world state t frames next
+    no_next status is other absent =
+        subst (HasNext p.world state t frames) (sym absent) (λ at. other (sym is ∙ status_at Run at))
+
+    run_next : IsAt state t Run → IsAtLast p.world k frames next → HasNext p.world state t frames next
+    run_next at last = subst (HasNext p.world state t frames) (sym last.is) (at, last.at)
+
+    next_by : (status : Status) → hand.thread.thread.status ≡ status → IsStepReadyIn p.world k frames next status → HasNext p.world state t frames next
+    next_by (Live Run) is ready =
+        run_next (phase_is state x.after.state (is_out x.after.schedule) t hand.thread Run (parts_are p n state deques on h told x none).state hand.at is) ready
+    next_by New is ready = no_next New is (λ e. cc) ready.1
+    next_by Done is ready = no_next Done is (λ e. cc) ready.1
+    next_by (Live (Throwing o)) is ready = no_next (Live (Throwing o)) is (λ e. cc) ready.1
+    next_by (Live (Entering o)) is ready = no_next (Live (Entering o)) is (λ e. cc) ready.1
+    next_by (Live (Waiting o count deadline)) is ready = no_next (Live (Waiting o count deadline)) is (λ e. cc) ready.1
+    next_by (Live (Reenter o count wake)) is ready = no_next (Live (Reenter o count wake)) is (λ e. cc) ready.1
+    next_by (Live (Parked deadline)) is ready = no_next (Live (Parked deadline)) is (λ e. cc) ready.1
+    next_by (Live (Asleep deadline)) is ready = no_next (Live (Asleep deadline)) is (λ e. cc) ready.1
+    next_by (Live (Joining u deadline)) is ready = no_next (Live (Joining u deadline)) is (λ e. cc) ready.1
+
     pub next_at : HasNext p.world state t frames next
-    next_at at =
-        let last : IsAtLast p.world k frames next = subst (IsStepReadyIn p.world k frames next) (status_at Run at) ready_in in
-        record { fetched = last.fetched; is = last.is; at = last.at }
+    next_at = next_by hand.thread.thread.status refl ready_in
 
     pub typed_at : AreTyped p.world state t frames
     typed_at phase at =

@@ -6,6 +6,7 @@ use Rattle.history.specs.declared.entry.Entry.{Entry}
 use Rattle.history.specs.declared.entry.What.{What}
 use Rattle.history.specs.declared.entry.What.TheVariants.{Step}
 use Rattle.thread_lists.specs.Lists.{Lists}
+use Rattle.vthread_state.specs.declared.phase.Phase.TheVariants.{Run}
 use Rattle.state_model.specs.Frames.{Frame}
 use Rattle.continuation.specs.Continuation.{Continuation}
 use Rattle.schedule_model.specs.Run.{Scheduled}
@@ -15,14 +16,14 @@ use Rattle.ref_model.specs.declared.ending.Which.TheVariants.{Threads}
 use Rattle.ref_model.specs.Setting.{Setting}
 use Rattle.program_state.specs.declared.state.ProgramState.{ProgramState}
 use Rattle.machine.specs.declared.after.After.{After}
-use Rattle.machine.specs.declared.after.After.TheVariants.{Goes, Leaves, Ends, Halts}
+use Rattle.machine.specs.declared.after.After.TheVariants.{Goes, Runs, Leaves, Ends, Halts}
 use Rattle.machine.specs.declared.after.After.TheVariants as afters
 use Rattle.machine.specs.declared.made.Attempt.{Attempt}
 use Rattle.machine.specs.declared.made.Attempt.TheVariants.{Made, LacksThreads, ReadsClock}
 use Rattle.ref_model.specs.State.{State, with_frames}
 use Rattle.ref_model.specs.Looks.{lacks_threads_next, reads_clock_next}
 use Rattle.ref_model.specs.Enabled.{has_ended}
-use Rattle.machine.specs.Hands.{HasHand, Holds, IsLive, MayStep, OwesNothing}
+use Rattle.machine.specs.Hands.{HasHand, Holds, IsLive, IsLiveIn, MayStep, OwesNothing}
 use Rattle.machine.specs.Legal.{IsCause}
 use Rattle.machine.specs.Insides.{IsConsistent}
 use Rattle.machine.specs.Machines.{Given, Known, scheduled}
@@ -121,6 +122,7 @@ module _ (p : Setting) (n : ℕ) (state : ProgramState) (deques : Lists) (on : L
 
     outcome_is : (a : After) (v : Scheduled State) (new : Known) → IsTold a v t → ((P : Scheduled State → Type 0) → P v → Given new P) → IsOutcome a new t
     outcome_is Goes v new is gives = gives (λ w. w.schedule.owes t ≡ false) is
+    outcome_is Runs v new is gives = (gives (λ w. w.schedule.owes t ≡ false) is.0, gives (λ w. IsLiveIn w.state t Run) is.1)
     outcome_is Leaves v new is gives = (gives (λ w. w.schedule.owes t ≡ true) is.0, gives (λ w. IsLive w.state t) is.1)
     outcome_is Ends v new is gives = (gives (λ w. w.schedule.owes t ≡ true) is.0, gives (λ w. has_ended w.state t ≡ true) is.1)
     outcome_is afters.ReadsClock v new is gives = absurd is
@@ -143,6 +145,7 @@ module _ (p : Setting) (n : ℕ) (state : ProgramState) (deques : Lists) (on : L
 
     as_step : (a : After) (old new : Known) (after : List Frame) (v : Scheduled State) → IsTold a v t → HasStepped a old new c t k after → Steps a old new c t k now frames after
     as_step Goes old new after v told is = is
+    as_step Runs old new after v told is = is
     as_step Leaves old new after v told is = is
     as_step Ends old new after v told is = is
     as_step afters.ReadsClock old new after v told is = absurd told
@@ -194,6 +197,7 @@ module _ (p : Setting) (n : ℕ) (state : ProgramState) (deques : Lists) (on : L
         by : (a : After) → Given (known_of p n h spare told) (λ v. reads_clock_next p.world (with_frames v.state t frames) t ≡ true → now ≤ v.state.now)
             → IsInTime a (known_of p n h spare told) t now frames
         by Goes is = is
+        by Runs is = is
         by Leaves is = is
         by Ends is = is
         by afters.ReadsClock is = tt
@@ -210,6 +214,7 @@ module _ (p : Setting) (n : ℕ) (state : ProgramState) (deques : Lists) (on : L
       where
         by : (a : After) (v : Scheduled State) → a ≡ afters.ReadsClock → IsTold a v t → ⊥
         by Goes v e is = absurd cc
+        by Runs v e is = absurd cc
         by Leaves v e is = absurd cc
         by Ends v e is = absurd cc
         by afters.ReadsClock v e is = is

@@ -1,5 +1,5 @@
 -- The thread that a carrier steps: its phase, its frames, and its instruction.
-use Rattle.std.specs.Prelude.{◌≡◌, ℕ, Bool, true, false, List, Option, Some}
+use Rattle.std.specs.Prelude.{◌≡◌, ℕ, Bool, true, false, List, Option, Some, None}
 use Rattle.vthread_state.specs.declared.phase.Phase.{Phase}
 use Rattle.vthread_state.specs.declared.phase.Phase.TheVariants.{Run, Parked, Asleep, Joining}
 use Rattle.vthread_state.specs.Threads.{phase_at}
@@ -25,11 +25,7 @@ is_waiting phase = false
 abbrev pub AreTyped : World → ProgramState → ℕ → List Frame → Type 0
 AreTyped w state t frames = (phase : Phase) → IsAt state t phase → AreOfPhase w frames phase
 
--- the instruction at hand, where the thread runs
-pub record IsNext (w : World) (frames : List Frame) (next : Option Fetched) : Type 0 where
-  pub fetched : Fetched
-  pub is : next ≡ Some fetched
-  pub at : IsTopAt w frames fetched
-
+-- the instruction at hand, where the thread runs, and there alone
 abbrev pub HasNext : World → ProgramState → ℕ → List Frame → Option Fetched → Type 0
-HasNext w state t frames next = IsAt state t Run → IsNext w frames next
+HasNext w state t frames (Some fetched) = IsAt state t Run × IsTopAt w frames fetched
+HasNext w state t frames None = IsAt state t Run → ⊥

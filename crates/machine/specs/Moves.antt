@@ -1,5 +1,5 @@
 -- What a step of a thread makes of the state of a program.
-use Rattle.std.specs.Prelude.{◌≡◌, ◌<◌, ◌≤◌, ℕ, Bool, true, List}
+use Rattle.std.specs.Prelude.{◌≡◌, ◌<◌, ◌≤◌, ℕ, Bool, true, false, List}
 use Rattle.link_model.specs.World.{World}
 use Rattle.state_model.specs.Frames.{Frame}
 use Rattle.continuation.specs.Continuation.{Continuation}
@@ -7,7 +7,11 @@ use Rattle.ref_model.specs.State.{State}
 use Rattle.ref_model.specs.Step.{thread_step}
 use Rattle.ref_model.specs.Looks.{lacks_threads_next, reads_clock_next, yields_next}
 use Rattle.schedule_soundness.specs.PutLaws.{OthersStay}
+use Rattle.thread_steps.specs.declared.progress.Progress.{Progress}
+use Rattle.thread_steps.specs.declared.progress.Progress.TheVariants.{Stepped, Asks}
 use Rattle.program_state.specs.declared.state.ProgramState.{ProgramState}
+use Rattle.program_state.specs.Requests.{IsPending}
+use Rattle.program_state.specs.Running.{Stays}
 use Rattle.program_state.specs.States.{HasFrames, IsState}
 use Rattle.program_state.specs.Steps.{Leads, Starts, Wakes}
 use Rattle.machine.specs.declared.made.Attempt.{Attempt}
@@ -59,3 +63,18 @@ abbrev pub StaysIfReading : {A : Type 0} → Attempt A → Continuation → Cont
 StaysIfReading (Made made) old new = Unit {0}
 StaysIfReading LacksThreads old new = Unit {0}
 StaysIfReading ReadsClock old new = new ≡ old
+
+-- ---- a step that doesn't read the clock
+
+-- it was made, and may be made at any time
+abbrev pub MovesAtAnyTime : World → Move → ℕ → ProgramState → List Frame → ProgramState → List Frame → Type 0
+MovesAtAnyTime w made t old before new after = Moves w made t old before new after × ((now : ℕ) → IsInTime w now t old before)
+
+-- it does nothing to the other threads, and is no yield
+abbrev pub alone : Move
+alone = record { others = moves.Stay; yields = false }
+
+-- the thread, which runs, made its step; or its instruction asks something, and nothing has changed
+abbrev pub RunsOrAsks : World → Progress → ProgramState → Continuation → ProgramState → Continuation → Type 0
+RunsOrAsks w Stepped old m new n = MovesAtAnyTime w alone m.thread old m.stack.frames new n.stack.frames
+RunsOrAsks w (Asks q) old m new n = IsPending w q old.memory m.stack.frames × Stays old m new n

@@ -1,5 +1,5 @@
 -- The step of a mounted thread as an entry of the history.
-use Rattle.std.specs.Prelude.{◌≡◌, ◌<◌, ◌≤◌, ◌++◌, ◌∷◌, [], ℕ, suc, Bool, true, false, List, Option, Some, None, Result, Ok, Err}
+use Rattle.std.specs.Prelude.{◌≡◌, ◌<◌, ◌≤◌, ◌++◌, ◌∷◌, [], ℕ, suc, Bool, true, false, List, Option, Some, None, Result, Ok, Err, IfOk, length}
 use Rattle.items.specs.declared.no_memory.NoMemory.{NoMemory}
 use Rattle.history.specs.declared.entry.Entry.{Entry}
 use Rattle.history.specs.declared.entry.What.{What}
@@ -8,8 +8,10 @@ use Rattle.ref_model.specs.declared.ending.Ending.TheVariants.{Limit, Halted}
 use Rattle.ref_model.specs.declared.ending.Which.TheVariants.{Threads}
 use Rattle.history.specs.declared.entry.What.TheVariants.{Step}
 use Rattle.thread_lists.specs.Lists.{Lists}
+use Rattle.vthread_state.specs.declared.phase.Phase.TheVariants.{Run}
 use Rattle.link_model.specs.World.{World}
 use Rattle.state_model.specs.Frames.{Frame}
+use Rattle.continuation.specs.Continuation.{Continuation}
 use Rattle.schedule_model.specs.Run.{Scheduled, scheduled_after}
 use Rattle.ref_model.specs.Setting.{Setting}
 use Rattle.ref_model.specs.State.{State, with_frames}
@@ -19,14 +21,19 @@ use Rattle.ref_model.specs.Step.{enabled}
 use Rattle.ref_model.specs.Looks.{lacks_threads_next, machine_from, reads_clock_next}
 use Rattle.schedule_soundness.specs.HistoryLaws.{IsProgramAfter}
 use Rattle.program_state.specs.declared.state.ProgramState.{ProgramState}
+use Rattle.program_state.specs.States.{IsState}
 use Rattle.machine.specs.declared.after.After.{After}
 use Rattle.machine.specs.declared.after.After.TheVariants as afters
-use Rattle.machine.specs.declared.after.After.TheVariants.{Goes, Leaves, Ends, Halts}
+use Rattle.machine.specs.declared.after.After.TheVariants.{Goes, Runs, Leaves, Ends, Halts}
 use Rattle.machine.specs.declared.made.Attempt.{Attempt}
 use Rattle.machine.specs.declared.made.Attempt.TheVariants.{Made, LacksThreads, ReadsClock}
-use Rattle.machine.specs.Hands.{HasHand, IsLive}
+use Rattle.machine.specs.declared.made.Move.{Move}
+use Rattle.machine.specs.declared.made.StepResult.{StepResult}
+use Rattle.machine.specs.declared.made.StepResult.TheVariants as results
+use Rattle.machine.specs.Hands.{HasHand, IsLive, IsLiveIn}
 use Rattle.machine.specs.Insides.{AreParts}
 use Rattle.machine.specs.Legal.{IsAccepted}
+use Rattle.machine.specs.Puts.{HasPut}
 
 -- A history of a program, after which thread t may step on carrier c, with these frames after local instructions that it doesn't have yet.
 pub record StepsFrom (w : World) (carriers : ℕ) (state : ProgramState) (deques : Lists) (on : List (Option ℕ)) (c t n : ℕ) (frames : List Frame) : Type 0 where
@@ -59,6 +66,7 @@ outcome_of false false false = Leaves
 -- what is told of it holds
 abbrev pub IsTold : After → Scheduled State → ℕ → Type 0
 IsTold Goes v t = v.schedule.owes t ≡ false
+IsTold Runs v t = (v.schedule.owes t ≡ false) × IsLiveIn v.state t Run
 IsTold Leaves v t = (v.schedule.owes t ≡ true) × IsLive v.state t
 IsTold Ends v t = (v.schedule.owes t ≡ true) × (has_ended v.state t ≡ true)
 IsTold afters.ReadsClock v t = ⊥
@@ -94,6 +102,36 @@ IsTried w carriers state deques on c t n frames from now (Made told) new left af
     Enters w carriers state deques on c t n frames from now told new left after
 IsTried w carriers state deques on c t n frames from now LacksThreads new left after = Lacks w carriers state deques on c t n frames from new left
 IsTried w carriers state deques on c t n frames from now ReadsClock new left after = WaitsForClock w carriers state deques on c t n frames from now new left
+
+-- so it was from each history after which the thread of this continuation may step
+abbrev pub IsTriedSo : World → ProgramState → Lists → ℕ → Continuation → ℕ → Result (Attempt After) NoMemory → ProgramState → Lists → List Frame → Type 0
+IsTriedSo w state deques c m now made new left after =
+    (carriers n : ℕ) (on : List (Option ℕ)) (from : StepsFrom w carriers state deques on c m.thread n m.stack.frames) →
+    IfOk made (λ tried. IsTried w carriers state deques on c m.thread n m.stack.frames from now tried new left after)
+
+-- what came of a step, in one word, and in parts
+abbrev pub told_of : StepResult → Result (Attempt After) NoMemory
+told_of results.Goes = Ok (Made Goes)
+told_of results.Runs = Ok (Made Runs)
+told_of results.Leaves = Ok (Made Leaves)
+told_of results.Ends = Ok (Made Ends)
+told_of results.LacksThreads = Ok LacksThreads
+told_of results.ReadsClock = Ok ReadsClock
+told_of results.LacksMemory = Err (record {})
+
+-- ---- the end of a step
+
+-- what becomes of a thread after its step, which was a yield or not
+abbrev pub Becomes : ProgramState → ℕ → Bool → Attempt After → Type 0
+Becomes state t yields (Made after) = (r : State) (out : ℕ → Bool) → IsState state r out → after ≡ outcome_of (has_ended r t) yields (enabled r t)
+Becomes state t yields LacksThreads = ⊥
+Becomes state t yields ReadsClock = ⊥
+
+-- whom it put, and what becomes of its thread
+pub record IsConcluded (state : ProgramState) (t : ℕ) (made : Move) (c : ℕ) (old new : Lists) (tried : Attempt After) : Type 0 where
+  pub put : HasPut state t made.others c old.lists new.lists
+  pub room : length state.threads.threads ≤ new.threads
+  pub outcome : Becomes state t made.yields tried
 
 -- ---- the history after a step
 

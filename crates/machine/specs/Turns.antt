@@ -16,10 +16,10 @@ use Rattle.frame_soundness.specs.Typed.{Typed}
 use Rattle.interp_local.specs.declared.fetched.Fetched.{Fetched}
 use Rattle.interp_local.specs.Fetched.{IsTopAt}
 use Rattle.machine.specs.declared.after.After.{After}
-use Rattle.machine.specs.declared.after.After.TheVariants.{Goes, Leaves, Ends, ReadsClock, Halts}
+use Rattle.machine.specs.declared.after.After.TheVariants.{Goes, Runs, Leaves, Ends, ReadsClock, Halts}
 use Rattle.machine.specs.Clocks.{IsBefore}
 use Rattle.machine.specs.Machines.{Given, Known, with_ending, with_entry}
-use Rattle.machine.specs.Hands.{Holds, HasEnded, Lives, OwesNothing, OwesUnmount}
+use Rattle.machine.specs.Hands.{HasEnded, HasPhase, Holds, Lives, OwesNothing, OwesUnmount}
 
 -- ---- before a step
 
@@ -47,9 +47,10 @@ IsStepReady m t n frames next =
 abbrev pub step_of : ℕ → ℕ → What
 step_of t n = Step t n None
 
--- The thread goes on; or it has to be unmounted, since it yielded or can't go on; or it has ended.
+-- The thread goes on, and may be told to run; or it has to be unmounted, since it yielded or can't go on; or it has ended.
 abbrev pub IsOutcome : After → Known → ℕ → Type 0
 IsOutcome Goes m t = OwesNothing m t
+IsOutcome Runs m t = OwesNothing m t × HasPhase m t Run
 IsOutcome Leaves m t = OwesUnmount m t × Lives m t
 IsOutcome Ends m t = OwesUnmount m t × HasEnded m t
 IsOutcome ReadsClock m t = ⊥

@@ -3,6 +3,8 @@
 pub enum After {
     /// The thread goes on.
     Goes,
+    /// The thread goes on and runs, and the program hasn't ended.
+    Runs,
     /// The thread has to be unmounted: it yielded or can't go on.
     Leaves,
     /// The thread has ended.

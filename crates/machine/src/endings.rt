@@ -13,7 +13,7 @@ use ref_model::{Ending, Limits, Which};
 
 // Whether a run with this number of entries has reached the limit of events.
 #[inline(always)]
-fn limit_within(limits: Limits, entries: usize) -> Option<Ending>
+pub(crate) fn limit_within(limits: Limits, entries: usize) -> Option<Ending>
     ensures { result ≡ limit_reached limits entries }
 {
     if entries >= limits.events.saturating_sub(2) as usize {

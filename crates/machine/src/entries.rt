@@ -1,53 +1,216 @@
 //! The step of a mounted thread, with what it does to the deque of its carrier.
 
-ghost use Rattle.std.specs.Prelude.{◌≡◌, ◌<◌, ℕ, Bool, List, Option, length, vec_capacity, IfOk, OnOk};
-ghost use Rattle.ref_model.specs.Enabled.{has_ended};
+ghost use Rattle.std.specs.Prelude.{◌≡◌, ◌<◌, ◌++◌, ◌∷◌, [], ℕ, Bool, None, length, vec_capacity, IfOk, IsTrue, OnOk};
+ghost use Rattle.vthread_state.specs.declared.phase.Phase.TheVariants.{Run};
+ghost use Rattle.ref_model.specs.Ending.{ending as ending_of};
 ghost use Rattle.ref_model.specs.State.{State};
-ghost use Rattle.ref_model.specs.Step.{enabled};
+ghost use Rattle.frame_soundness.specs.Typed.{Typed};
+ghost use Rattle.interp_local.specs.Fetched.{IsTopAt};
 ghost use Rattle.invocation.specs.InvocationCache.{AreSelected};
+ghost use Rattle.thread_lists.specs.Lists.{count, total};
+ghost use Rattle.program_state.specs.Requests.{IsPending};
 ghost use Rattle.program_state.specs.States.{IsState};
-ghost use Rattle.machine.specs.AtHand.{AreTyped, HasNext};
-ghost use Rattle.machine.specs.Moves.{StaysIfReading};
+ghost use Rattle.machine.specs.AtHand.{AreTyped, HasNext, IsAt};
+ghost use Rattle.machine.specs.Moves.{StaysIfReading, alone};
+ghost use Rattle.machine.specs.Puts.{IsTouched};
 ghost use Rattle.machine.specs.Ready.{IsReady};
-ghost use Rattle.machine.specs.Steps.{IsEntered, IsTried, MayBeMade, StepsFrom, outcome_of};
+ghost use Rattle.machine.specs.Steps.{Becomes, IsConcluded, IsEntered, IsTriedSo, MayBeMade, told_of};
+ghost use Rattle.machine.specs.declared.made.Others.TheVariants as moves;
 
 use crate::after::After;
 use crate::endings::may_step;
-use crate::made::Attempt;
-use crate::moves::thread_move;
+use crate::made::{Attempt, Move, Others, StepResult};
+use crate::moves::{asking_move, other_move, running_move};
 use crate::puts::{is_done, put_woken};
 use continuation::Mounted;
 use history::{Entry, What};
 use interp_local::Fetched;
 use invocation::InvocationCache;
 use items::NoMemory;
-use program_state::ProgramState;
+use program_state::{ProgramState, ending};
 use ref_model::{Ending, Which};
 use run_deques::Deques;
 use startup::ReadyProgram;
 use std::alloc::Global;
+use thread_steps::{PendingRequest, Progress};
 
 // What becomes of a thread after its step, which was a yield or not.
 #[inline(always)]
-fn outcome(state: &ProgramState, t: u32, yields: bool) -> After
+fn outcome(state: &ProgramState, t: u32, yields: bool) -> StepResult
     requires { t < length state.now.threads.threads }
-    ensures { (r : State) (out : ℕ → Bool) → IsState state.now r out
-        → result ≡ outcome_of (has_ended r t) yields (enabled r t) }
+    ensures { IfOk (told_of result) (Becomes state.now t yields) }
 {
     if is_done(&state.threads, t) {
-        return After::Ends;
+        return StepResult::Ends;
     }
     if yields {
-        return After::Leaves;
+        return StepResult::Leaves;
     }
     if may_step(state, t) {
-        After::Goes
+        StepResult::Goes
     } else {
-        After::Leaves
+        StepResult::Leaves
     }
 }
 
-/// Makes the step of a thread that carrier c has mounted. One that reads the clock is made only where the time isn't less than `now`.
+// Whom a step puts, and what becomes of its thread.
+#[inline(always)]
+fn conclude(
+    alloc: Global,
+    state: &ProgramState,
+    deques: &mut Deques,
+    c: u32,
+    t: u32,
+    made: Move,
+) -> StepResult
+    requires thread { t < length state.now.threads.threads }
+    requires touched { IsTouched made.others (length state.now.threads.threads) }
+    requires carrier { c < length deques.old.lists }
+    requires free { (u : ℕ) → made.others ≡ moves.Starts u
+        → total (count u) deques.old.lists ≡ 0 }
+    ensures { IfOk (told_of result)
+        (IsConcluded state.now t made c deques.old deques.new) }
+{
+    match put_woken(alloc, state, deques, c, t, made.others) {
+        Ok(()) => outcome(state, t, made.yields),
+        Err(NoMemory) => StepResult::LacksMemory,
+    }
+}
+
+// The end of a step that did nothing to other threads, and was no yield.
+#[inline(never)]
+fn end_step(alloc: Global, state: &ProgramState, deques: &mut Deques, c: u32, t: u32) -> StepResult
+    requires thread { t < length state.now.threads.threads }
+    requires carrier { c < length deques.old.lists }
+    ensures { IfOk (told_of result)
+        (IsConcluded state.now t alone c deques.old deques.new) }
+{
+    let made = Move {
+        others: Others::Stay,
+        yields: false,
+    };
+    conclude(alloc, state, deques, c, t, made)
+}
+
+// The step of a thread whose instruction asks this. One that reads the clock is made only where the time isn't less than `now`.
+#[inline(never)]
+fn asking_step(
+    alloc: Global,
+    program: &ReadyProgram,
+    state: &mut ProgramState,
+    deques: &mut Deques,
+    mounted: &mut Mounted,
+    c: u32,
+    pending: PendingRequest,
+    now: u64,
+) -> StepResult
+    requires from { MayBeMade program.now state.old deques.old c mounted.old.thread
+        mounted.old.stack.frames }
+    requires runs { IsAt state.old mounted.old.thread Run }
+    requires asks { IsPending program.now pending state.old.memory mounted.old.stack.frames }
+    ensures made { IsTriedSo program.now state.old deques.old c mounted.old now (told_of result)
+        state.new deques.new mounted.new.stack.frames }
+    ensures thread { OnOk (told_of result) (mounted.new.thread ≡ mounted.old.thread) }
+    ensures kept { IfOk (told_of result) (λ tried.
+        StaysIfReading tried mounted.old mounted.new) }
+{
+    let t = mounted.thread();
+    let Ok(tried) = asking_move(alloc, program, state, mounted, pending, now) else {
+        return StepResult::LacksMemory;
+    };
+    match tried {
+        Attempt::Made(made) => conclude(alloc, state, deques, c, t, made),
+        Attempt::LacksThreads => StepResult::LacksThreads,
+        Attempt::ReadsClock => StepResult::ReadsClock,
+    }
+}
+
+// Whether the program goes on.
+#[inline(always)]
+fn goes_on(state: &ProgramState) -> bool
+    ensures { IsTrue result → (r : State) (out : ℕ → Bool) → IsState state.now r out
+        → ending_of r ≡ None }
+{
+    ending(state).is_none()
+}
+
+// The step of a thread that runs, at this instruction. One that reads the clock is made only where the time isn't less than `now`.
+#[inline(always)]
+fn running_step(
+    alloc: Global,
+    program: &ReadyProgram,
+    cache: &mut InvocationCache,
+    state: &mut ProgramState,
+    deques: &mut Deques,
+    mounted: &mut Mounted,
+    c: u32,
+    next: Fetched<'_>,
+    now: u64,
+) -> StepResult
+    requires from { MayBeMade program.now state.old deques.old c mounted.old.thread
+        mounted.old.stack.frames }
+    requires ready { IsReady program.now }
+    requires runs { IsAt state.old mounted.old.thread Run }
+    requires typed { Typed program.now mounted.old.stack.frames }
+    requires next { IsTopAt program.now mounted.old.stack.frames next }
+    requires selected { AreSelected program.now cache.old }
+    ensures made { IsTriedSo program.now state.old deques.old c mounted.old now (told_of result)
+        state.new deques.new mounted.new.stack.frames }
+    ensures thread { OnOk (told_of result) (mounted.new.thread ≡ mounted.old.thread) }
+    ensures kept { IfOk (told_of result) (λ tried.
+        StaysIfReading tried mounted.old mounted.new) }
+    ensures cache { AreSelected program.now cache.new }
+{
+    let t = mounted.thread();
+    let mut progress = Progress::Stepped;
+    let Ok(same) = running_move(alloc, program, cache, state, mounted, &mut progress, next) else {
+        return StepResult::LacksMemory;
+    };
+    match progress {
+        Progress::Stepped => {
+            if same && goes_on(state) {
+                return StepResult::Runs;
+            }
+            end_step(alloc, state, deques, c, t)
+        }
+        Progress::Asks(pending) => {
+            asking_step(alloc, program, state, deques, mounted, c, pending, now)
+        }
+    }
+}
+
+// The step of a thread that doesn't run.
+#[inline(never)]
+fn other_step(
+    alloc: Global,
+    program: &ReadyProgram,
+    cache: &mut InvocationCache,
+    state: &mut ProgramState,
+    deques: &mut Deques,
+    mounted: &mut Mounted,
+    c: u32,
+) -> StepResult
+    requires from { MayBeMade program.now state.old deques.old c mounted.old.thread
+        mounted.old.stack.frames }
+    requires ready { IsReady program.now }
+    requires typed { AreTyped program.now state.old mounted.old.thread mounted.old.stack.frames }
+    requires selected { AreSelected program.now cache.old }
+    ensures made { (now : ℕ) → IsTriedSo program.now state.old deques.old c mounted.old now
+        (told_of result) state.new deques.new mounted.new.stack.frames }
+    ensures thread { OnOk (told_of result) (mounted.new.thread ≡ mounted.old.thread) }
+    ensures kept { IfOk (told_of result) (λ tried.
+        StaysIfReading tried mounted.old mounted.new) }
+    ensures cache { AreSelected program.now cache.new }
+{
+    let t = mounted.thread();
+    let Ok(made) = other_move(alloc, program, cache, state, mounted) else {
+        return StepResult::LacksMemory;
+    };
+    conclude(alloc, state, deques, c, t, made)
+}
+
+/// Makes the step of a thread that carrier c has mounted; where it runs `next` is its instruction. One that reads the clock is made only where
+/// the time isn't less than `now`.
 #[inline(always)]
 pub(crate) fn make_step(
     alloc: Global,
@@ -59,36 +222,44 @@ pub(crate) fn make_step(
     c: u32,
     next: Option<Fetched<'_>>,
     now: u64,
-) -> Result<Attempt<After>, NoMemory>
+) -> StepResult
     requires from { MayBeMade program.now state.old deques.old c mounted.old.thread
         mounted.old.stack.frames }
     requires ready { IsReady program.now }
     requires typed { AreTyped program.now state.old mounted.old.thread mounted.old.stack.frames }
     requires next { HasNext program.now state.old mounted.old.thread mounted.old.stack.frames next }
     requires selected { AreSelected program.now cache.old }
-    ensures made { (carriers n : ℕ) (on : List (Option ℕ))
-        (from : StepsFrom program.now carriers state.old deques.old on c
-        mounted.old.thread n mounted.old.stack.frames) →
-        IfOk result (λ tried. IsTried program.now carriers state.old deques.old on c
-        mounted.old.thread n mounted.old.stack.frames from now tried
-        state.new deques.new mounted.new.stack.frames) }
-    ensures thread { OnOk result (mounted.new.thread ≡ mounted.old.thread) }
-    ensures kept { IfOk result (λ tried. StaysIfReading tried mounted.old mounted.new) }
+    ensures made { IsTriedSo program.now state.old deques.old c mounted.old now (told_of result)
+        state.new deques.new mounted.new.stack.frames }
+    ensures thread { OnOk (told_of result) (mounted.new.thread ≡ mounted.old.thread) }
+    ensures kept { IfOk (told_of result) (λ tried.
+        StaysIfReading tried mounted.old mounted.new) }
     ensures cache { AreSelected program.now cache.new }
 {
-    let t = mounted.thread();
-    match thread_move(alloc, program, cache, state, mounted, next, now)? {
-        Attempt::Made(made) => {
-            put_woken(alloc, state, deques, c, t, made.others)?;
-            Ok(Attempt::Made(outcome(state, t, made.yields)))
-        }
-        Attempt::LacksThreads => Ok(Attempt::LacksThreads),
-        Attempt::ReadsClock => Ok(Attempt::ReadsClock),
+    match next {
+        Some(next) => { running_step(alloc, program, cache, state, deques, mounted, c, next, now) }
+        None => other_step(alloc, program, cache, state, deques, mounted, c),
     }
 }
 
 /// How many steps an entry has at most.
 pub(crate) const MOST_STEPS: u32 = 10_001;
+
+// An entry comes last to the history.
+#[inline(always)]
+fn enter(history: &mut Vec<Entry>, c: u32, step: What, after: After) -> After
+    requires { length history.old.items < vec_capacity history.old }
+    ensures items { history.new.items
+        ≡ history.old.items ++ record { carrier = c; what = step } ∷ [] }
+    ensures capacity { vec_capacity history.new ≡ vec_capacity history.old }
+    ensures after { result ≡ after }
+{
+    history.push_reserved(Entry {
+        carrier: c,
+        what: step,
+    });
+    after
+}
 
 /// What becomes of the run after a step was tried: the entry goes to the history, or nothing was made, and the run halts unless the step reads the
 /// clock.
@@ -98,28 +269,25 @@ pub(crate) fn enter_step(
     told: &mut Option<Ending>,
     c: u32,
     step: What,
-    tried: Result<Attempt<After>, NoMemory>,
+    tried: StepResult,
     most_threads: u32,
 ) -> After
     requires { length history.old.items < vec_capacity history.old }
-    ensures entered { IsEntered tried history.old.items told.old c step most_threads
+    ensures entered { IsEntered (told_of tried) history.old.items told.old c step most_threads
         history.new.items told.new result }
     ensures capacity { vec_capacity history.new ≡ vec_capacity history.old }
 {
     match tried {
-        Ok(Attempt::Made(after)) => {
-            history.push_reserved(Entry {
-                carrier: c,
-                what: step,
-            });
-            after
-        }
-        Ok(Attempt::ReadsClock) => After::ReadsClock,
-        Ok(Attempt::LacksThreads) => {
+        StepResult::Runs => enter(history, c, step, After::Runs),
+        StepResult::Goes => enter(history, c, step, After::Goes),
+        StepResult::Leaves => enter(history, c, step, After::Leaves),
+        StepResult::Ends => enter(history, c, step, After::Ends),
+        StepResult::ReadsClock => After::ReadsClock,
+        StepResult::LacksThreads => {
             *told = Some(Ending::Limit(Which::Threads, most_threads));
             After::Halts
         }
-        Err(NoMemory) => {
+        StepResult::LacksMemory => {
             *told = Some(Ending::Halted);
             After::Halts
         }

@@ -1,6 +1,6 @@
 //! A machine: the state in which a program is, and what its carriers have, with the history that gives both.
 
-ghost use Rattle.std.specs.Prelude.{◌≡◌, ◌≤◌, ◌<◌, ◌-◌, ℕ, None, Some, drop, length, vec_capacity, IfNone, IfOk, IfSome, IsTrue, MatchBool, OnErr, OnOk, false, ◌≢◌};
+ghost use Rattle.std.specs.Prelude.{◌≡◌, ◌≤◌, ◌<◌, ◌-◌, ℕ, None, Some, drop, is_some, length, vec_capacity, IfNone, IfOk, IfSome, IsTrue, MatchBool, OnErr, OnOk, false, ◌≢◌};
 ghost use Rattle.history.specs.declared.entry.What.TheVariants as whats;
 ghost use Rattle.ref_model.specs.declared.ending.Ending.TheVariants as endings;
 ghost use Rattle.ref_model.specs.Looks.{is_stalled};
@@ -10,7 +10,7 @@ ghost use Rattle.step_soundness.specs.OpeningLaws.{IsMain};
 ghost use Rattle.link_soundness.specs.Library.{HasLibrary};
 ghost use Rattle.schedule_soundness.specs.PinLaws.{NamesNoHold};
 ghost use Rattle.startup.specs.Openings.{setting};
-ghost use Rattle.machine.specs.Machines.{Given, Known, at_first, errors, machine_ending, output, with_ending, with_entry};
+ghost use Rattle.machine.specs.Machines.{Given, Known, at_first, errors, limit_reached, machine_ending, output, with_ending, with_entry};
 ghost use Rattle.machine.specs.Hands.{AreDequesEmpty, AreTypedInRun, HasEnded, HasPhase, Holds, Idle, IsMounted, Lives, MayStep, MayUnmount, OwesNothing};
 ghost use Rattle.machine.specs.Legal.{GoesOn, HasEntryLeft, HasNotStalled, IsLegal, Works};
 ghost use Rattle.machine.specs.Clocks.{Awaits, AwaitsNothing, IsBefore, IsEarliest};
@@ -22,7 +22,7 @@ ghost use Rattle.invocation.specs.InvocationCache.{AreSelected};
 use crate::after::After;
 use crate::begin::{first_deques, first_mounted, first_state};
 use crate::carriers::{put_frozen, put_if, set_mounted, take_frozen};
-use crate::endings::{ended_within, may_step};
+use crate::endings::{ended_within, limit_within, may_step};
 use crate::entries::{MOST_STEPS, enter_step, make_step};
 use crate::laws::{is_accepted, main_pins};
 use crate::live::live_in;
@@ -128,6 +128,15 @@ impl<'p> Machine<'p> {
             Some(told) => Some(told),
             None => ended_within(&self.state, self.limits, self.history.len()),
         }
+    }
+
+    /// Whether fewer entries are left than a carrier's turn may make.
+    #[inline(always)]
+    pub fn is_at_limit(&self) -> bool
+        ensures { result ≡ is_some (limit_reached self.now.setting.limits
+            (length self.now.history)) }
+    {
+        limit_within(self.limits, self.history.len()).is_some()
     }
 
     /// The entries so far.

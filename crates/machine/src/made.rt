@@ -27,3 +27,22 @@ pub(crate) enum Attempt<T> {
     /// It reads the clock, and wasn't made, since time has to go on first. Nothing has changed.
     ReadsClock,
 }
+
+/// The same of what becomes of a thread, or that there was no memory, in one word: a value without fields is handed on in a register.
+#[derive(Clone, Copy)]
+pub(crate) enum StepResult {
+    /// The step was made, and the thread goes on.
+    Goes,
+    /// It was made, the thread goes on and runs, and the program hasn't ended.
+    Runs,
+    /// It was made, and the thread has to be unmounted.
+    Leaves,
+    /// It was made, and the thread has ended.
+    Ends,
+    /// It makes a thread where there may be no more, and wasn't made.
+    LacksThreads,
+    /// It reads the clock, and wasn't made, since time has to go on first.
+    ReadsClock,
+    /// There was no memory.
+    LacksMemory,
+}

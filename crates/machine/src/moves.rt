@@ -13,8 +13,9 @@ ghost use Rattle.program_state.specs.Requests.{IsPending};
 ghost use Rattle.program_state.specs.States.{IsState};
 ghost use Rattle.ref_model.specs.State as model;
 ghost use Rattle.machine.specs.AtHand as spec;
-ghost use Rattle.machine.specs.AtHand.{AreTyped, HasNext, IsAt};
-ghost use Rattle.machine.specs.Moves.{IsMade, StaysIfReading};
+ghost use Rattle.machine.specs.AtHand.{AreTyped, IsAt};
+ghost use Rattle.machine.specs.Moves.{IsMade, MovesAtAnyTime, RunsOrAsks, StaysIfReading};
+ghost use Rattle.thread_steps.specs.declared.progress.Progress.TheVariants.{Stepped};
 ghost use Rattle.machine.specs.Ready.{IsReady};
 
 use crate::made::{Attempt, Move, Others};
@@ -60,8 +61,9 @@ fn is_early(state: &ProgramState, request: ThreadRequest, now: u64) -> bool
     reads_clock(request) && state.time < now
 }
 
-// The step of a thread whose instruction asks this.
-fn asking_move(
+/// The step of a thread whose instruction asks this. One that reads the clock is made only where the time isn't less than `now`.
+#[inline(always)]
+pub(crate) fn asking_move(
     alloc: Global,
     program: &ReadyProgram,
     state: &mut ProgramState,
@@ -90,44 +92,40 @@ fn asking_move(
     Ok(Attempt::Made(Move { others, yields }))
 }
 
-// The step of a thread that runs.
+/// The step of a thread that runs, at this instruction, which isn't one that stays in its frame. What the instruction asks is written to
+/// `progress`. Where the answer is true, the table of threads is as it was.
 #[inline(always)]
-fn running_move(
+pub(crate) fn running_move(
     alloc: Global,
     program: &ReadyProgram,
     cache: &mut InvocationCache,
     state: &mut ProgramState,
     mounted: &mut Mounted,
+    progress: &mut Progress,
     next: Fetched<'_>,
-    now: u64,
-) -> Result<Attempt<Move>, NoMemory>
+) -> Result<bool, NoMemory>
+    requires nothing { progress.old ≡ Stepped }
     requires ready { IsReady program.now }
     requires runs { IsAt state.old mounted.old.thread Run }
     requires typed { Typed program.now mounted.old.stack.frames }
     requires next { IsTopAt program.now mounted.old.stack.frames next }
     requires selected { AreSelected program.now cache.old }
-    ensures made { IfOk result (λ made. IsMade program.now made now mounted.old.thread
-        state.old mounted.old.stack.frames state.new mounted.new.stack.frames) }
+    ensures made { OnOk result (RunsOrAsks program.now progress.new state.old mounted.old
+        state.new mounted.new) }
+    ensures same { IfOk result (λ same. IsTrue same → state.new.threads ≡ state.old.threads) }
     ensures thread { OnOk result (mounted.new.thread ≡ mounted.old.thread) }
-    ensures kept { IfOk result (λ made. StaysIfReading made mounted.old mounted.new) }
     ensures cache { AreSelected program.now cache.new }
 {
-    let progress = run_step(
+    run_step(
         alloc,
         program,
         cache,
         state,
         mounted,
+        progress,
         next.instr,
         next.resolution,
-    )?;
-    match progress {
-        Progress::Stepped => Ok(Attempt::Made(Move {
-            others: Others::Stay,
-            yields: false,
-        })),
-        Progress::Asks(pending) => asking_move(alloc, program, state, mounted, pending, now),
-    }
+    )
 }
 
 // The step of a thread that throws an object.
@@ -137,19 +135,17 @@ fn throwing_move(
     state: &mut ProgramState,
     mounted: &mut Mounted,
     o: u32,
-) -> Result<Attempt<Move>, NoMemory>
+) -> Result<Move, NoMemory>
     requires throws { IsAt state.old mounted.old.thread (Throwing o) }
-    ensures made { (now : ℕ) → IfOk result (λ made. IsMade program.now made now
-        mounted.old.thread state.old mounted.old.stack.frames
-        state.new mounted.new.stack.frames) }
+    ensures made { IfOk result (λ made. MovesAtAnyTime program.now made mounted.old.thread
+        state.old mounted.old.stack.frames state.new mounted.new.stack.frames) }
     ensures thread { OnOk result (mounted.new.thread ≡ mounted.old.thread) }
-    ensures kept { IfOk result (λ made. StaysIfReading made mounted.old mounted.new) }
 {
     throwing_step(alloc, program, state, mounted, o)?;
-    Ok(Attempt::Made(Move {
+    Ok(Move {
         others: Others::Stay,
         yields: false,
-    }))
+    })
 }
 
 // The instruction of the top frame. A thread without one counts as memory run out.
@@ -184,17 +180,15 @@ fn waiting_move(
     state: &mut ProgramState,
     mounted: &mut Mounted,
     phase: Phase,
-) -> Result<Attempt<Move>, NoMemory>
+) -> Result<Move, NoMemory>
     requires ready { IsReady program.now }
     requires waits { IsAt state.old mounted.old.thread phase }
     requires waiting { spec.is_waiting phase ≡ true }
     requires typed { Typed program.now mounted.old.stack.frames }
     requires selected { AreSelected program.now cache.old }
-    ensures made { (now : ℕ) → IfOk result (λ made. IsMade program.now made now
-        mounted.old.thread state.old mounted.old.stack.frames
-        state.new mounted.new.stack.frames) }
+    ensures made { IfOk result (λ made. MovesAtAnyTime program.now made mounted.old.thread
+        state.old mounted.old.stack.frames state.new mounted.new.stack.frames) }
     ensures thread { OnOk result (mounted.new.thread ≡ mounted.old.thread) }
-    ensures kept { IfOk result (λ made. StaysIfReading made mounted.old mounted.new) }
     ensures cache { AreSelected program.now cache.new }
 {
     let next = top_instruction(program, mounted)?;
@@ -207,41 +201,32 @@ fn waiting_move(
         next.instr,
         next.resolution,
     )?;
-    Ok(Attempt::Made(Move {
+    Ok(Move {
         others: Others::Stay,
         yields: false,
-    }))
+    })
 }
 
-/// The step of a mounted thread; where it runs `next` is its instruction, which isn't one that stays in its frame. A step that reads the clock
-/// is made only where the time isn't less than `now`.
+/// The step of a mounted thread that doesn't run.
 #[inline(always)]
-pub(crate) fn thread_move(
+pub(crate) fn other_move(
     alloc: Global,
     program: &ReadyProgram,
     cache: &mut InvocationCache,
     state: &mut ProgramState,
     mounted: &mut Mounted,
-    next: Option<Fetched<'_>>,
-    now: u64,
-) -> Result<Attempt<Move>, NoMemory>
+) -> Result<Move, NoMemory>
     requires ready { IsReady program.now }
     requires live { IsSome (phase_at state.old.threads mounted.old.thread) }
     requires typed { AreTyped program.now state.old mounted.old.thread mounted.old.stack.frames }
-    requires next { HasNext program.now state.old mounted.old.thread mounted.old.stack.frames next }
     requires selected { AreSelected program.now cache.old }
-    ensures made { IfOk result (λ made. IsMade program.now made now mounted.old.thread
+    ensures made { IfOk result (λ made. MovesAtAnyTime program.now made mounted.old.thread
         state.old mounted.old.stack.frames state.new mounted.new.stack.frames) }
     ensures thread { OnOk result (mounted.new.thread ≡ mounted.old.thread) }
-    ensures kept { IfOk result (λ made. StaysIfReading made mounted.old mounted.new) }
     ensures cache { AreSelected program.now cache.new }
 {
     let phase = state.threads.phase(mounted.thread());
     match phase {
-        Phase::Run => {
-            let next = next.ok_or(NoMemory)?;
-            running_move(alloc, program, cache, state, mounted, next, now)
-        }
         Phase::Throwing(o) => throwing_move(alloc, program, state, mounted, o),
         _ => {
             if !is_waiting(phase) {

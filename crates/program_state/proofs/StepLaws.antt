@@ -1,7 +1,8 @@
 -- From what a step does on each stage to what it makes of the state of a program.
-use Rattle.std.proofs.Common.{◌≡◌, ℕ, Bool, true, false, List, [], ◌∷◌, Option, Some, None, Result, Ok, Err, refl, ap, sym, subst, ◌∙◌}
+use Rattle.std.proofs.Common.{◌≡◌, ◌==◌, ℕ, Bool, true, false, List, [], ◌∷◌, Option, Some, None, Result, Ok, Err, refl, ap, sym, subst, ◌∙◌}
 use Rattle.std.specs.Prelude.{IfOk, OnOk, slice_get, slice_set}
 use Rattle.std.specs.Option.{option_map}
+use Rattle.std.proofs.lemmas.Bool.{eqb-true}
 use Rattle.vthread_state.specs.declared.phase.Phase.{Phase}
 use Rattle.vthread_state.specs.declared.phase.Phase.TheVariants.{Run, Throwing}
 use Rattle.vthread_state.specs.declared.thread.Status.{Status}
@@ -26,7 +27,7 @@ use Rattle.thread_steps.specs.Concluding.{Steps}
 use Rattle.thread_steps.specs.Returning.{ThrowingSteps}
 use Rattle.program_state.specs.declared.state.ProgramState.{ProgramState}
 use Rattle.program_state.specs.Running.{HasStepped, StandsAt}
-use Rattle.program_state.specs.Settling.{IsSettled, is_running_status, is_stepped}
+use Rattle.program_state.specs.Settling.{IsSettled, is_running_status, is_stepped, throws_status}
 use Rattle.program_state.specs.States.{HasFrames, IsInPhase, IsState, is_plain_status, is_started}
 use Rattle.program_state.specs.Steps.{Leads, StepsTo}
 use Rattle.program_state.proofs.StateLaws.{still_out, rows_set, thread_changed, others_same, row_there}
@@ -69,6 +70,15 @@ running_is New e = absurd cc
 running_is (Live Run) e = refl
 running_is (Live phase) e = absurd cc
 running_is Done e = absurd cc
+
+throws_so : (o thrown : ℕ) → (thrown == o) ≡ true → Live (Throwing thrown) ≡ Live (Throwing o)
+throws_so o thrown e = ap (λ k. Live (Throwing k)) (eqb-true thrown o e)
+
+pub throwing_is : (o : ℕ) (status : Status) → throws_status o status ≡ true → status ≡ Live (Throwing o)
+throwing_is o New e = absurd cc
+throwing_is o (Live (Throwing thrown)) e = throws_so o thrown e
+throwing_is o (Live phase) e = absurd cc
+throwing_is o Done e = absurd cc
 
 -- ---- the stage of a thread of the state
 
@@ -156,6 +166,17 @@ settled_same a t run at =
       };
     }
 
+pub thrown_same : (a : ProgramState) (t o : ℕ) → a.memory.status ≡ Live (Throwing o) → status_at a.threads t ≡ Some (Live (Throwing o))
+    → IsSettled t a (record a { memory = record a.memory { status = Live Run } })
+thrown_same a t o throws at =
+    record {
+      stepped = ap is_stepped throws;
+      state = λ i. record a {
+        memory = record a.memory { status = Live Run };
+        threads = (sym (threads_same a.threads t (Live (Throwing o)) at) ∙ ap (with_status a.threads t) (sym throws)) i;
+      };
+    }
+
 -- the status of a thread of the state, in the table
 pub phase_in_table : (a : ProgramState) (r : State) (out : ℕ → Bool) (t : ℕ) (phase : Phase) (frames : List Frame) → IsState a r out → IsInPhase r t phase frames
     → status_at a.threads t ≡ Some (Live phase)
@@ -207,11 +228,12 @@ has_stepped w i a new b m n f below top at steps settled =
 -- ---- an exception on its way
 
 pub throw_steps : (w : World) (a new : ProgramState) (b : Parts) (t name o : ℕ) (own : Thread) (frames after : List Frame) → thread_at a.threads t ≡ Some own → own.name ≡ name
-    → ThrowingSteps w t name o (record a.memory { status = Live (Throwing o) }) frames b after → IsSettled t (record a { memory = b }) new
+    → ThrowingSteps w t name o (record a.memory { status = Live (Throwing o) }) frames b after
+    → (status_at a.threads t ≡ Some (Live (Throwing o)) → IsSettled t (record a { memory = b }) new)
     → StepsTo w (OthersStay t) (Throwing o) t a frames new after
 throw_steps w a new b t name o own frames after there named steps settled r out is here at =
     stage_leads (λ s. phase_step w s t frames (Throwing o)) a new r out t (Throwing o) frames after is at (record a.memory { status = Live (Throwing o) }) b refl refl refl here refl
-    (steps (stage_of r t (Throwing o) frames at) (record { number = refl; named = own_name })) settled
+    (steps (stage_of r t (Throwing o) frames at) (record { number = refl; named = own_name })) (settled (phase_in_table a r out t (Throwing o) frames is at))
   where
     own_name : at.thread.thread.name ≡ name
     own_name = let there' = row_there a.threads r t at.thread is.rows at.at in let same : at.thread.thread ≡ own = cc in ap (λ (x : Thread). x.name) same ∙ named

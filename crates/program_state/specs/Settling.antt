@@ -1,5 +1,5 @@
 -- The status that a step leaves in the memory is written to the table of threads.
-use Rattle.std.specs.Prelude.{◌≡◌, ℕ, Bool, true, false}
+use Rattle.std.specs.Prelude.{◌≡◌, ◌==◌, ℕ, Bool, true, false}
 use Rattle.vthread_state.specs.declared.phase.Phase.{Phase}
 use Rattle.vthread_state.specs.declared.phase.Phase.TheVariants.{Run, Throwing}
 use Rattle.vthread_state.specs.declared.thread.Status.{Status}
@@ -27,6 +27,16 @@ abbrev pub is_running_status : Status → Bool
 is_running_status New = false
 is_running_status (Live phase) = is_run_phase phase
 is_running_status Done = false
+
+-- it throws this object
+abbrev pub throws_in : ℕ → Phase → Bool
+throws_in o (Throwing thrown) = thrown == o
+throws_in o phase = false
+
+abbrev pub throws_status : ℕ → Status → Bool
+throws_status o New = false
+throws_status o (Live phase) = throws_in o phase
+throws_status o Done = false
 
 -- the thread has such a status now
 pub record IsStatusSet (t : ℕ) (status : Status) (old new : Threads) : Type 0 where

@@ -1,10 +1,10 @@
 //! The state of a program with many threads, and what its table has of one of them.
 
-ghost use Rattle.std.specs.Prelude.{◌≡◌, IsSome, Some, IfOk, OnOk};
-ghost use Rattle.vthread_state.specs.declared.phase.Phase.TheVariants.{Run};
+ghost use Rattle.std.specs.Prelude.{◌≡◌, IsSome, IsTrue, Some, IfOk, OnOk};
+ghost use Rattle.vthread_state.specs.declared.phase.Phase.TheVariants.{Run, Throwing};
 ghost use Rattle.vthread_state.specs.declared.thread.Status.TheVariants.{Live};
 ghost use Rattle.vthread_state.specs.Threads.{phase_at, status_at, thread_at};
-ghost use Rattle.program_state.specs.Settling.{IsSettled, IsStatusSet, is_run_phase, is_running_status};
+ghost use Rattle.program_state.specs.Settling.{IsSettled, IsStatusSet, is_run_phase, is_running_status, throws_in, throws_status};
 
 use continuation::Frozen;
 use items::NoMemory;
@@ -108,13 +108,49 @@ fn is_running(status: Status) -> bool
     }
 }
 
-/// The same of a thread that ran before its step, where the table is written only if the status has changed.
+/// The same of a thread that ran before its step, where the table is written only if the status has changed: whether it runs still.
 #[inline(always)]
-pub(crate) fn settle_running(state: &mut ProgramState, t: u32) -> Result<(), NoMemory>
-    ensures { OnOk result (status_at state.old.threads t ≡ Some (Live Run)
+pub(crate) fn settle_running(state: &mut ProgramState, t: u32) -> Result<bool, NoMemory>
+    ensures settled { OnOk result (status_at state.old.threads t ≡ Some (Live Run)
         → IsSettled t state.old state.new) }
+    ensures same { IfOk result (λ runs. IsTrue runs → state.new ≡ state.old) }
 {
     if is_running(state.memory.status) {
+        return Ok(true);
+    }
+    settle_status(state, t)?;
+    Ok(false)
+}
+
+#[inline(always)]
+fn throws_in(phase: Phase, o: u32) -> bool
+    ensures { result ≡ throws_in o phase }
+{
+    match phase {
+        Phase::Throwing(thrown) => thrown == o,
+        _ => false,
+    }
+}
+
+// Whether a thread with this status throws this object.
+#[inline(always)]
+fn throws(status: Status, o: u32) -> bool
+    ensures { result ≡ throws_status o status }
+{
+    match status {
+        Status::Live(phase) => throws_in(phase, o),
+        Status::New | Status::Done => false,
+    }
+}
+
+/// The same of a thread that threw this object before its step.
+#[inline(always)]
+pub(crate) fn settle_throwing(state: &mut ProgramState, t: u32, o: u32) -> Result<(), NoMemory>
+    ensures { OnOk result (status_at state.old.threads t ≡ Some (Live (Throwing o))
+        → IsSettled t state.old state.new) }
+{
+    if throws(state.memory.status, o) {
+        state.memory.status = Status::Live(Phase::Run);
         return Ok(());
     }
     settle_status(state, t)

@@ -5,7 +5,7 @@ ghost use Rattle.vthread_state.specs.declared.phase.Phase.TheVariants.{Throwing}
 ghost use Rattle.schedule_soundness.specs.PutLaws.{OthersStay};
 ghost use Rattle.program_state.specs.Steps.{StepsTo};
 
-use crate::state::{ProgramState, row_at, settle_status};
+use crate::state::{ProgramState, row_at, settle_throwing};
 use crate::world::ThreadWorld;
 use continuation::Mounted;
 use items::NoMemory;
@@ -36,5 +36,5 @@ pub fn throwing_step<W: ThreadWorld>(
     if mounted.thread() != t {
         return Err(NoMemory);
     }
-    settle_status(state, t)
+    settle_throwing(state, t, o)
 }

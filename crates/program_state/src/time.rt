@@ -28,6 +28,7 @@ pub fn pass_time(state: &mut ProgramState, now: u64) -> Result<Vec<u32>, NoMemor
 }
 
 /// The least deadline of a live thread that is to come, in nanoseconds. `None`: there is none.
+#[inline(always)]
 pub fn earliest(state: &ProgramState) -> Option<u64>
     ensures none { (r : State) (out : ℕ → Bool) → IsState state.now r out
         → IsNone result ↔ ((t : ℕ) → deadlines_of r.now r.threads t ≡ None) }

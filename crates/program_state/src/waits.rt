@@ -142,15 +142,18 @@ fn ask_again<W: ThreadWorld>(
     ensures stays { OnOk result (Stays state.old mounted.old state.new mounted.new) }
     ensures cache { AreSelected (W.world world.now) cache.new }
 {
-    match instruction_step(
+    let mut progress = Progress::Stepped;
+    instruction_step(
         alloc,
         world,
         cache,
         &mut state.memory,
         mounted,
+        &mut progress,
         instr,
         resolution,
-    )? {
+    )?;
+    match progress {
         Progress::Asks(pending) => Ok(pending),
         Progress::Stepped => Err(NoMemory),
     }

@@ -48,12 +48,14 @@ pub(crate) fn run_instruction(
 {
     let mut mounted = take_frames(alloc, state, t)?;
     let next = top_instruction(program, &mounted)?;
-    let progress = instruction_step(
+    let mut progress = Progress::Stepped;
+    instruction_step(
         alloc,
         program,
         cache,
         &mut state.memory,
         &mut mounted,
+        &mut progress,
         next.instr,
         next.resolution,
     )?;

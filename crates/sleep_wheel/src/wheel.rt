@@ -105,6 +105,7 @@ impl Wheel {
     }
 
     /// The least deadline. This takes no memory.
+    #[inline(always)]
     pub fn earliest(&self) -> Option<u64>
         ensures none { IsNone result ↔ ((key : ℕ) → sleeper_at self.now key ≡ None) }
         ensures least { IfSome result (IsEarliest self.now) }

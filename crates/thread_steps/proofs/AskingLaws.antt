@@ -101,6 +101,19 @@ pub stays_asked : (w : World) (next : ℕ) (o : Outcome) (progress : Progress) (
 stays_asked w next o Stepped a b m n ends = tt
 stays_asked w next o (Asks q) a b m n ends = ends.2
 
+-- ---- instructions that ask nothing
+
+pub quiet_progress : (w : World) (i : Instruction) (progress : Progress) (a b : Parts) (frames after : List Frame) → progress ≡ Stepped → Steps w i a frames b after
+    → IsProgress w i progress a frames b after
+quiet_progress w i progress a b frames after quiet steps = subst (λ x. IsProgress w i x a frames b after) (sym quiet) steps
+
+pub quiet_stays : (progress : Progress) (m n : Continuation) → progress ≡ Stepped → StaysIfAsked progress m n
+quiet_stays progress m n quiet = subst (λ x. StaysIfAsked x m n) (sym quiet) tt
+
+pub quiet_proceeds : (w : World) (next : ℕ) (o : Outcome) (progress : Progress) (a b : Parts) (m n : Continuation) → progress ≡ Stepped
+    → Concludes w next o a m.stack.frames b n.stack.frames → Proceeds w next o progress a m b n
+quiet_proceeds w next o progress a b m n quiet ends = subst (λ x. Proceeds w next o x a m b n) (sym quiet) ends
+
 -- ---- native methods
 
 native_asks : (w : World) (a : Parts) (s : NativeState) (native : Native) (next : ℕ) (m new : Continuation) (o : Outcome) (q : PendingRequest)

@@ -1,6 +1,6 @@
 //! Invocations and returns, as steps of a thread.
 
-ghost use Rattle.std.specs.Prelude.{◌<◌, ◌≤◌, ℕ, length, IfOk, OnOk};
+ghost use Rattle.std.specs.Prelude.{◌≡◌, ◌<◌, ◌≤◌, ℕ, length, OnOk};
 ghost use Rattle.instruction_rows.specs.Table.{row};
 ghost use Rattle.ref_model.specs.Operands.{FindsArguments, FindsOperands};
 ghost use Rattle.heap_instructions.specs.Operands.{operands};
@@ -10,6 +10,7 @@ ghost use Rattle.invocation.specs.Targets.{begins};
 ghost use Rattle.thread_steps.specs.Asking.{EffectProceeds, IsProgress, StaysIfAsked};
 ghost use Rattle.thread_steps.specs.Concluding.{EffectSteps};
 ghost use Rattle.thread_steps.specs.Operands.{FindsNatives};
+ghost use Rattle.thread_steps.specs.declared.progress.Progress.TheVariants.{Stepped};
 
 use crate::concluding::{conclude_or_ask, raise};
 use crate::parts::Parts;
@@ -31,20 +32,22 @@ fn native_step<W: MachineWorld>(
     world: &W,
     parts: &mut Parts,
     mounted: &mut Mounted,
+    progress: &mut Progress,
     next: u32,
     native: Native,
-) -> Result<Progress, NoMemory>
+) -> Result<(), NoMemory>
+    requires nothing { progress.old ≡ Stepped }
     requires frame { 0 < length mounted.old.stack.frames }
     requires arguments { FindsArguments (W.world world.now) native (operands mounted.old) }
-    ensures progress { IfOk result (λ progress. EffectProceeds (W.world world.now) next
-        (λ r depth stack. native_effect (W.world world.now) native r stack) progress
+    ensures progress { OnOk result (EffectProceeds (W.world world.now) next
+        (λ r depth stack. native_effect (W.world world.now) native r stack) progress.new
         parts.old mounted.old.stack.frames parts.new mounted.new.stack.frames) }
-    ensures stays { IfOk result (λ progress. StaysIfAsked progress mounted.old mounted.new) }
+    ensures stays { OnOk result (StaysIfAsked progress.new mounted.old mounted.new) }
 {
     mounted.operands_fit();
     let outcome = run_native(alloc, world, native, &mut parts.natives, mounted)?;
     mounted.operands_fit();
-    conclude_or_ask(world, parts, mounted, next, outcome)
+    conclude_or_ask(world, parts, mounted, progress, next, outcome)
 }
 
 // A method with code begins, or there are too many frames.
@@ -68,7 +71,7 @@ fn code_step<W: MachineWorld>(
     }
 }
 
-/// The step of a thread whose top frame is at an invocation.
+/// The step of a thread whose top frame is at an invocation. What it asks is written to `progress`.
 #[inline(always)]
 pub(crate) fn invocation_step<W: MachineWorld>(
     alloc: Global,
@@ -76,19 +79,21 @@ pub(crate) fn invocation_step<W: MachineWorld>(
     cache: &mut InvocationCache,
     parts: &mut Parts,
     mounted: &mut Mounted,
+    progress: &mut Progress,
     instr: &Instr,
     resolution: &Resolution,
-) -> Result<Progress, NoMemory>
+) -> Result<(), NoMemory>
+    requires nothing { progress.old ≡ Stepped }
     requires frame { 0 < length mounted.old.stack.frames }
     requires operands { FindsOperands (W.world world.now) resolution.now (row instr.now.op)
         (operands mounted.old) }
     requires natives { FindsNatives (W.world world.now) resolution.now (row instr.now.op)
         parts.old.natives.heap mounted.old }
     requires selected { AreSelected (W.world world.now) cache.old }
-    ensures progress { IfOk result (λ progress. IsProgress (W.world world.now)
-        (record { instr = instr.now; resolution = resolution.now }) progress
+    ensures progress { OnOk result (IsProgress (W.world world.now)
+        (record { instr = instr.now; resolution = resolution.now }) progress.new
         parts.old mounted.old.stack.frames parts.new mounted.new.stack.frames) }
-    ensures stays { IfOk result (λ progress. StaysIfAsked progress mounted.old mounted.new) }
+    ensures stays { OnOk result (StaysIfAsked progress.new mounted.old mounted.new) }
     ensures cache { AreSelected (W.world world.now) cache.new }
 {
     mounted.operands_fit();
@@ -102,15 +107,11 @@ pub(crate) fn invocation_step<W: MachineWorld>(
         mounted,
     )?;
     match target {
-        Target::Native(native) => native_step(alloc, world, parts, mounted, instr.next, native),
-        Target::Code(callee) => {
-            code_step(world, parts, mounted, callee)?;
-            Ok(Progress::Stepped)
+        Target::Native(native) => {
+            native_step(alloc, world, parts, mounted, progress, instr.next, native)
         }
-        Target::Throws(exception) => {
-            raise(world, parts, exception)?;
-            Ok(Progress::Stepped)
-        }
+        Target::Code(callee) => code_step(world, parts, mounted, callee),
+        Target::Throws(exception) => raise(world, parts, exception),
         Target::Undefined => Err(NoMemory),
     }
 }

@@ -1,8 +1,9 @@
 //! What the outcome of an instruction makes of the thread that had it.
 
-ghost use Rattle.std.specs.Prelude.{IfOk, OnOk};
+ghost use Rattle.std.specs.Prelude.{◌≡◌, OnOk};
 ghost use Rattle.thread_steps.specs.Asking.{Proceeds};
 ghost use Rattle.thread_steps.specs.Concluding.{Concludes, EndsOtherwise, Raises};
+ghost use Rattle.thread_steps.specs.declared.progress.Progress.TheVariants.{Stepped};
 
 use crate::parts::Parts;
 use crate::progress::{PendingRequest, Progress};
@@ -32,7 +33,7 @@ pub fn raise<W: MachineWorld>(
 }
 
 // What an outcome makes of the thread that had it, where it isn't done and asks nothing.
-#[inline(never)]
+#[inline(always)]
 fn conclude_otherwise<W: MachineWorld>(
     world: &W,
     parts: &mut Parts,
@@ -71,28 +72,28 @@ pub(crate) fn conclude<W: MachineWorld>(
     }
 }
 
-/// What any outcome makes of the thread that had it.
+/// What any outcome makes of the thread that had it. What it asks is written to `progress`.
 pub(crate) fn conclude_or_ask<W: MachineWorld>(
     world: &W,
     parts: &mut Parts,
     mounted: &mut Mounted,
+    progress: &mut Progress,
     next: u32,
     outcome: Outcome,
-) -> Result<Progress, NoMemory>
-    ensures { IfOk result (λ progress. Proceeds (W.world world.now) next outcome progress
+) -> Result<(), NoMemory>
+    requires { progress.old ≡ Stepped }
+    ensures { OnOk result (Proceeds (W.world world.now) next outcome progress.new
         parts.old mounted.old parts.new mounted.new) }
 {
     match outcome {
         Outcome::Asks { request, operands } => {
-            Ok(Progress::Asks(PendingRequest {
+            *progress = Progress::Asks(PendingRequest {
                 request,
                 next,
                 operands,
-            }))
+            });
+            Ok(())
         }
-        other => {
-            conclude(world, parts, mounted, next, other)?;
-            Ok(Progress::Stepped)
-        }
+        other => conclude(world, parts, mounted, next, other),
     }
 }

@@ -1,6 +1,6 @@
 //! The instructions on fields, arrays and objects, and divisions by 0, as steps of a thread. Those on monitors ask, or throw.
 
-ghost use Rattle.std.specs.Prelude.{◌<◌, ◌≡◌, length, true, IfOk, OnOk};
+ghost use Rattle.std.specs.Prelude.{◌<◌, ◌≡◌, length, true, OnOk};
 ghost use Rattle.opcodes.specs.declared.op.Op.TheVariants as ops;
 ghost use Rattle.instruction_rows.specs.Table.{row};
 ghost use Rattle.ref_model.specs.Operands.{FindsOperands};
@@ -8,6 +8,7 @@ ghost use Rattle.heap_instructions.specs.Dispatch.{is_on_field, is_plain};
 ghost use Rattle.heap_instructions.specs.Operands.{operands};
 ghost use Rattle.thread_steps.specs.Asking.{IsProgress, StaysIfAsked};
 ghost use Rattle.thread_steps.specs.Concluding.{Steps};
+ghost use Rattle.thread_steps.specs.declared.progress.Progress.TheVariants.{Stepped};
 
 use crate::concluding::{conclude, conclude_or_ask};
 use crate::parts::Parts;
@@ -111,71 +112,70 @@ fn other_step<W: MachineWorld>(
     conclude(world, parts, mounted, instr.next, outcome)
 }
 
-// The step of a thread whose top frame is at one without operands in the code; or what it asks.
+// The step of a thread whose top frame is at one without operands in the code. What it asks is written to `progress`.
 #[inline(always)]
 fn simple_step<W: MachineWorld>(
     world: &W,
     parts: &mut Parts,
     mounted: &mut Mounted,
+    progress: &mut Progress,
     instr: &Instr,
     resolution: &Resolution,
     simple: Simple,
-) -> Result<Progress, NoMemory>
+) -> Result<(), NoMemory>
+    requires nothing { progress.old ≡ Stepped }
     requires simple { instr.now.op ≡ ops.Simple simple }
     requires frame { 0 < length mounted.old.stack.frames }
     requires operands { FindsOperands (W.world world.now) resolution.now (row instr.now.op)
         (operands mounted.old) }
-    ensures progress { IfOk result (λ progress. IsProgress (W.world world.now)
-        (record { instr = instr.now; resolution = resolution.now }) progress
+    ensures progress { OnOk result (IsProgress (W.world world.now)
+        (record { instr = instr.now; resolution = resolution.now }) progress.new
         parts.old mounted.old.stack.frames parts.new mounted.new.stack.frames) }
-    ensures stays { IfOk result (λ progress. StaysIfAsked progress mounted.old mounted.new) }
+    ensures stays { OnOk result (StaysIfAsked progress.new mounted.old mounted.new) }
 {
     match simple {
         Simple::MonitorEnter => {
             mounted.operands_fit();
             let outcome = enter_monitor(mounted);
-            conclude_or_ask(world, parts, mounted, instr.next, outcome)
+            conclude_or_ask(world, parts, mounted, progress, instr.next, outcome)
         }
         Simple::MonitorExit => {
             mounted.operands_fit();
             let outcome = exit_monitor(mounted);
-            conclude_or_ask(world, parts, mounted, instr.next, outcome)
+            conclude_or_ask(world, parts, mounted, progress, instr.next, outcome)
         }
-        _ => {
-            plain_step(world, parts, mounted, instr, resolution)?;
-            Ok(Progress::Stepped)
-        }
+        _ => plain_step(world, parts, mounted, instr, resolution),
     }
 }
 
-/// The step of a thread whose top frame is at such an instruction; or what it asks. Instructions on fields and those without operands in the code have
-/// functions of their own, since they are short and frequent.
+/// The step of a thread whose top frame is at such an instruction. What it asks is written to `progress`. Instructions on fields and those without
+/// operands in the code have functions of their own, since they are short and frequent.
 #[inline(always)]
 pub(crate) fn event_step<W: MachineWorld>(
     alloc: Global,
     world: &W,
     parts: &mut Parts,
     mounted: &mut Mounted,
+    progress: &mut Progress,
     instr: &Instr,
     resolution: &Resolution,
-) -> Result<Progress, NoMemory>
+) -> Result<(), NoMemory>
+    requires nothing { progress.old ≡ Stepped }
     requires frame { 0 < length mounted.old.stack.frames }
     requires operands { FindsOperands (W.world world.now) resolution.now (row instr.now.op)
         (operands mounted.old) }
-    ensures progress { IfOk result (λ progress. IsProgress (W.world world.now)
-        (record { instr = instr.now; resolution = resolution.now }) progress
+    ensures progress { OnOk result (IsProgress (W.world world.now)
+        (record { instr = instr.now; resolution = resolution.now }) progress.new
         parts.old mounted.old.stack.frames parts.new mounted.new.stack.frames) }
-    ensures stays { IfOk result (λ progress. StaysIfAsked progress mounted.old mounted.new) }
+    ensures stays { OnOk result (StaysIfAsked progress.new mounted.old mounted.new) }
 {
     match instr.op {
         Op::GetStatic(_) | Op::PutStatic(_) | Op::GetField(_) | Op::PutField(_) => {
-            field_step(world, parts, mounted, instr, resolution)?;
-            Ok(Progress::Stepped)
+            field_step(world, parts, mounted, instr, resolution)
         }
-        Op::Simple(simple) => simple_step(world, parts, mounted, instr, resolution, simple),
-        _ => {
-            other_step(alloc, world, parts, mounted, instr, resolution)?;
-            Ok(Progress::Stepped)
+        Op::Simple(simple) => {
+            simple_step(world, parts, mounted, progress, instr, resolution, simple)
         }
+        _ => other_step(alloc, world, parts, mounted, instr, resolution),
     }
 }

@@ -1,66 +1,62 @@
-use Rattle.std.proofs.Common.{refl}
-use Rattle.carrier.proofs.ActLaws.{gone_halts, goes_lives, goes_may, goes_on_fits, gone_at, leaves_on_fits, retire_may}
-use Rattle.machine.specs.declared.after.After.TheVariants.{Goes, Leaves, Ends}
-use Rattle.carrier.proofs.StepLaws.{ends_made, goes_made, gone_in_time, leaves_made}
-use Rattle.carrier.proofs.TurnLaws.{ends_act, goes_act, halts_act, leaves_act}
+use Rattle.std.proofs.Common.{refl, sym, ◌∙◌}
+use Rattle.machine.specs.declared.after.After.TheVariants.{Goes}
+use Rattle.carrier.proofs.ActLaws.{goes_may, goes_on_fits, gone_at, runs_going, runs_so, runs_too}
+use Rattle.carrier.proofs.StepLaws.{goes_made, gone_in_time}
+use Rattle.carrier.proofs.TurnLaws.{goes_act}
 use Rattle.carrier.proofs.acts.step_on.Goals as goal
 
-pub way_on-answer-requires-clause-live : goal.way_on-answer-requires-clause-live
-way_on-answer-requires-clause-live c =
-    goes_lives c.args.machine.now c.make_step.new.machine c.args.carrier c.args.thread c.args.least c.args.hand.now c.make_step.new.hand
-    (gone_at c.in-Goes.is c.in_ok-after.ensures.gone) c.is_legal.ensures
+pub run_on-requires-clause-going : goal.run_on-requires-clause-going
+run_on-requires-clause-going c =
+    runs_going c.args.machine.now c.make_step.new.machine c.args.carrier c.args.thread c.args.least c.args.hand.now c.make_step.new.hand c.requires.may
+    (gone_at (runs_so c.in_ok-after.after (sym c.runs_on.ensures ∙ c.if-runs_on.true)) c.in_ok-after.ensures.gone) c.is_legal.ensures
 
-pub retire-requires-clause-may : goal.retire-requires-clause-may
-retire-requires-clause-may c =
-    retire_may c.args.machine.now c.make_step.new.machine c.args.carrier c.args.thread c.args.least c.args.hand.now c.make_step.new.hand (gone_at c.in-Ends.is c.in_ok-after.ensures.gone)
+pub run_on-requires-clause-runs : goal.run_on-requires-clause-runs
+run_on-requires-clause-runs c =
+    (gone_at (runs_so c.in_ok-after.after (sym c.runs_on.ensures ∙ c.if-runs_on.true)) c.in_ok-after.ensures.gone).steps.outcome.1
 
-pub returns-in-Goes-clause-fits : goal.returns-in-Goes-clause-fits
-returns-in-Goes-clause-fits c =
-    goes_on_fits c.args.machine.now c.make_step.new.machine c.args.carrier c.args.thread c.args.least c.args.hand.now c.make_step.new.hand _ c.way_on-answer.result
-    c.requires.may (gone_at c.in-Goes.is c.in_ok-after.ensures.gone) c.is_legal.ensures c.way_on-answer.ensures
-    (record { mounted_is = refl; frozen_is = refl; local_is = refl; asked_is = c.asked-hand.ensures }) refl refl
+pub returns-then-runs_on-clause-fits : goal.returns-then-runs_on-clause-fits
+returns-then-runs_on-clause-fits c =
+    let gone = runs_too (gone_at (runs_so c.in_ok-after.after (sym c.runs_on.ensures ∙ c.if-runs_on.true)) c.in_ok-after.ensures.gone) in
+    goes_on_fits c.args.machine.now c.make_step.new.machine c.args.carrier c.args.thread c.args.least c.args.hand.now c.make_step.new.hand _ c.run_on.result
+    c.requires.may gone c.is_legal.ensures c.run_on.ensures.way
+    (record { mounted_is = refl; frozen_is = refl; local_is = refl; asked_is = c.run_on.ensures.asked }) refl refl
 
-pub returns-in-Goes-clause-act : goal.returns-in-Goes-clause-act
-returns-in-Goes-clause-act c = λ now.
-    goes_act c.args.machine.now c.make_step.new.machine c.args.carrier c.args.thread now c.args.least c.args.hand.now c.make_step.new.hand _ c.way_on-answer.result
-    c.requires.may (gone_at c.in-Goes.is c.in_ok-after.ensures.gone)
-    (goes_may c.args.machine.now c.make_step.new.machine c.args.carrier c.args.thread c.args.least c.args.hand.now c.make_step.new.hand
-    (gone_at c.in-Goes.is c.in_ok-after.ensures.gone) c.is_legal.ensures) c.way_on-answer.ensures c.asked-hand.ensures c.in_ok-after.ensures.gone.works
+pub returns-then-runs_on-clause-act : goal.returns-then-runs_on-clause-act
+returns-then-runs_on-clause-act c = λ now.
+    let gone = runs_too (gone_at (runs_so c.in_ok-after.after (sym c.runs_on.ensures ∙ c.if-runs_on.true)) c.in_ok-after.ensures.gone) in
+    goes_act c.args.machine.now c.make_step.new.machine c.args.carrier c.args.thread now c.args.least c.args.hand.now c.make_step.new.hand _ c.run_on.result
+    c.requires.may gone
+    (goes_may c.args.machine.now c.make_step.new.machine c.args.carrier c.args.thread c.args.least c.args.hand.now c.make_step.new.hand gone c.is_legal.ensures)
+    c.run_on.ensures.way c.run_on.ensures.asked c.in_ok-after.ensures.gone.works
 
-pub returns-in-Leaves-clause-fits : goal.returns-in-Leaves-clause-fits
-returns-in-Leaves-clause-fits c =
-    leaves_on_fits c.args.machine.now c.make_step.new.machine c.unless_stalled-answer.new.machine c.args.carrier c.args.thread c.args.least c.args.hand.now
-    c.make_step.new.hand _ c.unless_stalled-answer.result c.requires.may (gone_at c.in-Leaves.is c.in_ok-after.ensures.gone) c.is_legal.ensures
-    c.unless_stalled-answer.ensures (record { mounted_is = refl; frozen_is = refl; local_is = refl; asked_is = c.asked-hand-in-Leaves.ensures }) refl refl
+pub returns-then-runs_on-clause-in_time : goal.returns-then-runs_on-clause-in_time
+returns-then-runs_on-clause-in_time c = λ wants.
+    let gone = runs_too (gone_at (runs_so c.in_ok-after.after (sym c.runs_on.ensures ∙ c.if-runs_on.true)) c.in_ok-after.ensures.gone) in
+    gone_in_time Goes c.args.machine.now c.make_step.new.machine c.args.carrier c.args.thread c.args.least c.args.hand.now c.make_step.new.hand gone goes_made
 
-pub returns-in-Leaves-clause-act : goal.returns-in-Leaves-clause-act
-returns-in-Leaves-clause-act c = λ now.
-    leaves_act c.args.machine.now c.make_step.new.machine c.unless_stalled-answer.new.machine c.args.carrier c.args.thread now c.args.least c.args.hand.now
-    c.make_step.new.hand _ c.unless_stalled-answer.result c.requires.may (gone_at c.in-Leaves.is c.in_ok-after.ensures.gone)
-    c.is_legal.ensures c.unless_stalled-answer.ensures c.asked-hand-in-Leaves.ensures c.in_ok-after.ensures.gone.works
+pub answer_to-requires-clause-gone : goal.answer_to-requires-clause-gone
+answer_to-requires-clause-gone c = record {
+  old = c.args.machine.now;
+  held = c.args.hand.now;
+  least = c.args.least;
+  may = c.requires.may;
+  gone = c.in_ok-after.ensures.gone;
+}
 
-pub returns-in-Ends-clause-act : goal.returns-in-Ends-clause-act
-returns-in-Ends-clause-act c = λ now.
-    ends_act c.args.machine.now c.make_step.new.machine c.retire.new.self c.unless_stalled.new.machine c.args.carrier c.args.thread now c.args.least c.args.hand.now
-    c.make_step.new.hand _ c.unless_stalled.result c.requires.may (gone_at c.in-Ends.is c.in_ok-after.ensures.gone)
-    c.retire.ensures.entry c.is_legal-in-Ends.ensures c.unless_stalled.ensures c.in_ok-after.ensures.gone.parts.asked_is c.in_ok-after.ensures.gone.works
+pub returns-clause-act : goal.returns-clause-act
+returns-clause-act c = c.answer_to.ensures.act (record {
+  old = c.args.machine.now;
+  held = c.args.hand.now;
+  least = c.args.least;
+  may = c.requires.may;
+  gone = c.in_ok-after.ensures.gone;
+})
 
-pub returns-in-Goes-clause-in_time : goal.returns-in-Goes-clause-in_time
-returns-in-Goes-clause-in_time c = λ wants.
-    gone_in_time Goes c.args.machine.now c.make_step.new.machine c.args.carrier c.args.thread c.args.least c.args.hand.now c.make_step.new.hand
-    (gone_at c.in-Goes.is c.in_ok-after.ensures.gone) goes_made
-
-pub returns-in-Leaves-clause-in_time : goal.returns-in-Leaves-clause-in_time
-returns-in-Leaves-clause-in_time c = λ wants.
-    gone_in_time Leaves c.args.machine.now c.make_step.new.machine c.args.carrier c.args.thread c.args.least c.args.hand.now c.make_step.new.hand
-    (gone_at c.in-Leaves.is c.in_ok-after.ensures.gone) leaves_made
-
-pub returns-in-Ends-clause-in_time : goal.returns-in-Ends-clause-in_time
-returns-in-Ends-clause-in_time c = λ wants.
-    gone_in_time Ends c.args.machine.now c.make_step.new.machine c.args.carrier c.args.thread c.args.least c.args.hand.now c.make_step.new.hand
-    (gone_at c.in-Ends.is c.in_ok-after.ensures.gone) ends_made
-
-pub returns-in-Halts-clause-act : goal.returns-in-Halts-clause-act
-returns-in-Halts-clause-act c = λ now.
-    halts_act c.args.machine.now c.make_step.new.machine c.args.carrier c.args.thread now c.args.least c.args.hand.now c.make_step.new.hand _ c.requires.may
-    (gone_halts c.in-Halts.is c.in_ok-after.ensures.gone) c.in_ok-after.ensures.gone.parts.asked_is
+pub returns-clause-in_time : goal.returns-clause-in_time
+returns-clause-in_time c = c.answer_to.ensures.in_time (record {
+  old = c.args.machine.now;
+  held = c.args.hand.now;
+  least = c.args.least;
+  may = c.requires.may;
+  gone = c.in_ok-after.ensures.gone;
+})

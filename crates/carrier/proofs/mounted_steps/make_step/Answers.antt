@@ -24,8 +24,8 @@ step-after-requires-clause-ready c =
     let m = c.args.machine.now in
     let k = c.in-Some.mounted in
     let steps = c.steps_ahead-steps.ensures in
-    subst (λ n. IsStepReady m k.thread n k.stack.frames c.next_of.result) (sym steps)
-    (subst (IsStepReady m k.thread (steps_of c.args.hand.now.local) k.stack.frames) (sym (c.next_of.ensures))
+    subst (λ n. IsStepReady m k.thread n k.stack.frames c.next_of-next.result) (sym steps)
+    (subst (IsStepReady m k.thread (steps_of c.args.hand.now.local) k.stack.frames) (sym (c.next_of-next.ensures))
     (held_ready m c.args.carrier c.args.hand.now k (by_kept m c.args.carrier c.args.hand.now c.args.thread k c.requires c.in-Some.is) (λ e. c.if-steps-eq-MOST_STEPS.false (steps ∙ e))))
 
 pub step-after-requires-clause-free : goal.step-after-requires-clause-free

@@ -1,6 +1,7 @@
-use Rattle.std.proofs.Common.{◌≡◌}
+use Rattle.std.proofs.Common.{◌≡◌, None}
 use Rattle.std.specs.Prelude.{IsTrue}
 use Rattle.machine.specs.Legal.{Works}
+use Rattle.machine.specs.Machines.{machine_ending}
 use Rattle.carrier.specs.Plays.{IsReadyHand}
 use Rattle.carrier.specs.Runs.{IsTimed}
 use Rattle.carrier.proofs.program_run.run_on.Given as goal
@@ -8,6 +9,7 @@ use Rattle.carrier.proofs.program_run.run_on.Given as goal
 abbrev pub invariant-loop : goal.invariant-loop
 invariant-loop g l = record {
   hand : IsReadyHand l.machine 0 l.hand;
+  going : machine_ending l.machine ≡ None;
   program : l.program ≡ l.machine.setting.world;
   setting : l.machine.setting ≡ l.fn.machine.setting;
   carriers : l.machine.carriers ≡ l.fn.machine.carriers;

@@ -15,11 +15,11 @@ finish_wait-requires-clause-natives c =
     c.requires.ready c.requires.typed c.in_ok-next.ensures.at
 
 pub returns-clause-made : goal.returns-clause-made
-returns-clause-made c = λ now.
+returns-clause-made c =
     let w = c.args.program.now in
     let m = c.args.mounted.now in (
       moves_by w (record { others = moves.Stay; yields = false }) m.thread c.args.phase c.args.state.now c.finish_wait.new.state m.stack.frames
           c.finish_wait.new.mounted.stack.frames c.requires.waits (c.in_ok-finish_wait.ensures.steps c.args.phase)
           (λ r out is h. waiting_yields w r m.thread c.args.phase m.stack.frames c.requires.waiting h),
-      waiting_in_time w now m.thread c.args.phase c.args.state.now m.stack.frames c.requires.waiting c.requires.waits,
+      λ now. waiting_in_time w now m.thread c.args.phase c.args.state.now m.stack.frames c.requires.waiting c.requires.waits,
     )

@@ -1,4 +1,5 @@
 use Rattle.std.proofs.Common.{◌≡◌, ℕ, Some, ap, subst, sym}
+use Rattle.std.specs.Prelude.{IsTrue}
 use Rattle.vthread_state.specs.declared.phase.Phase.TheVariants.{Run}
 use Rattle.vthread_state.specs.declared.thread.Status.TheVariants.{Live}
 use Rattle.vthread_state.specs.Threads.{status_at}
@@ -7,14 +8,15 @@ use Rattle.thread_steps.specs.declared.parts.Parts.{Parts}
 use Rattle.thread_steps.specs.declared.progress.Progress.{Progress}
 use Rattle.thread_steps.specs.Asking.{StaysIfAsked}
 use Rattle.thread_steps.specs.Asking as asking
+use Rattle.program_state.specs.declared.state.ProgramState.{ProgramState}
 use Rattle.program_state.specs.Running.{IsProgress}
 use Rattle.program_state.specs.Settling.{IsSettled}
 use Rattle.program_state.proofs.RequestLaws.{asks_pending, first_of}
-use Rattle.program_state.proofs.StepLaws.{has_stepped}
+use Rattle.program_state.proofs.StepLaws.{has_stepped, if_ok, on_ok}
 use Rattle.program_state.proofs.running.run_step.Goals as goal
 
-pub returns-in_ok-settle_running-in-Stepped-clause-progress : goal.returns-in_ok-settle_running-in-Stepped-clause-progress
-returns-in_ok-settle_running-in-Stepped-clause-progress g c =
+pub returns-in-Stepped-clause-progress : goal.returns-in-Stepped-clause-progress
+returns-in-Stepped-clause-progress g c =
     let w = g.W.EventWorld.world c.args.world.now in
     let i : Instruction = record { instr = c.args.instr.now; resolution = c.args.resolution.now } in
     let a = c.args.state.now in
@@ -22,11 +24,20 @@ returns-in_ok-settle_running-in-Stepped-clause-progress g c =
     let b = c.instruction_step.new.parts in
     let n = c.instruction_step.new.mounted in
     let new = c.settle_running.new.state in
-    let steps = subst (λ (x : Progress). asking.IsProgress w i x a.memory m.stack.frames b n.stack.frames) c.in-Stepped.is c.in_ok-progress.ensures.progress in
+    let steps = subst (λ (x : Progress). asking.IsProgress w i x a.memory m.stack.frames b n.stack.frames) c.in-Stepped.is c.in_ok-instruction_step.ensures.progress in
     let top = first_of m.stack.frames c.requires.frame in
+    on_ok c.settle_running.result c.settle_running.ensures.settled (λ settled.
     subst (λ (x : Progress). IsProgress w x a m new n) (sym c.in-Stepped.is)
     (has_stepped w i a new b m n top.0 top.1 top.2 c.requires.at steps
-    (subst (λ (t : ℕ). status_at a.threads t ≡ Some (Live Run) → IsSettled t (record a { memory = b }) new) c.thread-t.ensures (c.in_ok-settle_running-in-Stepped).ensures))
+    (subst (λ (t : ℕ). status_at a.threads t ≡ Some (Live Run) → IsSettled t (record a { memory = b }) new) c.thread-t.ensures settled)))
+
+pub returns-in-Stepped-clause-same : goal.returns-in-Stepped-clause-same
+returns-in-Stepped-clause-same g c =
+    let a = c.args.state.now in
+    let mid : ProgramState = record a { memory = c.instruction_step.new.parts } in
+    let new = c.settle_running.new.state in
+    if_ok (λ same. IsTrue same → new ≡ mid) (λ same. IsTrue same → new.threads ≡ a.threads) c.settle_running.result c.settle_running.ensures.same
+    (λ same is yes. ap (λ (s : ProgramState). s.threads) (is yes))
 
 pub returns-in-Asks-clause-progress : goal.returns-in-Asks-clause-progress
 returns-in-Asks-clause-progress g c =
@@ -36,11 +47,11 @@ returns-in-Asks-clause-progress g c =
     let m = c.args.mounted.now in
     let b = c.instruction_step.new.parts in
     let n = c.instruction_step.new.mounted in
-    let asked = subst (λ (x : Progress). asking.IsProgress w i x a.memory m.stack.frames b n.stack.frames) c.in-Asks.is c.in_ok-progress.ensures.progress in
+    let asked = subst (λ (x : Progress). asking.IsProgress w i x a.memory m.stack.frames b n.stack.frames) c.in-Asks.is c.in_ok-instruction_step.ensures.progress in
     subst (λ (x : Progress). IsProgress w x a m (record a { memory = b }) n) (sym c.in-Asks.is) (
       asks_pending w i c.in-Asks.field-0 a.memory m.stack.frames c.requires.frame c.requires.at asked.0,
       record {
         state = ap (λ (p : Parts). record a { memory = p }) asked.1;
-        mounted = subst (λ (x : Progress). StaysIfAsked x m n) c.in-Asks.is c.in_ok-progress.ensures.stays;
+        mounted = subst (λ (x : Progress). StaysIfAsked x m n) c.in-Asks.is c.in_ok-instruction_step.ensures.stays;
       },
     )

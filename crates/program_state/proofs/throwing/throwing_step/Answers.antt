@@ -11,8 +11,8 @@ returns-clause-steps g c =
     let a = c.args.state.now in
     let own = c.in_ok-name.field-0 in
     let frames = c.args.mounted.now.stack.frames in
-    let new = c.settle_status.new.state in
+    let new = c.settle_throwing.new.state in
     let after = c.throwing_step.new.mounted.stack.frames in
-    on_ok c.settle_status.result c.settle_status.ensures (λ settled.
+    on_ok c.settle_throwing.result c.settle_throwing.ensures (λ settled.
     subst (λ (t : ℕ). StepsTo w (OthersStay t) (Throwing c.args.o) t a frames new after) c.thread-t.ensures
     (throw_steps w a new c.throwing_step.new.parts c.thread-t.result own.name c.args.o own frames after c.in_ok-name.ensures refl c.in_ok-throwing_step.ensures settled))

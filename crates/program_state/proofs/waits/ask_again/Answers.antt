@@ -11,5 +11,5 @@ returns-in-Asks-clause-pending g c =
     let i : Instruction = record { instr = c.args.instr.now; resolution = c.args.resolution.now } in
     let a = c.args.state.now in
     let frames = c.args.mounted.now.stack.frames in
-    let progress = subst (λ (x : Progress). IsProgress w i x a.memory frames c.instruction_step.new.parts c.instruction_step.new.mounted.stack.frames) c.in-Asks.is c.in_ok-pending.ensures.progress in
+    let progress = subst (λ (x : Progress). IsProgress w i x a.memory frames c.instruction_step.new.parts c.instruction_step.new.mounted.stack.frames) c.in-Asks.is c.in_ok-instruction_step.ensures.progress in
     asks_pending w i c.in-Asks.pending a.memory frames c.requires.frame c.requires.at progress.0

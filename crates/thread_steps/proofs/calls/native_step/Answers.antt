@@ -1,6 +1,4 @@
-use Rattle.native_methods.specs.Arguments.{native_effect}
-use Rattle.thread_steps.specs.Asking.{EffectProceeds, Proceeds, StaysIfAsked}
-use Rattle.thread_steps.proofs.ThrowLaws.{if_ok}
+use Rattle.thread_steps.proofs.ThrowLaws.{on_ok}
 use Rattle.thread_steps.proofs.AskingLaws.{native_proceeds, native_stays}
 use Rattle.thread_steps.proofs.calls.native_step.Goals as goal
 
@@ -14,9 +12,9 @@ returns-clause-progress g c =
     let new = c.run_native.new.mounted in
     let last = c.conclude_or_ask.new.mounted in
     let o = c.in_ok-outcome.outcome in
-    if_ok (λ p. Proceeds w c.args.next o p (record a { natives = s }) new b last) (λ p. EffectProceeds w c.args.next (λ r depth stack. native_effect w c.args.native r stack) p a m.stack.frames b last.stack.frames)
-    c.conclude_or_ask.result c.conclude_or_ask.ensures
-    (λ p. native_proceeds w a b s c.args.native c.args.next m new last o p c.in_ok-outcome.ensures.effect c.in_ok-outcome.ensures.kept c.in_ok-outcome.ensures.kept_state c.run_native.ensures.only c.operands_fit-2.ensures)
+    on_ok c.conclude_or_ask.result c.conclude_or_ask.ensures
+    (native_proceeds w a b s c.args.native c.args.next m new last o c.conclude_or_ask.new.progress c.in_ok-outcome.ensures.effect c.in_ok-outcome.ensures.kept c.in_ok-outcome.ensures.kept_state c.run_native.ensures.only
+    c.operands_fit-2.ensures)
 
 pub returns-clause-stays : goal.returns-clause-stays
 returns-clause-stays g c =
@@ -27,5 +25,4 @@ returns-clause-stays g c =
     let new = c.run_native.new.mounted in
     let last = c.conclude_or_ask.new.mounted in
     let o = c.in_ok-outcome.outcome in
-    if_ok (λ p. Proceeds w c.args.next o p mid new b last) (λ p. StaysIfAsked p m last) c.conclude_or_ask.result c.conclude_or_ask.ensures
-    (λ p. native_stays w mid b c.args.next m new last o p c.in_ok-outcome.ensures.kept)
+    on_ok c.conclude_or_ask.result c.conclude_or_ask.ensures (native_stays w mid b c.args.next m new last o c.conclude_or_ask.new.progress c.in_ok-outcome.ensures.kept)

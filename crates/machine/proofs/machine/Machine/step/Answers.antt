@@ -4,7 +4,7 @@ use Rattle.history.specs.declared.entry.What.TheVariants as whats
 use Rattle.machine.specs.Hands.{Holds, MayStep, OwesNothing}
 use Rattle.machine.specs.Insides.{setting_in}
 use Rattle.machine.specs.Machines.{Known}
-use Rattle.machine.specs.Steps.{IsEntered}
+use Rattle.machine.specs.Steps.{IsEntered, told_of}
 use Rattle.machine.specs.Turns.{IsInTime, IsStepReady, Steps}
 use Rattle.machine.proofs.NextLaws.{known_of}
 use Rattle.machine.proofs.StepCallLaws.{few_local, may_be_made, next_at, steps_from, typed_at}
@@ -73,7 +73,7 @@ invariant_of-self c =
     let more : c.args.n + 1 ≡ suc c.args.n = omega arith in
     let step : ◌≡◌ {A = What} (whats.Step c.thread-t.result (c.args.n + 1) None) (whats.Step m.thread (suc c.args.n) None) =
     ap (λ u. whats.Step u (c.args.n + 1) None) t ∙ ap (λ i. whats.Step m.thread i None) more in
-    let made = c.make_step-tried.result in
+    let made = told_of c.make_step-tried.result in
     let entered = subst (λ (s : What). IsEntered made a.history.items a.told c.args.c s a.limits.threads c.enter_step.new.history.items c.enter_step.new.told c.enter_step.result)
     step c.enter_step.ensures.entered in
     let says = c.make_step-tried.ensures.made a.carriers c.args.n a.mounted.items (steps_from (setting_in a) a.carriers a.state a.deques a.mounted.items a.history.items a.told (vec_capacity a.history - length a.history.items) c.self.invariant
@@ -96,7 +96,7 @@ returns-clause-step c =
     let more : c.args.n + 1 ≡ suc c.args.n = omega arith in
     let step : ◌≡◌ {A = What} (whats.Step c.thread-t.result (c.args.n + 1) None) (whats.Step m.thread (suc c.args.n) None) =
     ap (λ u. whats.Step u (c.args.n + 1) None) t ∙ ap (λ i. whats.Step m.thread i None) more in
-    let made = c.make_step-tried.result in
+    let made = told_of c.make_step-tried.result in
     let entered = subst (λ (s : What). IsEntered made a.history.items a.told c.args.c s a.limits.threads c.enter_step.new.history.items c.enter_step.new.told c.enter_step.result)
     step c.enter_step.ensures.entered in
     let says = c.make_step-tried.ensures.made a.carriers c.args.n a.mounted.items (steps_from (setting_in a) a.carriers a.state a.deques a.mounted.items a.history.items a.told (vec_capacity a.history - length a.history.items) c.self.invariant
@@ -112,7 +112,7 @@ returns-clause-step c =
 
 pub returns-clause-thread : goal.returns-clause-thread
 returns-clause-thread c =
-    let made = c.make_step-tried.result in
+    let made = told_of c.make_step-tried.result in
     on_step made c.enter_step.result c.make_step-tried.new.mounted.thread c.args.mounted.now.thread c.self.inside.history.items c.enter_step.new.history.items
     c.self.inside.told c.enter_step.new.told c.args.c c.self.inside.limits.threads _ c.make_step-tried.ensures.thread c.enter_step.ensures.entered
 
@@ -129,7 +129,7 @@ returns-clause-in_time c =
     let more : c.args.n + 1 ≡ suc c.args.n = omega arith in
     let step : ◌≡◌ {A = What} (whats.Step c.thread-t.result (c.args.n + 1) None) (whats.Step m.thread (suc c.args.n) None) =
     ap (λ u. whats.Step u (c.args.n + 1) None) t ∙ ap (λ i. whats.Step m.thread i None) more in
-    let made = c.make_step-tried.result in
+    let made = told_of c.make_step-tried.result in
     let entered = subst (λ (s : What). IsEntered made a.history.items a.told c.args.c s a.limits.threads c.enter_step.new.history.items c.enter_step.new.told c.enter_step.result)
     step c.enter_step.ensures.entered in
     let says = c.make_step-tried.ensures.made a.carriers c.args.n a.mounted.items (steps_from (setting_in a) a.carriers a.state a.deques a.mounted.items a.history.items a.told (vec_capacity a.history - length a.history.items) c.self.invariant
@@ -153,7 +153,7 @@ returns-clause-kept c = λ reads.
     let more : c.args.n + 1 ≡ suc c.args.n = omega arith in
     let step : ◌≡◌ {A = What} (whats.Step c.thread-t.result (c.args.n + 1) None) (whats.Step m.thread (suc c.args.n) None) =
     ap (λ u. whats.Step u (c.args.n + 1) None) t ∙ ap (λ i. whats.Step m.thread i None) more in
-    let made = c.make_step-tried.result in
+    let made = told_of c.make_step-tried.result in
     let entered = subst (λ (s : What). IsEntered made a.history.items a.told c.args.c s a.limits.threads c.enter_step.new.history.items c.enter_step.new.told c.enter_step.result)
     step c.enter_step.ensures.entered in
     let says = c.make_step-tried.ensures.made a.carriers c.args.n a.mounted.items (steps_from (setting_in a) a.carriers a.state a.deques a.mounted.items a.history.items a.told (vec_capacity a.history - length a.history.items) c.self.invariant
