@@ -1,15 +1,13 @@
 -- Whom the end of a thread puts, with which it may leave a monitor.
 use Rattle.std.proofs.Common.{◌≡◌, ◌≢◌, ◌⊎◌, inl, inr, ◌==◌, ◌<◌, ℕ, zero, Bool, true, false, List, [], ◌∷◌, length, Option, Some, None, refl, ap, sym, subst, ◌∙◌, ◌&&◌, ◌||◌, not, arith}
-use Rattle.std.specs.Prelude.{Contains, is_none, map, slice_get}
+use Rattle.std.specs.Prelude.{Contains, is_none, slice_get}
 use Rattle.std.specs.List.Sorted.{IsStrictlyIncreasing}
 use Rattle.std.proofs.lemmas.Bool.{and_from, and_parts, cases_Bool, eq-eqb, eqb-true, or_left, or_right}
 use Rattle.std.proofs.lemmas.Bool.Decides.{eqb_tells}
 use Rattle.std.proofs.lemmas.Option.{slice_get_within}
-use Rattle.items.specs.Options.{◌>>=◌}
 use Rattle.vthread_state.specs.declared.phase.Phase.TheVariants.{Joining}
-use Rattle.vthread_state.specs.declared.thread.Status.{Status}
-use Rattle.vthread_state.specs.declared.thread.Status.TheVariants.{New, Live, Done}
-use Rattle.vthread_state.specs.Threads.{joins_in, target_of_status}
+use Rattle.vthread_state.specs.declared.thread.Status.TheVariants.{Live}
+use Rattle.vthread_state.specs.Threads.{joins_in}
 use Rattle.schedule_model.specs.Look.{Look, in_entry_list, is_in_line}
 use Rattle.schedule_model.specs.Schedule.{places}
 use Rattle.schedule_model.specs.Puts.{all_threads, is_first, is_made_enabled, is_moved_to_free, is_next_in_line, is_started, is_to_run, put_by}
@@ -23,30 +21,14 @@ use Rattle.ref_model.specs.Enabled.{has_ended, is_ready}
 use Rattle.ref_model.specs.Looks.{look_of, spot_of}
 use Rattle.schedule_soundness.specs.HistoryLaws.{IsProgramAfter}
 use Rattle.schedule_soundness.specs.PutLaws.{Stays, no_thread, is_new, is_kept, rows_of}
-use Rattle.schedule_soundness.proofs.ThreadLists.{map_none, map_there}
 use Rattle.schedule_soundness.proofs.LookLaws.{ready_at, spot_at}
 use Rattle.schedule_soundness.proofs.Filters.{filter_below}
-use Rattle.schedule_soundness.proofs.PutLaws.{unplaced_waits}
+use Rattle.schedule_soundness.proofs.PutLaws.{ended_back, joined, joined_in, joining, unplaced_waits}
 use Rattle.monitor_soundness.specs.MonitorPuts.{MonitorStep, EndsPutJoinersAlone, EndsPutJoinersAndTheFirst}
-use Rattle.monitor_soundness.proofs.Stays.{Quiet, ended_back, is_next, joined, no_both, no_next, stays_runs, unplaced_other}
+use Rattle.monitor_soundness.proofs.Stays.{Quiet, is_next, no_both, no_next, stays_runs, unplaced_other}
 use Rattle.monitor_soundness.proofs.MonitorPuts.{made_there, next_here, next_other, owner_kept}
 
 -- ---- the thread whose end a thread waits for
-
-joined_in : (xs : List JavaThread) (u : ℕ) → joins_in (map (λ (x : JavaThread). x.thread) xs) u ≡ joined (slice_get xs u)
-joined_in xs u = by (slice_get xs u) refl
-  where
-    by : (m : Option JavaThread) → slice_get xs u ≡ m → joins_in (map (λ (x : JavaThread). x.thread) xs) u ≡ joined (slice_get xs u)
-    by None e =
-        ap (λ m. m >>= λ thread. target_of_status thread.status) (map_none (λ (x : JavaThread). x.thread) xs u e) ∙ sym (ap joined e)
-    by (Some x) e =
-        ap (λ m. m >>= λ thread. target_of_status thread.status) (map_there (λ (x : JavaThread). x.thread) xs u x e) ∙ sym (ap joined e)
-
-joining : (t : ℕ) (status : Status) → target_of_status status ≡ Some t → (deadline : Option ℕ) × (status ≡ Live (Joining t deadline))
-joining t New e = absurd cc
-joining t Done e = absurd cc
-joining t (Live (Joining u deadline)) e = let same : u ≡ t = cc in (deadline, ap (λ n. Live (Joining n deadline)) same)
-joining t (Live phase) e = absurd cc
 
 -- ---- whom an end puts, where a test tells who is the next in line
 

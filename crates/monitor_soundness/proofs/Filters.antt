@@ -1,7 +1,6 @@
 -- Lists of threads that pass a test.
-use Rattle.std.proofs.Common.{◌≡◌, ◌<◌, ◌==◌, ℕ, Bool, true, false, List, [], ◌∷◌, refl, ap, sym, subst, ◌∙◌, ◌&&◌, arith, cond, inl, inr}
+use Rattle.std.proofs.Common.{◌≡◌, ◌<◌, ◌==◌, ℕ, Bool, true, false, List, [], ◌∷◌, refl, ap, sym, subst, ◌∙◌, arith, cond, inl, inr}
 use Rattle.std.specs.List.{filter}
-use Rattle.std.proofs.lemmas.Bool.{cases_Bool}
 use Rattle.std.proofs.lemmas.Bool.Decides.{eqb_tells}
 use Rattle.thread_lists.specs.Lists.{count}
 use Rattle.thread_lists.proofs.CountLaws.{count-here, count-other, count-same, count-there}
@@ -47,18 +46,4 @@ filter_one p (x ∷ xs) u only once =
       | inr w ↦
           ap (λ b. cond b (x ∷ filter p xs) (filter p xs)) (only x ∙ w.0)
           ∙ filter_one p xs u only (sym (count-other u x xs w.1) ∙ once)
-    ]
-
--- one test and then another
-pub filter_both : (p q : ℕ → Bool) (xs : List ℕ) → filter (λ t. p t && q t) xs ≡ filter q (filter p xs)
-filter_both p q [] = refl
-filter_both p q (x ∷ xs) =
-    elim (cases_Bool (p x)) [
-      | inl e ↦
-          ap (λ b. cond (b && q x) (x ∷ filter (λ t. p t && q t) xs) (filter (λ t. p t && q t) xs)) e
-          ∙ ap (λ ys. cond (q x) (x ∷ ys) ys) (filter_both p q xs)
-          ∙ sym (ap (λ b. filter q (cond b (x ∷ filter p xs) (filter p xs))) e)
-      | inr e ↦
-          ap (λ b. cond (b && q x) (x ∷ filter (λ t. p t && q t) xs) (filter (λ t. p t && q t) xs)) e
-          ∙ filter_both p q xs ∙ sym (ap (λ b. filter q (cond b (x ∷ filter p xs) (filter p xs))) e)
     ]

@@ -24,9 +24,10 @@ use Rattle.ref_model.specs.Enabled.{enabled, has_ended, is_done, is_free, is_rea
 use Rattle.ref_model.specs.Looks.{look_of, spot_of}
 use Rattle.schedule_soundness.specs.PutLaws.{EndsNoWait, OthersStayBeside}
 use Rattle.schedule_soundness.proofs.LookLaws.{ready_at, spot_at}
+use Rattle.schedule_soundness.proofs.PutLaws.{ended_back, mounted_off, unplaced_off}
 use Rattle.monitor_soundness.specs.ListLaws.{AreInLine}
 use Rattle.monitor_soundness.specs.MonitorPuts.{MonitorStep, LosesOwner, StaysOrIsNotified, stays, is_notified, if_loose, EntersPutNobody, ExitsPutTheFirst, NotifiesPutNobody, InterruptsPutTheWaiter, WakesInLinePutNobody}
-use Rattle.monitor_soundness.proofs.Stays.{Quiet, ended_back, is_next, mounted_off, no_next, old_ends, owned_is, same_status_runs, stays_runs, unplaced_off, unplaced_other}
+use Rattle.monitor_soundness.proofs.Stays.{Quiet, is_next, no_next, old_ends, owned_is, same_status_runs, stays_runs, unplaced_other}
 
 -- ---- nobody is put, where no other thread is to run
 

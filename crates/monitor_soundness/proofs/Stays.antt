@@ -1,16 +1,14 @@
 -- A thread that stays as it was is put exactly where it is the first in line for a monitor that loses its owner.
-use Rattle.std.proofs.Common.{◌≡◌, ◌≢◌, ◌⊎◌, inl, inr, eqb, ◌==◌, ℕ, Bool, true, false, List, Option, Some, None, refl, ap, sym, ◌∙◌, ◌&&◌, ◌||◌, not, arith}
+use Rattle.std.proofs.Common.{◌≡◌, ◌≢◌, ◌⊎◌, inl, inr, eqb, ℕ, Bool, true, false, List, Option, Some, None, refl, ap, sym, ◌∙◌, ◌&&◌, ◌||◌, not, arith}
 use Rattle.std.specs.Prelude.{is_none, is_some, slice_get}
-use Rattle.std.specs.Option.{option_map_or}
-use Rattle.std.proofs.lemmas.Bool.{and_from, and_left, and_parts, and_right, or_left, or_right}
+use Rattle.std.proofs.lemmas.Bool.{and_from, and_parts, and_right}
 use Rattle.std.proofs.lemmas.Bool.Decides.{eqb_tells}
-use Rattle.items.specs.Options.{◌>>=◌}
 use Rattle.vthread_state.specs.declared.phase.Phase.TheVariants.{Run, Throwing, Entering, Waiting, Reenter, Parked, Asleep, Joining}
 use Rattle.vthread_state.specs.declared.thread.Status.{Status}
 use Rattle.vthread_state.specs.declared.thread.Status.TheVariants.{New, Live, Done}
 use Rattle.vthread_state.specs.Threads.{target_of_status}
 use Rattle.link_model.specs.World.{World}
-use Rattle.schedule_model.specs.Look.{Look, Spot, absent, unstarted, in_no_list, in_wait_list, in_entry_list, done, is_in_line, is_live as is_live_spot}
+use Rattle.schedule_model.specs.Look.{Spot, absent, unstarted, in_no_list, in_wait_list, in_entry_list, done, is_in_line, is_live as is_live_spot}
 use Rattle.schedule_model.specs.Schedule.{Schedule, places}
 use Rattle.schedule_model.specs.Puts.{is_first, is_made_enabled, is_moved_to_free, is_next_in_line, is_started, is_to_run}
 use Rattle.schedule_model.specs.Entries.{has_mounted}
@@ -18,58 +16,25 @@ use Rattle.schedule_model.proofs.EntryLaws.{on_there}
 use Rattle.ref_model.specs.State.{JavaThread, State}
 use Rattle.ref_model.specs.Ending.{ending}
 use Rattle.ref_model.specs.Waiting.{is_reached}
-use Rattle.ref_model.specs.Enabled.{has_ended, is_done, is_free, is_ready}
+use Rattle.ref_model.specs.Enabled.{has_ended, is_free, is_ready}
 use Rattle.ref_model.specs.Looks.{look_of, spot_of}
 use Rattle.schedule_soundness.specs.PutLaws.{EndsNoWait, Stays, no_thread, is_new, is_kept}
 use Rattle.schedule_soundness.proofs.LookLaws.{ready_at, spot_at}
-use Rattle.schedule_soundness.proofs.Placed.{dead_off}
+use Rattle.schedule_soundness.proofs.Placed.{dead_next, dead_off}
+use Rattle.schedule_soundness.proofs.PutLaws.{joined, no_end, no_move, no_start, or_back}
 
 pub no_both : (b : Bool) → b ≡ true → b ≡ false → ⊥
 no_both b i j = absurd cc
 
 -- ---- a spot that stays
 
-no_start : (x : Spot) → is_started x x ≡ false
-no_start absent = refl
-no_start unstarted = refl
-no_start in_no_list = refl
-no_start (in_wait_list o) = refl
-no_start (in_entry_list o) = refl
-no_start done = refl
-
-no_move : (l : Look) (x : Spot) → is_moved_to_free l x x ≡ false
-no_move l absent = refl
-no_move l unstarted = refl
-no_move l in_no_list = refl
-no_move l (in_wait_list o) = refl
-no_move l (in_entry_list o) = refl
-no_move l done = refl
-
--- who isn't live is in no line
-dead_next : (before after : Look) (lists : ℕ → List ℕ) (t : ℕ) (x : Spot) → is_live_spot x ≡ false
-    → is_next_in_line before after lists t x ≡ false
-dead_next before after lists t absent e = refl
-dead_next before after lists t unstarted e = refl
-dead_next before after lists t in_no_list e = refl
-dead_next before after lists t (in_wait_list o) e = refl
-dead_next before after lists t (in_entry_list o) e = absurd cc
-dead_next before after lists t done e = refl
-
 -- ---- a thread that stays, and is in no line, isn't made enabled
-
--- the thread whose end a thread waits for
-abbrev pub joined : Option JavaThread → Option ℕ
-joined o = o >>= λ x. target_of_status x.thread.status
 
 -- the program went on, the time stays, and the ends of threads are no news to a thread
 pub record Quiet (r q : State) (u : ℕ) : Type 0 where
   pub goes : ending r ≡ None
   pub now : q.now ≡ r.now
   pub ends : (v : ℕ) → joined (slice_get r.threads u) ≡ Some v → is_none (ending q) ≡ true → has_ended q v ≡ true → has_ended r v ≡ true
-
-or_back : (a b c d : Bool) → (a ≡ true → c ≡ true) → (b ≡ true → d ≡ true) → (a || b) ≡ true → (c || d) ≡ true
-or_back true b c d f g e = or_left c d (f refl)
-or_back false b c d f g e = or_right c d (g e)
 
 -- what it needs to go on it had before
 ready_back : (r q : State) (x y : JavaThread) (status : Status) → q.now ≡ r.now → y.permit ≡ x.permit → y.interrupted ≡ x.interrupted
@@ -190,20 +155,6 @@ no_next w r q lists u kept done = refl
 
 -- ---- who ends
 
-abbrev ended_by : Option JavaThread → Bool
-ended_by o = option_map_or (λ (x : JavaThread). is_done x.thread.status) o false
-
-pub ended_back : (before after : Option JavaThread) → Stays before after → ended_by after ≡ true → ended_by before ≡ true
-ended_back before after (no_thread was now) e = let z : false ≡ true = sym (ap ended_by now) ∙ e in absurd cc
-ended_back before after (is_new y was now status) e =
-    let z : false ≡ true = sym (ap ended_by now ∙ ap is_done status) ∙ e in absurd cc
-ended_back before after (is_kept x y was now status permit told) e =
-    ap ended_by was ∙ sym (ap is_done status) ∙ sym (ap ended_by now) ∙ e
-
-no_end : (q : State) (t : ℕ) → EndsNoWait q t → is_none (ending q) ≡ true → has_ended q t ≡ true → ⊥
-no_end q t (inl goes) none e = no_both (has_ended q t) e goes
-no_end q t (inr over) none e = let z : false ≡ true = sym (ap is_none over.1) ∙ none in absurd cc
-
 -- where no other thread ends, and the end of the one that steps is no news, none is
 pub old_ends : (r q : State) (t : ℕ) → EndsNoWait q t → ((u : ℕ) → u ≢ t → has_ended q u ≡ true → has_ended r u ≡ true) → (x : ℕ)
     → is_none (ending q) ≡ true → has_ended q x ≡ true → has_ended r x ≡ true
@@ -214,16 +165,6 @@ old_ends r q t ends old x none e = by (eqb_tells x t)
     by (inr other) = old x other.1 e
 
 -- ---- places
-
-pub mounted_off : (s : Schedule) (c t : ℕ) (b : Bool) → has_mounted s c t ≡ true → (b && (places t s == 0)) ≡ false
-mounted_off s c t b mounts = and_right b (places t s == 0) (by (eqb_tells (places t s) 0))
-  where
-    by : ((eqb (places t s) 0 ≡ true) × (places t s ≡ 0)) ⊎ ((eqb (places t s) 0 ≡ false) × (places t s ≢ 0)) → (places t s == 0) ≡ false
-    by (inl none) = absurd (omega (arith, none.1, on_there s c t mounts))
-    by (inr some) = some.0
-
-pub unplaced_off : (s : Schedule) (u : ℕ) (b : Bool) → b ≡ false → (b && (places u s == 0)) ≡ false
-unplaced_off s u b off = and_left b (places u s == 0) off
 
 -- who has a thread mounted has it in a place
 pub unplaced_other : (s : Schedule) (c t u : ℕ) → has_mounted s c t ≡ true → places u s ≡ 0 → u ≢ t

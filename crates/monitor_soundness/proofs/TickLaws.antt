@@ -1,9 +1,8 @@
 -- What a tick of time makes of the lists of monitors, and whom it puts.
 use Rattle.std.proofs.Common.{◌≡◌, ◌≢◌, ◌⊎◌, inl, inr, eqb, ◌==◌, ◌<◌, ◌≤◌, ℕ, Bool, true, false, List, [], ◌∷◌, ◌++◌, append-nil, append_assoc, length, map, Option, Some, None, refl, ap, sym, subst, ◌∙◌, ◌&&◌, ◌||◌, not, arith, cond}
-use Rattle.std.specs.Prelude.{is_none, nat_le, nat_lt, slice_get}
+use Rattle.std.specs.Prelude.{nat_le, nat_lt, slice_get}
 use Rattle.std.specs.List.{filter}
-use Rattle.std.specs.Option.{option_map_or}
-use Rattle.std.proofs.lemmas.Bool.{and_from, and_parts, and_right, cases_Bool, le-leb, leb-false, leb-true, lt-ltb, ltb-true, ne_eqb}
+use Rattle.std.proofs.lemmas.Bool.{and_from, and_parts, and_right, cases_Bool, le-leb, leb-true, lt-ltb, ltb-true, ne_eqb}
 use Rattle.std.proofs.lemmas.Bool.Decides.{eqb_tells}
 use Rattle.std.proofs.lemmas.List.Elements.{filter_agree}
 use Rattle.std.proofs.lemmas.Option.{slice_get_within}
@@ -26,23 +25,22 @@ use Rattle.ref_model.specs.Setting.{Setting}
 use Rattle.ref_model.specs.State.{JavaThread, State}
 use Rattle.ref_model.specs.Ending.{ending}
 use Rattle.ref_model.specs.Waiting.{is_reached, status_woken, thread_at_time}
-use Rattle.ref_model.specs.Enabled.{enabled, has_ended, is_free, is_ready}
+use Rattle.ref_model.specs.Enabled.{enabled, is_ready}
 use Rattle.ref_model.specs.Looks.{deadline_in, look_of, spot_of}
 use Rattle.schedule_soundness.specs.HistoryLaws.{IsProgramAfter}
 use Rattle.schedule_soundness.specs.TimeLaws.{AreDue, IsDue}
-use Rattle.schedule_soundness.proofs.LookLaws.{ready_at, spot_at}
+use Rattle.schedule_soundness.proofs.LookLaws.{spot_at}
 use Rattle.schedule_soundness.proofs.Placed.{dead_off}
 use Rattle.schedule_soundness.proofs.PutLaws.{kept_runs, unplaced_waits}
+use Rattle.schedule_soundness.proofs.TimeLaws as in_time
 use Rattle.schedule_soundness.proofs.DeadlineOrder.{filter_by_deadline}
+use Rattle.schedule_soundness.proofs.TimeLaws.{deadline_at, enabled_is, filter_both, made, reaches}
 use Rattle.monitor_soundness.specs.TickLaws.{NoWaitIsOver, TicksMoveTheDue, TicksPutTheDue, left_by, lined_up_by}
-use Rattle.monitor_soundness.proofs.Filters.{filter_all, filter_both, filter_in}
+use Rattle.monitor_soundness.proofs.Filters.{filter_all, filter_in}
 use Rattle.monitor_soundness.proofs.ListLaws.{all_kept, only_kept, was_there}
 use Rattle.monitor_soundness.proofs.Stays.{no_both, same_status_runs}
 use Rattle.monitor_soundness.proofs.MonitorPuts.{line_enabled, moved_runs}
-use Rattle.monitor_soundness.proofs.Times.{Timed, wakes, waits, is_other, at_later, ended_then, ending_then, later, none_then, other_then, reaches, there_then, timed, waits_then, woken_then}
-
-abbrev pub deadline_at : Option JavaThread → Option ℕ
-deadline_at o = option_map_or (λ (x : JavaThread). deadline_in x.thread.status) o None
+use Rattle.monitor_soundness.proofs.Times.{Timed, wakes, waits, is_other, at_later, ended_then, ending_then, later, none_then, other_then, there_then, timed, waits_then, woken_then}
 
 abbrev pub is_due : State → ℕ → ℕ → Bool
 is_due r now t = reaches r.now now (deadline_at (slice_get r.threads t))
@@ -281,53 +279,27 @@ ticks_move_the_due w r q s now o due listed tick open_waits these =
 
 -- ---- who is put
 
-or_rest : (a b c d : Bool) → (a || b) ≡ false → (b ≡ false → c ≡ d) → (a || c) ≡ d
-or_rest true b c d off rest = absurd cc
-or_rest false b c d off rest = rest off
-
--- a thread that wasn't ready, and is, is due
-made : (was is due : Bool) → was ≡ false → is ≡ due → (not was && (is && true)) ≡ due
-made was is due off same = ap (λ b. not b && (is && true)) off ∙ and-true is ∙ same
-
-in_line_off : (was is : Bool) → (not was && (is && false)) ≡ false
-in_line_off was is = and_right (not was) (is && false) (and_right is false refl)
-
-reached_now : (old now : ℕ) (deadline : Option ℕ) → is_reached old deadline ≡ false → is_reached now deadline ≡ reaches old now deadline
-reached_now old now None off = refl
-reached_now old now (Some deadline) off = sym (ap (λ b. b && nat_le deadline now) (lt-ltb old deadline (leb-false deadline old off)))
+-- the time alone decides whether a thread may step then
+ready_then : (r : State) (now : ℕ) (x : JavaThread) (status : Status) → is_ready (later r now) x status ≡ is_ready (record r { now = now }) x status
+ready_then r now x New = refl
+ready_then r now x Done = refl
+ready_then r now x (Live Run) = refl
+ready_then r now x (Live (Throwing o)) = refl
+ready_then r now x (Live (Entering o)) = refl
+ready_then r now x (Live (Waiting o count deadline)) = refl
+ready_then r now x (Live (Reenter o count wake)) = refl
+ready_then r now x (Live (Parked deadline)) = refl
+ready_then r now x (Live (Asleep deadline)) = refl
+ready_then r now x (Live (Joining u deadline)) = ap (λ b. b || (x.interrupted || is_reached now deadline)) (ended_then r now u)
 
 -- a thread that doesn't wait on a monitor, and that no wake-up was owed, may go on by time alone where it is due
 due_status : (r : State) (now : ℕ) (x : JavaThread) (status : Status) → is_in_wait_list (spot_of status) ≡ false
     → (is_in_line (spot_of status) ≡ false → is_ready r x status ≡ false)
     → (not (is_ready r x status) && (is_ready (later r now) x status && not (is_in_line (spot_of status))))
     ≡ reaches r.now now (deadline_in status)
-due_status r now x New other off = refl
-due_status r now x Done other off = refl
-due_status r now x (Live Run) other off = let z : true ≡ false = off refl in absurd cc
-due_status r now x (Live (Throwing o)) other off = let z : true ≡ false = off refl in absurd cc
-due_status r now x (Live (Entering o)) other off = in_line_off (is_free r o) (is_free r o)
-due_status r now x (Live (Waiting o count deadline)) other off = absurd cc
-due_status r now x (Live (Reenter o count wake)) other off = in_line_off (is_free r o) (is_free r o)
-due_status r now x (Live (Parked deadline)) other off =
-    let was : (x.permit || (x.interrupted || is_reached r.now deadline)) ≡ false = off refl in
-    made (x.permit || (x.interrupted || is_reached r.now deadline)) (x.permit || (x.interrupted || is_reached now deadline)) _ was
-    (or_rest x.permit (x.interrupted || is_reached r.now deadline) (x.interrupted || is_reached now deadline) _ was
-    (λ e. or_rest x.interrupted (is_reached r.now deadline) (is_reached now deadline) _ e (reached_now r.now now deadline)))
-due_status r now x (Live (Asleep deadline)) other off =
-    let was : (x.interrupted || is_reached r.now (Some deadline)) ≡ false = off refl in
-    made (x.interrupted || is_reached r.now (Some deadline)) (x.interrupted || is_reached now (Some deadline)) _ was
-    (or_rest x.interrupted (is_reached r.now (Some deadline)) (is_reached now (Some deadline)) _ was
-    (reached_now r.now now (Some deadline)))
-due_status r now x (Live (Joining u deadline)) other off =
-    let was : (has_ended r u || (x.interrupted || is_reached r.now deadline)) ≡ false = off refl in
-    ap (λ b. not (has_ended r u || (x.interrupted || is_reached r.now deadline)) && ((b || (x.interrupted || is_reached now deadline)) && true)) (ended_then r now u)
-    ∙ made (has_ended r u || (x.interrupted || is_reached r.now deadline)) (has_ended r u || (x.interrupted || is_reached now deadline)) _ was
-    (or_rest (has_ended r u) (x.interrupted || is_reached r.now deadline) (x.interrupted || is_reached now deadline) _ was
-    (λ e. or_rest x.interrupted (is_reached r.now deadline) (is_reached now deadline) _ e (reached_now r.now now deadline)))
-
-enabled_is : (r : State) (t : ℕ) (x : JavaThread) → ending r ≡ None → slice_get r.threads t ≡ Some x
-    → enabled r t ≡ is_ready r x x.thread.status
-enabled_is r t x going at = ap (λ o. is_none o && ready_at r (slice_get r.threads t)) going ∙ ap (ready_at r) at
+due_status r now x status other off =
+    ap (λ b. not (is_ready r x status) && (b && not (is_in_line (spot_of status)))) (ready_then r now x status)
+    ∙ in_time.due_status r now x status other off
 
 -- who was made enabled may step
 made_both : (a b c due : Bool) → (not a && (b && c)) ≡ due → (not a && (b && c)) ≡ (due && b)

@@ -1,11 +1,10 @@
 -- What a tick of time does to the threads.
-use Rattle.std.proofs.Common.{◌≡◌, ◌⊎◌, inl, inr, ◌<◌, ◌≤◌, ℕ, Bool, true, false, List, [], ◌∷◌, length, map, Option, Some, None, refl, ap, sym, subst, ◌∙◌, ◌&&◌, ◌||◌}
-use Rattle.std.specs.Prelude.{if◌then◌else◌, nat_le, nat_lt, slice_get}
+use Rattle.std.proofs.Common.{◌≡◌, ◌⊎◌, inl, inr, ◌<◌, ◌≤◌, ℕ, Bool, true, false, List, [], ◌∷◌, length, map, Option, Some, None, refl, ap, sym, subst, ◌∙◌, ◌||◌}
+use Rattle.std.specs.Prelude.{if◌then◌else◌, nat_le, slice_get}
 use Rattle.std.specs.List.{list_any}
 use Rattle.std.specs.Option.{option_map_or}
 use Rattle.std.proofs.lemmas.Bool.{cases_Bool, le-leb, leb-true, ltb-true}
 use Rattle.std.proofs.lemmas.List.{length-map}
-use Rattle.vthread_state.specs.declared.phase.Phase.{Phase}
 use Rattle.vthread_state.specs.declared.phase.Phase.TheVariants.{Run, Throwing, Entering, Waiting, Reenter, Parked, Asleep, Joining}
 use Rattle.vthread_state.specs.declared.phase.Wake.TheVariants.{TimedOut}
 use Rattle.vthread_state.specs.declared.thread.Status.{Status}
@@ -14,13 +13,14 @@ use Rattle.schedule_model.specs.Look.{is_in_wait_list}
 use Rattle.ref_model.specs.declared.ending.Ending.TheVariants.{Ended, MainThrew}
 use Rattle.ref_model.specs.State.{JavaThread, State}
 use Rattle.ref_model.specs.Ending.{ending, exit_or, keeps_going}
-use Rattle.ref_model.specs.Waiting.{at_time, is_reached, phase_at_time, status_at_time, status_woken, thread_at_time, thread_woken}
+use Rattle.ref_model.specs.Waiting.{at_time, is_reached, status_at_time, status_woken, thread_at_time, thread_woken}
 use Rattle.ref_model.specs.Enabled.{has_ended, is_done}
-use Rattle.ref_model.specs.Looks.{deadline_in, look_of, spot_in, spot_of}
+use Rattle.ref_model.specs.Looks.{deadline_in, look_of, spot_of}
 use Rattle.vthread_state.specs.Threads as table
 use Rattle.schedule_soundness.specs.TimeLaws.{IsDue}
 use Rattle.schedule_soundness.proofs.OtherMoves.{time_is}
 use Rattle.schedule_soundness.proofs.ThreadLists.{map_none, map_there}
+use Rattle.schedule_soundness.proofs.TimeLaws.{still_status}
 use Rattle.monitor_soundness.specs.TickLaws.{NoWaitIsOver, TicksChangeTime, TicksLeaveOthers, TicksWakeWaiters}
 
 -- the state at a time
@@ -32,20 +32,6 @@ later r now = record r { now = now; threads = map (thread_at_time now) r.threads
 -- a thread whose status stays so
 abbrev with_status_of : JavaThread → Status → JavaThread
 with_status_of x s = record x { thread = record x.thread { status = s } }
-
-still_phase : (now : ℕ) (phase : Phase) → is_in_wait_list (spot_in phase) ≡ false → phase_at_time now phase ≡ phase
-still_phase now (Waiting o count deadline) e = absurd cc
-still_phase now phase e = refl
-
-still_status : (now : ℕ) (status : Status) → is_in_wait_list (spot_of status) ≡ false → status_at_time now status ≡ status
-still_status now New e = refl
-still_status now (Live phase) e = ap (λ x. Live x) (still_phase now phase e)
-still_status now Done e = refl
-
--- a deadline that was to come, and is reached now
-abbrev pub reaches : ℕ → ℕ → Option ℕ → Bool
-reaches old now None = false
-reaches old now (Some deadline) = nat_lt old deadline && nat_le deadline now
 
 -- The wait of a thread on a monitor ends, or goes on, or it doesn't wait on one.
 pub data Timed (r : State) (now : ℕ) (x : JavaThread) : Type 0 where

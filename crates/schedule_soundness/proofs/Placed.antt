@@ -55,7 +55,7 @@ dead_free l (in_wait_list o) e = refl
 dead_free l (in_entry_list o) e = absurd cc
 dead_free l done e = refl
 
-dead_next : (before after : Look) (lists : ℕ → List ℕ) (t : ℕ) (x : Spot) → is_live_spot x ≡ false → is_next_in_line before after lists t x ≡ false
+pub dead_next : (before after : Look) (lists : ℕ → List ℕ) (t : ℕ) (x : Spot) → is_live_spot x ≡ false → is_next_in_line before after lists t x ≡ false
 dead_next before after lists t absent e = refl
 dead_next before after lists t unstarted e = refl
 dead_next before after lists t in_no_list e = refl

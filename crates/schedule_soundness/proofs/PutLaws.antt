@@ -41,10 +41,10 @@ no_both b i j = absurd cc
 
 -- ---- the thread whose end a thread waits for
 
-abbrev joined : Option JavaThread → Option ℕ
+abbrev pub joined : Option JavaThread → Option ℕ
 joined o = o >>= λ x. target_of_status x.thread.status
 
-joined_in : (xs : List JavaThread) (u : ℕ) → joins_in (map (λ (x : JavaThread). x.thread) xs) u ≡ joined (slice_get xs u)
+pub joined_in : (xs : List JavaThread) (u : ℕ) → joins_in (map (λ (x : JavaThread). x.thread) xs) u ≡ joined (slice_get xs u)
 joined_in xs u = by (slice_get xs u) refl
   where
     by : (o : Option JavaThread) → slice_get xs u ≡ o → joins_in (map (λ (x : JavaThread). x.thread) xs) u ≡ joined (slice_get xs u)
@@ -53,7 +53,7 @@ joined_in xs u = by (slice_get xs u) refl
     by (Some x) e =
         ap (λ o. o >>= λ thread. target_of_status thread.status) (map_there (λ (x : JavaThread). x.thread) xs u x e) ∙ sym (ap joined e)
 
-joining : (t : ℕ) (status : Status) → target_of_status status ≡ Some t → (deadline : Option ℕ) × (status ≡ Live (Joining t deadline))
+pub joining : (t : ℕ) (status : Status) → target_of_status status ≡ Some t → (deadline : Option ℕ) × (status ≡ Live (Joining t deadline))
 joining t New e = absurd cc
 joining t Done e = absurd cc
 joining t (Live (Joining u deadline)) e = let same : u ≡ t = cc in (deadline, ap (λ n. Live (Joining n deadline)) same)
@@ -61,7 +61,7 @@ joining t (Live phase) e = absurd cc
 
 -- ---- a thread that stays
 
-no_start : (x : Spot) → is_started x x ≡ false
+pub no_start : (x : Spot) → is_started x x ≡ false
 no_start absent = refl
 no_start unstarted = refl
 no_start in_no_list = refl
@@ -69,7 +69,7 @@ no_start (in_wait_list o) = refl
 no_start (in_entry_list o) = refl
 no_start done = refl
 
-no_move : (l : Look) (x : Spot) → is_moved_to_free l x x ≡ false
+pub no_move : (l : Look) (x : Spot) → is_moved_to_free l x x ≡ false
 no_move l absent = refl
 no_move l unstarted = refl
 no_move l in_no_list = refl
@@ -92,7 +92,7 @@ no_next before after lists t (in_entry_list o) same =
 no_next before after lists t done same = refl
 
 -- what a thread needs to go on it had before
-or_back : (a b c d : Bool) → (a ≡ true → c ≡ true) → (b ≡ true → d ≡ true) → (a || b) ≡ true → (c || d) ≡ true
+pub or_back : (a b c d : Bool) → (a ≡ true → c ≡ true) → (b ≡ true → d ≡ true) → (a || b) ≡ true → (c || d) ≡ true
 or_back true b c d f g e = or_left c d (f refl)
 or_back false b c d f g e = or_right c d (g e)
 
@@ -177,27 +177,27 @@ stays_off w r q lists u h (is_kept x y was now status permit told) = kept_off w 
 
 -- ---- who ends
 
-ended_back : (before after : Option JavaThread) → Stays before after → ended_by after ≡ true → ended_by before ≡ true
+pub ended_back : (before after : Option JavaThread) → Stays before after → ended_by after ≡ true → ended_by before ≡ true
 ended_back before after (no_thread was now) e = let z : false ≡ true = sym (ap ended_by now) ∙ e in absurd cc
 ended_back before after (is_new y was now status) e =
     let z : false ≡ true = sym (ap ended_by now ∙ ap is_done status) ∙ e in absurd cc
 ended_back before after (is_kept x y was now status permit told) e =
     ap ended_by was ∙ sym (ap is_done status) ∙ sym (ap ended_by now) ∙ e
 
-no_end : (q : State) (t : ℕ) → EndsNoWait q t → is_none (ending q) ≡ true → has_ended q t ≡ true → ⊥
+pub no_end : (q : State) (t : ℕ) → EndsNoWait q t → is_none (ending q) ≡ true → has_ended q t ≡ true → ⊥
 no_end q t (inl goes) none e = no_both (has_ended q t) e goes
 no_end q t (inr over) none e = let z : false ≡ true = sym (ap is_none over.1) ∙ none in absurd cc
 
 -- ---- places
 
-mounted_off : (s : Schedule) (c t : ℕ) (b : Bool) → has_mounted s c t ≡ true → (b && (places t s == 0)) ≡ false
+pub mounted_off : (s : Schedule) (c t : ℕ) (b : Bool) → has_mounted s c t ≡ true → (b && (places t s == 0)) ≡ false
 mounted_off s c t b mounts = and_right b (places t s == 0) (by (eqb_tells (places t s) 0))
   where
     by : ((eqb (places t s) 0 ≡ true) × (places t s ≡ 0)) ⊎ ((eqb (places t s) 0 ≡ false) × (places t s ≢ 0)) → (places t s == 0) ≡ false
     by (inl none) = absurd (omega (arith, none.1, on_there s c t mounts))
     by (inr some) = some.0
 
-unplaced_off : (s : Schedule) (u : ℕ) (b : Bool) → b ≡ false → (b && (places u s == 0)) ≡ false
+pub unplaced_off : (s : Schedule) (u : ℕ) (b : Bool) → b ≡ false → (b && (places u s == 0)) ≡ false
 unplaced_off s u b off = and_left b (places u s == 0) off
 
 -- who is in no place, and in no line, may not step: no wake-up is lost

@@ -32,11 +32,11 @@ use Rattle.schedule_soundness.proofs.DeadlineOrder.{filter_by_deadline}
 
 -- ---- the threads stay
 
-still_phase : (now : ℕ) (phase : Phase) → is_in_wait_list (spot_in phase) ≡ false → phase_at_time now phase ≡ phase
+pub still_phase : (now : ℕ) (phase : Phase) → is_in_wait_list (spot_in phase) ≡ false → phase_at_time now phase ≡ phase
 still_phase now (Waiting o count deadline) e = absurd cc
 still_phase now phase e = refl
 
-still_status : (now : ℕ) (status : Status) → is_in_wait_list (spot_of status) ≡ false → status_at_time now status ≡ status
+pub still_status : (now : ℕ) (status : Status) → is_in_wait_list (spot_of status) ≡ false → status_at_time now status ≡ status
 still_status now New e = refl
 still_status now (Live phase) e = ap (λ x. Live x) (still_phase now phase e)
 still_status now Done e = refl
@@ -60,26 +60,26 @@ ticks_leave_threads r now later nobody =
 -- ---- who may go on by time alone
 
 -- a deadline that was to come, and is reached now
-abbrev reaches : ℕ → ℕ → Option ℕ → Bool
+abbrev pub reaches : ℕ → ℕ → Option ℕ → Bool
 reaches old now None = false
 reaches old now (Some deadline) = nat_lt old deadline && nat_le deadline now
 
-reached_now : (old now : ℕ) (deadline : Option ℕ) → is_reached old deadline ≡ false → is_reached now deadline ≡ reaches old now deadline
+pub reached_now : (old now : ℕ) (deadline : Option ℕ) → is_reached old deadline ≡ false → is_reached now deadline ≡ reaches old now deadline
 reached_now old now None off = refl
 reached_now old now (Some deadline) off = sym (ap (λ b. b && nat_le deadline now) (lt-ltb old deadline (leb-false deadline old off)))
 
-or_rest : (a b c d : Bool) → (a || b) ≡ false → (b ≡ false → c ≡ d) → (a || c) ≡ d
+pub or_rest : (a b c d : Bool) → (a || b) ≡ false → (b ≡ false → c ≡ d) → (a || c) ≡ d
 or_rest true b c d off rest = absurd cc
 or_rest false b c d off rest = rest off
 
 -- a thread that wasn't ready, and is, is due
-made : (was now due : Bool) → was ≡ false → now ≡ due → (not was && (now && true)) ≡ due
+pub made : (was now due : Bool) → was ≡ false → now ≡ due → (not was && (now && true)) ≡ due
 made was now due off is = ap (λ b. not b && (now && true)) off ∙ and-true now ∙ is
 
-in_line_off : (was now : Bool) → (not was && (now && false)) ≡ false
+pub in_line_off : (was now : Bool) → (not was && (now && false)) ≡ false
 in_line_off was now = and_right (not was) (now && false) (and_right now false refl)
 
-due_status : (r : State) (now : ℕ) (x : JavaThread) (status : Status) → is_in_wait_list (spot_of status) ≡ false
+pub due_status : (r : State) (now : ℕ) (x : JavaThread) (status : Status) → is_in_wait_list (spot_of status) ≡ false
     → (is_in_line (spot_of status) ≡ false → is_ready r x status ≡ false)
     → (not (is_ready r x status) && (is_ready (record r { now = now }) x status && not (is_in_line (spot_of status))))
     ≡ reaches r.now now (deadline_in status)
@@ -106,16 +106,16 @@ due_status r now x (Live (Joining u deadline)) nobody off =
     (or_rest (has_ended r u) (x.interrupted || is_reached r.now deadline) (x.interrupted || is_reached now deadline) _ was
     (λ e. or_rest x.interrupted (is_reached r.now deadline) (is_reached now deadline) _ e (reached_now r.now now deadline)))
 
-enabled_is : (r : State) (t : ℕ) (x : JavaThread) → ending r ≡ None → slice_get r.threads t ≡ Some x
+pub enabled_is : (r : State) (t : ℕ) (x : JavaThread) → ending r ≡ None → slice_get r.threads t ≡ Some x
     → enabled r t ≡ is_ready r x x.thread.status
 enabled_is r t x goes at = ap (λ o. is_none o && ready_at r (slice_get r.threads t)) goes ∙ ap (ready_at r) at
 
-abbrev deadline_at : Option JavaThread → Option ℕ
+abbrev pub deadline_at : Option JavaThread → Option ℕ
 deadline_at o = option_map_or (λ (x : JavaThread). deadline_in x.thread.status) o None
 
 -- ---- who is put
 
-filter_both : (p q : ℕ → Bool) (xs : List ℕ) → filter (λ t. p t && q t) xs ≡ filter q (filter p xs)
+pub filter_both : (p q : ℕ → Bool) (xs : List ℕ) → filter (λ t. p t && q t) xs ≡ filter q (filter p xs)
 filter_both p q [] = refl
 filter_both p q (x ∷ xs) =
     elim (cases_Bool (p x)) [
