@@ -1,6 +1,6 @@
 -- What an invocation does, where the method that it names is known.
 use Rattle.std.proofs.Common.{ℕ, ◌≡◌, ◌-◌, ◌++◌, Bool, true, false, List, [], Option, Some, None, drop, length, reverse, refl, sym, subst, ap, ◌∙◌}
-use Rattle.std.specs.Prelude.{Result, Ok, Err, IfOk, nat_le, nat_lt, replicate, slice_get, take, ◌||◌, if◌then◌else◌}
+use Rattle.std.specs.Prelude.{Result, Ok, Err, IfOk, nat_le, nat_lt, replicate, slice_get, take, if◌then◌else◌}
 use Rattle.std.specs.Option.{option_map_or}
 use Rattle.items.specs.Options.{◌>>=◌}
 use Rattle.items.proofs.Binds.{bind_is}
@@ -19,7 +19,8 @@ use Rattle.ref_model.specs.Fetch.{Named, method_of, named_method}
 use Rattle.ref_model.specs.Kinds.{argument_slots}
 use Rattle.ref_model.specs.Calls.{called, code_entered, entered, invoked, method_entered, native_entered, receiver_of}
 use Rattle.ref_model.specs.Classes.{is_sub}
-use Rattle.ref_model.specs.Frames.{callee, first_frame, is_guarded, is_guarded_frame}
+use Rattle.ref_model.specs.Frames.{callee, first_frame}
+use Rattle.ref_model.specs.Looks.{is_pin}
 use Rattle.ref_model.specs.Monitors.{method_monitor, with_monitor}
 use Rattle.ref_model.specs.Requests.{calls}
 use Rattle.state_model.specs.Frames.{Frame}
@@ -34,7 +35,7 @@ use Rattle.invocation.specs.declared.target.Target.TheVariants as targets
 use Rattle.invocation.specs.Arguments.{takes_double}
 use Rattle.invocation.specs.Receivers.{tested}
 use Rattle.invocation.specs.InvocationCache.{FitsReceiver, IsNamed}
-use Rattle.invocation.specs.Targets.{Gives, IsLocalCallee, IsLocalCode, IsReceived, IsStaticCallee, LacksCall, begins, unguarded, numbered_effect, received_effect, selected_effect, special_effect, virtual_effect}
+use Rattle.invocation.specs.Targets.{Gives, IsLocalCallee, IsLocalCode, IsReceived, IsStaticCallee, LacksCall, asks_to_begin, begins, begins_synchronized, unpinned, numbered_effect, received_effect, selected_effect, special_effect, virtual_effect}
 
 pub named_is : (w : World) (resolution : Resolution) (n : ℕ) (m : MethodInfo) → Some n ≡ method_of resolution.site → Some m ≡ slice_get w.methods n →
     named_method w resolution ≡ Some (record { number = n; method = m })
@@ -84,10 +85,6 @@ entered_is w r depth stack n slots m code method native has =
     ap (λ (x : Option MethodInfo). (x >>= λ y. Some (record { number = n; method = y })) >>= λ y. entered w r depth y slots stack) method
     ∙ ap (λ (x : Option Native). native_entered w r depth named x slots stack) native ∙ ap (λ (x : Option MethodCode). code_entered w depth named x slots stack) has
 
-or_none : (a b : Bool) → (a || b) ≡ false → a ≡ false
-or_none true b e = cc
-or_none false b e = refl
-
 -- the effect of a method that is synchronized, or isn't
 abbrev monitor_effect : MethodInfo → List Slot → Frame → Option Effect
 monitor_effect m rest g = method_monitor m (receiver_of g) >>= λ o. Some (asks (calls o (with_monitor g o)) rest)
@@ -96,14 +93,13 @@ abbrev frame_effect : MethodInfo → List Slot → Bool → Frame → Option Eff
 frame_effect m rest guarded g = if guarded then monitor_effect m rest g else Some (invokes g rest)
 
 pub coded_is : (w : World) (r : Memory) (depth : ℕ) (stack : List Slot) (n slots : ℕ) (m : MethodInfo) (code : MethodCode) →
-    slice_get w.methods n ≡ Some m → native_at w n ≡ None → code_at w n ≡ Some code → (is_synchronized m || is_hold w m) ≡ false →
+    slice_get w.methods n ≡ Some m → native_at w n ≡ None → code_at w n ≡ Some code → is_synchronized m ≡ false →
     numbered_effect w r depth n slots stack ≡ begins depth (record { method = n; slots = slots; locals = code.max_locals; operands = code.max_stack }) stack
 coded_is w r depth stack n slots m code method native has plain =
     entered_is w r depth stack n slots m code method native has
-    ∙ ap (λ (b : Bool). if nat_lt depth most_frames then (callee n code slots stack >>= frame_effect m (drop slots stack) b) else Some (throws exceptions.StackOverflowError))
-    (or_none (is_synchronized m) (is_hold w m) plain)
+    ∙ ap (λ (b : Bool). if nat_lt depth most_frames then (callee n code slots stack >>= frame_effect m (drop slots stack) b) else Some (throws exceptions.StackOverflowError)) plain
 
--- ---- a guarded method
+-- ---- a synchronized method, and jvt.Native.hold
 
 abbrev sized_frame : ℕ → MethodCode → List Slot → Frame
 sized_frame n code slots = record {
@@ -128,34 +124,55 @@ callee_numbered n code slots stack g = by (nat_le slots (length stack))
     by true e = first_numbered n code (reverse (take slots stack)) g e
     by false e = cc
 
--- its frame is guarded
-guarded_at : (w : World) (n : ℕ) (m : MethodInfo) (g : Frame) → slice_get w.methods n ≡ Some m → is_guarded w m ≡ true → g.method ≡ n → is_guarded_frame w g ≡ true
-guarded_at w n m g method guarded at =
-    ap (λ (k : ℕ). option_map_or (is_guarded w) (slice_get w.methods k) false) at ∙ ap (λ (x : Option MethodInfo). option_map_or (is_guarded w) x false) method ∙ guarded
+-- the method of a frame that begins asks for the monitor of that frame
+begun_asks : (w : World) (n : ℕ) (m : MethodInfo) (rest : List Slot) (found : Option Frame) → slice_get w.methods n ≡ Some m →
+    ((g : Frame) → found ≡ Some g → g.method ≡ n) → (found >>= monitor_effect m rest) ≡ (found >>= asks_to_begin w rest)
+begun_asks w n m rest None method is = refl
+begun_asks w n m rest (Some g) method is =
+    ap (λ (x : Option MethodInfo). (x >>= λ y. method_monitor y (receiver_of g)) >>= λ o. Some (asks (calls o (with_monitor g o)) rest))
+    (sym method ∙ ap (slice_get w.methods) (sym (is g refl)))
 
-asks_lack : (w : World) (m : MethodInfo) (rest : List Slot) (g : Frame) (o : Option ℕ) → unguarded w (o >>= λ o. Some (asks (calls o (with_monitor g o)) rest)) ≡ None
-asks_lack w m rest g None = refl
-asks_lack w m rest g (Some o) = refl
-
-frame_lacks : (w : World) (m : MethodInfo) (rest : List Slot) (g : Frame) (b : Bool) → is_guarded_frame w g ≡ true → unguarded w (frame_effect m rest b g) ≡ None
-frame_lacks w m rest g true is = asks_lack w m rest g (method_monitor m (receiver_of g))
-frame_lacks w m rest g false is = ap (λ (b : Bool). if b then None else Some (invokes g rest)) is
-
-begun_lacks : (w : World) (m : MethodInfo) (rest : List Slot) (found : Option Frame) → ((g : Frame) → found ≡ Some g → is_guarded_frame w g ≡ true) →
-    unguarded w (found >>= frame_effect m rest (is_synchronized m)) ≡ None
-begun_lacks w m rest None is = refl
-begun_lacks w m rest (Some g) is = frame_lacks w m rest g (is_synchronized m) (is g refl)
-
-pub guarded_lacks : (w : World) (r : Memory) (depth : ℕ) (stack : List Slot) (n slots : ℕ) (m : MethodInfo) (code : MethodCode) →
-    slice_get w.methods n ≡ Some m → native_at w n ≡ None → code_at w n ≡ Some code → (is_synchronized m || is_hold w m) ≡ true →
-    LacksCall w depth (numbered_effect w r depth n slots stack)
-guarded_lacks w r depth stack n slots m code method native has guarded = λ few.
+pub synchronized_is : (w : World) (r : Memory) (depth : ℕ) (stack : List Slot) (n slots : ℕ) (m : MethodInfo) (code : MethodCode) →
+    slice_get w.methods n ≡ Some m → native_at w n ≡ None → code_at w n ≡ Some code → is_synchronized m ≡ true →
+    numbered_effect w r depth n slots stack ≡ begins_synchronized w depth (record { method = n; slots = slots; locals = code.max_locals; operands = code.max_stack }) stack
+synchronized_is w r depth stack n slots m code method native has synchronized =
     let found = callee n code slots stack in
     let rest = drop slots stack in
     let full : Option Effect = Some (throws exceptions.StackOverflowError) in
-    ap (unguarded w) (entered_is w r depth stack n slots m code method native has)
-    ∙ ap (λ (b : Bool). unguarded w (if b then (found >>= frame_effect m rest (is_synchronized m)) else full)) few
-    ∙ begun_lacks w m rest found (λ g e. guarded_at w n m g method guarded (callee_numbered n code slots stack g e))
+    entered_is w r depth stack n slots m code method native has
+    ∙ ap (λ (b : Bool). if nat_lt depth most_frames then (found >>= frame_effect m rest b) else full) synchronized
+    ∙ ap (λ (x : Option Effect). if nat_lt depth most_frames then x else full)
+    (begun_asks w n m rest found method (λ g e. callee_numbered n code slots stack g e))
+
+-- its frame pins its thread
+pins_at : (w : World) (n : ℕ) (m : MethodInfo) (g : Frame) → slice_get w.methods n ≡ Some m → is_hold w m ≡ true → g.method ≡ n → is_pin w g ≡ true
+pins_at w n m g method holds at =
+    ap (λ (k : ℕ). option_map_or (is_hold w) (slice_get w.methods k) false) at ∙ ap (λ (x : Option MethodInfo). option_map_or (is_hold w) x false) method ∙ holds
+
+asks_lack : (w : World) (rest : List Slot) (g : Frame) (o : Option ℕ) → is_pin w g ≡ true →
+    unpinned w (o >>= λ o. Some (asks (calls o (with_monitor g o)) rest)) ≡ None
+asks_lack w rest g None is = refl
+asks_lack w rest g (Some o) is = ap (λ (b : Bool). if b then None else Some (asks (calls o (with_monitor g o)) rest)) is
+
+frame_lacks : (w : World) (m : MethodInfo) (rest : List Slot) (g : Frame) (b : Bool) → is_pin w g ≡ true → unpinned w (frame_effect m rest b g) ≡ None
+frame_lacks w m rest g true is = asks_lack w rest g (method_monitor m (receiver_of g)) is
+frame_lacks w m rest g false is = ap (λ (b : Bool). if b then None else Some (invokes g rest)) is
+
+begun_lacks : (w : World) (m : MethodInfo) (rest : List Slot) (found : Option Frame) → ((g : Frame) → found ≡ Some g → is_pin w g ≡ true) →
+    unpinned w (found >>= frame_effect m rest (is_synchronized m)) ≡ None
+begun_lacks w m rest None is = refl
+begun_lacks w m rest (Some g) is = frame_lacks w m rest g (is_synchronized m) (is g refl)
+
+pub pinned_lacks : (w : World) (r : Memory) (depth : ℕ) (stack : List Slot) (n slots : ℕ) (m : MethodInfo) (code : MethodCode) →
+    slice_get w.methods n ≡ Some m → native_at w n ≡ None → code_at w n ≡ Some code → is_hold w m ≡ true →
+    LacksCall w depth (numbered_effect w r depth n slots stack)
+pinned_lacks w r depth stack n slots m code method native has holds = λ few.
+    let found = callee n code slots stack in
+    let rest = drop slots stack in
+    let full : Option Effect = Some (throws exceptions.StackOverflowError) in
+    ap (unpinned w) (entered_is w r depth stack n slots m code method native has)
+    ∙ ap (λ (b : Bool). unpinned w (if b then (found >>= frame_effect m rest (is_synchronized m)) else full)) few
+    ∙ begun_lacks w m rest found (λ g e. pins_at w n m g method holds (callee_numbered n code slots stack g e))
 
 -- ---- the test of the receiver's class
 

@@ -1,3 +1,4 @@
 pub mod InvocationLaws
 pub mod ReceiverLaws
 pub mod SelectionLaws
+pub mod SynchronizedLaws

@@ -14,10 +14,13 @@ use Rattle.frames.specs.Frames.{top_room, with_stack}
 use Rattle.continuation.specs.Continuation.{Continuation, without_pin}
 use Rattle.ref_model.specs.Effects.{invokes, throws}
 use Rattle.ref_model.specs.Frames.{is_guarded_frame, is_left_openly, is_root, returned, returned_to, stack_returned}
+use Rattle.ref_model.specs.Monitors.{frame_monitor, is_synchronized_frame}
 use Rattle.ref_model.specs.Throwing.{at_handler, handler_of}
 use Rattle.heap_instructions.specs.Operands.{operands}
 use Rattle.invocation.specs.declared.entering.Entered.{Entered}
 use Rattle.invocation.specs.declared.entering.Entered.TheVariants as entering
+use Rattle.invocation.specs.declared.returning.Guard.{Guard}
+use Rattle.invocation.specs.declared.returning.Guard.TheVariants as guards
 use Rattle.invocation.specs.declared.returning.Left.{Left}
 use Rattle.invocation.specs.declared.returning.Left.TheVariants as leaving
 use Rattle.invocation.specs.declared.catching.Caught.{Caught}
@@ -63,6 +66,36 @@ abbrev pub top_returned : World → Option ValueKind → List Frame → Option (
 top_returned w kind [] = None
 top_returned w kind (f ∷ below) = if is_left_openly w f below then None else returned w kind f below
 
+-- the monitor that it holds, where its method is synchronized (JVMS 2.11.10)
+abbrev pub top_is_synchronized : World → List Frame → Bool
+top_is_synchronized w [] = false
+top_is_synchronized w (f ∷ below) = is_synchronized_frame w f
+
+abbrev pub top_monitor : World → List Frame → Option ℕ
+top_monitor w [] = None
+top_monitor w (f ∷ below) = frame_monitor w f
+
+-- it is that of a synchronized method, and holds this monitor
+pub record HoldsMonitor (w : World) (frames : List Frame) (o : ℕ) : Type 0 where
+  pub synchronized : top_is_synchronized w frames ≡ true
+  pub monitor : top_monitor w frames ≡ Some o
+
+-- what others see of it when it is left
+abbrev pub IsGuard : World → List Frame → Guard → Type 0
+IsGuard w frames guards.Open = top_is_guarded w frames ≡ false
+IsGuard w frames (guards.Holds o) = HoldsMonitor w frames o
+IsGuard w frames guards.Other = top_is_guarded w frames ≡ true
+
+-- the frames after a return from it to the one below it
+abbrev pub top_to_caller : World → Option ValueKind → List Frame → Option (List Frame)
+top_to_caller w kind [] = None
+top_to_caller w kind (f ∷ below) = returned w kind f below
+
+abbrev pub IsReturned : World → Option ValueKind → Continuation → Continuation → Bool → Type 0
+IsReturned w kind old new true =
+    (top_to_caller w kind old.stack.frames ≡ Some new.stack.frames) × (new.pinned ≡ without_pin (length old.stack.frames - 1) old.pinned)
+IsReturned w kind old new false = top_to_caller w kind old.stack.frames ≡ None
+
 -- it is a root frame, and no others see that it is left
 pub record IsLeftRoot (w : World) (old new : Continuation) : Type 0 where
   pub root : top_is_root w old.stack.frames ≡ true
@@ -73,7 +106,17 @@ abbrev pub IsLeft : World → Option ValueKind → Continuation → Continuation
 IsLeft w kind old new leaving.Returned =
     (top_returned w kind old.stack.frames ≡ Some new.stack.frames) × (new.pinned ≡ without_pin (length old.stack.frames - 1) old.pinned)
 IsLeft w kind old new leaving.Root = IsLeftRoot w old new
+IsLeft w kind old new (leaving.Holds o) = HoldsMonitor w old.stack.frames o × (new ≡ old)
 IsLeft w kind old new leaving.Undefined = top_returned w kind old.stack.frames ≡ None
+
+-- the same where its thread has left the monitor that the frame holds
+abbrev pub IsLeftUnlocked : World → Option ValueKind → Continuation → Continuation → Left → Type 0
+IsLeftUnlocked w kind old new leaving.Returned =
+    (top_is_root w old.stack.frames ≡ false) × (top_to_caller w kind old.stack.frames ≡ Some new.stack.frames)
+IsLeftUnlocked w kind old new leaving.Root = (top_is_root w old.stack.frames ≡ true) × (new ≡ old)
+IsLeftUnlocked w kind old new (leaving.Holds o) = ⊥
+IsLeftUnlocked w kind old new leaving.Undefined =
+    (top_is_root w old.stack.frames ≡ false) × (top_to_caller w kind old.stack.frames ≡ None)
 
 -- the kinds of what a return takes
 abbrev pub returned_kinds : Option ValueKind → List ValueKind
@@ -141,6 +184,12 @@ pub record IsUncaught (w : World) (class : ℕ) (old new : Continuation) : Type 
   pub plain : top_is_guarded w old.stack.frames ≡ false
   pub same : new ≡ old
 
+-- it has none, and holds this monitor, which its thread leaves first
+pub record IsUnhandledWith (w : World) (class o : ℕ) (old new : Continuation) : Type 0 where
+  pub none : top_handler w class old.stack.frames ≡ None
+  pub holds : HoldsMonitor w old.stack.frames o
+  pub same : new ≡ old
+
 -- it has a handler, and can't go on there, since the object has no room on its operand stack
 pub record IsStuck (w : World) (class o : ℕ) (old : Continuation) : Type 0 where
   pub handler : ℕ
@@ -151,4 +200,10 @@ abbrev pub IsCaught : World → ℕ → ℕ → Continuation → Continuation �
 IsCaught w class o old new catching.Handled = IsHandled w class o old new
 IsCaught w class o old new catching.Left = IsUnhandled w class old new
 IsCaught w class o old new catching.Uncaught = IsUncaught w class old new
+IsCaught w class o old new (catching.Holds monitor) = IsUnhandledWith w class monitor old new
 IsCaught w class o old new catching.Undefined = top_is_guarded w old.stack.frames ≡ false → IsStuck w class o old
+
+-- It is left, unless it is a root frame.
+abbrev pub IsDropped : World → Continuation → Continuation → Bool → Type 0
+IsDropped w old new true = (top_is_root w old.stack.frames ≡ false) × (new.stack.frames ≡ drop 1 old.stack.frames)
+IsDropped w old new false = (top_is_root w old.stack.frames ≡ true) × (new ≡ old)

@@ -5,3 +5,4 @@ pub mod Receivers
 pub mod Natives
 pub mod InvocationCache
 pub mod FrameSteps
+pub mod SynchronizedCalls

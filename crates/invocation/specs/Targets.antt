@@ -18,12 +18,14 @@ use Rattle.state_model.specs.Frames.{Frame}
 use Rattle.ref_model.specs.declared.exception.Exception.TheVariants as exceptions
 use Rattle.ref_model.specs.Effects.{Effect, asks, invokes, throws}
 use Rattle.ref_model.specs.Fetch.{method_of}
-use Rattle.ref_model.specs.Frames.{is_guarded_frame}
+use Rattle.ref_model.specs.Looks.{is_pin}
+use Rattle.ref_model.specs.Monitors.{method_monitor, with_monitor}
+use Rattle.ref_model.specs.Requests.{calls}
 use Rattle.ref_model.specs.Kinds.{argument_slots}
 use Rattle.ref_model.specs.LocalRows.{has_local_call, most_frames}
 use Rattle.ref_model.specs.NativeRows.{native_acted}
 use Rattle.ref_model.specs.Natives.{native_row}
-use Rattle.ref_model.specs.Calls.{choice_of, chosen, entered, invoked, method_numbered, unless_failed}
+use Rattle.ref_model.specs.Calls.{choice_of, chosen, entered, invoked, method_numbered, receiver_of, unless_failed}
 use Rattle.heap_instructions.specs.Operands.{operands}
 use Rattle.heap_instructions.specs.Outcomes.{with_heap}
 use Rattle.invocation.specs.Arguments.{takes_double}
@@ -61,26 +63,42 @@ begins depth c stack =
     then (callee_frame c stack >>= λ g. Some (invokes g (drop c.slots stack)))
     else Some (throws exceptions.StackOverflowError)
 
+-- the monitor of a synchronized method that begins with this frame: that of its receiver, or of its class
+abbrev pub callee_monitor : World → Frame → Option ℕ
+callee_monitor w g = slice_get w.methods g.method >>= λ m. method_monitor m (receiver_of g)
+
+-- what a call of such a method asks for, with the operands that are left (JVMS 2.11.10)
+abbrev pub asks_to_begin : World → List Slot → Frame → Option Effect
+asks_to_begin w rest g = callee_monitor w g >>= λ o. Some (asks (calls o (with_monitor g o)) rest)
+
+-- what a call of it does in a thread of so many frames
+abbrev pub begins_synchronized : World → ℕ → Callee → List Slot → Option Effect
+begins_synchronized w depth c stack =
+    if nat_lt depth most_frames
+    then (callee_frame c stack >>= asks_to_begin w (drop c.slots stack))
+    else Some (throws exceptions.StackOverflowError)
+
 -- what holds of the method with code that a target is, where it is one
 abbrev pub IfCode : Target → (Callee → Type 0) → Type 0
 IfCode (targets.Code callee) holds = holds callee
+IfCode (targets.Synchronized callee) holds = holds callee
 IfCode target holds = Unit {0}
 
--- an effect, unless it asks something, or begins a method that is guarded
-abbrev pub unguarded : World → Option Effect → Option Effect
-unguarded w (Some (asks q rest)) = None
-unguarded w (Some (invokes g rest)) = if is_guarded_frame w g then None else Some (invokes g rest)
-unguarded w effect = effect
+-- an effect, unless the frame of the method that it begins pins its thread
+abbrev pub unpinned : World → Option Effect → Option Effect
+unpinned w (Some (asks (calls o g) rest)) = if is_pin w g then None else Some (asks (calls o g) rest)
+unpinned w (Some (invokes g rest)) = if is_pin w g then None else Some (invokes g rest)
+unpinned w effect = effect
 
--- In a thread that may have one more frame the definitions have no effect here, or one that asks something, or that begins a method that is
--- guarded.
+-- In a thread that may have one more frame the definitions have no effect here, or one that begins jvt.Native.hold.
 abbrev pub LacksCall : World → ℕ → Option Effect → Type 0
-LacksCall w depth effect = nat_lt depth most_frames ≡ true → unguarded w effect ≡ None
+LacksCall w depth effect = nat_lt depth most_frames ≡ true → unpinned w effect ≡ None
 
--- A target is that of this effect; it is undefined only where the effect is none, or that of a guarded method.
+-- A target is that of this effect; it is undefined only where the effect is none, or begins jvt.Native.hold.
 abbrev pub Gives : World → Memory → ℕ → List Slot → Option Effect → Target → Type 0
 Gives w r depth stack effect (targets.Native native) = effect ≡ native_effect w r native stack
 Gives w r depth stack effect (targets.Code callee) = effect ≡ begins depth callee stack
+Gives w r depth stack effect (targets.Synchronized callee) = effect ≡ begins_synchronized w depth callee stack
 Gives w r depth stack effect (targets.Throws e) = effect ≡ Some (throws e)
 Gives w r depth stack effect targets.Undefined = LacksCall w depth effect
 

@@ -1,9 +1,9 @@
 //! Exceptions on their way (JVMS 2.10, 6.5: athrow).
 
 ghost use Rattle.std.specs.Prelude.{◌≡◌, ◌<◌, length};
-ghost use Rattle.invocation.specs.FrameSteps.{IsAtHandler, IsCaught};
+ghost use Rattle.invocation.specs.FrameSteps.{IsAtHandler, IsCaught, IsDropped};
 
-use crate::returning::{is_guarded, is_left_openly};
+use crate::returning::{Guard, is_left_openly, is_root, top_guard};
 use crate::world::CallWorld;
 use continuation::Mounted;
 use instruction_rows::{Slot, Value};
@@ -17,7 +17,9 @@ pub enum Caught {
     Left,
     /// No handler catches it in a root frame, and nothing has changed.
     Uncaught,
-    /// The definitions have no such step: the object has no room on the operand stack. Or others see that the frame is left, and nothing has
+    /// No handler catches it in a frame that holds this monitor, which its thread leaves first, and nothing has changed.
+    Holds(u32),
+    /// The definitions have no such step: the object has no room on the operand stack. Or the frame is that of jvt.Native.hold, and nothing has
     /// changed.
     Undefined,
 }
@@ -53,11 +55,26 @@ pub fn catch_object<W: CallWorld>(world: &W, class: u32, o: u32, mounted: &mut M
         return Caught::Handled;
     }
     if is_left_openly(world, mounted) {
-        if is_guarded(world, mounted) {
-            return Caught::Undefined;
-        }
-        return Caught::Uncaught;
+        return match top_guard(world, mounted) {
+            Guard::Open => Caught::Uncaught,
+            Guard::Holds(o) => Caught::Holds(o),
+            Guard::Other => Caught::Undefined,
+        };
     }
     mounted.pop_frame();
     Caught::Left
+}
+
+/// Leaves the top frame, in which nothing caught what is thrown, where its thread has left the monitor that the frame holds: whether it is no root
+/// frame. Nothing changes where it is one.
+pub fn drop_frame<W: CallWorld>(world: &W, mounted: &mut Mounted) -> bool
+    requires { 0 < length mounted.old.stack.frames }
+    ensures dropped { IsDropped (W.world world.now) mounted.old mounted.new result }
+    ensures thread { mounted.new.thread ≡ mounted.old.thread }
+{
+    if is_root(world, mounted) {
+        return false;
+    }
+    mounted.pop_frame();
+    true
 }

@@ -23,9 +23,9 @@ pub enum Entered {
     Undefined,
 }
 
-// Pushes the frame of a method. Where that wants no memory it takes constant time but for the local variables.
+/// Pushes the frame of a method. Where that wants no memory it takes constant time but for the local variables.
 #[inline(always)]
-fn push_callee(
+pub(crate) fn push_callee(
     mounted: &mut Mounted,
     n: u32,
     locals: u32,

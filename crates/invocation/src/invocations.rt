@@ -56,15 +56,19 @@ fn coded<W: CallWorld>(
     ensures takes { IfCode result (λ callee. callee.slots ≡ slots) }
     ensures native { IfNative result (IsNative (W.world world.now) n) }
 {
-    if is_synchronized(method) || world.is_hold(method) {
+    if world.is_hold(method) {
         return Target::Undefined;
     }
-    Target::Code(Callee {
+    let callee = Callee {
         method: n,
         slots,
         locals: code.max_locals,
         operands: code.max_stack,
-    })
+    };
+    if is_synchronized(method) {
+        return Target::Synchronized(callee);
+    }
+    Target::Code(callee)
 }
 
 // The method with a number runs, and takes so many slots (JVMS 4.6: without code it is abstract).

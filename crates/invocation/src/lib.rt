@@ -8,14 +8,16 @@ mod invocation_cache;
 mod invocations;
 mod receivers;
 mod returning;
+mod synchronized_calls;
 mod target;
 mod world;
 
 pub use arguments::argument_slots;
-pub use catching::{Caught, catch_object};
+pub use catching::{Caught, catch_object, drop_frame};
 pub use entering::{Entered, enter};
 pub use invocation_cache::InvocationCache;
 pub use invocations::{invoke, static_callee};
-pub use returning::{Left, leave};
+pub use returning::{Left, leave, return_unlocked};
+pub use synchronized_calls::{Asked, SynchronizedCall, ask_for_monitor, enter_synchronized};
 pub use target::{Callee, Target};
 pub use world::CallWorld;

@@ -1,15 +1,18 @@
 //! Methods that end (JVMS 2.6.4).
 
-ghost use Rattle.std.specs.Prelude.{◌≡◌, ◌<◌, length};
+ghost use Rattle.std.specs.Prelude.{◌≡◌, ◌<◌, Option, Some, length, slice_get, true};
+ghost use Rattle.opcodes.specs.declared.op.ValueKind.{ValueKind};
+ghost use Rattle.frames.specs.Frames.{top_method};
 ghost use Rattle.ref_model.specs.Operands.{HasOperands};
-ghost use Rattle.invocation.specs.FrameSteps.{HasPushed, IsBack, IsBehind, IsLeft, returned_kinds, top_is_guarded, top_is_left_openly};
+ghost use Rattle.invocation.specs.FrameSteps.{HasPushed, IsBack, IsBehind, IsGuard, IsLeft, IsLeftUnlocked, IsReturned, returned_kinds, top_is_left_openly, top_is_root, top_monitor};
 ghost use Rattle.heap_instructions.specs.Operands.{operands};
 
+use crate::synchronized_calls::reference;
 use crate::world::CallWorld;
 use continuation::Mounted;
 use heap_instructions::{kept, push_value, slots_of, value_operand};
 use instruction_rows::Value;
-use link_model::{MethodInfo, is_synchronized};
+use link_model::{MethodInfo, is_initializer, is_synchronized};
 use opcodes::ValueKind;
 
 /// What became of a return.
@@ -19,7 +22,10 @@ pub enum Left {
     Returned,
     /// It is from a root frame, and nothing has changed.
     Root,
-    /// The definitions have no such return: a look-up has nothing, or what comes back has no room. Or others see it, and nothing has changed.
+    /// It is from a frame that holds this monitor, which its thread leaves first, and nothing has changed.
+    Holds(u32),
+    /// The definitions have no such return: a look-up has nothing, or what comes back has no room. Or it is from jvt.Native.hold, and nothing has
+    /// changed.
     Undefined,
 }
 
@@ -32,14 +38,71 @@ pub(crate) fn is_left_openly<W: CallWorld>(world: &W, mounted: &Mounted) -> bool
     mounted.depth() == 1 || world.is_open(mounted.top().method)
 }
 
-/// Whether others see that the top frame is left: its method is synchronized, or jvt.Native.hold.
-#[inline(never)]
-pub(crate) fn is_guarded<W: CallWorld>(world: &W, mounted: &Mounted) -> bool
+/// What others see of a frame that is left (own).
+#[derive(Clone, Copy)]
+pub(crate) enum Guard {
+    /// Nothing.
+    Open,
+    /// Its method is synchronized, and it holds this monitor.
+    Holds(u32),
+    /// Its method is jvt.Native.hold; or it is synchronized, and the frame holds no monitor, as no frame does.
+    Other,
+}
+
+// The monitor whose number lies in the last local variable of the frame of a synchronized method. `None`: there is none.
+fn held_monitor<W: CallWorld>(world: &W, mounted: &Mounted) -> Option<u32>
     requires { 0 < length mounted.now.stack.frames }
-    ensures { result ≡ top_is_guarded (W.world world.now) mounted.now.stack.frames }
+    ensures { result ≡ top_monitor (W.world world.now) mounted.now.stack.frames }
+{
+    let top = mounted.top();
+    let code = world.code(top.method)?;
+    if u32::from(code.max_locals) >= top.locals {
+        return None;
+    }
+    reference(mounted.local(code.max_locals))
+}
+
+// What others see when the top frame is left, of this method.
+fn guard_of<W: CallWorld>(world: &W, method: &MethodInfo, mounted: &Mounted) -> Guard
+    requires frame { 0 < length mounted.now.stack.frames }
+    requires method { slice_get (W.world world.now).methods (top_method mounted.now.stack.frames)
+        ≡ Some method.now }
+    ensures { IsGuard (W.world world.now) mounted.now.stack.frames result }
+{
+    if is_synchronized(method) {
+        return match held_monitor(world, mounted) {
+            Some(o) => Guard::Holds(o),
+            None => Guard::Other,
+        };
+    }
+    if world.is_hold(method) {
+        return Guard::Other;
+    }
+    Guard::Open
+}
+
+/// What others see when the top frame is left.
+#[inline(never)]
+pub(crate) fn top_guard<W: CallWorld>(world: &W, mounted: &Mounted) -> Guard
+    requires { 0 < length mounted.now.stack.frames }
+    ensures { IsGuard (W.world world.now) mounted.now.stack.frames result }
 {
     match world.method(mounted.top().method) {
-        Some(method) => is_synchronized(method) || world.is_hold(method),
+        Some(method) => guard_of(world, method, mounted),
+        None => Guard::Open,
+    }
+}
+
+/// Whether the top frame is a root frame: the bottom frame of its thread, or that of a class initializer.
+pub(crate) fn is_root<W: CallWorld>(world: &W, mounted: &Mounted) -> bool
+    requires { 0 < length mounted.now.stack.frames }
+    ensures { result ≡ top_is_root (W.world world.now) mounted.now.stack.frames }
+{
+    if mounted.depth() == 1 {
+        return true;
+    }
+    match world.method(mounted.top().method) {
+        Some(method) => is_initializer(method),
         None => false,
     }
 }
@@ -100,6 +163,39 @@ fn go_on<W: CallWorld>(world: &W, back: Option<Value>, mounted: &mut Mounted) ->
     true
 }
 
+// Leaves the top frame for the one below it, which goes on after its call: whether it can.
+#[inline(always)]
+fn return_to_caller<W: CallWorld>(world: &W, kind: Option<ValueKind>, mounted: &mut Mounted) -> bool
+    requires frame { 1 < length mounted.old.stack.frames }
+    requires operands { HasOperands (returned_kinds kind) 0 (operands mounted.old) }
+    ensures back { IsReturned (W.world world.now) kind mounted.old mounted.new result }
+    ensures thread { mounted.new.thread ≡ mounted.old.thread }
+{
+    let Some(method) = world.method(mounted.top().method) else {
+        return false;
+    };
+    let Some(back) = returned_value(kind, method, mounted) else {
+        return false;
+    };
+    mounted.pop_frame();
+    go_on(world, back, mounted)
+}
+
+// What becomes of a return from the top frame, which is no local instruction.
+#[inline(never)]
+fn leave_openly<W: CallWorld>(world: &W, mounted: &Mounted) -> Left
+    requires frame { 0 < length mounted.now.stack.frames }
+    requires openly { top_is_left_openly (W.world world.now) mounted.now.stack.frames ≡ true }
+    ensures { (kind : Option ValueKind)
+        → IsLeft (W.world world.now) kind mounted.now mounted.now result }
+{
+    match top_guard(world, mounted) {
+        Guard::Open => Left::Root,
+        Guard::Holds(o) => Left::Holds(o),
+        Guard::Other => Left::Undefined,
+    }
+}
+
 // Leaves the top frame, as `leave` does.
 #[inline(always)]
 fn leave_with<W: CallWorld>(world: &W, kind: Option<ValueKind>, mounted: &mut Mounted) -> Left
@@ -109,19 +205,9 @@ fn leave_with<W: CallWorld>(world: &W, kind: Option<ValueKind>, mounted: &mut Mo
     ensures thread { mounted.new.thread ≡ mounted.old.thread }
 {
     if is_left_openly(world, mounted) {
-        if is_guarded(world, mounted) {
-            return Left::Undefined;
-        }
-        return Left::Root;
+        return leave_openly(world, mounted);
     }
-    let Some(method) = world.method(mounted.top().method) else {
-        return Left::Undefined;
-    };
-    let Some(back) = returned_value(kind, method, mounted) else {
-        return Left::Undefined;
-    };
-    mounted.pop_frame();
-    if !go_on(world, back, mounted) {
+    if !return_to_caller(world, kind, mounted) {
         return Left::Undefined;
     }
     Left::Returned
@@ -142,4 +228,24 @@ pub fn leave<W: CallWorld>(world: &W, kind: Option<ValueKind>, mounted: &mut Mou
         Some(ValueKind::Long) => leave_with(world, Some(ValueKind::Long), mounted),
         Some(ValueKind::Reference) => leave_with(world, Some(ValueKind::Reference), mounted),
     }
+}
+
+/// Leaves the top frame, as `leave` does, where its thread has left the monitor that the frame holds.
+pub fn return_unlocked<W: CallWorld>(
+    world: &W,
+    kind: Option<ValueKind>,
+    mounted: &mut Mounted,
+) -> Left
+    requires frame { 0 < length mounted.old.stack.frames }
+    requires operands { HasOperands (returned_kinds kind) 0 (operands mounted.old) }
+    ensures left { IsLeftUnlocked (W.world world.now) kind mounted.old mounted.new result }
+    ensures thread { mounted.new.thread ≡ mounted.old.thread }
+{
+    if is_root(world, mounted) {
+        return Left::Root;
+    }
+    if !return_to_caller(world, kind, mounted) {
+        return Left::Undefined;
+    }
+    Left::Returned
 }
