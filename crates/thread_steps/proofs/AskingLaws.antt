@@ -1,4 +1,22 @@
 -- Instructions on monitors and native methods that ask something of the threads.
+use Rattle.opcodes.specs.declared.op.ValueKind.{ValueKind}
+use Rattle.frames.specs.Frames.{top_stack}
+use Rattle.ref_model.specs.declared.exception.Exception.{Exception}
+use Rattle.ref_model.specs.Monitors.{with_monitor}
+use Rattle.ref_model.specs.Operands.{HasOperands}
+use Rattle.ref_model.specs.Requests.{calls}
+use Rattle.ref_model.specs.Effects.{throws}
+use Rattle.invocation.specs.declared.target.Callee.{Callee}
+use Rattle.invocation.specs.declared.synchronized_calls.SynchronizedCall.{SynchronizedCall}
+use Rattle.invocation.specs.FrameSteps.{HoldsMonitor, returned_kinds}
+use Rattle.invocation.specs.SynchronizedCalls.{AsksForMonitor}
+use Rattle.invocation.specs.Targets.{begins_synchronized, callee_frame}
+use Rattle.thread_steps.specs.Asking.{CallProceeds, IsCalling, ReturnProceeds}
+use Rattle.thread_steps.specs.Concluding.{Raises}
+use Rattle.thread_steps.specs.Returning.{ReturnSteps}
+use Rattle.thread_steps.proofs.CallLaws.{leads_too, synchronized_stepped, thrown_leads}
+use Rattle.thread_steps.proofs.ReturnLaws.{monitor_return}
+use Rattle.thread_steps.proofs.StepLaws.{quiet_return}
 use Rattle.std.proofs.Common.{◌≡◌, ℕ, suc, ◌≤◌, List, ◌∷◌, length, drop, Option, Some, None, refl, ap, sym, ◌∙◌, subst}
 use Rattle.items.specs.Options.{◌>>=◌}
 use Rattle.items.proofs.Binds.{bind_is}
@@ -33,7 +51,7 @@ use Rattle.invocation.specs.Targets.{row_invoked}
 use Rattle.thread_steps.specs.declared.parts.Parts.{Parts}
 use Rattle.thread_steps.specs.declared.progress.PendingRequest.{PendingRequest}
 use Rattle.thread_steps.specs.declared.progress.Progress.{Progress}
-use Rattle.thread_steps.specs.declared.progress.Progress.TheVariants.{Stepped, Asks}
+use Rattle.thread_steps.specs.declared.progress.Progress.TheVariants.{Stepped, Asks, Calls, Returns}
 use Rattle.thread_steps.specs.Asking.{AsksAt, AsksSo, EffectAsks, EffectProceeds, IsAsking, IsPending, IsProgress, Proceeds, StaysIfAsked, asking_of}
 use Rattle.thread_steps.specs.Concluding.{Concludes, IsQuietStep, Steps}
 use Rattle.thread_steps.specs.States.{memory_of, state_of}
@@ -95,11 +113,15 @@ pub monitor_proceeds : (w : World) (i : Instruction) (e : Event) (ask : ℕ → 
 monitor_proceeds w i e ask o Stepped a b m n is does acts held ends = monitor_steps w i e ask o a b m n.stack.frames is does acts held ends
 monitor_proceeds w i e ask o (Asks q) a b m n is does acts held ends =
     (monitor_asks w i e ask o q a m is does acts ends.0, ends.1, ap (λ (x : Continuation). x.stack.frames) ends.2)
+monitor_proceeds w i e ask o (Calls call) a b m n is does acts held ends = absurd ends
+monitor_proceeds w i e ask o (Returns q) a b m n is does acts held ends = absurd ends
 
 -- whatever was asked, the thread stays
 pub stays_asked : (w : World) (next : ℕ) (o : Outcome) (progress : Progress) (a b : Parts) (m n : Continuation) → Proceeds w next o progress a m b n → StaysIfAsked progress m n
 stays_asked w next o Stepped a b m n ends = tt
 stays_asked w next o (Asks q) a b m n ends = ends.2
+stays_asked w next o (Calls call) a b m n ends = absurd ends
+stays_asked w next o (Returns q) a b m n ends = absurd ends
 
 -- ---- instructions that ask nothing
 
@@ -143,11 +165,15 @@ native_proceeds w a b s native next m new last o (Asks q) acts kept stays only h
       ends.1 ∙ ap (λ (t : NativeState). record a { natives = t }) (state_same o next q a.natives s ends.0 stays),
       ap (λ (x : Continuation). x.stack.frames) (ends.2 ∙ same),
     )
+native_proceeds w a b s native next m new last o (Calls call) acts kept stays only held ends = absurd ends
+native_proceeds w a b s native next m new last o (Returns q) acts kept stays only held ends = absurd ends
 
 pub native_stays : (w : World) (a b : Parts) (next : ℕ) (m new last : Continuation) (o : Outcome) (progress : Progress) → KeptUnlessDone o m new → Proceeds w next o progress a new b last
     → StaysIfAsked progress m last
 native_stays w a b next m new last o Stepped kept ends = tt
 native_stays w a b next m new last o (Asks q) kept ends = ends.2 ∙ native_same o next q m new ends.0 kept
+native_stays w a b next m new last o (Calls call) kept ends = absurd ends
+native_stays w a b next m new last o (Returns q) kept ends = absurd ends
 
 -- ---- an invocation that comes to a native method
 
@@ -193,3 +219,97 @@ invocation_proceeds w i a b m after native (Asks q) comes effects = (
   effects.2,
   effects.3,
 )
+invocation_proceeds w i a b m after native (Calls call) comes effects = absurd effects
+invocation_proceeds w i a b m after native (Returns q) comes effects = absurd effects
+
+-- ---- an invocation that comes to a synchronized method
+
+-- what its instruction asks
+pub call_is_asked : (w : World) (i : Instruction) (c : Callee) (call : SynchronizedCall) (a : Parts) (m : Continuation) (f : Frame) (below : List Frame) → m.stack.frames ≡ f ∷ below
+    → fetched w f ≡ Some i → ComesTo w i a m (targets.Synchronized c) → c.slots ≤ length (operands m) → AsksForMonitor w c m call → IsCalling w call a (f ∷ below) f below
+call_is_asked w i c call a m f below top at comes takes x = by (row_of i.instr.op) refl effect
+  where
+    request : Request
+    request = calls call.monitor (with_monitor x.frame call.monitor)
+
+    -- the effect of the instruction
+    effect : row_invoked w i.resolution (row_of i.instr.op) (memory_of a) (suc (length below)) f.stack ≡ Some (asks request (drop call.callee.slots f.stack))
+    effect =
+        subst (λ (fs : List Frame). row_invoked w i.resolution (row_of i.instr.op) (memory_of a) (length fs) (top_stack fs) ≡ Some (asks request (drop call.callee.slots (top_stack fs)))) top
+        (comes (memory_of a) (length m.stack.frames) ∙ x.effect ∙ ap (λ (d : Callee). Some (asks request (drop d.slots (operands m)))) (sym x.callee))
+
+    asking : Asking
+    asking = record { frame = f; below = below; next = i.instr.next; stack = drop call.callee.slots f.stack }
+
+    by : (act : Row) → row_of i.instr.op ≡ act → row_invoked w i.resolution act (memory_of a) (suc (length below)) f.stack ≡ Some (asks request (drop call.callee.slots f.stack))
+        → IsCalling w call a (f ∷ below) f below
+    by (invoke invocation index) is e = record {
+      callee = x.frame;
+      begins = subst (λ (d : Callee). callee_frame d f.stack ≡ Some x.frame) (sym x.callee) (subst (λ (fs : List Frame). callee_frame c (top_stack fs) ≡ Some x.frame) top x.begins);
+      next = i.instr.next;
+      asking =
+          bind_is (fetched w f) (λ j. row_effect w j (row_of j.instr.op) (memory_of a) (suc (length below)) f >>= asking_by f below j.instr.next) i (Some (request, asking)) at
+          (bind_is (row_effect w i (row_of i.instr.op) (memory_of a) (suc (length below)) f) (asking_by f below i.instr.next) (asks request (drop call.callee.slots f.stack)) (Some (request, asking))
+          (ap (λ (act : Row). row_effect w i act (memory_of a) (suc (length below)) f) is ∙ e) refl);
+      takes = subst (λ (d : Callee). d.slots ≤ length f.stack) (sym x.callee) (subst (λ (fs : List Frame). c.slots ≤ length (top_stack fs)) top takes);
+      event = no_row w i (invoke invocation index) f below at is (no_local_call w i invocation index (memory_of a) f below request (drop call.callee.slots f.stack) e);
+    }
+    by (local act) is e = absurd cc
+    by (constant index) is e = absurd cc
+    by (wide_constant index) is e = absurd cc
+    by (returns kind) is e = absurd cc
+    by (event v) is e = absurd cc
+    by refused is e = absurd cc
+
+pub call_proceeds : (w : World) (i : Instruction) (c : Callee) (progress : Progress) (a b : Parts) (m : Continuation) → ComesTo w i a m (targets.Synchronized c) → c.slots ≤ length (operands m)
+    → CallProceeds w c progress m a b → IsProgress w i progress a m.stack.frames b m.stack.frames
+call_proceeds w i c Stepped a b m comes takes x = synchronized_stepped w i a b m c comes x
+call_proceeds w i c (Calls call) a b m comes takes x = (
+  λ f below top at. subst (λ (fs : List Frame). IsCalling w call a fs f below) (sym top) (call_is_asked w i c call a m f below top at comes takes x.0),
+  x.1,
+  refl,
+)
+call_proceeds w i c (Asks q) a b m comes takes x = absurd x
+call_proceeds w i c (Returns q) a b m comes takes x = absurd x
+
+-- whatever it comes to, the thread stays
+pub call_stays : (w : World) (c : Callee) (progress : Progress) (a b : Parts) (m : Continuation) → CallProceeds w c progress m a b → StaysIfAsked progress m m
+call_stays w c Stepped a b m x = tt
+call_stays w c (Asks q) a b m x = refl
+call_stays w c (Calls call) a b m x = refl
+call_stays w c (Returns q) a b m x = refl
+
+-- it asks for its monitor
+pub call_asked : (w : World) (c : Callee) (call : SynchronizedCall) (progress : Progress) (a : Parts) (m : Continuation) → progress ≡ Calls call → AsksForMonitor w c m call
+    → CallProceeds w c progress m a a
+call_asked w c call progress a m is x = subst (λ p. CallProceeds w c p m a a) (sym is) (x, refl)
+
+-- there are too many frames
+pub call_throws : (w : World) (c : Callee) (e : Exception) (progress : Progress) (a b : Parts) (m : Continuation) → progress ≡ Stepped
+    → begins_synchronized w (length m.stack.frames) c (operands m) ≡ Some (throws e) → Raises w e a b → CallProceeds w c progress m a b
+call_throws w c e progress a b m is effect raise =
+    subst (λ p. CallProceeds w c p m a b) (sym is) (λ next stage f below top.
+    leads_too w stage a b f below m.stack.frames next (Some (throws e)) (begins_synchronized w (suc (length below)) c f.stack)
+    (sym (ap (λ (fs : List Frame). begins_synchronized w (length fs) c (top_stack fs)) top) ∙ effect)
+    (thrown_leads w stage a b f below m.stack.frames next e raise top))
+
+-- ---- returns that leave a monitor
+
+pub return_proceeds : (w : World) (i : Instruction) (kind : Option ValueKind) (progress : Progress) (a b : Parts) (frames after : List Frame) → row_of i.instr.op ≡ returns kind
+    → HasOperands (returned_kinds kind) 0 (top_stack frames) → ReturnProceeds w kind progress a frames b after → IsProgress w i progress a frames b after
+return_proceeds w i kind Stepped a b frames after is operands x = λ stage f below top at. record {
+  step = x stage f below i top at is;
+  quiet = subst (λ (fs : List Frame). asking_in w (memory_of a) fs ≡ None) (sym top) (quiet_return w i kind (memory_of a) f below at is);
+}
+return_proceeds w i kind (Returns q) a b frames after is operands x = (
+  λ f below top at.
+      monitor_return w i q kind f below at is x.0 (subst (λ (fs : List Frame). HoldsMonitor w fs q.monitor) top x.1) (subst (λ (fs : List Frame). HasOperands (returned_kinds kind) 0 (top_stack fs)) top operands),
+  x.2,
+  x.3,
+)
+return_proceeds w i kind (Asks q) a b frames after is operands x = absurd x
+return_proceeds w i kind (Calls call) a b frames after is operands x = absurd x
+
+pub stepped_return : (w : World) (kind : Option ValueKind) (progress : Progress) (a b : Parts) (frames after : List Frame) → progress ≡ Stepped → ReturnSteps w kind a frames b after
+    → ReturnProceeds w kind progress a frames b after
+stepped_return w kind progress a b frames after quiet steps = subst (λ x. ReturnProceeds w kind x a frames b after) (sym quiet) steps

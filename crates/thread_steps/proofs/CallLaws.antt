@@ -39,7 +39,7 @@ use Rattle.ref_model.specs.Monitors.{method_monitor, with_monitor}
 use Rattle.ref_model.specs.Requests.{calls}
 use Rattle.ref_model.specs.LocalRows.{row, local_act, has_local_call, static_called, frames_called, most_frames}
 use Rattle.ref_model.specs.Step.{after_effect, row_or_event}
-use Rattle.invocation.specs.Targets.{row_invoked, begins, IsInvoked}
+use Rattle.invocation.specs.Targets.{row_invoked, begins, begins_synchronized, IsInvoked}
 use Rattle.thread_steps.specs.declared.parts.Parts.{Parts}
 use Rattle.thread_steps.specs.States.{Stage, memory_of, state_of, IsRunStep}
 use Rattle.thread_steps.specs.Concluding.{Concludes, EffectSteps, IsQuietStep, Leads, Raises, Steps}
@@ -213,6 +213,10 @@ native_stepped w i a b m after native comes effects = gives_stepped w i a b m af
 pub code_stepped : (w : World) (i : Instruction) (a b : Parts) (m : Continuation) (after : List Frame) (c : Callee) → ComesTo w i a m (targets.Code c)
     → ((next : ℕ) → EffectSteps w next (λ r depth stack. begins depth c stack) a m.stack.frames b after) → Steps w i a m.stack.frames b after
 code_stepped w i a b m after c comes effects = gives_stepped w i a b m after (λ r depth stack. begins depth c stack) comes (effects i.instr.next)
+
+pub synchronized_stepped : (w : World) (i : Instruction) (a b : Parts) (m : Continuation) (c : Callee) → ComesTo w i a m (targets.Synchronized c)
+    → ((next : ℕ) → EffectSteps w next (λ r depth stack. begins_synchronized w depth c stack) a m.stack.frames b m.stack.frames) → Steps w i a m.stack.frames b m.stack.frames
+synchronized_stepped w i a b m c comes effects = gives_stepped w i a b m m.stack.frames (λ r depth stack. begins_synchronized w depth c stack) comes (effects i.instr.next)
 
 pub throws_stepped : (w : World) (i : Instruction) (a b : Parts) (m : Continuation) (e : Exception) → ComesTo w i a m (targets.Throws e)
     → Raises w e a b → Steps w i a m.stack.frames b m.stack.frames

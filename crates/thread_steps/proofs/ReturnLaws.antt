@@ -9,35 +9,42 @@ use Rattle.opcodes.specs.declared.op.ValueKind.{ValueKind}
 use Rattle.instruction_rows.specs.declared.value.Slot.{Slot}
 use Rattle.instruction_rows.specs.Rows.{Row, local, constant, wide_constant, returns, invoke, event, refused}
 use Rattle.instruction_rows.specs.Table.{row as row_of}
-use Rattle.vthread_state.specs.declared.phase.Phase.TheVariants.{Run}
+use Rattle.vthread_state.specs.declared.phase.Phase.TheVariants.{Run, Throwing}
 use Rattle.vthread_state.specs.declared.thread.Status.{Status}
 use Rattle.vthread_state.specs.declared.thread.Status.TheVariants.{Live, Done}
 use Rattle.link_model.specs.declared.members.MethodInfo.{MethodInfo}
 use Rattle.link_model.specs.declared.sites.Resolution.{Resolution}
 use Rattle.link_model.specs.World.{World}
-use Rattle.verify_types.specs.Environment.{Handler}
+use Rattle.verify_types.specs.Environment.{Handler, Instruction}
 use Rattle.state_model.specs.Frames.{Frame}
 use Rattle.state_model.specs.Objects.{text}
 use Rattle.ref_model.specs.Classes.{class_name}
 use Rattle.ref_model.specs.Fetch.{fetched}
-use Rattle.ref_model.specs.Frames.{is_guarded, is_guarded_frame, is_root, returned}
+use Rattle.ref_model.specs.declared.exception.Exception.TheVariants as exceptions
+use Rattle.ref_model.specs.Memory.{Memory}
+use Rattle.heap_objs.specs.Heap.{Heap}
+use Rattle.ref_model.specs.Frames.{is_guarded, is_guarded_frame, is_left_openly, is_root, returned}
 use Rattle.ref_model.specs.Heap.{class_at, units_at, units_of}
 use Rattle.ref_model.specs.LocalRows.{row, local_act}
 use Rattle.ref_model.specs.Members.{is_hold, is_synchronized}
 use Rattle.ref_model.specs.Monitors.{frame_monitor, is_synchronized_frame}
 use Rattle.ref_model.specs.Operands.{FindsOperands, HasOperands}
-use Rattle.ref_model.specs.State.{State, with_frames, with_status}
+use Rattle.ref_model.specs.State.{State, with_frames, with_memory, with_status}
 use Rattle.ref_model.specs.Step.{event_step, frame_returned, monitor_returned, root_left, row_event, row_or_event}
 use Rattle.ref_model.specs.Texts.{text_bytes}
-use Rattle.ref_model.specs.Throwing.{at_handler, finished, frame_dropped, frame_with_monitor_left, handler_of, handled, throwing_step, uncaught, uncaught_line}
+use Rattle.ref_model.specs.Throwing.{at_handler, finished, frame_dropped, frame_with_monitor_left, handler_of, handled, throwing, throwing_step, thrown_below, uncaught, uncaught_line}
 use Rattle.continuation.specs.Continuation.{Continuation}
 use Rattle.heap_instructions.specs.HeapReads.{class_number}
-use Rattle.invocation.specs.FrameSteps.{IsHandled, IsUnhandled, returned_kinds, top_at_handler, top_handler, top_is_guarded, top_is_left_openly, top_is_root, top_returned}
+use Rattle.invocation.specs.declared.returning.Left.TheVariants.{Returned}
+use Rattle.invocation.specs.FrameSteps.{HoldsMonitor, IsDropped, IsHandled, IsLeftUnlocked, IsUnhandled, IsUnhandledWith, returned_kinds, top_at_handler, top_to_caller, top_handler, top_is_guarded, top_is_left_openly, top_is_root, top_returned}
 use Rattle.thread_steps.specs.declared.parts.Parts.{Parts}
 use Rattle.thread_steps.specs.States.{Stage, IsRunStep, memory_of, own_thread, state_of}
-use Rattle.thread_steps.specs.Returning.{EndsUncaught, LeavesRoot, ReturnSteps, ThrowingSteps, returned_kind, status_left}
+use Rattle.thread_steps.specs.declared.progress.MonitorReturn.{MonitorReturn}
+use Rattle.thread_steps.specs.Asking.{IsReturning}
+use Rattle.thread_steps.specs.Concluding.{IsExceptionMade}
+use Rattle.thread_steps.specs.Returning.{EndsUncaught, LeavesRoot, ReturnSteps, ThrowingSteps, ThrowsFrom, UnlockedDrops, UnlockedReturns, UnownedThrows, returned_kind, status_left}
 use Rattle.thread_steps.proofs.StageLaws.{own_at, own_finished, own_frames, own_status}
-use Rattle.thread_steps.proofs.StepLaws.{event_is_run, no_row}
+use Rattle.thread_steps.proofs.StepLaws.{event_is_run, no_row, quiet_return}
 
 -- ---- what a return takes
 
@@ -132,6 +139,64 @@ root_steps w a b kind frames after root plain left stage f below i top at is =
         ∙ ap (λ (x : Bool). if x then Some (root_left r stage.number below) else further) here
         ∙ ap (λ (s : State). Some s) (left stage f below top))
 
+-- ---- a return that leaves a monitor
+
+-- others see that the frame is left
+guarded_so : (w : World) (f : Frame) → is_synchronized_frame w f ≡ true → is_guarded_frame w f ≡ true
+guarded_so w f = by (slice_get w.methods f.method)
+  where
+    by : (found : Option MethodInfo) → option_map_or is_synchronized found false ≡ true → option_map_or (is_guarded w) found false ≡ true
+    by None e = cc
+    by (Some m) e = ap (λ (b : Bool). b || is_hold w m) e
+
+or_true : (b : Bool) → (b || true) ≡ true
+or_true true = refl
+or_true false = refl
+
+pub monitor_return : (w : World) (i : Instruction) (q : MonitorReturn) (kind : Option ValueKind) (f : Frame) (below : List Frame) → fetched w f ≡ Some i → row_of i.instr.op ≡ returns kind
+    → q.kind ≡ kind → HoldsMonitor w (f ∷ below) q.monitor → HasOperands (returned_kinds kind) 0 f.stack → IsReturning w q f below
+monitor_return w i q kind f below at is same holds operands = record {
+  step = λ r t. ap (row_or_event w r t (f ∷ below)) none ∙ event r t;
+  quiet = λ memory. quiet_return w i kind memory f below at is;
+  operands = subst (λ (k : Option ValueKind). HasOperands (returned_kinds k) 0 f.stack) (sym same) operands;
+}
+  where
+    openly : is_left_openly w f below ≡ true
+    openly = ap (λ (b : Bool). is_root w f below || b) (guarded_so w f holds.synchronized) ∙ or_true (is_root w f below)
+
+    none : row w (f ∷ below) ≡ None
+    none = no_row w i (returns kind) f below at is (ap (λ (x : Bool). if x then None else returned w kind f below) openly)
+
+    event : (r : State) (t : ℕ) → event_step w r t (f ∷ below) ≡ monitor_returned w r t q.kind f below q.monitor
+    event r t =
+        let held : Option ValueKind → Option State = λ k. frame_monitor w f >>= monitor_returned w r t k f below in
+        bind_is (fetched w f) (λ j. row_event w j (row_of j.instr.op) r t f below) i (monitor_returned w r t q.kind f below q.monitor) at
+        (ap (λ (act : Row). row_event w i act r t f below) is
+        ∙ ap (λ (x : Bool). if x then held kind else frame_returned w r t kind f below) holds.synchronized
+        ∙ ap (λ (x : Option ℕ). x >>= monitor_returned w r t kind f below) holds.monitor
+        ∙ ap (λ (k : Option ValueKind). monitor_returned w r t k f below q.monitor) (sym same))
+
+-- ---- the rest of it
+
+pub unlocked_returned : (w : World) (a : Parts) (kind : Option ValueKind) (m n : Continuation) → IsLeftUnlocked w kind m n Returned → UnlockedReturns w kind a m.stack.frames a n.stack.frames
+unlocked_returned w a kind m n left stage f below top =
+    let r : State = state_of stage a m.stack.frames in
+    let inner : is_root w f below ≡ false = subst (λ (fs : List Frame). top_is_root w fs ≡ false) top left.0 in
+    let back : returned w kind f below ≡ Some n.stack.frames = subst (λ (fs : List Frame). top_to_caller w kind fs ≡ Some n.stack.frames) top left.1 in
+    ap (λ (b : Bool). if b then Some (root_left r stage.number below) else (returned w kind f below >>= λ frames. Some (with_frames r stage.number frames))) inner
+    ∙ ap (λ (x : Option (List Frame)). x >>= λ frames. Some (with_frames r stage.number frames)) back
+    ∙ ap (λ (s : State). Some s) (own_frames stage a m.stack.frames n.stack.frames)
+
+pub unlocked_root : (w : World) (a b : Parts) (kind : Option ValueKind) (frames after : List Frame) → top_is_root w frames ≡ true → LeavesRoot a frames b after
+    → UnlockedReturns w kind a frames b after
+unlocked_root w a b kind frames after root left stage f below top =
+    let r : State = state_of stage a frames in
+    let is : is_root w f below ≡ true = subst (λ (fs : List Frame). top_is_root w fs ≡ true) top root in
+    let s : State → Option State = λ q. Some q in
+    ap (λ (b : Bool). if b then Some (root_left r stage.number below) else (returned w kind f below >>= λ frames. Some (with_frames r stage.number frames))) is
+    ∙ ap (λ (fs : List Frame). Some (root_left (state_of stage a fs) stage.number below)) top
+    ∙ ap s (left stage f below top)
+
 -- ---- an exception on its way
 
 -- what the phase makes of the top frame, by the class of the object
@@ -201,6 +266,66 @@ uncaught_steps w a b t name o class (f ∷ below) after named none root plain en
     (ap (λ (b : Bool). if b then (frame_monitor w f >>= frame_with_monitor_left w r stage.number class f below) else frame_dropped w r stage.number class f below)
     (holds_none w f plain)
     ∙ ap (λ (x : Bool). if x then uncaught w r stage.number class else Some (with_frames r stage.number below)) root ∙ ends stage (f ∷ below) is)
+
+-- It has none, and holds a monitor.
+pub holding_steps : (w : World) (a : Parts) (o class monitor : ℕ) (m n : Continuation) → Some class ≡ class_number w a.natives.heap.objects o → IsUnhandledWith w class monitor m n
+    → ThrowsFrom w (record { class = class; monitor = monitor }) o (memory_of a) m.stack.frames
+holding_steps w a o class monitor m n named x r t f below same top =
+    let none : handler_of w class f ≡ None = mapped_none (handler_of w class f) (subst (λ (fs : List Frame). top_handler w class fs ≡ None) top x.none) in
+    let holds : HoldsMonitor w (f ∷ below) monitor = subst (λ (fs : List Frame). HoldsMonitor w fs monitor) top x.holds in
+    let here : class_at w r.memory o ≡ Some class = ap (λ (memory : Memory). class_at w memory o) same ∙ sym named in
+    ap (throwing_step w r t o) top
+    ∙ ap (λ (c : Option ℕ). c >>= λ c. handled w r t o c f below (handler_of w c f)) here
+    ∙ ap (handled w r t o class f below) none
+    ∙ ap (λ (b : Bool). if b then (frame_monitor w f >>= frame_with_monitor_left w r t class f below) else frame_dropped w r t class f below) holds.synchronized
+    ∙ ap (λ (x : Option ℕ). x >>= frame_with_monitor_left w r t class f below) holds.monitor
+
+-- ---- where the thread has left that monitor, or doesn't own it
+
+pub unlocked_dropped : (w : World) (a : Parts) (t name class : ℕ) (m n : Continuation) → IsDropped w m n true → UnlockedDrops w t name class a m.stack.frames a n.stack.frames
+unlocked_dropped w a t name class m n left stage f below is top =
+    let r : State = state_of stage a m.stack.frames in
+    let inner : is_root w f below ≡ false = subst (λ (fs : List Frame). top_is_root w fs ≡ false) top left.0 in
+    let rest : n.stack.frames ≡ below = left.1 ∙ ap (drop 1) top in
+    ap (λ (b : Bool). if b then uncaught w r stage.number class else Some (with_frames r stage.number below)) inner
+    ∙ ap (λ (s : State). Some s) (own_frames stage a m.stack.frames below ∙ ap (state_of stage a) (sym rest))
+
+pub unlocked_uncaught : (w : World) (a b : Parts) (t name class : ℕ) (frames after : List Frame) → top_is_root w frames ≡ true → EndsUncaught w t name class a b after
+    → UnlockedDrops w t name class a frames b after
+unlocked_uncaught w a b t name class frames after root ends stage f below is top =
+    let r : State = state_of stage a frames in
+    let here : is_root w f below ≡ true = subst (λ (fs : List Frame). top_is_root w fs ≡ true) top root in
+    ap (λ (x : Bool). if x then uncaught w r stage.number class else Some (with_frames r stage.number below)) here
+    ∙ ends stage frames is
+
+-- the parts with this heap
+abbrev pub heaped : Parts → Heap → Parts
+heaped a h = record a { natives = record a.natives { heap = h } }
+
+pub unowned_dropped : (w : World) (a : Parts) (h : Heap) (t name o : ℕ) (m n : Continuation) → IsExceptionMade w exceptions.IllegalMonitorStateException a.natives.heap h o
+    → IsDropped w m n true → UnownedThrows w t name a m.stack.frames (record (heaped a h) { status = Live (Throwing o) }) n.stack.frames
+unowned_dropped w a h t name o m n made left stage f below is top =
+    let r : State = state_of stage a m.stack.frames in
+    let b = heaped a h in
+    let inner : is_root w f below ≡ false = subst (λ (fs : List Frame). top_is_root w fs ≡ false) top left.0 in
+    let rest : n.stack.frames ≡ below = left.1 ∙ ap (drop 1) top in
+    let kept : State = throwing (with_frames (with_memory r (memory_of b)) stage.number below) stage.number o in
+    let dropped : State → Option State = λ s. Some s in
+    ap (λ (x : Option (Memory × ℕ)). x >>= thrown_below w r stage.number f below) (made a refl)
+    ∙ ap (λ (x : Bool). if x then (class_at w (memory_of b) o >>= λ class. uncaught w (with_memory r (memory_of b)) stage.number class) else Some kept) inner
+    ∙ ap dropped (ap (λ (s : State). throwing s stage.number o) (own_frames stage b m.stack.frames below) ∙ own_status stage b below (Live (Throwing o)) ∙ ap (state_of stage (record b { status = Live (Throwing o) })) (sym rest))
+
+pub unowned_uncaught : (w : World) (a b : Parts) (h : Heap) (t name o class : ℕ) (frames after : List Frame) → IsExceptionMade w exceptions.IllegalMonitorStateException a.natives.heap h o
+    → Some class ≡ class_number w h.objects o → top_is_root w frames ≡ true → EndsUncaught w t name class (heaped a h) b after → UnownedThrows w t name a frames b after
+unowned_uncaught w a b h t name o class frames after made named root ends stage f below is top =
+    let r : State = state_of stage a frames in
+    let new = heaped a h in
+    let here : is_root w f below ≡ true = subst (λ (fs : List Frame). top_is_root w fs ≡ true) top root in
+    let kept : Option State = Some (throwing (with_frames (with_memory r (memory_of new)) stage.number below) stage.number o) in
+    ap (λ (x : Option (Memory × ℕ)). x >>= thrown_below w r stage.number f below) (made a refl)
+    ∙ ap (λ (x : Bool). if x then (class_at w (memory_of new) o >>= λ class. uncaught w (with_memory r (memory_of new)) stage.number class) else kept) here
+    ∙ ap (λ (x : Option ℕ). x >>= λ class. uncaught w (with_memory r (memory_of new)) stage.number class) (sym named)
+    ∙ ends stage frames is
 
 -- ---- the end of a thread whose exception nothing caught
 

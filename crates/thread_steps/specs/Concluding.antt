@@ -12,11 +12,17 @@ use Rattle.ref_model.specs.Effects.{Effect, asks}
 use Rattle.ref_model.specs.Resuming.{asking_in}
 use Rattle.ref_model.specs.State.{State}
 use Rattle.ref_model.specs.Step.{after_effect}
-use Rattle.ref_model.specs.Throwing.{raised, throwing}
+use Rattle.ref_model.specs.Throwing.{exception_made, raised, throwing}
+use Rattle.heap_objs.specs.Heap.{Heap}
 use Rattle.heap_instructions.specs.declared.outcome.Outcome.{Outcome}
 use Rattle.heap_instructions.specs.declared.outcome.Outcome.TheVariants.{Done, Throws, ThrowsObject, Asks, Undefined}
 use Rattle.thread_steps.specs.declared.parts.Parts.{Parts}
 use Rattle.thread_steps.specs.States.{Stage, memory_of, state_of, IsRunStep}
+
+-- A new object of an exception was made in the heap, or there was no room for it: the OutOfMemoryError of the opening takes its place then.
+abbrev pub IsExceptionMade : World → Exception → Heap → Heap → ℕ → Type 0
+IsExceptionMade w e old new o = (a : Parts) → a.natives.heap ≡ old →
+    exception_made w (memory_of a) e ≡ Some (memory_of (record a { natives = record a.natives { heap = new } }), o)
 
 -- The machine throws an exception in the thread, whatever its frames are.
 abbrev pub Raises : World → Exception → Parts → Parts → Type 0

@@ -7,7 +7,7 @@ ghost use Rattle.heap_instructions.specs.Operands.{operands};
 ghost use Rattle.native_methods.specs.Arguments.{native_effect};
 ghost use Rattle.invocation.specs.InvocationCache.{AreSelected};
 ghost use Rattle.invocation.specs.Targets.{begins};
-ghost use Rattle.thread_steps.specs.Asking.{EffectProceeds, IsProgress, StaysIfAsked};
+ghost use Rattle.thread_steps.specs.Asking.{CallProceeds, EffectProceeds, IsProgress, StaysIfAsked};
 ghost use Rattle.thread_steps.specs.Concluding.{EffectSteps};
 ghost use Rattle.thread_steps.specs.Operands.{FindsNatives};
 ghost use Rattle.thread_steps.specs.declared.progress.Progress.TheVariants.{Stepped};
@@ -17,7 +17,7 @@ use crate::parts::Parts;
 use crate::progress::Progress;
 use crate::world::MachineWorld;
 use continuation::Mounted;
-use invocation::{Callee, Entered, InvocationCache, Target, enter, invoke};
+use invocation::{Asked, Callee, Entered, InvocationCache, Target, ask_for_monitor, enter, invoke};
 use items::NoMemory;
 use lib_table::Native;
 use link_model::Resolution;
@@ -71,6 +71,29 @@ fn code_step<W: MachineWorld>(
     }
 }
 
+// A synchronized method asks for its monitor, or there are too many frames.
+#[inline(never)]
+fn synchronized_step<W: MachineWorld>(
+    world: &W,
+    parts: &mut Parts,
+    mounted: &Mounted,
+    progress: &mut Progress,
+    callee: Callee,
+) -> Result<(), NoMemory>
+    requires nothing { progress.old ≡ Stepped }
+    requires given { callee.slots ≤ length (operands mounted.now) }
+    ensures { OnOk result (CallProceeds (W.world world.now) callee progress.new mounted.now
+        parts.old parts.new) }
+{
+    match ask_for_monitor(world, mounted, callee)? {
+        Asked::Calls(call) => {
+            *progress = Progress::Calls(call);
+            Ok(())
+        }
+        Asked::Throws(exception) => raise(world, parts, exception),
+    }
+}
+
 /// The step of a thread whose top frame is at an invocation. What it asks is written to `progress`.
 #[inline(always)]
 pub(crate) fn invocation_step<W: MachineWorld>(
@@ -111,6 +134,7 @@ pub(crate) fn invocation_step<W: MachineWorld>(
             native_step(alloc, world, parts, mounted, progress, instr.next, native)
         }
         Target::Code(callee) => code_step(world, parts, mounted, callee),
+        Target::Synchronized(callee) => synchronized_step(world, parts, mounted, progress, callee),
         Target::Throws(exception) => raise(world, parts, exception),
         Target::Undefined => Err(NoMemory),
     }

@@ -1,8 +1,8 @@
 //! What the outcome of an instruction makes of the thread that had it.
 
-ghost use Rattle.std.specs.Prelude.{◌≡◌, OnOk};
+ghost use Rattle.std.specs.Prelude.{◌≡◌, IfOk, OnOk};
 ghost use Rattle.thread_steps.specs.Asking.{Proceeds};
-ghost use Rattle.thread_steps.specs.Concluding.{Concludes, EndsOtherwise, Raises};
+ghost use Rattle.thread_steps.specs.Concluding.{Concludes, EndsOtherwise, IsExceptionMade, Raises};
 ghost use Rattle.thread_steps.specs.declared.progress.Progress.TheVariants.{Stepped};
 
 use crate::parts::Parts;
@@ -10,12 +10,28 @@ use crate::progress::{PendingRequest, Progress};
 use crate::world::MachineWorld;
 use continuation::Mounted;
 use heap_instructions::{Outcome, make_object};
+use heap_objs::Heap;
 use items::NoMemory;
 use link_model::OUT_OF_MEMORY;
 use ref_model::Exception;
 use vthread_state::{Phase, Status};
 
-/// Throws a new exception of the machine: an object without a message, or the OutOfMemoryError of the start if there is no room for it.
+/// A new exception of the machine: an object without a message, or the OutOfMemoryError of the start if there is no room for it.
+pub(crate) fn make_exception<W: MachineWorld>(
+    world: &W,
+    heap: &mut Heap,
+    exception: Exception,
+) -> Result<u32, NoMemory>
+    ensures { IfOk result (IsExceptionMade (W.world world.now) exception heap.old heap.new) }
+{
+    let Some(class) = world.exception_class(exception) else {
+        return Err(NoMemory);
+    };
+    let made = make_object(heap, class, world.new_values(class))?;
+    Ok(made.unwrap_or(OUT_OF_MEMORY))
+}
+
+/// Throws a new exception of the machine.
 #[inline(never)]
 pub fn raise<W: MachineWorld>(
     world: &W,
@@ -24,11 +40,8 @@ pub fn raise<W: MachineWorld>(
 ) -> Result<(), NoMemory>
     ensures { OnOk result (Raises (W.world world.now) exception parts.old parts.new) }
 {
-    let Some(class) = world.exception_class(exception) else {
-        return Err(NoMemory);
-    };
-    let made = make_object(&mut parts.natives.heap, class, world.new_values(class))?;
-    parts.status = Status::Live(Phase::Throwing(made.unwrap_or(OUT_OF_MEMORY)));
+    let o = make_exception(world, &mut parts.natives.heap, exception)?;
+    parts.status = Status::Live(Phase::Throwing(o));
     Ok(())
 }
 

@@ -49,7 +49,7 @@ pub fn instruction_step<W: MachineWorld>(
     ensures cache { AreSelected (W.world world.now) cache.new }
 {
     if let Some(returns) = return_at(&instr.op) {
-        return return_step(world, parts, mounted, returns.kind);
+        return return_step(world, parts, mounted, progress, returns.kind);
     }
     match instr.op {
         Op::InvokeVirtual(_)

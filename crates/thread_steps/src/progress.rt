@@ -1,3 +1,5 @@
+use invocation::SynchronizedCall;
+use opcodes::ValueKind;
 use ref_model::ThreadRequest;
 
 /// What an instruction asks of the threads.
@@ -10,6 +12,14 @@ pub struct PendingRequest {
     pub operands: u16,
 }
 
+/// A return from the frame of a synchronized method, whose thread leaves its monitor with it (JVMS 2.11.10).
+#[derive(Clone, Copy)]
+pub struct MonitorReturn {
+    /// The kind of what it gives back. `None`: nothing.
+    pub kind: Option<ValueKind>,
+    pub monitor: u32,
+}
+
 /// What became of an instruction.
 #[derive(Clone, Copy)]
 pub enum Progress {
@@ -17,4 +27,8 @@ pub enum Progress {
     Stepped,
     /// The instruction asks this, and nothing has changed.
     Asks(PendingRequest),
+    /// The instruction calls this synchronized method, which asks for its monitor, and nothing has changed.
+    Calls(SynchronizedCall),
+    /// The instruction is this return, which leaves a monitor, and nothing has changed.
+    Returns(MonitorReturn),
 }

@@ -6,11 +6,15 @@ ghost use Rattle.instruction_rows.specs.Table.{row as row_of, simple_row};
 ghost use Rattle.ref_model.specs.Operands.{HasOperands};
 ghost use Rattle.heap_instructions.specs.Operands.{operands};
 ghost use Rattle.invocation.specs.FrameSteps.{returned_kinds};
-ghost use Rattle.thread_steps.specs.Returning.{LeavesRoot, ReturnSteps, returned_kind, status_left};
+ghost use Rattle.thread_steps.specs.Asking.{ReturnProceeds, StaysIfAsked};
+ghost use Rattle.thread_steps.specs.Returning.{LeavesRoot, UnlockedReturns, returned_kind, status_left};
+ghost use Rattle.thread_steps.specs.declared.progress.Progress.TheVariants.{Stepped};
 
 use crate::parts::Parts;
+use crate::progress::{MonitorReturn, Progress};
 use crate::world::MachineWorld;
 use continuation::Mounted;
+use invocation;
 use invocation::{Left, leave};
 use items::NoMemory;
 use opcodes::{Op, Simple, ValueKind};
@@ -60,18 +64,21 @@ fn leave_root(parts: &mut Parts, mounted: &mut Mounted)
     parts.status = status_over(mounted.depth(), parts.status);
 }
 
-/// The step of a thread whose top frame is at a return.
+/// The step of a thread whose top frame is at a return. Where it leaves a monitor that is written to `progress`.
 #[inline(never)]
 pub(crate) fn return_step<W: MachineWorld>(
     world: &W,
     parts: &mut Parts,
     mounted: &mut Mounted,
+    progress: &mut Progress,
     kind: Option<ValueKind>,
 ) -> Result<(), NoMemory>
+    requires nothing { progress.old ≡ Stepped }
     requires frame { 0 < length mounted.old.stack.frames }
     requires operands { HasOperands (returned_kinds kind) 0 (operands mounted.old) }
-    ensures { OnOk result (ReturnSteps (W.world world.now) kind
+    ensures progress { OnOk result (ReturnProceeds (W.world world.now) kind progress.new
         parts.old mounted.old.stack.frames parts.new mounted.new.stack.frames) }
+    ensures stays { OnOk result (StaysIfAsked progress.new mounted.old mounted.new) }
 {
     match leave(world, kind, mounted) {
         Left::Returned => Ok(()),
@@ -79,6 +86,32 @@ pub(crate) fn return_step<W: MachineWorld>(
             leave_root(parts, mounted);
             Ok(())
         }
+        Left::Holds(monitor) => {
+            *progress = Progress::Returns(MonitorReturn { kind, monitor });
+            Ok(())
+        }
         Left::Undefined => Err(NoMemory),
+    }
+}
+
+/// The rest of a return whose thread has left the monitor that its frame held.
+pub fn return_unlocked<W: MachineWorld>(
+    world: &W,
+    parts: &mut Parts,
+    mounted: &mut Mounted,
+    kind: Option<ValueKind>,
+) -> Result<(), NoMemory>
+    requires frame { 0 < length mounted.old.stack.frames }
+    requires operands { HasOperands (returned_kinds kind) 0 (operands mounted.old) }
+    ensures { OnOk result (UnlockedReturns (W.world world.now) kind
+        parts.old mounted.old.stack.frames parts.new mounted.new.stack.frames) }
+{
+    match invocation::return_unlocked(world, kind, mounted) {
+        Left::Returned => Ok(()),
+        Left::Root => {
+            leave_root(parts, mounted);
+            Ok(())
+        }
+        Left::Holds(_) | Left::Undefined => Err(NoMemory),
     }
 }

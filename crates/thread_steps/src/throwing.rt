@@ -2,17 +2,19 @@
 
 ghost use Rattle.std.specs.Prelude.{◌≡◌, ◌<◌, ◌++◌, Some, length, slice_get, IfOk, IfSome, OnOk};
 ghost use Rattle.ref_model.specs.Throwing as spec;
-ghost use Rattle.thread_steps.specs.Returning.{EndsUncaught, ThrowingSteps};
+ghost use Rattle.thread_steps.specs.Returning.{EndsUncaught, ThrowProceeds, UnlockedDrops, UnownedThrows};
 ghost use Rattle.state_model.specs.Objects.{text};
 
+use crate::concluding::make_exception;
 use crate::parts::Parts;
 use crate::world::MachineWorld;
 use continuation::Mounted;
 use heap_instructions::class_number;
 use heap_objs::Heap;
-use invocation::{Caught, catch_object};
+use invocation::{Caught, catch_object, drop_frame};
 use items::NoMemory;
 use native_methods::push_text;
+use ref_model::Exception;
 use std::alloc::Global;
 use vthread_state::{Phase, Status};
 
@@ -74,6 +76,22 @@ fn end_uncaught<W: MachineWorld>(
     Ok(())
 }
 
+/// An object of a class that is thrown, and that nothing catches in a frame which holds a monitor.
+#[derive(Clone, Copy)]
+pub struct MonitorThrow {
+    pub class: u32,
+    pub monitor: u32,
+}
+
+/// What became of the step of a thread that throws.
+#[derive(Clone, Copy)]
+pub enum Thrown {
+    /// The thread made its step.
+    Stepped,
+    /// It leaves a monitor with its frame, and nothing has changed.
+    Holds(MonitorThrow),
+}
+
 /// The step of a thread that throws an object. The thread has this number, and the String `name` is its name; thread 0 is the main thread.
 pub fn throwing_step<W: MachineWorld>(
     alloc: Global,
@@ -83,9 +101,9 @@ pub fn throwing_step<W: MachineWorld>(
     thread: u32,
     name: u32,
     o: u32,
-) -> Result<(), NoMemory>
+) -> Result<Thrown, NoMemory>
     requires { 0 < length mounted.old.stack.frames }
-    ensures { OnOk result (ThrowingSteps (W.world world.now) thread name o
+    ensures { IfOk result (λ thrown. ThrowProceeds (W.world world.now) thread name o thrown
         parts.old mounted.old.stack.frames parts.new mounted.new.stack.frames) }
 {
     let Some(class) = class_number(world, &parts.natives.heap, o) else {
@@ -94,10 +112,59 @@ pub fn throwing_step<W: MachineWorld>(
     match catch_object(world, class, o, mounted) {
         Caught::Handled => {
             parts.status = Status::Live(Phase::Run);
-            Ok(())
+            Ok(Thrown::Stepped)
         }
-        Caught::Left => Ok(()),
-        Caught::Uncaught => { end_uncaught(alloc, world, parts, mounted, thread, name, class) }
+        Caught::Left => Ok(Thrown::Stepped),
+        Caught::Uncaught => {
+            end_uncaught(alloc, world, parts, mounted, thread, name, class)?;
+            Ok(Thrown::Stepped)
+        }
+        Caught::Holds(monitor) => Ok(Thrown::Holds(MonitorThrow { class, monitor })),
         Caught::Undefined => Err(NoMemory),
     }
+}
+
+/// The rest of such a step, where the thread has left the monitor that its frame held.
+pub fn drop_unlocked<W: MachineWorld>(
+    alloc: Global,
+    world: &W,
+    parts: &mut Parts,
+    mounted: &mut Mounted,
+    thread: u32,
+    name: u32,
+    class: u32,
+) -> Result<(), NoMemory>
+    requires { 0 < length mounted.old.stack.frames }
+    ensures { OnOk result (UnlockedDrops (W.world world.now) thread name class
+        parts.old mounted.old.stack.frames parts.new mounted.new.stack.frames) }
+{
+    if drop_frame(world, mounted) {
+        return Ok(());
+    }
+    end_uncaught(alloc, world, parts, mounted, thread, name, class)
+}
+
+/// The rest of such a step, where the thread doesn't own that monitor: IllegalMonitorStateException takes the place of what it threw.
+pub fn throw_unowned<W: MachineWorld>(
+    alloc: Global,
+    world: &W,
+    parts: &mut Parts,
+    mounted: &mut Mounted,
+    thread: u32,
+    name: u32,
+) -> Result<(), NoMemory>
+    requires { 0 < length mounted.old.stack.frames }
+    ensures { OnOk result (UnownedThrows (W.world world.now) thread name
+        parts.old mounted.old.stack.frames parts.new mounted.new.stack.frames) }
+{
+    let exception = Exception::IllegalMonitorStateException;
+    let o = make_exception(world, &mut parts.natives.heap, exception)?;
+    if drop_frame(world, mounted) {
+        parts.status = Status::Live(Phase::Throwing(o));
+        return Ok(());
+    }
+    let Some(class) = class_number(world, &parts.natives.heap, o) else {
+        return Err(NoMemory);
+    };
+    end_uncaught(alloc, world, parts, mounted, thread, name, class)
 }

@@ -1,11 +1,13 @@
-use Rattle.std.proofs.Common.{subst}
+use Rattle.std.proofs.Common.{subst, length, ◌≤◌}
 use Rattle.instruction_rows.specs.Table.{row}
 use Rattle.verify_types.specs.Environment.{Instruction}
 use Rattle.invocation.specs.declared.target.Target.{Target}
+use Rattle.heap_instructions.specs.Operands.{operands}
+use Rattle.invocation.specs.Targets.{IfCode}
 use Rattle.invocation.specs.Natives.{IfNative, IsNativeInvoked}
 use Rattle.thread_steps.proofs.ThrowLaws.{on_ok}
 use Rattle.thread_steps.proofs.CallLaws.{ComesTo, code_stepped, throws_stepped}
-use Rattle.thread_steps.proofs.AskingLaws.{invocation_proceeds, quiet_progress, quiet_stays}
+use Rattle.thread_steps.proofs.AskingLaws.{call_proceeds, call_stays, invocation_proceeds, quiet_progress, quiet_stays}
 use Rattle.thread_steps.proofs.calls.invocation_step.Goals as goal
 
 pub returns-in-Native-clause-progress : goal.returns-in-Native-clause-progress
@@ -54,3 +56,20 @@ native_step-requires-clause-arguments g c =
     let w = g.W.EventWorld.world c.args.world.now in
     let here : Target → Type 0 = λ target. IfNative target (IsNativeInvoked w c.args.resolution.now (row c.args.instr.now.op) c.args.parts.now.natives.heap c.args.mounted.now) in
     c.requires.natives c.in-Native.native (subst here c.in-Native.is c.in_ok-target.ensures.native)
+
+pub returns-in-Synchronized-clause-progress : goal.returns-in-Synchronized-clause-progress
+returns-in-Synchronized-clause-progress g c =
+    let w = g.W.EventWorld.world c.args.world.now in
+    let i : Instruction = record { instr = c.args.instr.now; resolution = c.args.resolution.now } in
+    let a = c.args.parts.now in
+    let m = c.args.mounted.now in
+    let callee = c.in-Synchronized.callee in
+    on_ok c.synchronized_step.result c.synchronized_step.ensures
+    (call_proceeds w i callee c.synchronized_step.new.progress a c.synchronized_step.new.parts m (subst (ComesTo w i a m) c.in-Synchronized.is c.in_ok-target.ensures.target)
+    (subst (λ (t : Target). IfCode t (λ callee. callee.slots ≤ length (operands m))) c.in-Synchronized.is c.in_ok-target.ensures.given))
+
+pub returns-in-Synchronized-clause-stays : goal.returns-in-Synchronized-clause-stays
+returns-in-Synchronized-clause-stays g c =
+    let w = g.W.EventWorld.world c.args.world.now in
+    on_ok c.synchronized_step.result c.synchronized_step.ensures
+    (call_stays w c.in-Synchronized.callee c.synchronized_step.new.progress c.args.parts.now c.synchronized_step.new.parts c.args.mounted.now)

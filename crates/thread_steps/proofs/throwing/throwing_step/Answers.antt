@@ -1,14 +1,12 @@
 use Rattle.std.proofs.Common.{arith}
-use Rattle.thread_steps.proofs.ThrowLaws.{on_ok}
 use Rattle.thread_steps.proofs.ReturnLaws.{handled_steps, left_steps, uncaught_steps}
 use Rattle.thread_steps.proofs.throwing.throwing_step.Goals as goal
 
-pub returns-in-Uncaught : goal.returns-in-Uncaught
-returns-in-Uncaught g c =
+pub returns-in_ok-end_uncaught-in-Uncaught : goal.returns-in_ok-end_uncaught-in-Uncaught
+returns-in_ok-end_uncaught-in-Uncaught g c =
     let w = g.W.EventWorld.world c.args.world.now in
-    on_ok c.end_uncaught.result c.end_uncaught.ensures
-    (uncaught_steps w c.args.parts.now c.end_uncaught.new.parts c.args.thread c.args.name c.args.o c.in-Some.class c.args.mounted.now.stack.frames c.end_uncaught.new.mounted.stack.frames
-    c.in-Some.ensures c.in-Uncaught.ensures.caught.none c.in-Uncaught.ensures.caught.root c.in-Uncaught.ensures.caught.plain)
+    uncaught_steps w c.args.parts.now c.end_uncaught.new.parts c.args.thread c.args.name c.args.o c.in-Some.class c.args.mounted.now.stack.frames c.end_uncaught.new.mounted.stack.frames
+    c.in-Some.ensures c.in-Uncaught.ensures.caught.none c.in-Uncaught.ensures.caught.root c.in-Uncaught.ensures.caught.plain c.in_ok-end_uncaught-in-Uncaught.ensures
 
 pub returns-in-Handled : goal.returns-in-Handled
 returns-in-Handled g c =
