@@ -25,7 +25,8 @@ use Rattle.schedule_soundness.proofs.ThreadLists.{set_other, same_some}
 use Rattle.program_state.specs.declared.reply.Reply.TheVariants as replies
 use Rattle.program_state.specs.declared.state.ProgramState.{ProgramState}
 use Rattle.program_state.specs.Replies.{Answers}
-use Rattle.program_state.specs.States.{IsInPhase, IsState, is_plain_status}
+use Rattle.program_state.proofs.MonitorLaws.{same_lists}
+use Rattle.program_state.specs.States.{IsInPhase, IsState}
 use Rattle.program_state.proofs.StateLaws.{own_memory, row_back, rows_set, stays_same, still_kept, thread_changed}
 use Rattle.program_state.proofs.RowLaws.{told_answers, told_by}
 
@@ -82,7 +83,7 @@ change_answers w request t u a row change f there rows keeps each r out frames i
       is = subst (λ q. IsState (record a { threads = with_thread a.threads u f }) q out) (own_memory a r out (slice_set r.threads u y) is)
           (thread_changed a a.memory (with_thread a.threads u f) r out u x.0 y is x.1 is.status table refl
           (record {
-            plain = ap is_plain_status status ∙ is.plain u x.0 x.1;
+            lists = same_lists x.0.thread.status y.thread.status status;
             permit = keeps.permit x.0;
             interrupted = keeps.interrupted x.0;
             deadline = ap deadline_in status;

@@ -40,7 +40,10 @@ use Rattle.program_state.specs.Creating.{IsAdded, IsNameMade, daemon_of, first_n
 use Rattle.program_state.specs.Deadlines.{coming_deadline, deadlines_of, key_at, key_number, later_than}
 use Rattle.program_state.specs.Replies.{Answers}
 use Rattle.program_state.specs.States as places
-use Rattle.program_state.specs.States.{IsInPhase, IsKept, IsState, is_plain_status}
+use Rattle.monitors.specs.Monitors.{Monitors}
+use Rattle.program_state.specs.Monitors.{HoldsMonitors}
+use Rattle.program_state.proofs.MonitorLaws.{monitors_more}
+use Rattle.program_state.specs.States.{IsInPhase, IsKept, IsState}
 use Rattle.program_state.proofs.WheelLaws.{holds_same}
 use Rattle.program_state.proofs.StateLaws.{others_same, row_back, stays_same}
 
@@ -94,9 +97,9 @@ key_in o = option_map_or key_number o None
 added_state : (a new : ProgramState) (b : Parts) (r : State) (out : ℕ → Bool) (memory : Memory) (unnamed : ℕ) (x : JavaThread) → IsState a r out → x.thread.status ≡ New → x.permit ≡ false → x.interrupted ≡ false
     → b.status ≡ Live Run → b.main_threw ≡ a.memory.main_threw → memory_of b ≡ memory → new.memory ≡ b → new.threads ≡ record a.threads { threads = a.threads.threads ++ x.thread ∷ [] }
     → new.frozen.items ≡ a.frozen.items ++ None ∷ [] → new.wakes.permits ≡ a.wakes.permits ++ false ∷ [] → new.wakes.interrupts ≡ a.wakes.interrupts ++ false ∷ []
-    → new.wheel ≡ a.wheel → new.keys.items ≡ a.keys.items ++ None ∷ [] → new.time ≡ a.time → new.unnamed ≡ unnamed → new.most_threads ≡ a.most_threads
+    → new.monitors ≡ record a.monitors { threads = a.monitors.threads + 1 } → new.wheel ≡ a.wheel → new.keys.items ≡ a.keys.items ++ None ∷ [] → new.time ≡ a.time → new.unnamed ≡ unnamed → new.most_threads ≡ a.most_threads
     → IsState new (with_new_thread r memory unnamed x) out
-added_state a new b r out memory unnamed x is idle no_permit calm run threw made memory_is threads frozen permits interrupts wheel keys now count most =
+added_state a new b r out memory unnamed x is idle no_permit calm run threw made memory_is threads frozen permits interrupts monitors wheel keys now count most =
     record {
       status = ap (λ (p : Parts). p.status) memory_is ∙ run;
       memory = ap memory_of memory_is ∙ made;
@@ -104,13 +107,12 @@ added_state a new b r out memory unnamed x is idle no_permit calm run threw made
       rows = ap (λ (ts : Threads). ts.threads) threads ∙ ap (λ ts. ts ++ x.thread ∷ []) is.rows ∙ sym (map_more (λ (y : JavaThread). y.thread) r.threads x);
       most_threads = most ∙ is.most_threads;
       limit = ap (λ (ts : Threads). ts.limit) threads ∙ is.limit;
-      plain = λ u y at. each_plain u y at (more r.threads x u);
       permits = permits ∙ ap (λ fs. fs ++ false ∷ []) is.permits ∙ ap (λ b. map (λ (y : JavaThread). y.permit) r.threads ++ b ∷ []) (sym no_permit)
           ∙ sym (map_more (λ (y : JavaThread). y.permit) r.threads x);
       interrupts = interrupts ∙ ap (λ fs. fs ++ false ∷ []) is.interrupts ∙ ap (λ b. map (λ (y : JavaThread). y.interrupted) r.threads ++ b ∷ []) (sym calm)
           ∙ sym (map_more (λ (y : JavaThread). y.interrupted) r.threads x);
       unnamed = count;
-      owners = is.owners;
+      monitors = subst (λ m. HoldsMonitors m (r.threads ++ x ∷ []) r.owners) (sym monitors) (monitors_more a.monitors r.threads r.owners x is.monitors idle (length_more r.threads x));
       now = now ∙ is.now;
       places = ap length keys ∙ length_more a.keys.items None ∙ ap suc is.places ∙ sym (length_more r.threads x);
       wheel = holds_same (sleeper_at a.wheel) (sleeper_at new.wheel) (key_at a.keys.items) (key_at new.keys.items) (deadlines_of r.now r.threads) (deadlines_of r.now (r.threads ++ x ∷ []))
@@ -119,12 +121,6 @@ added_state a new b r out memory unnamed x is idle no_permit calm run threw made
           (each_kept u (more_both r.threads a.frozen.items x None (λ k. kept_ends k (out k) (slice_get r.threads k) (slice_get a.frozen.items k) (is.kept k)) u));
     }
   where
-    each_plain : (u : ℕ) (y : JavaThread) → slice_get (r.threads ++ x ∷ []) u ≡ Some y
-        → (slice_get (r.threads ++ x ∷ []) u ≡ slice_get r.threads u) ⊎ ((slice_get r.threads u ≡ None) × (slice_get (r.threads ++ x ∷ []) u ≡ Some x)) → is_plain_status y.thread.status ≡ true
-    each_plain u y at (inl same) = is.plain u y (sym same ∙ at)
-    each_plain u y at (inr last) =
-        ap (λ (z : JavaThread). is_plain_status z.thread.status) (sym (same_some (slice_get (r.threads ++ x ∷ []) u) x y last.1 at)) ∙ ap is_plain_status idle
-
     each_key : (u : ℕ) → (slice_get (a.keys.items ++ None ∷ []) u ≡ slice_get a.keys.items u) ⊎ ((slice_get a.keys.items u ≡ None) × (slice_get (a.keys.items ++ None ∷ []) u ≡ Some None))
         → key_at (a.keys.items ++ None ∷ []) u ≡ key_at a.keys.items u
     each_key u (inl same) = ap key_in same

@@ -17,7 +17,8 @@ use Rattle.schedule_soundness.proofs.ThreadLists.{set_other}
 use Rattle.program_state.specs.declared.reply.Reply.{Reply}
 use Rattle.program_state.specs.declared.state.ProgramState.{ProgramState}
 use Rattle.program_state.specs.Replies.{Answers, replied}
-use Rattle.program_state.specs.States.{IsState, is_plain_status}
+use Rattle.program_state.proofs.MonitorLaws.{monitors_kept, same_lists}
+use Rattle.program_state.specs.States.{IsState}
 use Rattle.program_state.specs.Waking.{IsInterruptTaken, IsPermitTaken, flag_at}
 use Rattle.program_state.proofs.StateLaws.{interrupts_same, kept_put, others_same, own_memory, permits_same, rows_same, still_kept, thread_is, thread_put, wheel_same}
 
@@ -74,7 +75,7 @@ flags_put a flags r out t x y is at row frames permits interrupts =
       rows = rows_same a r out t x y is at row;
       limit = refl;
       most_threads = refl;
-      plain = ap (λ (z : Thread). is_plain_status z.status) row ∙ is.plain t x at;
+      monitors = monitors_kept a.monitors r.threads r.owners t x y is.monitors at (same_lists x.thread.status y.thread.status (ap (λ (z : Thread). z.status) row));
       permits = permits;
       interrupts = interrupts;
       unnamed = refl;

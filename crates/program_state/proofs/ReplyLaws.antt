@@ -42,7 +42,8 @@ use Rattle.program_state.specs.Timers.{IsTimerSet}
 use Rattle.program_state.specs.Replies.{Concludes, GoesOn, GoesOnWith, GoesOnWithout}
 use Rattle.program_state.specs.Replying.{BeginsWait, IsRaised, IsWaiting}
 use Rattle.program_state.specs.Settling.{IsSettled}
-use Rattle.program_state.specs.States.{IsInPhase, IsState}
+use Rattle.program_state.proofs.MonitorLaws.{monitors_kept, plain_lists}
+use Rattle.program_state.specs.States.{IsInPhase, IsState, is_plain_status}
 use Rattle.program_state.specs.Steps.{Leads}
 use Rattle.program_state.proofs.StateLaws.{frames_had, interrupts_same, kept_put, other_frames, others_same, own_memory, permits_same, rows_set, still_out, thread_put}
 use Rattle.program_state.proofs.StepLaws.{stage_leads, stage_of}
@@ -131,7 +132,7 @@ went_with q v m n after given only held pc =
 
 pub is_raised : (w : World) (e : Exception) (t : ℕ) (a new : ProgramState) (b : Parts) → Raises w e a.memory b → IsSettled t (record a { memory = b }) new → IsRaised w e t a new
 is_raised w e t a new b raises settled r out frames is here at =
-    stage_leads (λ s. raised w s t e) a new r out t Run frames frames is at a.memory b refl refl is.status here refl (raises (stage_of r t Run frames at) frames) settled
+    stage_leads (λ s. raised w s t e) a new r out t Run frames frames is at a.memory b refl refl is.status here refl refl (raises (stage_of r t Run frames at) frames) settled
 
 pub throws_concluded : (w : World) (q : PendingRequest) (t : ℕ) (e : Exception) (a new : ProgramState) (before : List Frame) → IsRaised w e t a new
     → Concludes w q t (replies.Throws e) a before new before
@@ -155,7 +156,7 @@ wait_begun t phase a wheel keys table timer waits r out frames is here at =
       rows = ap (λ (ts : Threads). ts.threads) waits.threads ∙ rows_set a.threads r t x y (λ thread. record thread { status = Live phase }) is.rows at.at refl;
       limit = ap (λ (ts : Threads). ts.limit) waits.threads;
       most_threads = refl;
-      plain = waits.plain;
+      monitors = monitors_kept a.monitors r.threads r.owners t x y is.monitors at.at (plain_lists x.thread.status (Live phase) (ap is_plain_status at.status) waits.plain);
       permits = permits_same a r out t x x.permit is at.at refl;
       interrupts = interrupts_same a r out t x x.interrupted is at.at refl;
       unnamed = refl;

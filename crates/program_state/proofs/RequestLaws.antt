@@ -40,6 +40,10 @@ use Rattle.program_state.specs.Requests.{IsPending, IsRequestMade, LacksThreads,
 use Rattle.program_state.specs.Running.{StandsAt}
 use Rattle.program_state.specs.Starting.{IsBegun, IsStart}
 use Rattle.program_state.specs.States.{IsState}
+use Rattle.ref_model.specs.State.{Owner}
+use Rattle.std.specs.Prelude.{is_none}
+use Rattle.monitor_soundness.specs.MonitorPuts.{StaysOrIsNotified, stays, is_notified}
+use Rattle.program_state.specs.Steps.{Awakes, IsInterrupted, PutsNobody, gets, keeps_monitor, leaves_others, lines_up, notifies, tells}
 use Rattle.program_state.specs.Steps.{IsWoken, Starts, StepsTo}
 use Rattle.program_state.specs.Waking.{LeavesWoken, wake_outcome}
 use Rattle.program_state.proofs.StateLaws.{others_same, others_then, stays_then}
@@ -103,9 +107,9 @@ request_goes_on w q t a mid new before after reply first leaves then p answers c
     }
 
 pub request_done : (w : World) (q : PendingRequest) (t : ℕ) (a mid new : ProgramState) (before after : List Frame) (reply : Reply) → IsPending w q a.memory before
-    → Answers w q.request (OthersStay t) t a mid reply → Concludes w q t reply mid before new after → StepsTo w (OthersStay t) Run t a before new after
+    → Answers w q.request (OthersStay t) t a mid reply → Concludes w q t reply mid before new after → StepsTo w (PutsNobody t) Run t a before new after
 request_done w q t a mid new before after reply =
-    request_goes_on w q t a mid new before after reply (OthersStay t) (OthersStay t) (λ r s q out is now first last. others_then t r s q first last)
+    request_goes_on w q t a mid new before after reply (OthersStay t) (PutsNobody t) (λ r s q out is now first last. leaves_others (others_then t r s q first last))
 
 -- ---- starts
 
@@ -177,13 +181,67 @@ woken_then t u r s q ne woken last = by (last.threads u ne)
           interrupted = λ had. interrupted ∙ ap (λ (z : JavaThread). z.interrupted) same ∙ woken.interrupted had;
         }
 
+interrupted_then : (t u : ℕ) (r s q : State) → u ≢ t → IsInterrupted u r s → OthersStay t s q → IsInterrupted u r q
+interrupted_then t u r s q ne woken last = by (last.threads u ne)
+  where
+    by : Stays (slice_get s.threads u) (slice_get q.threads u) → IsInterrupted u r q
+    by (no_thread e f) = absurd (not_none (slice_get s.threads u) woken.new e woken.is)
+    by (is_new y e f n) = absurd (not_none (slice_get s.threads u) woken.new e woken.is)
+    by (is_kept x y e f status permit interrupted) =
+        let same : x ≡ woken.new = same_some (slice_get s.threads u) x woken.new e woken.is in
+        record {
+          old = woken.old;
+          new = y;
+          was = woken.was;
+          is = f;
+          monitor = woken.monitor;
+          count = woken.count;
+          deadline = woken.deadline;
+          waited = woken.waited;
+          reenters = status ∙ ap (λ (z : JavaThread). z.thread.status) same ∙ woken.reenters;
+        }
+
+awakes_then : (t u : ℕ) (r s q : State) → u ≢ t → Awakes u r s → OthersStay t s q → Awakes u r q
+awakes_then t u r s q ne (gets woken free) last = gets (woken_then t u r s q ne woken last) free
+awakes_then t u r s q ne (lines_up woken) last = lines_up (interrupted_then t u r s q ne woken last)
+
+notified_then : (o : ℕ) (x y z : Option JavaThread) → StaysOrIsNotified o x y → Stays y z → StaysOrIsNotified o x z
+notified_then o x y z (stays first) last = stays (stays_then x y z first last)
+notified_then o x y z (is_notified old new was is waits status) (no_thread e f) = absurd (not_none y new e is)
+notified_then o x y z (is_notified old new was is waits status) (is_new v e f n) = absurd (not_none y new e is)
+notified_then o x y z (is_notified old new was is waits status) (is_kept u v e f kept permit interrupted) =
+    is_notified old v was f waits (kept ∙ ap (λ (k : JavaThread). k.thread.status) (same_some y u new e is) ∙ status)
+
+puts_then : (t : ℕ) (r s q : State) → PutsNobody t r s → OthersStay t s q → PutsNobody t r q
+puts_then t r s q (leaves_others first) last = leaves_others (others_then t r s q first last)
+puts_then t r s q (tells u first) last =
+    tells u (record {
+      other = first.other;
+      others = beside_then t u r s q first.others last;
+      told = woken_then t u r s q first.other first.told last;
+      in_line = first.in_line;
+    })
+puts_then t r s q (keeps_monitor o first owned) last =
+    keeps_monitor o (record {
+      threads = λ u ne. stays_then (slice_get r.threads u) (slice_get s.threads u) (slice_get q.threads u) (first.threads u ne) (last.threads u ne);
+      owners = λ p ne. ap (λ (f : ℕ → Option Owner). f p) last.owners ∙ first.owners p ne;
+      now = last.now ∙ first.now;
+    }) (ap (λ (f : ℕ → Option Owner). is_none (f o)) last.owners ∙ owned)
+puts_then t r s q (notifies o first) last =
+    notifies o (record {
+      threads = λ u ne. notified_then o (slice_get r.threads u) (slice_get s.threads u) (slice_get q.threads u) (first.threads u ne) (last.threads u ne);
+      owners = last.owners ∙ first.owners;
+      now = last.now ∙ first.now;
+      owned = first.owned;
+    })
+
 leaves_then : (t : ℕ) (a : ProgramState) (woken : Option ℕ) → LeavesThen t a a (LeavesWoken t woken) (LeavesWoken t woken)
-leaves_then t a None r s q out is now first last = others_then t r s q first last
+leaves_then t a None r s q out is now first last = puts_then t r s q first last
 leaves_then t a (Some u) r s q out is now first last =
     record {
       other = first.other;
       others = beside_then t u r s q first.others last;
-      woken = woken_then t u r s q first.other first.woken last;
+      woken = awakes_then t u r s q first.other first.woken last;
       count = same_count a s q out is now ∙ first.count;
     }
 

@@ -51,3 +51,9 @@ answers_same w request t a reply each r out frames is at =
 
 pub told_answers : (w : World) (request : ThreadRequest) (t : ℕ) (a : ProgramState) (reply : Reply) → IsTold w request t a.threads reply → Answers w request (OthersStay t) t a a reply
 told_answers w request t a reply told = answers_same w request t a reply (λ r out x k is at. told r x k is.rows at)
+
+-- what others see of it may be said otherwise
+pub answers_so : (w : World) (request : ThreadRequest) (t : ℕ) (a new : ProgramState) (reply : Reply) (first last : State → State → Type 0) → ((r q : State) → first r q → last r q)
+    → Answers w request first t a new reply → Answers w request last t a new reply
+answers_so w request t a new reply first last so answers r out frames is at =
+    let h = answers r out frames is at in record { state = h.state; same = h.same; is = h.is; runs = h.runs; others = so r h.state h.others }

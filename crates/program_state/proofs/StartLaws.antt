@@ -50,7 +50,9 @@ use Rattle.program_state.specs.declared.state.ProgramState.{ProgramState}
 use Rattle.program_state.specs.Deadlines.{HoldsDeadlines, deadlines_of, key_at, with_deadline}
 use Rattle.program_state.specs.Starting.{IsBegun, IsFirst, IsRun, IsStart, StartGives, StartsSo}
 use Rattle.program_state.specs.States as places
-use Rattle.program_state.specs.States.{IsInPhase, IsKept, IsState}
+use Rattle.program_state.specs.Monitors.{HoldsMonitors}
+use Rattle.program_state.proofs.MonitorLaws.{monitors_kept, plain_lists}
+use Rattle.program_state.specs.States.{IsInPhase, IsKept, IsState, is_plain_status}
 use Rattle.program_state.specs.Steps.{IsRunning, Starts}
 use Rattle.program_state.proofs.StateLaws.{interrupts_same, own_memory, permits_same, row_back, rows_set, thread_put, wheel_same}
 
@@ -208,7 +210,8 @@ begun_state a new r out u k f idle is begun thread frames =
       rows = ap (λ (ts : Threads). ts.threads) begun.threads ∙ rows_set a.threads r u x y (λ thread. record thread { status = Live Run }) is.rows idle.there refl;
       limit = ap (λ (ts : Threads). ts.limit) begun.threads;
       most_threads = begun.most_threads;
-      plain = refl;
+      monitors = subst (λ m. HoldsMonitors m (slice_set r.threads u y) r.owners) (sym begun.monitors)
+          (monitors_kept a.monitors r.threads r.owners u x y is.monitors idle.there (plain_lists x.thread.status (Live Run) (ap is_plain_status idle.status) refl));
       permits = ap (λ (fs : Flags). fs.permits) begun.wakes ∙ permits_same a r out u x x.permit is idle.there refl;
       interrupts = ap (λ (fs : Flags). fs.interrupts) begun.wakes ∙ interrupts_same a r out u x x.interrupted is idle.there refl;
       unnamed = begun.unnamed;

@@ -16,13 +16,15 @@ use Rattle.ref_model.specs.Looks.{deadline_in}
 use Rattle.ref_model.proofs.StateLaws.{get_set, set_same, frames_is, frames_there}
 use Rattle.schedule_soundness.specs.PutLaws.{Stays, no_thread, is_new, is_kept, OthersStay}
 use Rattle.schedule_soundness.proofs.ThreadLists.{set_other, map_there}
+use Rattle.program_state.specs.Monitors.{HoldsMonitors, InSameLists}
+use Rattle.program_state.proofs.MonitorLaws.{monitors_kept, same_lists}
 use Rattle.sleep_wheel.specs.Sleepers.{sleeper_at}
 use Rattle.thread_steps.specs.declared.parts.Parts.{Parts}
 use Rattle.thread_steps.specs.States.{memory_of}
 use Rattle.program_state.specs.declared.state.ProgramState.{ProgramState}
 use Rattle.program_state.specs.Deadlines.{HoldsDeadlines, coming_deadline, deadlines_of, key_at, later_than, with_deadline}
 use Rattle.program_state.specs.States as places
-use Rattle.program_state.specs.States.{HasFrames, IsInPhase, IsKept, IsState, is_plain_status, is_started}
+use Rattle.program_state.specs.States.{HasFrames, IsInPhase, IsKept, IsState, is_started}
 use Rattle.program_state.proofs.WheelLaws.{deadline_changed, deadline_stays, holds_same}
 
 -- ---- lists
@@ -137,19 +139,13 @@ set_each P r t x y at all own u = by (eqb_tells u t)
         subst (λ n. P n (slice_get (slice_set r.threads t y) n)) (sym me.1) (subst (P t) (sym (get_set r.threads t x y at)) own)
     by (inr other) = subst (P u) (sym (set_other r.threads t u y other.1)) (all u)
 
-abbrev pub EachPlain : ℕ → Option JavaThread → Type 0
-EachPlain u o = (x : JavaThread) → o ≡ Some x → is_plain_status x.thread.status ≡ true
-
-some_plain : (t : ℕ) (y : JavaThread) → is_plain_status y.thread.status ≡ true → EachPlain t (Some y)
-some_plain t y plain x e = let same : y ≡ x = cc in ap (λ (z : JavaThread). is_plain_status z.thread.status) (sym same) ∙ plain
-
 -- the parts of a state, after those of another one, in which thread t is y now
 pub record IsPut (a new : ProgramState) (r : State) (t : ℕ) (y : JavaThread) : Type 0 where
   pub run : new.memory.status ≡ Live Run
   pub rows : new.threads.threads ≡ map (λ x. x.thread) (slice_set r.threads t y)
   pub limit : new.threads.limit ≡ a.threads.limit
   pub most_threads : new.most_threads ≡ a.most_threads
-  pub plain : is_plain_status y.thread.status ≡ true
+  pub monitors : HoldsMonitors new.monitors (slice_set r.threads t y) r.owners
   pub permits : new.wakes.permits ≡ slice_set a.wakes.permits t y.permit
   pub interrupts : new.wakes.interrupts ≡ slice_set a.wakes.interrupts t y.interrupted
   pub unnamed : new.unnamed ≡ a.unnamed
@@ -187,11 +183,10 @@ thread_put a new r out t x y is at put kept =
       rows = put.rows;
       most_threads = put.most_threads ∙ is.most_threads;
       limit = put.limit ∙ is.limit;
-      plain = set_each EachPlain r t x y at is.plain (some_plain t y put.plain);
       permits = put.permits ∙ ap (λ fs. slice_set fs t y.permit) is.permits ∙ sym (map_set permit_of r.threads t y);
       interrupts = put.interrupts ∙ ap (λ fs. slice_set fs t y.interrupted) is.interrupts ∙ sym (map_set interrupt_of r.threads t y);
       unnamed = put.unnamed ∙ is.unnamed;
-      owners = is.owners;
+      monitors = put.monitors;
       now = put.time ∙ is.now;
       places = put.places ∙ is.places ∙ sym (length-set r.threads t y);
       wheel = holds_same (sleeper_at new.wheel) (sleeper_at new.wheel) (key_at new.keys.items) (key_at new.keys.items)
@@ -247,9 +242,9 @@ rows_same a r out t x y is at same =
     is.rows ∙ sym (map_set row_of r.threads t y ∙ ap (slice_set (map row_of r.threads) t) same
     ∙ set_same (map row_of r.threads) t x.thread (map_there row_of r.threads t x at))
 
--- A thread is as plain as it was, and has the old permit, interrupt status and deadline.
+-- A thread is in the old lists of monitors, and has the old permit, interrupt status and deadline.
 pub record IsAlike (x y : JavaThread) : Type 0 where
-  pub plain : is_plain_status y.thread.status ≡ true
+  pub lists : InSameLists x.thread.status y.thread.status
   pub permit : y.permit ≡ x.permit
   pub interrupted : y.interrupted ≡ x.interrupted
   pub deadline : deadline_in y.thread.status ≡ deadline_in x.thread.status
@@ -266,7 +261,7 @@ thread_changed a b table r out t x y is at run rows limit alike keeps =
       rows = rows;
       limit = limit;
       most_threads = refl;
-      plain = alike.plain;
+      monitors = monitors_kept a.monitors r.threads r.owners t x y is.monitors at alike.lists;
       permits = permits_same a r out t x y.permit is at alike.permit;
       interrupts = interrupts_same a r out t x y.interrupted is at alike.interrupted;
       unnamed = refl;
@@ -304,6 +299,6 @@ other_frames a r out t frames is here =
     let x = out_is_there a r out t is here in
     let y : JavaThread = record x.0 { frames = frames } in
     let changed = thread_changed a a.memory a.threads r out t x.0 y is x.1 is.status (rows_same a r out t x.0 y is x.1 refl) refl
-    (record { plain = is.plain t x.0 x.1; permit = refl; interrupted = refl; deadline = refl })
+    (record { lists = same_lists x.0.thread.status y.thread.status refl; permit = refl; interrupted = refl; deadline = refl })
     (still_out t (out t) x.0 y (slice_get a.frozen.items t) here x.2) in
     subst (λ q. IsState a q out) (own_memory a r out (slice_set r.threads t y) is ∙ sym (frames_is r t x.0 frames x.1)) changed

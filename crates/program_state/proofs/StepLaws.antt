@@ -28,7 +28,8 @@ use Rattle.thread_steps.specs.Returning.{ThrowingSteps}
 use Rattle.program_state.specs.declared.state.ProgramState.{ProgramState}
 use Rattle.program_state.specs.Running.{HasStepped, StandsAt}
 use Rattle.program_state.specs.Settling.{IsSettled, is_running_status, is_stepped, throws_status}
-use Rattle.program_state.specs.States.{HasFrames, IsInPhase, IsState, is_plain_status, is_started}
+use Rattle.program_state.proofs.MonitorLaws.{plain_lists}
+use Rattle.program_state.specs.States.{HasFrames, IsInPhase, IsState, is_plain_phase, is_plain_status, is_started}
 use Rattle.program_state.specs.Steps.{Leads, StepsTo}
 use Rattle.program_state.proofs.StateLaws.{still_out, rows_set, thread_changed, others_same, row_there}
 
@@ -99,15 +100,15 @@ stage_is a r out t phase frames is at b memory threw status =
 
 -- The parts that the step left, and the thread with the status that it left, are those of the state after it.
 pub stage_settled : (a new : ProgramState) (r : State) (out : ℕ → Bool) (t : ℕ) (phase : Phase) (before after : List Frame) (is : IsState a r out) (at : IsInPhase r t phase before) (b : Parts)
-    → out t ≡ true → phase_deadline phase ≡ None → IsSettled t (record a { memory = b }) new → IsState new (state_of (stage_of r t phase before at) b after) out
-stage_settled a new r out t phase before after is at b here timeless settled =
+    → out t ≡ true → phase_deadline phase ≡ None → is_plain_phase phase ≡ true → IsSettled t (record a { memory = b }) new → IsState new (state_of (stage_of r t phase before at) b after) out
+stage_settled a new r out t phase before after is at b here timeless plain settled =
     let x : JavaThread = at.thread in
     let y : JavaThread = own_thread (stage_of r t phase before at) b after in
     let table : Threads = with_status a.threads t b.status in
     let rows = rows_set a.threads r t x y (λ thread. record thread { status = b.status }) is.rows at.at refl in
     let changed = thread_changed a (record b { status = Live Run }) table r out t x y is at.at refl rows refl
     (record {
-      plain = stepped_plain b.status settled.stepped;
+      lists = plain_lists x.thread.status b.status (ap is_plain_status at.status ∙ plain) (stepped_plain b.status settled.stepped);
       permit = refl;
       interrupted = refl;
       deadline = stepped_timeless b.status settled.stepped ∙ sym (ap deadline_in at.status ∙ timeless);
@@ -130,13 +131,13 @@ stage_has r t phase before after at b =
 -- A step that leads from the state of a stage to another of its states, after which the thread runs, throws or is done.
 pub stage_leads : (act : State → Option State) (a new : ProgramState) (r : State) (out : ℕ → Bool) (t : ℕ) (phase : Phase) (before after : List Frame) (is : IsState a r out)
     (at : IsInPhase r t phase before) (first b : Parts) → memory_of first ≡ memory_of a.memory → first.main_threw ≡ a.memory.main_threw → first.status ≡ Live phase
-    → out t ≡ true → phase_deadline phase ≡ None → act (state_of (stage_of r t phase before at) first before) ≡ Some (state_of (stage_of r t phase before at) b after) → IsSettled t (record a { memory = b }) new
+    → out t ≡ true → phase_deadline phase ≡ None → is_plain_phase phase ≡ true → act (state_of (stage_of r t phase before at) first before) ≡ Some (state_of (stage_of r t phase before at) b after) → IsSettled t (record a { memory = b }) new
     → Leads act (OthersStay t) new t after r out
-stage_leads act a new r out t phase before after is at first b memory threw status here timeless made settled =
+stage_leads act a new r out t phase before after is at first b memory threw status here timeless plain made settled =
     record {
       next = state_of (stage_of r t phase before at) b after;
       makes = ap act (sym (stage_is a r out t phase before is at first memory threw status)) ∙ made;
-      is = stage_settled a new r out t phase before after is at b here timeless settled;
+      is = stage_settled a new r out t phase before after is at b here timeless plain settled;
       has = stage_has r t phase before after at b;
       others = stage_others r t phase before after at b;
     }
@@ -189,7 +190,7 @@ pub run_steps : (w : World) (i : Instruction) (a new : ProgramState) (b : Parts)
     → Steps w i a.memory frames b after → (status_at a.threads t ≡ Some (Live Run) → IsSettled t (record a { memory = b }) new)
     → StepsTo w (OthersStay t) Run t a frames new after
 run_steps w i a new b t frames after f below top fetch steps settled r out is here at =
-    stage_leads (λ s. phase_step w s t frames Run) a new r out t Run frames after is at a.memory b refl refl is.status here refl
+    stage_leads (λ s. phase_step w s t frames Run) a new r out t Run frames after is at a.memory b refl refl is.status here refl refl
     (steps (stage_of r t Run frames at) f below top fetch).step (settled (phase_in_table a r out t Run frames is at))
 
 -- a stage, of one thread
@@ -232,7 +233,7 @@ pub throw_steps : (w : World) (a new : ProgramState) (b : Parts) (t name o : ℕ
     → (status_at a.threads t ≡ Some (Live (Throwing o)) → IsSettled t (record a { memory = b }) new)
     → StepsTo w (OthersStay t) (Throwing o) t a frames new after
 throw_steps w a new b t name o own frames after there named steps settled r out is here at =
-    stage_leads (λ s. phase_step w s t frames (Throwing o)) a new r out t (Throwing o) frames after is at (record a.memory { status = Live (Throwing o) }) b refl refl refl here refl
+    stage_leads (λ s. phase_step w s t frames (Throwing o)) a new r out t (Throwing o) frames after is at (record a.memory { status = Live (Throwing o) }) b refl refl refl here refl refl
     (steps (stage_of r t (Throwing o) frames at) (record { number = refl; named = own_name })) (settled (phase_in_table a r out t (Throwing o) frames is at))
   where
     own_name : at.thread.thread.name ≡ name

@@ -15,39 +15,18 @@ use Rattle.ref_model.specs.State.{JavaThread, State}
 use Rattle.ref_model.specs.Waiting.{at_time, status_at_time, thread_at_time}
 use Rattle.program_state.specs.declared.state.ProgramState.{ProgramState}
 use Rattle.program_state.specs.Deadlines.{HoldsDeadlines, IsLeast, IsTimed, untimed, timed, coming_deadline, deadlines_of, key_at, later_than}
-use Rattle.program_state.specs.States.{IsState, is_plain_status}
+use Rattle.schedule_soundness.specs.TimeLaws.{NobodyWaits}
+use Rattle.schedule_soundness.proofs.TimeLaws.{ticks_leave_threads}
+use Rattle.program_state.specs.States.{IsState}
 use Rattle.program_state.specs.Timers.{without_keys}
 use Rattle.program_state.specs.Times.{AreDue, Passes}
 use Rattle.program_state.proofs.WheelLaws.{held, holder, no_key, one_key, sleeper_of}
 use Rattle.program_state.proofs.DueLaws.{due_once, due_slot, due_thread, given_up, kept_key, length_without, none_stays, slot_due, thread_due}
 
--- ---- time leaves threads that wait for no monitor as they are
+-- ---- where nobody waits on a monitor time leaves the threads as they are
 
-plain_at_time : (now : ℕ) (status : Status) → is_plain_status status ≡ true → status_at_time now status ≡ status
-plain_at_time now New plain = refl
-plain_at_time now (Live Run) plain = refl
-plain_at_time now (Live (Throwing o)) plain = refl
-plain_at_time now (Live (Parked deadline)) plain = refl
-plain_at_time now (Live (Asleep deadline)) plain = refl
-plain_at_time now (Live (Joining target deadline)) plain = refl
-plain_at_time now (Live phase) plain = absurd cc
-plain_at_time now Done plain = refl
-
-map_same : (f : JavaThread → JavaThread) (xs : List JavaThread) → ((t : ℕ) (x : JavaThread) → slice_get xs t ≡ Some x → f x ≡ x) → map f xs ≡ xs
-map_same f [] each = refl
-map_same f (x ∷ xs) each =
-    let head : f x ≡ x = each 0 x refl in
-    let tail : map f xs ≡ xs = map_same f xs (λ t y at. each (suc t) y at) in
-    λ i. head i ∷ tail i
-
-ticks : (a : ProgramState) (r : State) (out : ℕ → Bool) (now : ℕ) → a.time < now → IsState a r out → at_time r now ≡ Some (record r { now = now })
-ticks a r out now later is =
-    let before : r.now < now = subst (λ n. n < now) is.now later in
-    let same : map (thread_at_time now) r.threads ≡ r.threads =
-    map_same (thread_at_time now) r.threads
-    (λ t x at. ap (λ status. record x { thread = record x.thread { status = status } }) (plain_at_time now x.thread.status (is.plain t x at))) in
-    ap (λ b. if b then Some (record r { now = now; threads = map (thread_at_time now) r.threads }) else None) (lt-ltb r.now now before)
-    ∙ ap (λ ts. Some (record r { now = now; threads = ts })) same
+ticks : (a : ProgramState) (r : State) (out : ℕ → Bool) (now : ℕ) → a.time < now → IsState a r out → NobodyWaits r → at_time r now ≡ Some (record r { now = now })
+ticks a r out now later is nobody = ticks_leave_threads r now (subst (λ n. n < now) is.now later) nobody
 
 -- ---- deadlines that are still to come
 
@@ -135,11 +114,11 @@ holds_later now wheel after keys threads r later holds d left =
 
 pub time_passes : (a : ProgramState) (wheel : Sleepers) (keys : Vec (Option Key)) (now : ℕ) (threads : List ℕ) → a.time < now → IsDueList now (sleepers_of a.wheel) threads
     → ((key : ℕ) → sleeper_at wheel key ≡ unless_due now (sleeper_at a.wheel key)) → keys.items ≡ without_keys a.keys.items threads
-    → (r : State) (out : ℕ → Bool) → IsState a r out → Passes now (record a { wheel = wheel; keys = keys; time = now }) r out
-time_passes a wheel keys now threads later d left cleared r out is =
+    → (r : State) (out : ℕ → Bool) → IsState a r out → NobodyWaits r → Passes now (record a { wheel = wheel; keys = keys; time = now }) r out
+time_passes a wheel keys now threads later d left cleared r out is nobody =
     let before : r.now < now = subst (λ n. n < now) is.now later in
     record {
-      ticks = ticks a r out now later is;
+      ticks = ticks a r out now later is nobody;
       is = record {
         status = is.status;
         memory = is.memory;
@@ -147,11 +126,10 @@ time_passes a wheel keys now threads later d left cleared r out is =
         rows = is.rows;
         most_threads = is.most_threads;
         limit = is.limit;
-        plain = is.plain;
         permits = is.permits;
         interrupts = is.interrupts;
         unnamed = is.unnamed;
-        owners = is.owners;
+        monitors = is.monitors;
         now = refl;
         places = ap length cleared ∙ length_without a.keys.items threads ∙ is.places;
         wheel = subst (λ ks. HoldsDeadlines (sleeper_at wheel) (key_at ks) (deadlines_of now r.threads)) (sym cleared)

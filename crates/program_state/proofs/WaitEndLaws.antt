@@ -42,7 +42,8 @@ use Rattle.program_state.specs.Replying.{IsRaised}
 use Rattle.program_state.specs.Requests.{IsPending}
 use Rattle.program_state.specs.Running.{Stays}
 use Rattle.program_state.specs.Settling.{IsStatusSet}
-use Rattle.program_state.specs.States.{IsInPhase, IsState, is_plain_status, is_started}
+use Rattle.program_state.proofs.MonitorLaws.{monitors_kept, plain_lists}
+use Rattle.program_state.specs.States.{IsInPhase, IsState, is_plain_phase, is_plain_status, is_started}
 use Rattle.program_state.specs.Steps.{StepsTo}
 use Rattle.program_state.specs.Timers.{IsTimerCleared}
 use Rattle.program_state.specs.Deadlines.{HoldsDeadlines, deadlines_of, key_at, later_than, with_deadline}
@@ -101,10 +102,10 @@ put_twice r t x y change at =
 
 -- the state in which it runs, and the parts of that
 ended_state : (a : ProgramState) (table : Threads) (flags : Flags) (wheel : Sleepers) (keys : Vec (Option Key)) (r : State) (out : ℕ → Bool) (t : ℕ) (x y : JavaThread) → IsState a r out
-    → slice_get r.threads t ≡ Some x → out t ≡ true → y.thread ≡ record x.thread { status = Live Run } → IsStatusSet t (Live Run) a.threads table → IsTimerCleared t a.wheel a.keys.items wheel keys.items
+    → slice_get r.threads t ≡ Some x → out t ≡ true → is_plain_status x.thread.status ≡ true → y.thread ≡ record x.thread { status = Live Run } → IsStatusSet t (Live Run) a.threads table → IsTimerCleared t a.wheel a.keys.items wheel keys.items
     → flags.permits ≡ slice_set a.wakes.permits t y.permit → flags.interrupts ≡ slice_set a.wakes.interrupts t y.interrupted
     → IsState (record a { threads = table; wakes = flags; wheel = wheel; keys = keys }) (record r { threads = slice_set r.threads t y }) out
-ended_state a table flags wheel keys r out t x y is at here row set timer permits interrupts =
+ended_state a table flags wheel keys r out t x y is at here plain row set timer permits interrupts =
     let new : ProgramState = record a { threads = table; wakes = flags; wheel = wheel; keys = keys } in
     subst (λ q. IsState new q out) (own_memory a r out (slice_set r.threads t y) is)
     (thread_put a new r out t x y is at
@@ -113,7 +114,7 @@ ended_state a table flags wheel keys r out t x y is at here row set timer permit
       rows = ap (λ (ts : Threads). ts.threads) set.threads ∙ rows_set a.threads r t x y (λ thread. record thread { status = Live Run }) is.rows at row;
       limit = ap (λ (ts : Threads). ts.limit) set.threads;
       most_threads = refl;
-      plain = ap (λ (z : Thread). is_plain_status z.status) row;
+      monitors = monitors_kept a.monitors r.threads r.owners t x y is.monitors at (plain_lists x.thread.status y.thread.status plain (ap (λ (z : Thread). is_plain_status z.status) row));
       permits = permits;
       interrupts = interrupts;
       unnamed = refl;
@@ -162,16 +163,16 @@ told_step w r t x frames had at told = ap (λ b. if b then thrown_interrupted w 
 -- of a wait that an interrupt may end
 interrupt_ended : (a : ProgramState) (table : Threads) (flags : Flags) (wheel : Sleepers) (keys : Vec (Option Key)) (t : ℕ) (phase : Phase) (interrupted : Bool) → IsStatusSet t (Live Run) a.threads table
     → IsTimerCleared t a.wheel a.keys.items wheel keys.items → IsInterruptTaken t interrupted a.wakes flags
-    → (r : State) (out : ℕ → Bool) (frames : List Frame) → IsState a r out → out t ≡ true → IsInPhase r t phase frames
+    → (r : State) (out : ℕ → Bool) (frames : List Frame) → IsState a r out → out t ≡ true → IsInPhase r t phase frames → is_plain_phase phase ≡ true
     → ((w : World) → phase_step w r t frames phase ≡ resumed_or_thrown w r t frames)
     → WaitEnds t phase frames r out interrupted (record a { threads = table; wakes = flags; wheel = wheel; keys = keys })
-interrupt_ended a table flags wheel keys t phase interrupted set timer taken r out frames is here at steps =
+interrupt_ended a table flags wheel keys t phase interrupted set timer taken r out frames is here at plain steps =
     let x : JavaThread = at.thread in
     let y : JavaThread = runs_uninterrupted x in
     let next : State = record r { threads = slice_set r.threads t y } in
     record {
       next = next;
-      is = ended_state a table flags wheel keys r out t x y is at.at here refl set timer
+      is = ended_state a table flags wheel keys r out t x y is at.at here (ap is_plain_status at.status ∙ plain) refl set timer
           (ap (λ (fs : Flags). fs.permits) taken.after ∙ permits_same a r out t x x.permit is at.at refl) (ap (λ (fs : Flags). fs.interrupts) taken.after);
       runs = record { thread = y; at = get_set r.threads t x y at.at; status = refl; has = at.has };
       others = others_same t r next (λ u ne. set_other r.threads t u y ne) refl refl;
@@ -189,7 +190,7 @@ ended_so a table flags wheel keys t (Parked deadline) interrupted set timer take
     let next : State = record r { threads = slice_set r.threads t y } in
     record {
       next = next;
-      is = ended_state a table flags wheel keys r out t x y is at.at here refl set timer (ap (λ (fs : Flags). fs.permits) (taken.2).after)
+      is = ended_state a table flags wheel keys r out t x y is at.at here (ap is_plain_status at.status) refl set timer (ap (λ (fs : Flags). fs.permits) (taken.2).after)
           (ap (λ (fs : Flags). fs.interrupts) (taken.2).after ∙ interrupts_same a r out t x x.interrupted is at.at refl);
       runs = record { thread = y; at = get_set r.threads t x y at.at; status = refl; has = at.has };
       others = others_same t r next (λ u ne. set_other r.threads t u y ne) refl refl;
@@ -197,9 +198,9 @@ ended_so a table flags wheel keys t (Parked deadline) interrupted set timer take
           ∙ ap (λ b. if b then raised w next t exceptions.InterruptedException else finished_in w r.memory next t frames) (sym taken.0);
     }
 ended_so a table flags wheel keys t (Asleep deadline) interrupted set timer taken r out frames is here at =
-    interrupt_ended a table flags wheel keys t (Asleep deadline) interrupted set timer taken r out frames is here at (λ w. refl)
+    interrupt_ended a table flags wheel keys t (Asleep deadline) interrupted set timer taken r out frames is here at refl (λ w. refl)
 ended_so a table flags wheel keys t (Joining target deadline) interrupted set timer taken r out frames is here at =
-    interrupt_ended a table flags wheel keys t (Joining target deadline) interrupted set timer taken r out frames is here at (λ w. refl)
+    interrupt_ended a table flags wheel keys t (Joining target deadline) interrupted set timer taken r out frames is here at refl (λ w. refl)
 ended_so a table flags wheel keys t phase interrupted set timer taken r out frames is here at = absurd taken
 
 pub wait_ended : (a : ProgramState) (table : Threads) (flags : Flags) (wheel : Sleepers) (keys : Vec (Option Key)) (t : ℕ) (phase : Phase) (interrupted : Bool) → status_at a.threads t ≡ Some (Live phase)

@@ -7,7 +7,7 @@ use Rattle.std.proofs.lemmas.Grind.{common_steps}
 use Rattle.std.proofs.lemmas.List.Elements.{filter-append}
 use Rattle.std.proofs.lemmas.List.Kept.{IsStrictlyIncreasing-filter}
 use Rattle.std.specs.Option.{option_map_or}
-use Rattle.vthread_state.specs.declared.phase.Phase.TheVariants.{Run, Throwing, Parked, Asleep, Joining}
+use Rattle.vthread_state.specs.declared.phase.Phase.TheVariants.{Run, Throwing, Entering, Waiting, Reenter, Parked, Asleep, Joining}
 use Rattle.vthread_state.specs.declared.thread.Status.{Status}
 use Rattle.vthread_state.specs.declared.thread.Status.TheVariants.{New, Live, Done}
 use Rattle.vthread_state.specs.declared.thread.Thread.{Thread}
@@ -21,7 +21,11 @@ use Rattle.ref_model.specs.Ending.{ending, exit_or, keeps_going, threads_ending}
 use Rattle.ref_model.specs.State.{JavaThread, State}
 use Rattle.ref_model.specs.Waiting.{is_reached}
 use Rattle.program_state.specs.declared.state.ProgramState.{ProgramState}
-use Rattle.program_state.specs.States.{IsState, is_plain_status}
+use Rattle.ref_model.specs.Enabled.{is_free}
+use Rattle.ref_model.specs.State.{Owner}
+use Rattle.monitors.specs.Monitors.{Monitor, monitor_of}
+use Rattle.program_state.specs.Monitors.{owner_in}
+use Rattle.program_state.specs.States.{IsState}
 use Rattle.program_state.specs.Waking.{flag_at}
 use Rattle.program_state.specs.Waiting.{AreWoken, has_ended_in, lies_in, status_goes_on_in}
 use Rattle.program_state.proofs.MemberLaws.{filter_has, filter_keeps}
@@ -76,30 +80,43 @@ or_same a b c d e f = λ i. e i || f i
 reached_is : (a : ProgramState) (r : State) (out : ℕ → Bool) (deadline : Option ℕ) → IsState a r out → is_reached a.time deadline ≡ is_reached r.now deadline
 reached_is a r out deadline is = ap (λ now. is_reached now deadline) is.now
 
-ready_is : (a : ProgramState) (r : State) (out : ℕ → Bool) (t : ℕ) (x : JavaThread) (status : Status) → IsState a r out → slice_get r.threads t ≡ Some x → is_plain_status status ≡ true
+-- whether a monitor has no owner
+free_is : (a : ProgramState) (r : State) (out : ℕ → Bool) (o : ℕ) → IsState a r out → is_none (monitor_of a.monitors o).owner ≡ is_free r o
+free_is a r out o is = by (monitor_of a.monitors o) ∙ ap (λ (x : Option Owner). is_none x) (is.monitors.owners_are o)
+  where
+    by : (m : Monitor) → is_none m.owner ≡ is_none (owner_in m)
+    by m = at m.owner
+      where
+        at : (owner : Option ℕ) → is_none owner ≡ is_none (option_map (λ t. record { thread = t; count = m.count }) owner)
+        at None = refl
+        at (Some t) = refl
+
+ready_is : (a : ProgramState) (r : State) (out : ℕ → Bool) (t : ℕ) (x : JavaThread) (status : Status) → IsState a r out → slice_get r.threads t ≡ Some x
     → status_goes_on_in a t status ≡ is_ready r x status
-ready_is a r out t x New is at plain = refl
-ready_is a r out t x Done is at plain = refl
-ready_is a r out t x (Live Run) is at plain = refl
-ready_is a r out t x (Live (Throwing o)) is at plain = refl
-ready_is a r out t x (Live (Parked deadline)) is at plain =
+ready_is a r out t x New is at = refl
+ready_is a r out t x Done is at = refl
+ready_is a r out t x (Live Run) is at = refl
+ready_is a r out t x (Live (Throwing o)) is at = refl
+ready_is a r out t x (Live (Entering o)) is at = free_is a r out o is
+ready_is a r out t x (Live (Waiting o count deadline)) is at = refl
+ready_is a r out t x (Live (Reenter o count wake)) is at = free_is a r out o is
+ready_is a r out t x (Live (Parked deadline)) is at =
     or_same (flag_at a.wakes.permits t) x.permit (flag_at a.wakes.interrupts t || is_reached a.time deadline) (x.interrupted || is_reached r.now deadline) (own_permit a r out t x is at)
     (or_same (flag_at a.wakes.interrupts t) x.interrupted (is_reached a.time deadline) (is_reached r.now deadline) (own_interrupt a r out t x is at) (reached_is a r out deadline is))
-ready_is a r out t x (Live (Asleep deadline)) is at plain =
+ready_is a r out t x (Live (Asleep deadline)) is at =
     or_same (flag_at a.wakes.interrupts t) x.interrupted (is_reached a.time (Some deadline)) (is_reached r.now (Some deadline)) (own_interrupt a r out t x is at)
     (reached_is a r out (Some deadline) is)
-ready_is a r out t x (Live (Joining target deadline)) is at plain =
+ready_is a r out t x (Live (Joining target deadline)) is at =
     or_same (has_ended_in a.threads target) (has_ended r target) (flag_at a.wakes.interrupts t || is_reached a.time deadline) (x.interrupted || is_reached r.now deadline)
     (done_same a.threads r target is.rows)
     (or_same (flag_at a.wakes.interrupts t) x.interrupted (is_reached a.time deadline) (is_reached r.now deadline) (own_interrupt a r out t x is at) (reached_is a r out deadline is))
-ready_is a r out t x (Live phase) is at plain = absurd cc
 
 pub tells_enabled : (a : ProgramState) (t : ℕ) (own : Thread) (told : Bool) → thread_at a.threads t ≡ Some own → told ≡ status_goes_on_in a t own.status
     → (r : State) (out : ℕ → Bool) → IsState a r out → ending r ≡ None → told ≡ enabled r t
 tells_enabled a t own told there tells r out is on =
     let x = row_back a.threads r t own is.rows there in
     let status : x.0.thread.status ≡ own.status = ap (λ (z : Thread). z.status) x.2 in
-    tells ∙ ready_is a r out t x.0 own.status is x.1 (ap is_plain_status (sym status) ∙ is.plain t x.0 x.1) ∙ sym (enabled_is r t x.0 own.status on x.1 status)
+    tells ∙ ready_is a r out t x.0 own.status is x.1 ∙ sym (enabled_is r t x.0 own.status on x.1 status)
 
 -- ---- whom the end of a thread wakes
 

@@ -41,6 +41,7 @@ pub record IsAdded (thread : Thread) (old new : ProgramState) : Type 0 where
   pub frozen : new.frozen.items ≡ old.frozen.items ++ None ∷ []
   pub permits : new.wakes.permits ≡ old.wakes.permits ++ false ∷ []
   pub interrupts : new.wakes.interrupts ≡ old.wakes.interrupts ++ false ∷ []
+  pub monitors : new.monitors ≡ record old.monitors { threads = old.monitors.threads + 1 }
   pub wheel : new.wheel ≡ old.wheel
   pub keys : new.keys.items ≡ old.keys.items ++ None ∷ []
   pub time : new.time ≡ old.time

@@ -1,5 +1,6 @@
 pub mod Deadlines
 pub mod Timers
+pub mod Monitors
 pub mod States
 pub mod Steps
 pub mod Settling

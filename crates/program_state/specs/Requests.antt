@@ -9,7 +9,6 @@ use Rattle.ref_model.specs.Requests.{request_of}
 use Rattle.ref_model.specs.Starting.{may_create}
 use Rattle.ref_model.specs.State.{State}
 use Rattle.ref_model.specs.declared.request.ThreadRequest.{ThreadRequest}
-use Rattle.schedule_soundness.specs.PutLaws.{OthersStay}
 use Rattle.thread_steps.specs.Asking.{IsAsking}
 use Rattle.thread_steps.specs.declared.parts.Parts.{Parts}
 use Rattle.thread_steps.specs.declared.progress.PendingRequest.{PendingRequest}
@@ -18,7 +17,7 @@ use Rattle.program_state.specs.declared.requests.RequestOutcome.TheVariants as o
 use Rattle.program_state.specs.declared.state.ProgramState.{ProgramState}
 use Rattle.program_state.specs.Creating.{has_room}
 use Rattle.program_state.specs.States.{IsState}
-use Rattle.program_state.specs.Steps.{Starts, StepsTo, Wakes}
+use Rattle.program_state.specs.Steps.{PutsNobody, Starts, StepsTo, Wakes}
 
 -- The next instruction of these frames asks this.
 pub record IsPending (w : World) (q : PendingRequest) (memory : Parts) (frames : List Frame) : Type 0 where
@@ -40,7 +39,7 @@ pub record LacksThreads (q : PendingRequest) (old : ProgramState) (m : Continuat
 
 -- what became of a request of the mounted thread, which runs
 abbrev pub IsRequestMade : World → PendingRequest → RequestOutcome → ProgramState → Continuation → ProgramState → Continuation → Type 0
-IsRequestMade w q outcomes.Done old m new n = StepsTo w (OthersStay m.thread) Run m.thread old m.stack.frames new n.stack.frames
+IsRequestMade w q outcomes.Done old m new n = StepsTo w (PutsNobody m.thread) Run m.thread old m.stack.frames new n.stack.frames
 IsRequestMade w q (outcomes.Starts u) old m new n = StepsTo w (Starts m.thread u) Run m.thread old m.stack.frames new n.stack.frames
 IsRequestMade w q (outcomes.Wakes u) old m new n = StepsTo w (Wakes m.thread u) Run m.thread old m.stack.frames new n.stack.frames
 IsRequestMade w q outcomes.LacksThreads old m new n = LacksThreads q old m new n

@@ -63,6 +63,7 @@ pub record IsBegun (u : ℕ) (k : Continuation) (old new : ProgramState) : Type 
   pub threads : new.threads ≡ with_status old.threads u (Live Run)
   pub frozen : new.frozen.items ≡ slice_set old.frozen.items u (Some k)
   pub wakes : new.wakes ≡ old.wakes
+  pub monitors : new.monitors ≡ old.monitors
   pub wheel : new.wheel ≡ old.wheel
   pub keys : new.keys ≡ old.keys
   pub time : new.time ≡ old.time

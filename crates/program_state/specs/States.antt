@@ -7,16 +7,16 @@ use Rattle.vthread_state.specs.declared.thread.Status.TheVariants.{New, Live, Do
 use Rattle.state_model.specs.Frames.{Frame}
 use Rattle.continuation.specs.Continuation.{Continuation}
 use Rattle.ref_model.specs.Ending.{is_live}
-use Rattle.ref_model.specs.Opening.{opening_owners}
 use Rattle.ref_model.specs.State.{JavaThread, State}
 use Rattle.sleep_wheel.specs.Sleepers.{sleeper_at}
 use Rattle.thread_steps.specs.States.{memory_of}
 use Rattle.program_state.specs.declared.state.ProgramState.{ProgramState}
 use Rattle.program_state.specs.Deadlines.{HoldsDeadlines, deadlines_of, key_at}
+use Rattle.program_state.specs.Monitors.{HoldsMonitors}
 
--- ---- threads as they are while there are no monitors
+-- ---- threads that are in no list of a monitor
 
--- it runs, throws, is parked, asleep, or waits for the end of another thread
+-- a live one runs, throws, is parked, asleep, or waits for the end of another thread
 abbrev pub is_plain_phase : Phase → Bool
 is_plain_phase Run = true
 is_plain_phase (Throwing o) = true
@@ -58,11 +58,10 @@ pub record IsState (a : ProgramState) (r : State) (out : ℕ → Bool) : Type 0 
   pub rows : a.threads.threads ≡ map (λ x. x.thread) r.threads
   pub most_threads : a.most_threads ≡ r.most_threads
   pub limit : a.threads.limit ≡ r.most_threads
-  pub plain : (t : ℕ) (x : JavaThread) → slice_get r.threads t ≡ Some x → is_plain_status x.thread.status ≡ true
   pub permits : a.wakes.permits ≡ map (λ x. x.permit) r.threads
   pub interrupts : a.wakes.interrupts ≡ map (λ x. x.interrupted) r.threads
   pub unnamed : a.unnamed ≡ r.unnamed
-  pub owners : opening_owners None ≡ r.owners
+  pub monitors : HoldsMonitors a.monitors r.threads r.owners
   pub now : a.time ≡ r.now
   pub places : length a.keys.items ≡ length r.threads
   pub wheel : HoldsDeadlines (sleeper_at a.wheel) (key_at a.keys.items) (deadlines_of r.now r.threads)

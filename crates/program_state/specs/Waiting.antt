@@ -1,9 +1,9 @@
 -- Which threads go on, by the parts of a state, and whom the end of one wakes.
-use Rattle.std.specs.Prelude.{◌≡◌, ◌↔◌, ◌||◌, ℕ, Bool, true, false, List, Option, Some, Contains, if◌then◌else◌, is_some, slice_get}
+use Rattle.std.specs.Prelude.{◌≡◌, ◌↔◌, ◌||◌, ℕ, Bool, true, false, List, Option, Some, Contains, if◌then◌else◌, is_none, is_some, slice_get}
 use Rattle.std.specs.Option.{option_map_or}
 use Rattle.std.specs.List.Sorted.{IsStrictlyIncreasing}
 use Rattle.vthread_state.specs.declared.phase.Phase.{Phase}
-use Rattle.vthread_state.specs.declared.phase.Phase.TheVariants.{Run, Throwing, Parked, Asleep, Joining}
+use Rattle.vthread_state.specs.declared.phase.Phase.TheVariants.{Run, Throwing, Entering, Waiting, Reenter, Parked, Asleep, Joining}
 use Rattle.vthread_state.specs.declared.thread.Status.{Status}
 use Rattle.vthread_state.specs.declared.thread.Status.TheVariants.{New, Live, Done}
 use Rattle.vthread_state.specs.declared.thread.Thread.{Thread}
@@ -14,6 +14,7 @@ use Rattle.items.specs.Options.{◌>>=◌}
 use Rattle.state_model.specs.Frames.{Frame}
 use Rattle.link_model.specs.World.{World}
 use Rattle.wakes.specs.Flags.{Flags}
+use Rattle.monitors.specs.Monitors.{monitor_of}
 use Rattle.ref_model.specs.declared.exception.Exception.TheVariants as exceptions
 use Rattle.ref_model.specs.Enabled.{is_done}
 use Rattle.ref_model.specs.Memory.{Memory}
@@ -32,7 +33,7 @@ use Rattle.program_state.specs.Waking.{IsInterruptTaken, IsPermitTaken, flag_at}
 abbrev pub has_ended_in : Threads → ℕ → Bool
 has_ended_in table u = option_map_or (λ (thread : Thread). is_done thread.status) (thread_at table u) false
 
--- whether a live thread in a phase goes on, by the parts; one that waits for a monitor is told as if it didn't
+-- whether a live thread in a phase goes on, by the parts
 abbrev pub phase_goes_on_in : ProgramState → ℕ → Phase → Bool
 phase_goes_on_in a t Run = true
 phase_goes_on_in a t (Throwing o) = true
@@ -40,7 +41,9 @@ phase_goes_on_in a t (Parked deadline) = flag_at a.wakes.permits t || (flag_at a
 phase_goes_on_in a t (Asleep deadline) = flag_at a.wakes.interrupts t || is_reached a.time (Some deadline)
 phase_goes_on_in a t (Joining target deadline) =
     has_ended_in a.threads target || (flag_at a.wakes.interrupts t || is_reached a.time deadline)
-phase_goes_on_in a t phase = false
+phase_goes_on_in a t (Entering o) = is_none (monitor_of a.monitors o).owner
+phase_goes_on_in a t (Reenter o count wake) = is_none (monitor_of a.monitors o).owner
+phase_goes_on_in a t (Waiting o count deadline) = false
 
 abbrev pub status_goes_on_in : ProgramState → ℕ → Status → Bool
 status_goes_on_in a t New = false

@@ -1,12 +1,14 @@
 -- Permits and interrupts: who is given one, and who takes one.
-use Rattle.std.specs.Prelude.{◌≡◌, ℕ, Bool, false, List, Option, Some, None, slice_get, slice_set}
+use Rattle.std.specs.Prelude.{◌≡◌, ◌==◌, ◌||◌, ℕ, Bool, false, List, Option, Some, None, if◌then◌else◌, slice_get, slice_set}
+use Rattle.vthread_state.specs.declared.phase.Phase.{Phase}
+use Rattle.schedule_model.specs.Look.{is_in_line}
+use Rattle.ref_model.specs.Looks.{spot_in}
 use Rattle.std.specs.Option.{option_map_or}
 use Rattle.wakes.specs.Flags.{Flags}
 use Rattle.ref_model.specs.State.{State}
-use Rattle.schedule_soundness.specs.PutLaws.{OthersStay}
 use Rattle.program_state.specs.declared.requests.RequestOutcome.{RequestOutcome}
 use Rattle.program_state.specs.declared.requests.RequestOutcome.TheVariants as outcomes
-use Rattle.program_state.specs.Steps.{Wakes}
+use Rattle.program_state.specs.Steps.{PutsNobody, Wakes}
 
 -- whether a thread has a flag that is set
 abbrev pub flag_at : List Bool → ℕ → Bool
@@ -22,9 +24,13 @@ pub record IsInterruptTaken (t : ℕ) (had : Bool) (old new : Flags) : Type 0 wh
   pub was : slice_get old.interrupts t ≡ Some had
   pub after : new ≡ record old { interrupts = slice_set old.interrupts t false }
 
--- what thread t does to others by a permit or an interrupt, where it gives that to this thread, another one that is live
+-- the thread to which that may be put, where thread t gives a permit or an interrupt to thread u, in this phase
+abbrev pub woken_in : ℕ → ℕ → Phase → Option ℕ
+woken_in t u phase = if (u == t) || is_in_line (spot_in phase) then None else Some u
+
+-- what thread t does to others by a permit or an interrupt, where that may be put for it
 abbrev pub LeavesWoken : ℕ → Option ℕ → State → State → Type 0
-LeavesWoken t None = OthersStay t
+LeavesWoken t None = PutsNobody t
 LeavesWoken t (Some u) = Wakes t u
 
 abbrev pub wake_outcome : Option ℕ → RequestOutcome

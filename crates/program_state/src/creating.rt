@@ -128,6 +128,7 @@ fn add_thread(
     state.frozen.reserve(1)?;
     state.keys.reserve(1)?;
     state.wakes.add()?;
+    state.monitors.add_thread()?;
     if state.threads.add(kind, daemon, object, name).is_err() {
         return Err(NoMemory);
     }

@@ -27,11 +27,11 @@ use thread_steps::PendingRequest;
 /// What became of a request.
 #[derive(Clone, Copy)]
 pub enum RequestOutcome {
-    /// The thread that asked made its step, and left the others where they are.
+    /// The thread that asked made its step, and no other one may go on by that.
     Done,
     /// The same, but it started this thread.
     Starts(u32),
-    /// The same, but it gave this thread, another one that is live, a permit or an interrupt.
+    /// The same, but it gave this thread, another one that is live, a permit or an interrupt, with which it may go on.
     Wakes(u32),
     /// A thread is to be made where there are as many as there may be: nothing has changed.
     LacksThreads,

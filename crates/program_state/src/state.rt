@@ -8,6 +8,7 @@ ghost use Rattle.program_state.specs.Settling.{IsSettled, IsStatusSet, is_run_ph
 
 use continuation::Frozen;
 use items::NoMemory;
+use monitors::Monitors;
 use sleep_wheel::{Key, Wheel};
 use thread_steps::Parts;
 use vthread_state::{Phase, Status, Thread, ThreadTable};
@@ -23,6 +24,8 @@ pub struct ProgramState {
     pub frozen: Vec<Option<Frozen>>,
     /// The permit and the interrupt status of each thread.
     pub wakes: Wakes,
+    /// The owners of monitors, and the threads that wait to take one or to be notified.
+    pub monitors: Monitors,
     /// The live threads with a deadline that is greater than the time.
     pub wheel: Wheel,
     /// The key on the wheel of each thread that is on it, by the thread's number.

@@ -3,6 +3,7 @@
 ghost use Rattle.std.specs.Prelude.{◌≡◌, ◌<◌, ◌↔◌, ℕ, Bool, None, IsNone, IfSome, IfOk, OnOk, OnErr};
 ghost use Rattle.ref_model.specs.State.{State};
 ghost use Rattle.program_state.specs.Deadlines.{IsLeast, deadlines_of};
+ghost use Rattle.schedule_soundness.specs.TimeLaws.{NobodyWaits};
 ghost use Rattle.program_state.specs.States.{IsState};
 ghost use Rattle.program_state.specs.Times.{AreDue, Passes};
 
@@ -16,7 +17,7 @@ use items::NoMemory;
 pub fn pass_time(state: &mut ProgramState, now: u64) -> Result<Vec<u32>, NoMemory>
     requires { state.old.time < now }
     ensures passes { OnOk result ((r : State) (out : ℕ → Bool) → IsState state.old r out
-        → Passes now state.new r out) }
+        → NobodyWaits r → Passes now state.new r out) }
     ensures due { IfOk result (λ due. (r : State) (out : ℕ → Bool) → IsState state.old r out
         → AreDue r now due.items) }
     ensures err { OnErr result (state.new ≡ state.old) }

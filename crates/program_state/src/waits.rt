@@ -62,7 +62,10 @@ fn phase_goes_on(state: &ProgramState, t: u32, phase: Phase) -> bool
             is_done(&state.threads, target)
                 || (is_interrupted(&state.wakes, t) || is_reached(state.time, deadline))
         }
-        _ => false,
+        Phase::Entering(monitor) | Phase::Reenter { monitor, .. } => {
+            state.monitors.owner(monitor).is_none()
+        }
+        Phase::Waiting { .. } => false,
     }
 }
 

@@ -1,0 +1,56 @@
+-- The monitors of a state (JLS 17.1, 17.2): who owns each, and that threads are in the lists of monitors just where their phases say so.
+use Rattle.std.specs.Prelude.{◌≡◌, ℕ, Bool, List, Option, length, slice_get}
+use Rattle.std.specs.Option.{option_map, option_map_or}
+use Rattle.thread_lists.specs.Lists.{count}
+use Rattle.vthread_state.specs.declared.thread.Status.{Status}
+use Rattle.schedule_model.specs.Look.{Spot, absent, is_entering, is_waiting}
+use Rattle.schedule_model.specs.Woken.{once_if}
+use Rattle.ref_model.specs.Looks.{spot_of}
+use Rattle.ref_model.specs.State.{JavaThread, Owner}
+use Rattle.vthread_state.specs.declared.thread.Thread.{Thread}
+use Rattle.vthread_state.specs.Threads.{Threads, thread_at}
+use Rattle.monitors.specs.Monitors.{Becomes, Monitor, Monitors, after_leave_wait, after_line_up, monitor_of}
+
+-- the owner of a monitor, as the reference machine has it
+abbrev pub owner_in : Monitor → Option Owner
+owner_in m = option_map (λ t. record { thread = t; count = m.count }) m.owner
+
+-- where a thread is
+abbrev pub spot_at : List JavaThread → ℕ → Spot
+spot_at threads t = option_map_or (λ (x : JavaThread). spot_of x.thread.status) (slice_get threads t) absent
+
+-- These monitors have such owners, and each thread is in the list of a monitor where it waits there, once, and in no other.
+pub record HoldsMonitors (a : Monitors) (threads : List JavaThread) (owners : ℕ → Option Owner) : Type 0 where
+  pub owners_are : (o : ℕ) → owner_in (monitor_of a o) ≡ owners o
+  pub waits : (t o : ℕ) → count t (monitor_of a o).wait_list ≡ once_if (is_waiting o (spot_at threads t))
+  pub enters : (t o : ℕ) → count t (monitor_of a o).entry_list ≡ once_if (is_entering o (spot_at threads t))
+  pub places : a.threads ≡ length threads
+
+-- ---- the same by the table of threads
+
+abbrev pub spot_in : Threads → ℕ → Spot
+spot_in table t = option_map_or (λ (thread : Thread). spot_of thread.status) (thread_at table t) absent
+
+-- each thread is in the list of a monitor where it waits there, once, and in no other
+pub record AreSeated (a : Monitors) (table : Threads) : Type 0 where
+  pub waits : (t o : ℕ) → count t (monitor_of a o).wait_list ≡ once_if (is_waiting o (spot_in table t))
+  pub enters : (t o : ℕ) → count t (monitor_of a o).entry_list ≡ once_if (is_entering o (spot_in table t))
+  pub places : a.threads ≡ length table.threads
+
+-- ---- how lists change
+
+-- their lists are the same
+pub record HaveSameLists (old new : Monitors) : Type 0 where
+  pub waits : (o : ℕ) → (monitor_of new o).wait_list ≡ (monitor_of old o).wait_list
+  pub enters : (o : ℕ) → (monitor_of new o).entry_list ≡ (monitor_of old o).entry_list
+
+-- Nobody comes to a list or leaves one; or a thread whose wait has ended comes last in line for its monitor.
+pub data ListsMove (old new : Monitors) : Type 0 where
+  stay : HaveSameLists old new → ListsMove old new
+  wait_ends : (u o : ℕ) → Becomes old new o (after_leave_wait u (monitor_of old o)) → ListsMove old new
+  lines_up : (u o : ℕ) → Becomes old new o (after_line_up u (monitor_of old o)) → ListsMove old new
+
+-- a thread with the one status is in the lists in which it is with the other
+pub record InSameLists (old new : Status) : Type 0 where
+  pub waits : (o : ℕ) → is_waiting o (spot_of new) ≡ is_waiting o (spot_of old)
+  pub enters : (o : ℕ) → is_entering o (spot_of new) ≡ is_entering o (spot_of old)
