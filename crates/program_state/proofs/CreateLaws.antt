@@ -248,7 +248,7 @@ thread_created w kind object string name t a new named numbered row daemon unnam
           (ap (with_number (with_heap named (memory_of a.memory)) object) (sym count) ∙ number (memory_of a.memory))
           (λ i. goes (with_new_thread r memory (sym (is_unnamed ∙ unnamed_is kind name r a.unnamed is.unnamed) i) (made_thread kind (sym flag i) object string)) t k);
       is = added_state a (record new { unnamed = unnamed }) (with_heap_in a numbered) r out memory unnamed x is refl
-          refl refl is.status refl refl added.memory added.threads added.frozen added.permits added.interrupts added.wheel added.keys added.time refl added.most_threads;
+          refl refl is.status refl refl added.memory added.threads added.frozen added.permits added.interrupts added.monitors added.wheel added.keys added.time refl added.most_threads;
       runs = record { thread = at.thread; at = more_there r.threads x t at.thread at.at; status = at.status; has = at.has };
       others = added_others r t memory unnamed x refl;
     }

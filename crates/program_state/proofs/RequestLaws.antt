@@ -43,6 +43,11 @@ use Rattle.program_state.specs.States.{IsState}
 use Rattle.ref_model.specs.State.{Owner}
 use Rattle.std.specs.Prelude.{is_none}
 use Rattle.monitor_soundness.specs.MonitorPuts.{StaysOrIsNotified, stays, is_notified}
+use Rattle.thread_steps.specs.Asking as asking
+use Rattle.thread_steps.specs.Asking.{StaysIfAsked}
+use Rattle.thread_steps.specs.declared.progress.Progress.{Progress}
+use Rattle.thread_steps.specs.declared.progress.Progress.TheVariants.{Stepped, Asks, Calls, Returns}
+use Rattle.program_state.specs.Running.{IsProgress}
 use Rattle.program_state.specs.Steps.{Awakes, IsInterrupted, PutsNobody, gets, keeps_monitor, leaves_others, lines_up, notifies, tells}
 use Rattle.program_state.specs.Steps.{IsWoken, Starts, StepsTo}
 use Rattle.program_state.specs.Waking.{LeavesWoken, wake_outcome}
@@ -293,3 +298,21 @@ pub asks_pending : (w : World) (i : Instruction) (q : PendingRequest) (a : Parts
 asks_pending w i q a frames some at asking =
     let x = first_of frames some in
     record { frame = x.0; below = x.1; top = x.2; asks = asking x.0 x.1 x.2 (at x.0 x.1 x.2) }
+
+pub pending_progress : (w : World) (i : Instruction) (p : Progress) (a : ProgramState) (b : Parts) (m n : Continuation) → 0 < length m.stack.frames → StandsAt w i m.stack.frames
+    → (p ≡ Stepped → ⊥) → asking.IsProgress w i p a.memory m.stack.frames b n.stack.frames → StaysIfAsked p m n → IsProgress w p a m (record a { memory = b }) n
+pending_progress w i Stepped a b m n some at other asked kept = absurd (other refl)
+pending_progress w i (Asks q) a b m n some at other asked kept = (
+  asks_pending w i q a.memory m.stack.frames some at asked.0,
+  record { state = ap (λ (p : Parts). record a { memory = p }) asked.1; mounted = kept },
+)
+pending_progress w i (Calls call) a b m n some at other asked kept =
+    let x = first_of m.stack.frames some in (
+      record { frame = x.0; below = x.1; top = x.2; calls = asked.0 x.0 x.1 x.2 (at x.0 x.1 x.2) },
+      record { state = ap (λ (p : Parts). record a { memory = p }) asked.1; mounted = kept },
+    )
+pending_progress w i (Returns q) a b m n some at other asked kept =
+    let x = first_of m.stack.frames some in (
+      record { frame = x.0; below = x.1; top = x.2; returns = asked.0 x.0 x.1 x.2 (at x.0 x.1 x.2) },
+      record { state = ap (λ (p : Parts). record a { memory = p }) asked.1; mounted = kept },
+    )

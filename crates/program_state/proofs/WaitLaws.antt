@@ -6,7 +6,7 @@ use Rattle.std.specs.List.Sorted.{IsStrictlyIncreasing}
 use Rattle.std.proofs.lemmas.Grind.{common_steps}
 use Rattle.std.proofs.lemmas.List.Elements.{filter-append}
 use Rattle.std.proofs.lemmas.List.Kept.{IsStrictlyIncreasing-filter}
-use Rattle.std.specs.Option.{option_map_or}
+use Rattle.std.specs.Option.{option_map, option_map_or}
 use Rattle.vthread_state.specs.declared.phase.Phase.TheVariants.{Run, Throwing, Entering, Waiting, Reenter, Parked, Asleep, Joining}
 use Rattle.vthread_state.specs.declared.thread.Status.{Status}
 use Rattle.vthread_state.specs.declared.thread.Status.TheVariants.{New, Live, Done}
@@ -23,8 +23,7 @@ use Rattle.ref_model.specs.Waiting.{is_reached}
 use Rattle.program_state.specs.declared.state.ProgramState.{ProgramState}
 use Rattle.ref_model.specs.Enabled.{is_free}
 use Rattle.ref_model.specs.State.{Owner}
-use Rattle.monitors.specs.Monitors.{Monitor, monitor_of}
-use Rattle.program_state.specs.Monitors.{owner_in}
+use Rattle.monitors.specs.Monitors.{monitor_of}
 use Rattle.program_state.specs.States.{IsState}
 use Rattle.program_state.specs.Waking.{flag_at}
 use Rattle.program_state.specs.Waiting.{AreWoken, has_ended_in, lies_in, status_goes_on_in}
@@ -82,14 +81,14 @@ reached_is a r out deadline is = ap (λ now. is_reached now deadline) is.now
 
 -- whether a monitor has no owner
 free_is : (a : ProgramState) (r : State) (out : ℕ → Bool) (o : ℕ) → IsState a r out → is_none (monitor_of a.monitors o).owner ≡ is_free r o
-free_is a r out o is = by (monitor_of a.monitors o) ∙ ap (λ (x : Option Owner). is_none x) (is.monitors.owners_are o)
+free_is a r out o is = by (monitor_of a.monitors o).owner ∙ ap (λ (x : Option Owner). is_none x) (is.monitors.owners_are o)
   where
-    by : (m : Monitor) → is_none m.owner ≡ is_none (owner_in m)
-    by m = at m.owner
-      where
-        at : (owner : Option ℕ) → is_none owner ≡ is_none (option_map (λ t. record { thread = t; count = m.count }) owner)
-        at None = refl
-        at (Some t) = refl
+    owned : ℕ → Owner
+    owned t = record { thread = t; count = (monitor_of a.monitors o).count }
+
+    by : (owner : Option ℕ) → is_none owner ≡ is_none (option_map owned owner)
+    by None = refl
+    by (Some t) = refl
 
 ready_is : (a : ProgramState) (r : State) (out : ℕ → Bool) (t : ℕ) (x : JavaThread) (status : Status) → IsState a r out → slice_get r.threads t ≡ Some x
     → status_goes_on_in a t status ≡ is_ready r x status

@@ -9,7 +9,8 @@ use Rattle.vthread_state.specs.declared.phase.Phase.{Phase}
 use Rattle.vthread_state.specs.declared.phase.Phase.TheVariants.{Run, Throwing, Entering, Waiting, Reenter, Parked, Asleep, Joining}
 use Rattle.vthread_state.specs.declared.phase.Wake.{Wake}
 use Rattle.vthread_state.specs.declared.phase.Wake.TheVariants.{Interrupted}
-use Rattle.vthread_state.specs.declared.thread.Status.TheVariants.{Live}
+use Rattle.vthread_state.specs.declared.thread.Status.{Status}
+use Rattle.vthread_state.specs.declared.thread.Status.TheVariants.{New, Live, Done}
 use Rattle.vthread_state.specs.declared.thread.Thread.{Thread}
 use Rattle.vthread_state.specs.Threads.{thread_at}
 use Rattle.link_model.specs.World.{World}
@@ -142,6 +143,11 @@ leaves_woken t u r x phase change set woken so at status is = subst (λ o. Leave
 
 -- ---- the answers
 
+pub idle_status : (status : Status) → ((phase : Phase) → status ≡ Live phase → ⊥) → is_live status ≡ false
+idle_status New other = refl
+idle_status (Live phase) other = absurd (other phase refl)
+idle_status Done other = refl
+
 -- A live thread is given a flag.
 pub wake_answers : (w : World) (request : ThreadRequest) (t u : ℕ) (a : ProgramState) (flags : Flags) (row : Thread) (phase : Phase) (change set : JavaThread → JavaThread) (woken : Option ℕ)
     → thread_at a.threads u ≡ Some row → row.status ≡ Live phase → ((x : JavaThread) → x.thread.status ≡ Live phase → change x ≡ set x) → SetsFlag change set → woken ≡ woken_in t u phase
@@ -200,10 +206,10 @@ interrupt_idle w t u a row there idle = idle_answers w (requests.Interrupts u) t
 
 pub interrupt_told : (w : World) (t u : ℕ) (a : ProgramState) (told : Bool) (reply : Reply) → told ≡ flag_at a.wakes.interrupts u → reply ≡ replies.Gives (boolean told)
     → Answers w (requests.TellsInterrupt u) (OthersStay t) t a a reply
-interrupt_told w t u a told reply tells gives =
+interrupt_told w t u a told reply flag gives =
     subst (λ y. Answers w (requests.TellsInterrupt u) (OthersStay t) t a a y) (sym gives)
     (answers_same w (requests.TellsInterrupt u) t a (replies.Gives (boolean told))
-    (λ r out x k is at. ap (λ b. gives_back r t k (boolean b)) (sym (interrupt_is a r out u is) ∙ sym tells)))
+    (λ r out x k is at. ap (λ b. gives_back r t k (boolean b)) (sym (interrupt_is a r out u is) ∙ sym flag)))
 
 pub interrupt_cleared : (w : World) (t : ℕ) (a : ProgramState) (flags : Flags) (had : Bool) (reply : Reply) → IsInterruptTaken t had a.wakes flags → reply ≡ replies.Gives (boolean had)
     → Answers w requests.TakesInterrupt (OthersStay t) t a (record a { wakes = flags }) reply

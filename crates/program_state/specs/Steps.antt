@@ -1,5 +1,5 @@
 -- What a step of one thread makes of the state of a program.
-use Rattle.std.specs.Prelude.{◌≡◌, ◌≢◌, ℕ, Bool, true, List, Option, Some, length, slice_get}
+use Rattle.std.specs.Prelude.{◌≡◌, ◌≢◌, ℕ, Bool, true, false, List, Option, Some, length, slice_get}
 use Rattle.vthread_state.specs.declared.phase.Phase.{Phase}
 use Rattle.vthread_state.specs.declared.phase.Phase.TheVariants.{Run, Waiting, Reenter}
 use Rattle.vthread_state.specs.declared.phase.Wake.TheVariants.{Interrupted}
@@ -10,7 +10,7 @@ use Rattle.ref_model.specs.Ending.{is_live}
 use Rattle.ref_model.specs.Enabled.{is_free}
 use Rattle.ref_model.specs.State.{JavaThread, State}
 use Rattle.ref_model.specs.Step.{phase_step}
-use Rattle.schedule_soundness.specs.PutLaws.{OthersStayBeside, IsNew}
+use Rattle.schedule_soundness.specs.PutLaws.{OthersStay, OthersStayBeside, IsNew}
 use Rattle.schedule_model.specs.Look.{is_in_line}
 use Rattle.monitor_soundness.specs.MonitorPuts.{MonitorStep, Notifies}
 use Rattle.program_state.specs.declared.state.ProgramState.{ProgramState}

@@ -63,6 +63,6 @@ pub fn run_step<W: ThreadWorld>(
     }
     match progress {
         Progress::Stepped => settle_running(state, t),
-        Progress::Asks(_) => Ok(true),
+        _ => Ok(true),
     }
 }

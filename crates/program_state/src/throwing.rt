@@ -11,6 +11,7 @@ use continuation::Mounted;
 use items::NoMemory;
 use std::alloc::Global;
 use thread_steps;
+use thread_steps::Thrown;
 use vthread_state::{Phase, Status};
 
 /// The step of a thread that throws an object (JVMS 2.10, JLS 11.3).
@@ -32,9 +33,13 @@ pub fn throwing_step<W: ThreadWorld>(
     let t = mounted.thread();
     let name = row_at(&state.threads, t)?.name;
     state.memory.status = Status::Live(Phase::Throwing(o));
-    thread_steps::throwing_step(alloc, world, &mut state.memory, mounted, t, name, o)?;
+    let thrown =
+        thread_steps::throwing_step(alloc, world, &mut state.memory, mounted, t, name, o)?;
     if mounted.thread() != t {
         return Err(NoMemory);
     }
-    settle_throwing(state, t, o)
+    match thrown {
+        Thrown::Stepped => settle_throwing(state, t, o),
+        Thrown::Holds(_) => Err(NoMemory),
+    }
 }

@@ -158,7 +158,7 @@ fn ask_again<W: ThreadWorld>(
     )?;
     match progress {
         Progress::Asks(pending) => Ok(pending),
-        Progress::Stepped => Err(NoMemory),
+        _ => Err(NoMemory),
     }
 }
 

@@ -63,7 +63,8 @@ pub(crate) fn unpark(state: &mut ProgramState, t: u32, u: u32) -> Result<Option<
     ensures { (w : World) → IfOk result (λ woken. Answers w (ThreadRequest.Unparks u)
         (LeavesWoken t woken) t state.old state.new Reply.Goes) }
 {
-    let Status::Live(phase) = row_at(&state.threads, u)?.status else {
+    let row = row_at(&state.threads, u)?;
+    let Status::Live(phase) = row.status else {
         return Ok(None);
     };
     if u as usize >= state.wakes.count() {
@@ -78,7 +79,8 @@ pub(crate) fn interrupt(state: &mut ProgramState, t: u32, u: u32) -> Result<Opti
     ensures { (w : World) → IfOk result (λ woken. Answers w (ThreadRequest.Interrupts u)
         (LeavesWoken t woken) t state.old state.new Reply.Goes) }
 {
-    let Status::Live(phase) = row_at(&state.threads, u)?.status else {
+    let row = row_at(&state.threads, u)?;
+    let Status::Live(phase) = row.status else {
         return Ok(None);
     };
     if u as usize >= state.wakes.count() || is_waiting(phase) {

@@ -6,12 +6,11 @@ use Rattle.vthread_state.specs.Threads.{status_at}
 use Rattle.verify_types.specs.Environment.{Instruction}
 use Rattle.thread_steps.specs.declared.parts.Parts.{Parts}
 use Rattle.thread_steps.specs.declared.progress.Progress.{Progress}
-use Rattle.thread_steps.specs.Asking.{StaysIfAsked}
 use Rattle.thread_steps.specs.Asking as asking
 use Rattle.program_state.specs.declared.state.ProgramState.{ProgramState}
 use Rattle.program_state.specs.Running.{IsProgress}
 use Rattle.program_state.specs.Settling.{IsSettled}
-use Rattle.program_state.proofs.RequestLaws.{asks_pending, first_of}
+use Rattle.program_state.proofs.RequestLaws.{first_of, pending_progress}
 use Rattle.program_state.proofs.StepLaws.{has_stepped, if_ok, on_ok}
 use Rattle.program_state.proofs.running.run_step.Goals as goal
 
@@ -39,19 +38,9 @@ returns-in-Stepped-clause-same g c =
     if_ok (λ same. IsTrue same → new ≡ mid) (λ same. IsTrue same → new.threads ≡ a.threads) c.settle_running.result c.settle_running.ensures.same
     (λ same is yes. ap (λ (s : ProgramState). s.threads) (is yes))
 
-pub returns-in-Asks-clause-progress : goal.returns-in-Asks-clause-progress
-returns-in-Asks-clause-progress g c =
+pub returns-in_default-clause-progress : goal.returns-in_default-clause-progress
+returns-in_default-clause-progress g c =
     let w = g.W.EventWorld.world c.args.world.now in
     let i : Instruction = record { instr = c.args.instr.now; resolution = c.args.resolution.now } in
-    let a = c.args.state.now in
-    let m = c.args.mounted.now in
-    let b = c.instruction_step.new.parts in
-    let n = c.instruction_step.new.mounted in
-    let asked = subst (λ (x : Progress). asking.IsProgress w i x a.memory m.stack.frames b n.stack.frames) c.in-Asks.is c.in_ok-instruction_step.ensures.progress in
-    subst (λ (x : Progress). IsProgress w x a m (record a { memory = b }) n) (sym c.in-Asks.is) (
-      asks_pending w i c.in-Asks.field-0 a.memory m.stack.frames c.requires.frame c.requires.at asked.0,
-      record {
-        state = ap (λ (p : Parts). record a { memory = p }) asked.1;
-        mounted = subst (λ (x : Progress). StaysIfAsked x m n) c.in-Asks.is c.in_ok-instruction_step.ensures.stays;
-      },
-    )
+    pending_progress w i c.instruction_step.new.progress c.args.state.now c.instruction_step.new.parts c.args.mounted.now c.instruction_step.new.mounted c.requires.frame c.requires.at
+    c.in_default.not-Stepped c.in_ok-instruction_step.ensures.progress c.in_ok-instruction_step.ensures.stays

@@ -1,11 +1,14 @@
-use Rattle.std.proofs.Common.{sym, ◌∙◌}
-use Rattle.program_state.proofs.WakeLaws.{unpark_idle, unpark_wakes}
+use Rattle.std.proofs.Common.{sym, ap, ◌∙◌, false}
+use Rattle.std.specs.Prelude.{Bool}
+use Rattle.vthread_state.specs.declared.thread.Status.{Status}
+use Rattle.ref_model.specs.Ending.{is_live}
+use Rattle.program_state.proofs.WakeLaws.{idle_status, unpark_idle, unpark_wakes}
 use Rattle.program_state.proofs.wake_requests.unpark.Goals as goal
-
-pub returns-then-not-is_live : goal.returns-then-not-is_live
-returns-then-not-is_live c w = unpark_idle w c.args.t c.args.u c.args.state.now c.in_ok-row.row c.in_ok-row.ensures (sym c.is_live.ensures ∙ c.if-not-is_live.true)
 
 pub returns : goal.returns
 returns c w =
-    unpark_wakes w c.args.t c.args.u c.args.state.now c.unpark.new.self c.in_ok-row.row c.unless_same.result c.in_ok-row.ensures (sym c.is_live.ensures ∙ c.if-not-is_live.false) c.unpark.ensures
-    c.unless_same.ensures
+    unpark_wakes w c.args.t c.args.u c.args.state.now c.unpark.new.self c.in_ok-row.row c.in-Live.phase c.woken_thread.result c.in_ok-row.ensures c.in-Live.is c.unpark.ensures
+    c.woken_thread.ensures
+
+pub returns-in_default : goal.returns-in_default
+returns-in_default c w = unpark_idle w c.args.t c.args.u c.args.state.now c.in_ok-row.row c.in_ok-row.ensures (idle_status (c.in_ok-row.row).status c.in_default.not-Live)
