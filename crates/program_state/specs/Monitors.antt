@@ -9,7 +9,7 @@ use Rattle.ref_model.specs.Looks.{spot_of}
 use Rattle.ref_model.specs.State.{JavaThread, Owner}
 use Rattle.vthread_state.specs.declared.thread.Thread.{Thread}
 use Rattle.vthread_state.specs.Threads.{Threads, thread_at}
-use Rattle.monitors.specs.Monitors.{Becomes, Monitor, Monitors, after_leave_wait, after_line_up, monitor_of}
+use Rattle.monitors.specs.Monitors.{Becomes, Monitor, Monitors, after_leave_wait, after_line_up, after_notify, after_notify_all, after_retake, after_wait, monitor_of}
 
 -- the owner of a monitor, as the reference machine has it
 abbrev pub owner_in : Monitor → Option Owner
@@ -44,11 +44,16 @@ pub record HaveSameLists (old new : Monitors) : Type 0 where
   pub waits : (o : ℕ) → (monitor_of new o).wait_list ≡ (monitor_of old o).wait_list
   pub enters : (o : ℕ) → (monitor_of new o).entry_list ≡ (monitor_of old o).entry_list
 
--- Nobody comes to a list or leaves one; or a thread whose wait has ended comes last in line for its monitor.
+-- Nobody comes to a list or leaves one; or one thread does, at one monitor: it lines up; it takes the monitor, out of its line; it begins to wait
+-- to be notified; its wait ends, and it lines up. Or the first that waits is notified, or all are.
 pub data ListsMove (old new : Monitors) : Type 0 where
   stay : HaveSameLists old new → ListsMove old new
-  wait_ends : (u o : ℕ) → Becomes old new o (after_leave_wait u (monitor_of old o)) → ListsMove old new
-  lines_up : (u o : ℕ) → Becomes old new o (after_line_up u (monitor_of old o)) → ListsMove old new
+  lines_up : (t o : ℕ) → Becomes old new o (after_line_up t (monitor_of old o)) → ListsMove old new
+  retakes : (t o count : ℕ) → Becomes old new o (after_retake t count (monitor_of old o)) → ListsMove old new
+  waits : (t o : ℕ) → Becomes old new o (after_wait t (monitor_of old o)) → ListsMove old new
+  wait_ends : (t o : ℕ) → Becomes old new o (after_leave_wait t (monitor_of old o)) → ListsMove old new
+  notifies : (o : ℕ) → Becomes old new o (after_notify (monitor_of old o)) → ListsMove old new
+  notifies_all : (o : ℕ) → Becomes old new o (after_notify_all (monitor_of old o)) → ListsMove old new
 
 -- a thread with the one status is in the lists in which it is with the other
 pub record InSameLists (old new : Status) : Type 0 where
