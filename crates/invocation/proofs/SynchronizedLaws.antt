@@ -122,7 +122,7 @@ deep_throws w c m deep =
 
 -- ---- the monitor is the last local variable
 
-set_last : (xs : List Slot) (k n : ℕ) (x : Slot) → length xs + k ≡ n → slice_set (xs ++ replicate (k + 1) Second) n x ≡ (xs ++ replicate k Second) ++ x ∷ []
+pub set_last : (xs : List Slot) (k n : ℕ) (x : Slot) → length xs + k ≡ n → slice_set (xs ++ replicate (k + 1) Second) n x ≡ (xs ++ replicate k Second) ++ x ∷ []
 set_last xs k n x is =
     let front = xs ++ replicate k Second in
     let long : length front ≡ n = length-append xs (replicate k Second) ∙ ap (λ m. length xs + m) (length-replicate k Second) ∙ is in

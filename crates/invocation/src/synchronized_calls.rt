@@ -34,8 +34,8 @@ pub enum Asked {
 /// The number of the monitor of class 0, which no object has (own).
 const CLASS_MONITORS: u32 = 0xffff_0000;
 
-// The monitor of a class. `None`: it has no number of 32 bits, as no linked program has it.
-fn class_monitor(class: u32) -> Option<u32>
+/// The monitor of a class, by its number (own). `None`: it isn't a number of 32 bits, as in no linked program.
+pub fn class_monitor(class: u32) -> Option<u32>
     ensures { IfSome result (λ o. o ≡ class_monitor class) }
 {
     CLASS_MONITORS.checked_add(class)

@@ -55,24 +55,61 @@ set_first (suc k) x h =
     let rest : suc k - 1 ≡ k = omega arith in
     ap (λ n. slice_set ([] ++ replicate n Second) 0 x) all ∙ ap (λ n. x ∷ replicate n Second) (sym rest)
 
-pub main_locals : (n : ℕ) (code : MethodCode) (frames : List Frame) → frames ≡ entered n code.max_locals code.max_stack 0 []
-    → length (top_locals frames) ≡ code.max_locals
-main_locals n code frames e =
-    ap (λ fs. length (top_locals fs)) e ∙ long code.max_locals
+pub main_locals : (n locals : ℕ) (code : MethodCode) (frames : List Frame) → frames ≡ entered n locals code.max_stack 0 []
+    → length (top_locals frames) ≡ locals
+main_locals n locals code frames e =
+    ap (λ fs. length (top_locals fs)) e ∙ long locals
   where
     long : (m : ℕ) → length ([] ++ replicate (m - 0) Second) ≡ m
     long m = simp length-replicate (omega arith)
 
-pub main_pushed : (w : World) (n words : ℕ) (code : MethodCode) (frames new : List Frame) → code_at w n ≡ Some code → 0 < code.max_locals
-    → frames ≡ entered n code.max_locals code.max_stack 0 [] → new ≡ with_local 0 (One (values.Ref words)) frames → IsFirst w n words new
+main_without : (w : World) (n words : ℕ) (code : MethodCode) (frames new : List Frame) → code_at w n ≡ Some code → 0 < code.max_locals
+    → frames ≡ entered n code.max_locals code.max_stack 0 [] → new ≡ with_local 0 (One (values.Ref words)) frames → IsFirst w n words None new
 unfolding begun
-main_pushed w n words code frames new e some made set =
+main_without w n words code frames new e some made set =
     let x = One (values.Ref words) in
     record {
       frame = begun n code ((x ∷ []) ++ replicate (code.max_locals - 1) Second);
       is = frame_is w n code (x ∷ []) e (grind (arith, nat_tests));
       all = set ∙ ap (with_local 0 x) made ∙ ap (λ locals. begun n code locals ∷ []) (set_first code.max_locals x some);
     }
+
+-- the local variables of main where the last holds the monitor
+main_with : (w : World) (n words o : ℕ) (code : MethodCode) (frames new : List Frame) → code_at w n ≡ Some code → 0 < code.max_locals
+    → frames ≡ entered n (code.max_locals + 1) code.max_stack 0 [] → new ≡ with_local code.max_locals (One (values.Ref o)) (with_local 0 (One (values.Ref words)) frames)
+    → IsFirst w n words (Some o) new
+unfolding begun
+main_with w n words o code frames new e some made set =
+    let x = One (values.Ref words) in
+    let y = One (values.Ref o) in
+    let k = code.max_locals - 1 in
+    let rest : code.max_locals + 1 - 1 ≡ k + 1 = omega arith in
+    let long : length (x ∷ []) + k ≡ code.max_locals = omega arith in
+    let locals : slice_set ([] ++ replicate (code.max_locals + 1 - 0) Second) 0 x ≡ (x ∷ []) ++ replicate (k + 1) Second =
+        set_first (code.max_locals + 1) x (omega arith) ∙ ap (λ m. (x ∷ []) ++ replicate m Second) rest in
+    record {
+      frame = begun n code ((x ∷ []) ++ replicate k Second);
+      is = frame_is w n code (x ∷ []) e (grind (arith, nat_tests));
+      all = set ∙ ap (λ fs. with_local code.max_locals y (with_local 0 x fs)) made
+          ∙ ap (λ slots. begun n code (slice_set slots code.max_locals y) ∷ []) locals
+          ∙ ap (λ slots. begun n code slots ∷ []) (set_last (x ∷ []) k code.max_locals y long);
+    }
+
+pub main_pushed : (w : World) (n words : ℕ) (monitor : Option ℕ) (code : MethodCode) (frames new : List Frame) → code_at w n ≡ Some code → 0 < code.max_locals
+    → frames ≡ entered n (count_with code.max_locals monitor) code.max_stack 0 [] → new ≡ holding code.max_locals monitor (with_local 0 (One (values.Ref words)) frames)
+    → IsFirst w n words monitor new
+main_pushed w n words None code frames new e some made set = main_without w n words code frames new e some made set
+main_pushed w n words (Some o) code frames new e some made set = main_with w n words o code frames new e some made set
+
+-- there is a place for the monitor
+pub last_inside : (locals : ℕ) (monitor : Option ℕ) (frames : List Frame) (slot : Slot) → length (top_locals frames) ≡ count_with locals monitor → IsSome monitor
+    → locals < length (top_locals (with_local 0 slot frames))
+last_inside locals None frames slot long some = absurd cc
+last_inside locals (Some o) frames slot long some = let same = set_long frames slot in omega (arith, long, same)
+  where
+    set_long : (fs : List Frame) (x : Slot) → length (top_locals (with_local 0 x fs)) ≡ length (top_locals fs)
+    set_long [] x = refl
+    set_long (f ∷ below) x = length-set f.locals 0 x
 
 -- ---- the class initializers
 
@@ -94,8 +131,8 @@ frames_none w methods below n e = ap (λ ns. frames_of w ns below) (all methods 
     all : (xs : List ℕ) (k : ℕ) → length xs ≡ k → drop k xs ≡ []
     all xs k e = grind (arith, common_steps)
 
-pub frames_all : (w : World) (n words : ℕ) (first frames : List Frame) → IsFirst w n words first
-    → frames_of w (initializers w.program) first ≡ Some frames → frames_with w n words ≡ Some frames
-frames_all w n words first frames h so =
-    bind_is (main_frame w n words) (λ f. frames_of w (initializers w.program) (f ∷ [])) h.frame (Some frames) h.is
+pub frames_all : (w : World) (n words : ℕ) (monitor : Option ℕ) (first frames : List Frame) → IsFirst w n words monitor first
+    → frames_of w (initializers w.program) first ≡ Some frames → frames_with w n words monitor ≡ Some frames
+frames_all w n words monitor first frames h so =
+    bind_is (main_frame w n words) (λ f. frames_of w (initializers w.program) (guarded_by monitor f ∷ [])) h.frame (Some frames) h.is
     (ap (frames_of w (initializers w.program)) (sym h.all) ∙ so)

@@ -1,12 +1,12 @@
 //! The state in which a program begins.
 
 ghost use Rattle.std.specs.Prelude.{◌≡◌, ◌+◌, [], length, IfOk};
-ghost use Rattle.ref_model.specs.Monitors.{is_synchronized_at};
-ghost use Rattle.ref_model.specs.Opening.{opening, opening_statics};
+ghost use Rattle.ref_model.specs.declared.limits.Limits.{Limits};
+ghost use Rattle.ref_model.specs.Opening.{opening, opening_monitor, opening_statics};
 ghost use Rattle.step_soundness.specs.OpeningLaws.{IsMain};
 ghost use Rattle.link_soundness.specs.Begins.{MayBegin};
 ghost use Rattle.link_soundness.specs.OpeningClasses.{HasOpeningClasses};
-ghost use Rattle.startup.specs.Openings.{opened_state, setting};
+ghost use Rattle.startup.specs.Openings.{monitor_held, opened_state, setting};
 
 use crate::first_frames::first_frames;
 use crate::first_heap::first_heap;
@@ -15,8 +15,9 @@ use crate::library::library_in;
 use continuation::Mounted;
 use heap_objs::Heap;
 use instruction_rows::Value;
+use invocation::class_monitor;
 use items::NoMemory;
-use link_model::{OBJECTS_BEFORE_STRINGS, is_synchronized};
+use link_model::{MethodInfo, OBJECTS_BEFORE_STRINGS, is_synchronized};
 use link_numbers::Names;
 use ref_model::Limits;
 use runtime_program::ReadyProgram;
@@ -28,6 +29,8 @@ pub struct Opened {
     pub heap: Heap,
     pub statics: Vec<Value>,
     pub mounted: Mounted,
+    /// The monitor that main holds, where it is synchronized.
+    pub monitor: Option<u32>,
 }
 
 // The number of the array of words, the last object. Numbers from 2^32 on count as memory run out.
@@ -40,18 +43,31 @@ fn words_number(strings: &Names) -> Result<u32, NoMemory>
         .ok_or(NoMemory)
 }
 
-// Whether the method with a number is synchronized.
-fn is_guarded(program: &ReadyProgram, n: u32) -> bool
-    ensures { result ≡ is_synchronized_at program.now n }
+// The monitor that a static method holds while it runs.
+fn held_monitor(method: &MethodInfo) -> Result<Option<u32>, NoMemory>
+    ensures { IfOk result (λ monitor. monitor ≡ monitor_held method.now) }
 {
-    match program.method(n) {
-        Some(method) => is_synchronized(method),
-        None => false,
+    if !is_synchronized(method) {
+        return Ok(None);
+    }
+    match class_monitor(method.class) {
+        Some(monitor) => Ok(Some(monitor)),
+        None => Err(NoMemory),
     }
 }
 
-/// Begins a program whose main method has this number (JVMS 5.2, 5.5). A frame too many counts as memory run out, and so does a main that
-/// is synchronized.
+// The monitor that main holds. `None`: it isn't synchronized.
+fn main_monitor(program: &ReadyProgram, main: u32) -> Result<Option<u32>, NoMemory>
+    ensures { (limits : Limits) → IfOk result (λ monitor. monitor
+        ≡ opening_monitor (setting program.now main limits)) }
+{
+    match program.method(main) {
+        Some(method) => held_monitor(method),
+        None => Ok(None),
+    }
+}
+
+/// Begins a program whose main method has this number (JVMS 5.2, 5.5). A frame too many counts as memory run out.
 pub fn open(
     alloc: Global,
     program: &ReadyProgram,
@@ -70,17 +86,16 @@ pub fn open(
     ensures thread { IfOk result (λ o. o.mounted.thread ≡ 0) }
     ensures pinned { IfOk result (λ o. o.mounted.pinned ≡ []) }
 {
-    if is_guarded(program, main) {
-        return Err(NoMemory);
-    }
     let library = library_in(alloc, program.tables())?;
     let strings = program.tables().strings();
     let heap = first_heap(alloc, program, library, strings, limits.heap_cells)?;
     let statics = first_statics(alloc, program.tables(), strings)?;
-    let mounted = first_frames(alloc, program, main, words_number(strings)?)?;
+    let monitor = main_monitor(program, main)?;
+    let mounted = first_frames(alloc, program, main, words_number(strings)?, monitor)?;
     Ok(Opened {
         heap,
         statics,
         mounted,
+        monitor,
     })
 }

@@ -1,11 +1,12 @@
 //! The frames with which a program begins: main's, and above it those of the class initializers, the first to run on top.
 
-ghost use Rattle.std.specs.Prelude.{◌≡◌, [], Some, IfOk, OnOk};
+ghost use Rattle.std.specs.Prelude.{◌≡◌, ◌<◌, [], Some, IfOk, IsSome, OnOk, length};
+ghost use Rattle.frames.specs.Frames.{top_locals};
 ghost use Rattle.ref_model.specs.Opening as spec;
 ghost use Rattle.items.specs.First.{Each};
 ghost use Rattle.step_soundness.specs.OpeningLaws.{IsMain};
 ghost use Rattle.link_soundness.specs.Begins.{HasCode, HasLocals, MayBegin};
-ghost use Rattle.startup.specs.FirstFrames.{HasFrame, IsFirst, frames_with};
+ghost use Rattle.startup.specs.FirstFrames.{HasFrame, IsFirst, count_with, frames_with, holding};
 
 use crate::class_order::initializers;
 use continuation::Mounted;
@@ -31,25 +32,52 @@ fn push_frame(program: &ReadyProgram, mounted: &mut Mounted, method: u32) -> Res
     }
 }
 
-// Makes main's frame, with the array of words in its first local variable.
+// The number of a monitor goes into the last local variable of the top frame, where there is one.
+fn hold_monitor(mounted: &mut Mounted, last: u16, monitor: Option<u32>)
+    requires { IsSome monitor → last < length (top_locals mounted.old.stack.frames) }
+    ensures frames { mounted.new.stack.frames
+        ≡ holding last monitor mounted.old.stack.frames }
+    ensures thread { mounted.new.thread ≡ mounted.old.thread }
+    ensures pinned { mounted.new.pinned ≡ mounted.old.pinned }
+{
+    if let Some(o) = monitor {
+        mounted.set_local(last, Slot::One(Value::Ref(o)));
+    }
+}
+
+// How many local variables a frame has that may hold a monitor.
+fn local_count(locals: u16, monitor: Option<u32>) -> u32
+    ensures { result ≡ count_with locals monitor }
+{
+    match monitor {
+        Some(_) => u32::from(locals) + 1,
+        None => u32::from(locals),
+    }
+}
+
+// Makes main's frame, with the array of words in its first local variable, and the monitor that it holds in one more.
 fn push_main(
     program: &ReadyProgram,
     mounted: &mut Mounted,
     main: u32,
     words: u32,
+    monitor: Option<u32>,
 ) -> Result<(), NoMemory>
     requires code { HasLocals program.now main }
     requires none { mounted.old.stack.frames ≡ [] }
-    ensures frames { OnOk result (IsFirst program.now main words mounted.new.stack.frames) }
+    ensures frames { OnOk result (IsFirst program.now main words monitor
+        mounted.new.stack.frames) }
     ensures thread { mounted.new.thread ≡ mounted.old.thread }
     ensures pinned { OnOk result (mounted.new.pinned ≡ mounted.old.pinned) }
 {
     let Some(code) = program.code(main) else {
         unreachable!()
     };
-    match mounted.push_frame(main, code.max_locals as u32, code.max_stack, 0, false) {
+    let locals = local_count(code.max_locals, monitor);
+    match mounted.push_frame(main, locals, code.max_stack, 0, false) {
         Ok(()) => {
             mounted.set_local(0, Slot::One(Value::Ref(words)));
+            hold_monitor(mounted, code.max_locals, monitor);
             Ok(())
         }
         Err(_) => Err(NoMemory),
@@ -82,15 +110,17 @@ pub(crate) fn first_frames(
     program: &ReadyProgram,
     main: u32,
     words: u32,
+    monitor: Option<u32>,
 ) -> Result<Mounted, NoMemory>
     requires begins { MayBegin program.now }
     requires main { IsMain program.now main }
-    ensures frames { IfOk result (λ m. frames_with program.now main words ≡ Some m.stack.frames) }
+    ensures frames { IfOk result (λ m. frames_with program.now main words monitor
+        ≡ Some m.stack.frames) }
     ensures thread { IfOk result (λ m. m.thread ≡ 0) }
     ensures pinned { IfOk result (λ m. m.pinned ≡ []) }
 {
     let mut mounted = Mounted::new(alloc, 0);
-    push_main(program, &mut mounted, main, words)?;
+    push_main(program, &mut mounted, main, words, monitor)?;
     let methods = initializers(alloc, program.tables())?;
     push_frames(program, &mut mounted, &methods)?;
     Ok(mounted)

@@ -35,12 +35,13 @@ returns-clause-state c =
     c.strings-strings.ensures ∙ ap (λ (v : World). strings_of v.program) c.tables-2.ensures in
     let objects : heap.objects ≡ first_objects w l = ap (λ (h : Heap). h.objects) c.in_ok-heap.ensures in
     let words : c.in_ok-words_number.field-0 ≡ main_words w = c.in_ok-words_number.ensures ∙ ap (λ (ts : List (List ℕ)). 10 + length ts) texts in
-    let all : frames_with w c.args.main (main_words w) ≡ Some frames =
-    ap (λ (n : ℕ). frames_with w c.args.main n) (sym words) ∙ c.in_ok-mounted.ensures.frames in
+    let monitor = c.in_ok-monitor.monitor in
+    let all : frames_with w c.args.main (main_words w) monitor ≡ Some frames =
+    ap (λ (n : ℕ). frames_with w c.args.main n monitor) (sym words) ∙ c.in_ok-mounted.ensures.frames in
     let none : c.args.limits.heap_cells - 0 ≡ c.args.limits.heap_cells = omega arith in
     let room : heap.cells - heap.used ≡ c.args.limits.heap_cells = ap (λ (h : Heap). h.cells - h.used) c.in_ok-heap.ensures ∙ none in
     let values : statics ≡ opening_statics w.program =
     c.in_ok-statics.ensures ∙ ap (λ (v : World). flat_map (static_values strings) v.program.classes) c.tables-3.ensures
     ∙ ap (λ (ts : List (List ℕ)). flat_map (static_values ts) w.program.classes) texts ∙ statics_are w.program in
-    opening_is (setting w c.args.main c.args.limits) heap.objects (heap.cells - heap.used) statics frames
-    (heap_is w l has ∙ ap Some (sym objects)) (sym c.is_guarded.ensures ∙ c.if-is_guarded.false) all room values
+    opening_is (setting w c.args.main c.args.limits) heap.objects (heap.cells - heap.used) statics frames monitor
+    (heap_is w l has ∙ ap Some (sym objects)) (c.in_ok-monitor.ensures c.args.limits) all room values
