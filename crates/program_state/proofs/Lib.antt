@@ -2,6 +2,7 @@ pub mod MemberLaws
 pub mod WheelLaws
 pub mod DueLaws
 pub mod MonitorLaws
+pub mod SeatLaws
 pub mod StateLaws
 pub mod FlagLaws
 pub mod StepLaws

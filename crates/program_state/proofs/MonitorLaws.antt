@@ -1,8 +1,9 @@
 -- Monitors, where one thread of a state has changed.
-use Rattle.std.proofs.Common.{arith, ◌≡◌, ◌≢◌, ◌+◌, ◌++◌, ◌⊎◌, ℕ, suc, Bool, true, false, List, [], ◌∷◌, Option, Some, None, eqb, inl, inr, length, refl, sym, subst, ap, ◌∙◌}
-use Rattle.std.specs.Prelude.{slice_get, slice_set}
+use Rattle.std.proofs.Common.{arith, ◌≡◌, ◌≢◌, ◌+◌, ◌++◌, ◌⊎◌, ℕ, zero, suc, Bool, true, false, List, [], ◌∷◌, Option, Some, None, eqb, inl, inr, length, refl, sym, subst, ap, ◌∙◌}
+use Rattle.std.specs.Prelude.{map, slice_get, slice_set}
 use Rattle.std.specs.Option.{option_map_or}
 use Rattle.std.proofs.Math.ListN.{length-set}
+use Rattle.std.proofs.lemmas.List.{length-map}
 use Rattle.std.proofs.lemmas.Bool.Decides.{eqb_tells}
 use Rattle.thread_lists.specs.Lists.{count}
 use Rattle.vthread_state.specs.declared.phase.Phase.TheVariants.{Run, Throwing, Parked, Asleep, Joining}
@@ -11,12 +12,15 @@ use Rattle.vthread_state.specs.declared.thread.Status.TheVariants.{New, Live, Do
 use Rattle.schedule_model.specs.Look.{Spot, absent, is_entering, is_waiting}
 use Rattle.schedule_model.specs.Woken.{once_if}
 use Rattle.ref_model.specs.Looks.{spot_of}
-use Rattle.ref_model.specs.State.{JavaThread, Owner}
+use Rattle.vthread_state.specs.declared.thread.Thread.{Thread}
+use Rattle.vthread_state.specs.Threads.{Threads}
+use Rattle.ref_model.specs.State.{JavaThread, Owner, State}
 use Rattle.monitors.specs.Monitors.{Monitors, monitor_of}
 use Rattle.ref_model.proofs.StateLaws.{get_set}
 use Rattle.schedule_soundness.proofs.ThreadLists.{more, set_other}
-use Rattle.program_state.specs.Monitors.{HoldsMonitors, InSameLists, spot_at}
-use Rattle.program_state.specs.States.{is_plain_status}
+use Rattle.program_state.specs.declared.state.ProgramState.{ProgramState}
+use Rattle.program_state.specs.Monitors.{AreSeated, HoldsMonitors, InSameLists, owner_in, spot_at, spot_in}
+use Rattle.program_state.specs.States.{IsState, is_plain_status}
 
 -- ---- who is in the same lists
 
@@ -98,3 +102,31 @@ monitors_more a threads owners x holds new longer = record {
   where
     add_one : (n : ℕ) → n + 1 ≡ suc n
     add_one n = omega arith
+
+-- ---- the same by the table of threads
+
+spot_in_rows : (xs : List JavaThread) (t : ℕ) → option_map_or (λ (thread : Thread). spot_of thread.status) (slice_get (map (λ x. x.thread) xs) t) absent ≡ spot_at xs t
+spot_in_rows [] t = refl
+spot_in_rows (x ∷ xs) zero = refl
+spot_in_rows (x ∷ xs) (suc t) = spot_in_rows xs t
+
+-- where a thread is, in both
+pub spots_are : (table : Threads) (threads : List JavaThread) → table.threads ≡ map (λ x. x.thread) threads → (t : ℕ) → spot_in table t ≡ spot_at threads t
+spots_are table threads rows t =
+    ap (λ (ts : List Thread). option_map_or (λ (thread : Thread). spot_of thread.status) (slice_get ts t) absent) rows ∙ spot_in_rows threads t
+
+pub seated : (a : ProgramState) (r : State) (out : ℕ → Bool) → IsState a r out → AreSeated a.monitors a.threads
+seated a r out is = record {
+  waits = λ t o. is.monitors.waits t o ∙ ap (λ s. once_if (is_waiting o s)) (sym (spots_are a.threads r.threads is.rows t));
+  enters = λ t o. is.monitors.enters t o ∙ ap (λ s. once_if (is_entering o s)) (sym (spots_are a.threads r.threads is.rows t));
+  places = is.monitors.places ∙ sym (ap length is.rows ∙ length-map r.threads (λ x. x.thread));
+}
+
+pub holds_seated : (a : Monitors) (table : Threads) (threads : List JavaThread) (owners : ℕ → Option Owner) → AreSeated a table → table.threads ≡ map (λ x. x.thread) threads
+    → ((o : ℕ) → owner_in (monitor_of a o) ≡ owners o) → HoldsMonitors a threads owners
+holds_seated a table threads owners seats rows same = record {
+  owners_are = same;
+  waits = λ t o. seats.waits t o ∙ ap (λ s. once_if (is_waiting o s)) (spots_are table threads rows t);
+  enters = λ t o. seats.enters t o ∙ ap (λ s. once_if (is_entering o s)) (spots_are table threads rows t);
+  places = seats.places ∙ ap length rows ∙ length-map threads (λ x. x.thread);
+}

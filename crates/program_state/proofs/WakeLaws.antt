@@ -37,6 +37,7 @@ use Rattle.program_state.specs.States.{IsState}
 use Rattle.program_state.specs.Steps.{IsWoken, gets, leaves_others, tells}
 use Rattle.program_state.specs.Waking.{IsInterruptTaken, LeavesWoken, flag_at, woken_in}
 use Rattle.program_state.proofs.StateLaws.{others_same, row_back, stays_same, thread_is}
+use Rattle.program_state.proofs.SeatLaws.{woken_same}
 use Rattle.program_state.proofs.RowLaws.{answers_same, answers_so}
 use Rattle.program_state.proofs.ChangeLaws.{changed_runs}
 use Rattle.program_state.proofs.FlagLaws.{HasFlags, flags_put, interrupt_answers, interrupt_flags, interrupt_had, interrupt_is, permit_flags, with_interrupt_as, with_permit_as}
@@ -64,16 +65,6 @@ unparks_so = record {
   permit = λ x had. refl;
   interrupted = λ x had. had;
 }
-
-woken_same : (wake : Wake) (phase : Phase) → is_in_wait_list (spot_in phase) ≡ false → phase_woken wake phase ≡ phase
-woken_same wake Run free = refl
-woken_same wake (Throwing o) free = refl
-woken_same wake (Entering o) free = refl
-woken_same wake (Waiting o count deadline) free = absurd cc
-woken_same wake (Reenter o count ended) free = refl
-woken_same wake (Parked deadline) free = refl
-woken_same wake (Asleep deadline) free = refl
-woken_same wake (Joining target deadline) free = refl
 
 interrupts_live : (x : JavaThread) (phase : Phase) → x.thread.status ≡ Live phase → is_in_wait_list (spot_in phase) ≡ false → thread_interrupted x ≡ with_interrupt_as true x
 interrupts_live x phase status free =

@@ -3,12 +3,14 @@ use Rattle.std.specs.Prelude.{◌≡◌, ℕ, Bool, List, Option, length, slice_
 use Rattle.std.specs.Option.{option_map, option_map_or}
 use Rattle.thread_lists.specs.Lists.{count}
 use Rattle.vthread_state.specs.declared.thread.Status.{Status}
-use Rattle.schedule_model.specs.Look.{Spot, absent, is_entering, is_waiting}
+use Rattle.schedule_model.specs.Look.{Spot, absent, in_wait_list, is_entering, is_waiting}
 use Rattle.schedule_model.specs.Woken.{once_if}
 use Rattle.ref_model.specs.Looks.{spot_of}
 use Rattle.ref_model.specs.State.{JavaThread, Owner}
+use Rattle.ref_model.specs.Waiting.{status_woken}
+use Rattle.vthread_state.specs.declared.phase.Wake.{Wake}
 use Rattle.vthread_state.specs.declared.thread.Thread.{Thread}
-use Rattle.vthread_state.specs.Threads.{Threads, thread_at}
+use Rattle.vthread_state.specs.Threads.{Threads, thread_at, with_thread}
 use Rattle.monitors.specs.Monitors.{Becomes, Monitor, Monitors, after_leave_wait, after_line_up, after_notify, after_notify_all, after_retake, after_wait, monitor_of}
 
 -- the owner of a monitor, as the reference machine has it
@@ -37,6 +39,10 @@ pub record AreSeated (a : Monitors) (table : Threads) : Type 0 where
   pub enters : (t o : ℕ) → count t (monitor_of a o).entry_list ≡ once_if (is_entering o (spot_in table t))
   pub places : a.threads ≡ length table.threads
 
+-- the table where a wait of a thread on a monitor has ended so, if it waited on one
+abbrev pub with_woken : Wake → Threads → ℕ → Threads
+with_woken wake table t = with_thread table t (λ thread. record thread { status = status_woken wake thread.status })
+
 -- ---- how lists change
 
 -- their lists are the same
@@ -54,6 +60,17 @@ pub data ListsMove (old new : Monitors) : Type 0 where
   wait_ends : (t o : ℕ) → Becomes old new o (after_leave_wait t (monitor_of old o)) → ListsMove old new
   notifies : (o : ℕ) → Becomes old new o (after_notify (monitor_of old o)) → ListsMove old new
   notifies_all : (o : ℕ) → Becomes old new o (after_notify_all (monitor_of old o)) → ListsMove old new
+
+-- A thread that is where it waits on a monitor lines up for that, and else nothing changes.
+abbrev pub LeavesWait : ℕ → Spot → Monitors → Monitors → Type 0
+LeavesWait t (in_wait_list o) old new = Becomes old new o (after_leave_wait t (monitor_of old o))
+LeavesWait t spot old new = new ≡ old
+
+-- The wait of a thread has ended so, if it waited on a monitor: it lines up for that.
+pub record HasEndedWait (wake : Wake) (t : ℕ) (old : Monitors) (table : Threads) (new : Monitors) (after : Threads) : Type 0 where
+  pub threads : after ≡ with_woken wake table t
+  pub monitors : LeavesWait t (spot_in table t) old new
+  pub seated : AreSeated new after
 
 -- a thread with the one status is in the lists in which it is with the other
 pub record InSameLists (old new : Status) : Type 0 where

@@ -6,6 +6,7 @@ mod clock;
 mod creating;
 mod endings;
 mod flags;
+mod monitor_waits;
 mod phases;
 mod replies;
 mod reply;
