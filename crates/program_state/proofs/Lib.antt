@@ -13,6 +13,7 @@ pub mod CreateLaws
 pub mod StartLaws
 pub mod WaitRequestLaws
 pub mod WakeLaws
+pub mod InterruptLaws
 pub mod TimeRequestLaws
 pub mod RequestLaws
 pub mod WaitLaws

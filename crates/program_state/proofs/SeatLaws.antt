@@ -1,6 +1,6 @@
 -- A thread lines up for a monitor: it is in the lists in which its phase says so.
-use Rattle.std.proofs.Common.{arith, ◌≡◌, ◌≢◌, ◌≤◌, ◌+◌, ◌++◌, ◌⊎◌, ℕ, Bool, true, false, not, List, [], ◌∷◌, Option, Some, None, eqb, inl, inr, length, refl, sym, subst, ap, ◌∙◌, add-zero}
-use Rattle.std.specs.Prelude.{◌<◌, slice_get, slice_set}
+use Rattle.std.proofs.Common.{arith, ◌≡◌, ◌≢◌, ◌≤◌, ◌+◌, ◌++◌, ◌⊎◌, ℕ, Bool, true, false, not, List, [], ◌∷◌, Option, Some, None, Result, Ok, Err, eqb, inl, inr, length, refl, sym, subst, ap, ◌∙◌, add-zero}
+use Rattle.std.specs.Prelude.{◌<◌, OnOk, slice_get, slice_set}
 use Rattle.std.specs.Option.{option_map_or}
 use Rattle.std.proofs.Math.ListN.{length-set}
 use Rattle.std.proofs.lemmas.Option.{slice_get_past}
@@ -14,7 +14,7 @@ use Rattle.vthread_state.specs.declared.thread.Status.{Status}
 use Rattle.vthread_state.specs.declared.thread.Status.TheVariants.{New, Live, Done}
 use Rattle.vthread_state.specs.declared.thread.Thread.{Thread}
 use Rattle.vthread_state.specs.Threads.{Threads, thread_at, threads_with, with_status, with_thread}
-use Rattle.schedule_model.specs.Look.{Spot, absent, in_entry_list, in_wait_list, is_entering, is_in_wait_list, is_waiting}
+use Rattle.schedule_model.specs.Look.{Spot, absent, unstarted, in_no_list, in_entry_list, in_wait_list, done, is_entering, is_in_wait_list, is_waiting}
 use Rattle.schedule_model.specs.Woken.{once_if}
 use Rattle.schedule_model.proofs.ListLaws.{count-filter_yes}
 use Rattle.monitors.specs.Monitors.{Becomes, Monitor, Monitors, after_leave_wait, after_line_up, monitor_of}
@@ -22,7 +22,7 @@ use Rattle.ref_model.specs.Looks.{spot_in as spot_of_phase, spot_of}
 use Rattle.ref_model.specs.Waiting.{phase_woken, status_woken}
 use Rattle.ref_model.proofs.StateLaws.{get_set, set_same}
 use Rattle.schedule_soundness.proofs.ThreadLists.{set_other}
-use Rattle.program_state.specs.Monitors.{AreSeated, HasEndedWait, LeavesWait, spot_in, with_woken}
+use Rattle.program_state.specs.Monitors.{AreSeated, HasEndedWait, HaveSameLists, LeavesWait, ListsMove, stay, wait_ends, owner_in, spot_in, with_woken}
 
 -- ---- a list that a thread leaves, or comes to
 
@@ -226,3 +226,37 @@ plain_waits (Reenter o count ended) other = refl
 plain_waits (Parked deadline) other = refl
 plain_waits (Asleep deadline) other = refl
 plain_waits (Joining target deadline) other = refl
+
+-- ---- what stays then, and how lists moved
+
+pub same_lists_of : (a new : Monitors) → new ≡ a → HaveSameLists a new
+same_lists_of a new same = record { waits = λ o. ap (λ m. (monitor_of m o).wait_list) same; enters = λ o. ap (λ m. (monitor_of m o).entry_list) same }
+
+pub left_owner : (u : ℕ) (s : Spot) (a new : Monitors) → LeavesWait u s a new → (o : ℕ) → owner_in (monitor_of new o) ≡ owner_in (monitor_of a o)
+left_owner u (in_wait_list p) a new becomes o = by (eqb_tells o p)
+  where
+    by : ((eqb o p ≡ true) × (o ≡ p)) ⊎ ((eqb o p ≡ false) × (o ≢ p)) → owner_in (monitor_of new o) ≡ owner_in (monitor_of a o)
+    by (inl here) = subst (λ n. owner_in (monitor_of new n) ≡ owner_in (monitor_of a n)) (sym here.1) (ap owner_in becomes.changed)
+    by (inr far) = ap owner_in (becomes.others o far.1)
+left_owner u absent a new same o = ap (λ m. owner_in (monitor_of m o)) same
+left_owner u unstarted a new same o = ap (λ m. owner_in (monitor_of m o)) same
+left_owner u in_no_list a new same o = ap (λ m. owner_in (monitor_of m o)) same
+left_owner u (in_entry_list p) a new same o = ap (λ m. owner_in (monitor_of m o)) same
+left_owner u done a new same o = ap (λ m. owner_in (monitor_of m o)) same
+
+pub left_moves : (u : ℕ) (s : Spot) (a new : Monitors) → LeavesWait u s a new → ListsMove a new
+left_moves u (in_wait_list o) a new becomes = wait_ends u o becomes
+left_moves u absent a new same = stay (same_lists_of a new same)
+left_moves u unstarted a new same = stay (same_lists_of a new same)
+left_moves u in_no_list a new same = stay (same_lists_of a new same)
+left_moves u (in_entry_list o) a new same = stay (same_lists_of a new same)
+left_moves u done a new same = stay (same_lists_of a new same)
+
+-- of a call that kept the monitors
+pub lists_kept : {A E : Type 0} (r : Result A E) (a new : Monitors) → new ≡ a → OnOk r (HaveSameLists a new)
+lists_kept (Ok x) a new same = same_lists_of a new same
+lists_kept (Err e) a new same = tt
+
+pub lists_stay : {A E : Type 0} (r : Result A E) (a new : Monitors) → new ≡ a → OnOk r (ListsMove a new)
+lists_stay (Ok x) a new same = stay (same_lists_of a new same)
+lists_stay (Err e) a new same = tt

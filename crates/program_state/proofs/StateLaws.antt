@@ -115,17 +115,21 @@ still_out u out x y o here started (places.mounted z e f g s) = places.mounted y
 still_out u out x y o here started (places.waiting z k e f g live t fs) = let no : true ≡ false = sym here ∙ e in absurd cc
 still_out u out x y o here started (places.idle z e f g live) = let no : true ≡ false = sym here ∙ e in absurd cc
 
--- the same, of one with the old frames and status
+-- the same, of one with the old frames, which is live as before
+pub still_lies : (u : ℕ) (out : Bool) (x y : JavaThread) (o : Option (Option Continuation)) → is_started y.thread.status ≡ is_started x.thread.status
+    → is_live y.thread.status ≡ is_live x.thread.status → y.frames ≡ x.frames → IsKept u out (Some x) o → IsKept u out (Some y) o
+still_lies u out x y o started alive frames (places.absent e f g) = absurd cc
+still_lies u out x y o started alive frames (places.mounted z e f g s) =
+    let same : x ≡ z = cc in places.mounted y e refl g (started ∙ ap (λ (k : JavaThread). is_started k.thread.status) same ∙ s)
+still_lies u out x y o started alive frames (places.waiting z k e f g live t fs) =
+    let same : x ≡ z = cc in
+    places.waiting y k e refl g (alive ∙ ap (λ (k : JavaThread). is_live k.thread.status) same ∙ live) t (fs ∙ ap (λ (k : JavaThread). k.frames) (sym same) ∙ sym frames)
+still_lies u out x y o started alive frames (places.idle z e f g live) =
+    let same : x ≡ z = cc in places.idle y e refl g (alive ∙ ap (λ (k : JavaThread). is_live k.thread.status) same ∙ live)
+
 pub still_kept : (u : ℕ) (out : Bool) (x y : JavaThread) (o : Option (Option Continuation)) → y.thread.status ≡ x.thread.status → y.frames ≡ x.frames
     → IsKept u out (Some x) o → IsKept u out (Some y) o
-still_kept u out x y o status frames (places.absent e f g) = absurd cc
-still_kept u out x y o status frames (places.mounted z e f g s) =
-    let same : x ≡ z = cc in places.mounted y e refl g (ap is_started (status ∙ ap (λ (k : JavaThread). k.thread.status) same) ∙ s)
-still_kept u out x y o status frames (places.waiting z k e f g live t fs) =
-    let same : x ≡ z = cc in
-    places.waiting y k e refl g (ap is_live (status ∙ ap (λ (k : JavaThread). k.thread.status) same) ∙ live) t (fs ∙ ap (λ (k : JavaThread). k.frames) (sym same) ∙ sym frames)
-still_kept u out x y o status frames (places.idle z e f g live) =
-    let same : x ≡ z = cc in places.idle y e refl g (ap is_live (status ∙ ap (λ (k : JavaThread). k.thread.status) same) ∙ live)
+still_kept u out x y o status frames = still_lies u out x y o (ap is_started status) (ap is_live status) frames
 
 -- ---- one thread of a state has changed
 

@@ -85,7 +85,7 @@ interrupts_so = record {
 
 -- ---- what others see
 
-others_beside : (t u : ℕ) (r : State) (y : JavaThread) → OthersStayBeside t u r (record r { threads = slice_set r.threads u y })
+pub others_beside : (t u : ℕ) (r : State) (y : JavaThread) → OthersStayBeside t u r (record r { threads = slice_set r.threads u y })
 others_beside t u r y =
     record { threads = λ v ne other. stays_same (slice_get r.threads v) (slice_get (slice_set r.threads u y) v) (set_other r.threads u v y other); owners = refl; now = refl }
 

@@ -10,6 +10,7 @@ ghost use Rattle.heap_instructions.specs.Outcomes.{with_heap};
 ghost use Rattle.native_methods.specs.NativeStates.{thread_in};
 ghost use Rattle.schedule_soundness.specs.PutLaws.{OthersStay};
 ghost use Rattle.program_state.specs.Creating.{IsAdded, IsNameMade, daemon_of, first_name_of, has_room, unnamed_with};
+ghost use Rattle.program_state.specs.Monitors.{HaveSameLists};
 ghost use Rattle.program_state.specs.Replies.{Answers};
 
 use crate::reply::Reply;
@@ -147,8 +148,9 @@ pub(crate) fn create_thread(
     name: Option<u32>,
 ) -> Result<Reply, NoMemory>
     requires { has_room state.old ≡ true }
-    ensures { (w : World) → IfOk result (Answers w (ThreadRequest.Creates kind object name)
+    ensures answers { (w : World) → IfOk result (Answers w (ThreadRequest.Creates kind object name)
         (OthersStay t) t state.old state.new) }
+    ensures lists { OnOk result (HaveSameLists state.old.monitors state.new.monitors) }
 {
     let number = state.threads.count();
     let daemon = first_daemon(kind, row_at(&state.threads, t)?.daemon);

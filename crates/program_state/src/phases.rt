@@ -52,7 +52,8 @@ fn set_waiting(threads: &mut ThreadTable, t: u32, phase: Phase) -> Result<(), No
 
 /// A thread that runs waits in a phase. Its deadline, if that is to come, goes onto the wheel.
 pub(crate) fn begin_wait(state: &mut ProgramState, t: u32, phase: Phase) -> Result<(), NoMemory>
-    ensures { OnOk result (BeginsWait t phase state.old state.new) }
+    ensures waits { OnOk result (BeginsWait t phase state.old state.new) }
+    ensures monitors { state.new.monitors ≡ state.old.monitors }
 {
     let deadline = phase_deadline(phase);
     set_timer(&mut state.wheel, &mut state.keys, state.time, t, deadline)?;

@@ -51,7 +51,8 @@ pub(crate) fn throw<W: MachineWorld>(
     t: u32,
     exception: Exception,
 ) -> Result<(), NoMemory>
-    ensures { OnOk result (IsRaised (W.world world.now) exception t state.old state.new) }
+    ensures raised { OnOk result (IsRaised (W.world world.now) exception t state.old state.new) }
+    ensures monitors { state.new.monitors ≡ state.old.monitors }
 {
     raise(world, &mut state.memory, exception)?;
     settle_status(state, t)
@@ -69,6 +70,7 @@ pub(crate) fn conclude_reply<W: MachineWorld>(
     requires takes { pending.operands ≤ length (operands mounted.old) }
     ensures concludes { OnOk result (Concludes (W.world world.now) pending mounted.old.thread reply
         state.old mounted.old.stack.frames state.new mounted.new.stack.frames) }
+    ensures monitors { state.new.monitors ≡ state.old.monitors }
     ensures thread { mounted.new.thread ≡ mounted.old.thread }
 {
     mounted.operands_fit();

@@ -33,8 +33,9 @@ fn refuses_daemon(row: Thread, daemon: bool) -> bool
 
 /// setDaemon. A virtual thread is a daemon, and a thread that runs isn't changed.
 pub(crate) fn set_daemon(state: &mut ProgramState, u: u32, daemon: bool) -> Result<Reply, NoMemory>
-    ensures { (w : World) (t : ℕ) → IfOk result (Answers w (ThreadRequest.SetsDaemon u daemon)
+    ensures answers { (w : World) (t : ℕ) → IfOk result (Answers w (ThreadRequest.SetsDaemon u daemon)
         (OthersStay t) t state.old state.new) }
+    ensures monitors { state.new.monitors ≡ state.old.monitors }
 {
     let row = row_at(&state.threads, u)?;
     if refuses_daemon(row, daemon) {
@@ -49,8 +50,9 @@ pub(crate) fn set_daemon(state: &mut ProgramState, u: u32, daemon: bool) -> Resu
 
 /// setName, by the String.
 pub(crate) fn set_name(state: &mut ProgramState, u: u32, name: u32) -> Result<Reply, NoMemory>
-    ensures { (w : World) (t : ℕ) → IfOk result (Answers w (ThreadRequest.SetsName u name)
+    ensures answers { (w : World) (t : ℕ) → IfOk result (Answers w (ThreadRequest.SetsName u name)
         (OthersStay t) t state.old state.new) }
+    ensures monitors { state.new.monitors ≡ state.old.monitors }
 {
     row_at(&state.threads, u)?;
     state.threads.set_name(u, name);

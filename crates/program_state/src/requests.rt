@@ -1,8 +1,9 @@
 //! What a thread asks of other threads, in one step.
 
-ghost use Rattle.std.specs.Prelude.{◌≡◌, false, IfOk};
+ghost use Rattle.std.specs.Prelude.{◌≡◌, false, IfOk, OnOk};
 ghost use Rattle.link_model.specs.World.{World};
 ghost use Rattle.schedule_soundness.specs.PutLaws.{OthersStay};
+ghost use Rattle.program_state.specs.Monitors.{AreSeated, HaveSameLists, ListsMove};
 ghost use Rattle.program_state.specs.Replies.{Answers};
 ghost use Rattle.program_state.specs.Requests.{IsPending, IsRequestMade, lacks_room};
 ghost use Rattle.program_state.specs.Waking.{LeavesWoken, wake_outcome};
@@ -45,8 +46,9 @@ fn answer(
     request: ThreadRequest,
 ) -> Result<Reply, NoMemory>
     requires { lacks_room state.old request ≡ false }
-    ensures { (w : World) → IfOk result (Answers w request (OthersStay t) t
+    ensures answers { (w : World) → IfOk result (Answers w request (OthersStay t) t
         state.old state.new) }
+    ensures lists { OnOk result (HaveSameLists state.old.monitors state.new.monitors) }
 {
     match request {
         ThreadRequest::Creates { kind, object, name } => {
@@ -79,6 +81,7 @@ fn start_thread<W: ThreadWorld>(
         mounted.old.stack.frames }
     ensures made { IfOk result (λ outcome. IsRequestMade (W.world world.now) pending outcome
         state.old mounted.old state.new mounted.new) }
+    ensures lists { OnOk result (ListsMove state.old.monitors state.new.monitors) }
     ensures thread { mounted.new.thread ≡ mounted.old.thread }
 {
     match start_of(alloc, world, state, u)? {
@@ -102,8 +105,10 @@ fn give_wake(
     t: u32,
     request: ThreadRequest,
 ) -> Result<Option<u32>, NoMemory>
-    ensures { (w : World) → IfOk result (λ woken. Answers w request (LeavesWoken t woken) t
+    requires seated { AreSeated state.old.monitors state.old.threads }
+    ensures answers { (w : World) → IfOk result (λ woken. Answers w request (LeavesWoken t woken) t
         state.old state.new Reply.Goes) }
+    ensures lists { OnOk result (ListsMove state.old.monitors state.new.monitors) }
 {
     match request {
         ThreadRequest::Unparks(u) => unpark(state, t, u),
@@ -131,8 +136,10 @@ fn wake_thread<W: ThreadWorld>(
 ) -> Result<RequestOutcome, NoMemory>
     requires asks { IsPending (W.world world.now) pending state.old.memory
         mounted.old.stack.frames }
+    requires seated { AreSeated state.old.monitors state.old.threads }
     ensures made { IfOk result (λ outcome. IsRequestMade (W.world world.now) pending outcome
         state.old mounted.old state.new mounted.new) }
+    ensures lists { OnOk result (ListsMove state.old.monitors state.new.monitors) }
     ensures thread { mounted.new.thread ≡ mounted.old.thread }
 {
     let woken = give_wake(state, mounted.thread(), pending.request)?;
@@ -160,6 +167,7 @@ fn conclude_request<W: ThreadWorld>(
         mounted.old.stack.frames }
     ensures made { IfOk result (λ outcome. IsRequestMade (W.world world.now) pending outcome
         state.old mounted.old state.new mounted.new) }
+    ensures lists { OnOk result (ListsMove state.old.monitors state.new.monitors) }
     ensures thread { mounted.new.thread ≡ mounted.old.thread }
 {
     if lacks_threads(state, pending.request) {
@@ -179,9 +187,11 @@ pub fn make_request<W: ThreadWorld>(
     mounted: &mut Mounted,
     pending: PendingRequest,
 ) -> Result<RequestOutcome, NoMemory>
-    requires { IsPending (W.world world.now) pending state.old.memory mounted.old.stack.frames }
+    requires asks { IsPending (W.world world.now) pending state.old.memory mounted.old.stack.frames }
+    requires seated { AreSeated state.old.monitors state.old.threads }
     ensures made { IfOk result (λ outcome. IsRequestMade (W.world world.now) pending outcome
         state.old mounted.old state.new mounted.new) }
+    ensures lists { OnOk result (ListsMove state.old.monitors state.new.monitors) }
     ensures thread { mounted.new.thread ≡ mounted.old.thread }
 {
     match pending.request {

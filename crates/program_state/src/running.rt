@@ -44,6 +44,7 @@ pub fn run_step<W: ThreadWorld>(
     ensures progress { OnOk result (IsProgress (W.world world.now) progress.new
         state.old mounted.old state.new mounted.new) }
     ensures same { IfOk result (λ same. IsTrue same → state.new.threads ≡ state.old.threads) }
+    ensures monitors { state.new.monitors ≡ state.old.monitors }
     ensures thread { OnOk result (mounted.new.thread ≡ mounted.old.thread) }
     ensures cache { AreSelected (W.world world.now) cache.new }
 {

@@ -86,7 +86,8 @@ fn set_status(threads: &mut ThreadTable, t: u32, status: Status) -> Result<(), N
 
 /// Writes the status that a step left in the memory to the table, where it is that of a thread that runs, throws or is done.
 pub(crate) fn settle_status(state: &mut ProgramState, t: u32) -> Result<(), NoMemory>
-    ensures { OnOk result (IsSettled t state.old state.new) }
+    ensures settled { OnOk result (IsSettled t state.old state.new) }
+    ensures monitors { state.new.monitors ≡ state.old.monitors }
 {
     set_status(&mut state.threads, t, state.memory.status)?;
     state.memory.status = Status::Live(Phase::Run);
@@ -117,6 +118,7 @@ pub(crate) fn settle_running(state: &mut ProgramState, t: u32) -> Result<bool, N
     ensures settled { OnOk result (status_at state.old.threads t ≡ Some (Live Run)
         → IsSettled t state.old state.new) }
     ensures same { IfOk result (λ runs. IsTrue runs → state.new ≡ state.old) }
+    ensures monitors { state.new.monitors ≡ state.old.monitors }
 {
     if is_running(state.memory.status) {
         return Ok(true);
@@ -149,8 +151,9 @@ fn throws(status: Status, o: u32) -> bool
 /// The same of a thread that threw this object before its step.
 #[inline(always)]
 pub(crate) fn settle_throwing(state: &mut ProgramState, t: u32, o: u32) -> Result<(), NoMemory>
-    ensures { OnOk result (status_at state.old.threads t ≡ Some (Live (Throwing o))
+    ensures settled { OnOk result (status_at state.old.threads t ≡ Some (Live (Throwing o))
         → IsSettled t state.old state.new) }
+    ensures monitors { state.new.monitors ≡ state.old.monitors }
 {
     if throws(state.memory.status, o) {
         state.memory.status = Status::Live(Phase::Run);

@@ -25,6 +25,7 @@ pub fn throwing_step<W: ThreadWorld>(
     ensures steps { OnOk result (StepsTo (W.world world.now) (OthersStay mounted.old.thread)
         (Throwing o) mounted.old.thread state.old mounted.old.stack.frames
         state.new mounted.new.stack.frames) }
+    ensures monitors { state.new.monitors ≡ state.old.monitors }
     ensures thread { OnOk result (mounted.new.thread ≡ mounted.old.thread) }
 {
     if mounted.depth() == 0 {

@@ -1,6 +1,6 @@
 //! What a thread asks that may make it wait (java.lang.Thread, LockSupport).
 
-ghost use Rattle.std.specs.Prelude.{IfOk};
+ghost use Rattle.std.specs.Prelude.{◌≡◌, IfOk};
 ghost use Rattle.link_model.specs.World.{World};
 ghost use Rattle.schedule_soundness.specs.PutLaws.{OthersStay};
 ghost use Rattle.program_state.specs.Replies.{Answers};
@@ -16,8 +16,9 @@ use vthread_state::Phase;
 
 /// sleep, in milliseconds. A negative time is judged first, and then the interrupt status, which is cleared; 0 waits for nothing.
 pub(crate) fn sleep(state: &mut ProgramState, t: u32, millis: i64) -> Result<Reply, NoMemory>
-    ensures { (w : World) → IfOk result (Answers w (ThreadRequest.Sleeps millis)
+    ensures answers { (w : World) → IfOk result (Answers w (ThreadRequest.Sleeps millis)
         (OthersStay t) t state.old state.new) }
+    ensures monitors { state.new.monitors ≡ state.old.monitors }
 {
     if is_negative(Some(millis)) {
         return Ok(Reply::Throws(Exception::IllegalArgumentException));
@@ -40,8 +41,9 @@ pub(crate) fn join(
     target: u32,
     millis: Option<i64>,
 ) -> Result<Reply, NoMemory>
-    ensures { (w : World) → IfOk result (Answers w (ThreadRequest.Joins target millis)
+    ensures answers { (w : World) → IfOk result (Answers w (ThreadRequest.Joins target millis)
         (OthersStay t) t state.old state.new) }
+    ensures monitors { state.new.monitors ≡ state.old.monitors }
 {
     if is_negative(millis) {
         return Ok(Reply::Throws(Exception::IllegalArgumentException));
@@ -60,8 +62,9 @@ pub(crate) fn join(
 
 /// park, without a time or with one in nanoseconds. A time of 0 or less does nothing; a permit is taken; an interrupt status stays set.
 pub(crate) fn park(state: &mut ProgramState, t: u32, nanos: Option<i64>) -> Result<Reply, NoMemory>
-    ensures { (w : World) → IfOk result (Answers w (ThreadRequest.Parks nanos)
+    ensures answers { (w : World) → IfOk result (Answers w (ThreadRequest.Parks nanos)
         (OthersStay t) t state.old state.new) }
+    ensures monitors { state.new.monitors ≡ state.old.monitors }
 {
     if is_over(nanos) {
         return Ok(Reply::Goes);

@@ -143,6 +143,7 @@ fn ask_again<W: ThreadWorld>(
     ensures pending { IfOk result (λ q. IsPending (W.world world.now) q state.old.memory
         mounted.old.stack.frames) }
     ensures stays { OnOk result (Stays state.old mounted.old state.new mounted.new) }
+    ensures monitors { state.new.monitors ≡ state.old.monitors }
     ensures cache { AreSelected (W.world world.now) cache.new }
 {
     let mut progress = Progress::Stepped;
@@ -191,7 +192,8 @@ fn live_phase(threads: &ThreadTable, t: u32) -> Result<Phase, NoMemory>
 // A thread that was parked, asleep or joined another runs, and its deadline comes off the wheel. Whether it is to throw
 // InterruptedException: its interrupt status is cleared then. Any other thread counts as memory run out.
 fn end_wait(state: &mut ProgramState, t: u32) -> Result<bool, NoMemory>
-    ensures { IfOk result (λ interrupted. EndsWait t state.old state.new interrupted) }
+    ensures ends { IfOk result (λ interrupted. EndsWait t state.old state.new interrupted) }
+    ensures monitors { state.new.monitors ≡ state.old.monitors }
 {
     let phase = live_phase(&state.threads, t)?;
     clear_timer(&mut state.wheel, &mut state.keys, t)?;
@@ -230,6 +232,7 @@ pub fn finish_wait<W: ThreadWorld>(
     ensures steps { OnOk result ((phase : Phase) → StepsTo (W.world world.now)
         (OthersStay mounted.old.thread) phase mounted.old.thread
         state.old mounted.old.stack.frames state.new mounted.new.stack.frames) }
+    ensures monitors { state.new.monitors ≡ state.old.monitors }
     ensures thread { OnOk result (mounted.new.thread ≡ mounted.old.thread) }
     ensures cache { AreSelected (W.world world.now) cache.new }
 {

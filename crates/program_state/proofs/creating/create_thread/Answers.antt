@@ -6,14 +6,14 @@ use Rattle.program_state.specs.Creating.{IsNameMade}
 use Rattle.program_state.proofs.CreateLaws.{nothing_created, thread_created}
 use Rattle.program_state.proofs.creating.create_thread.Goals as goal
 
-pub returns-in_default : goal.returns-in_default
-returns-in_default c w =
+pub returns-in_default-clause-answers : goal.returns-in_default-clause-answers
+returns-in_default-clause-answers c w =
     let a = c.args.state.now in
     nothing_created w c.args.kind c.args.object c.args.name c.args.t a c.name_of.new.heap c.requires
     (subst (λ (o : Option ℕ). IsNameMade c.args.kind c.args.name a.unnamed a.memory.natives.heap c.name_of.new.heap o) c.in_default.is c.in_ok-made.ensures)
 
-pub returns : goal.returns
-returns c w =
+pub returns-clause-answers : goal.returns-clause-answers
+returns-clause-answers c w =
     let a = c.args.state.now in
     let named = c.name_of.new.heap in
     let numbered = c.number_object.new.heap in

@@ -30,7 +30,7 @@ returns-in-Throws-clause-concludes g c =
     let a = c.args.state.now in
     let e = c.in-Throws.exception in
     let new = c.throw.new.state in
-    on_ok c.throw.result c.throw.ensures (λ raised.
+    on_ok c.throw.result c.throw.ensures.raised (λ raised.
     subst (λ (x : Reply). Concludes w c.args.pending m.thread x a m.stack.frames new m.stack.frames) (sym c.in-Throws.is)
     (throws_concluded w c.args.pending m.thread e a new m.stack.frames (subst (λ (t : ℕ). IsRaised w e t a new) c.thread-t.ensures raised)))
 
@@ -41,6 +41,6 @@ returns-in-Waits-clause-concludes g c =
     let a = c.args.state.now in
     let phase = c.in-Waits.phase in
     let new = c.begin_wait.new.state in
-    on_ok c.begin_wait.result c.begin_wait.ensures (λ waits.
+    on_ok c.begin_wait.result c.begin_wait.ensures.waits (λ waits.
     subst (λ (x : Reply). Concludes w c.args.pending m.thread x a m.stack.frames new m.stack.frames) (sym c.in-Waits.is)
     (waits_concluded w c.args.pending m.thread phase a new m.stack.frames (subst (λ (t : ℕ). BeginsWait t phase a new) c.thread-t.ensures waits)))

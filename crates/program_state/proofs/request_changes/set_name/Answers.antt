@@ -10,8 +10,8 @@ use Rattle.program_state.proofs.request_changes.set_name.Goals as goal
 pub set_name-requires : goal.set_name-requires
 set_name-requires c = row_within c.args.state.now.threads c.args.u c.in_ok-row_at.field-0 c.in_ok-row_at.ensures
 
-pub returns : goal.returns
-returns c w t =
+pub returns-clause-answers : goal.returns-clause-answers
+returns-clause-answers c w t =
     let a = c.args.state.now in
     subst (λ (ts : Threads). Answers w (requests.SetsName c.args.u c.args.name) (OthersStay t) t a (record a { threads = ts }) replies.Goes) (sym c.set_name.ensures)
     (name_is_set w t c.args.u c.args.name a c.in_ok-row_at.field-0 c.in_ok-row_at.ensures)

@@ -10,14 +10,14 @@ use Rattle.program_state.proofs.RowLaws.{told_answers}
 use Rattle.program_state.proofs.StepLaws.{if_ok}
 use Rattle.program_state.proofs.requests.answer.Goals as goal
 
-pub returns-in_default : goal.returns-in_default
-returns-in_default c w =
+pub returns-in_default-clause-answers : goal.returns-in_default-clause-answers
+returns-in_default-clause-answers c w =
     let a = c.args.state.now in
     let t = c.args.t in
     if_ok (IsTold w c.args.request t a.threads) (Answers w c.args.request (OthersStay t) t a a) c.tell_request.result (c.tell_request.ensures w)
     (λ reply told. told_answers w c.args.request t a reply told)
 
-pub returns-in-Sleeps : goal.returns-in-Sleeps
-returns-in-Sleeps c w =
+pub returns-in-Sleeps-clause-answers : goal.returns-in-Sleeps-clause-answers
+returns-in-Sleeps-clause-answers c w =
     subst (λ (q : ThreadRequest). IfOk c.sleep.result (Answers w q (OthersStay c.args.t) c.args.t c.args.state.now c.sleep.new.state))
-    (ap (λ (z : ℤ). requests.Sleeps z) (to_z-of_z w64 c.in-Sleeps.millis (search rules)) ∙ sym c.in-Sleeps.is) (c.sleep.ensures w)
+    (ap (λ (z : ℤ). requests.Sleeps z) (to_z-of_z w64 c.in-Sleeps.millis (search rules)) ∙ sym c.in-Sleeps.is) (c.sleep.ensures.answers w)

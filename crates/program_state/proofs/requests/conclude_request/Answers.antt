@@ -11,4 +11,4 @@ returns-clause-made g c =
     let m = c.args.mounted.now in
     let a = c.args.state.now in
     request_done w q m.thread a c.answer.new.state c.conclude_reply.new.state m.stack.frames c.conclude_reply.new.mounted.stack.frames c.in_ok-reply.reply c.requires.asks
-    (subst (λ (t : ℕ). Answers w q.request (OthersStay t) t a c.answer.new.state c.in_ok-reply.reply) c.thread.ensures (c.in_ok-reply.ensures w)) c.in_ok-conclude_reply.ensures.concludes
+    (subst (λ (t : ℕ). Answers w q.request (OthersStay t) t a c.answer.new.state c.in_ok-reply.reply) c.thread.ensures (c.in_ok-reply.ensures.answers w)) c.in_ok-conclude_reply.ensures.concludes

@@ -6,14 +6,14 @@ use Rattle.program_state.specs.Replies.{Answers}
 use Rattle.program_state.specs.Waking.{LeavesWoken}
 use Rattle.program_state.proofs.requests.give_wake.Goals as goal
 
-pub returns-in-Unparks : goal.returns-in-Unparks
-returns-in-Unparks c w =
+pub returns-in-Unparks-clause-answers : goal.returns-in-Unparks-clause-answers
+returns-in-Unparks-clause-answers c w =
     let t = c.args.t in
     let a = c.args.state.now in
-    subst (λ (q : ThreadRequest). IfOk c.unpark.result (λ woken. Answers w q (LeavesWoken t woken) t a c.unpark.new.state replies.Goes)) (sym c.in-Unparks.is) (c.unpark.ensures w)
+    subst (λ (q : ThreadRequest). IfOk c.unpark.result (λ woken. Answers w q (LeavesWoken t woken) t a c.unpark.new.state replies.Goes)) (sym c.in-Unparks.is) (c.unpark.ensures.answers w)
 
-pub returns-in-Interrupts : goal.returns-in-Interrupts
-returns-in-Interrupts c w =
+pub returns-in-Interrupts-clause-answers : goal.returns-in-Interrupts-clause-answers
+returns-in-Interrupts-clause-answers c w =
     let t = c.args.t in
     let a = c.args.state.now in
-    subst (λ (q : ThreadRequest). IfOk c.interrupt.result (λ woken. Answers w q (LeavesWoken t woken) t a c.interrupt.new.state replies.Goes)) (sym c.in-Interrupts.is) (c.interrupt.ensures w)
+    subst (λ (q : ThreadRequest). IfOk c.interrupt.result (λ woken. Answers w q (LeavesWoken t woken) t a c.interrupt.new.state replies.Goes)) (sym c.in-Interrupts.is) (c.interrupt.ensures.answers w)

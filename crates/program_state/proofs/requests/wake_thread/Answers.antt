@@ -18,4 +18,4 @@ returns-clause-made g c =
     let woken = c.in_ok-woken.woken in
     subst (λ (x : RequestOutcome). IsRequestMade w q x a m new n) (sym c.outcome_of.ensures)
     (wake_made w q a new m n woken c.requires.asks
-    (subst (λ (t : ℕ). Answers w q.request (LeavesWoken t woken) t a new replies.Goes) c.thread.ensures (c.in_ok-woken.ensures w)) c.go_on.ensures.frames)
+    (subst (λ (t : ℕ). Answers w q.request (LeavesWoken t woken) t a new replies.Goes) c.thread.ensures (c.in_ok-woken.ensures.answers w)) c.go_on.ensures.frames)

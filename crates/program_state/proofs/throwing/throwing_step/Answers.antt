@@ -15,7 +15,7 @@ returns-in-Stepped-clause-steps g c =
     let frames = c.args.mounted.now.stack.frames in
     let new = c.settle_throwing.new.state in
     let after = c.throwing_step.new.mounted.stack.frames in
-    on_ok c.settle_throwing.result c.settle_throwing.ensures (λ settled.
+    on_ok c.settle_throwing.result c.settle_throwing.ensures.settled (λ settled.
     subst (λ (t : ℕ). StepsTo w (OthersStay t) (Throwing c.args.o) t a frames new after) c.thread-t.ensures
     (throw_steps w a new c.throwing_step.new.parts c.thread-t.result own.name c.args.o own frames after c.in_ok-name.ensures refl
     (subst (λ x. ThrowProceeds w c.thread-t.result own.name c.args.o x (record a.memory { status = Live (Throwing c.args.o) }) frames c.throwing_step.new.parts after) c.in-Stepped.is c.in_ok-thrown.ensures) settled))

@@ -3,8 +3,8 @@ use Rattle.program_state.specs.Waiting.{EndsWait, IsWakeTaken}
 use Rattle.program_state.proofs.WaitEndLaws.{wait_ended}
 use Rattle.program_state.proofs.waits.end_wait.Goals as goal
 
-pub returns : goal.returns
-returns c =
+pub returns-clause-ends : goal.returns-clause-ends
+returns-clause-ends c =
     let a = c.args.state.now in
     let t = c.args.t in
     let phase = c.in_ok-phase.phase in
