@@ -19,3 +19,5 @@ pub mod RequestLaws
 pub mod WaitLaws
 pub mod WaitEndLaws
 pub mod TimeLaws
+pub mod WaitTimeLaws
+pub mod TickLaws

@@ -41,14 +41,14 @@ last_other t u xs ne = count-append t xs (u ∷ []) ∙ ap (λ n. count t xs + n
 
 -- ---- thread u comes in line for monitor o
 
-eqb_same : (n : ℕ) → eqb n n ≡ true
+pub eqb_same : (n : ℕ) → eqb n n ≡ true
 eqb_same n = by (eqb_tells n n)
   where
     by : ((eqb n n ≡ true) × (n ≡ n)) ⊎ ((eqb n n ≡ false) × (n ≢ n)) → eqb n n ≡ true
     by (inl same) = same.0
     by (inr other) = absurd (other.1 refl)
 
-eqb_other : (m n : ℕ) → m ≢ n → eqb m n ≡ false
+pub eqb_other : (m n : ℕ) → m ≢ n → eqb m n ≡ false
 eqb_other m n ne = by (eqb_tells m n)
   where
     by : ((eqb m n ≡ true) × (m ≡ n)) ⊎ ((eqb m n ≡ false) × (m ≢ n)) → eqb m n ≡ false
@@ -166,22 +166,22 @@ woken_same wake (Parked deadline) free = refl
 woken_same wake (Asleep deadline) free = refl
 woken_same wake (Joining target deadline) free = refl
 
+pub still_status : (wake : Wake) (status : Status) → is_in_wait_list (spot_of status) ≡ false → status_woken wake status ≡ status
+still_status wake New e = refl
+still_status wake (Live phase) e = ap (λ k. Live k) (woken_same wake phase e)
+still_status wake Done e = refl
+
 -- A thread that waits in no list stays, and all else does.
 pub no_wait_ends : (wake : Wake) (u : ℕ) (a : Monitors) (table : Threads) (row : Thread) → AreSeated a table → thread_at table u ≡ Some row → is_in_wait_list (spot_of row.status) ≡ false
     → HasEndedWait wake u a table a table
 no_wait_ends wake u a table row seats at free = record {
   threads = sym (row_set table u row (λ thread. record thread { status = status_woken wake thread.status }) at
-      ∙ ap (λ s. record table { threads = slice_set table.threads u (record row { status = s }) }) (still row.status free)
+      ∙ ap (λ s. record table { threads = slice_set table.threads u (record row { status = s }) }) (still_status wake row.status free)
       ∙ ap (λ ts. record table { threads = ts }) (set_same table.threads u row at));
   monitors = subst (λ s. LeavesWait u s a a) (sym (ap (λ o. option_map_or (λ (thread : Thread). spot_of thread.status) o absent) at)) (left (spot_of row.status) free);
   seated = seats;
 }
   where
-    still : (status : Status) → is_in_wait_list (spot_of status) ≡ false → status_woken wake status ≡ status
-    still New e = refl
-    still (Live phase) e = ap (λ k. Live k) (woken_same wake phase e)
-    still Done e = refl
-
     left : (s : Spot) → is_in_wait_list s ≡ false → LeavesWait u s a a
     left (in_wait_list o) e = absurd cc
     left s e = refl

@@ -1,4 +1,4 @@
--- Time goes on.
+-- Deadlines as time goes on.
 use Rattle.std.proofs.Common.{◌≡◌, ◌⊎◌, inl, inr, ℕ, suc, ◌<◌, ◌≤◌, Bool, true, false, List, [], ◌∷◌, length, Option, Some, None, refl, ap, sym, subst, ◌∙◌, arith}
 use Rattle.std.specs.Prelude.{◌↔◌, Contains, IsNone, IfSome, map, nat_le, nat_lt, slice_get, if◌then◌else◌}
 use Rattle.std.specs.Global.{Vec}
@@ -15,18 +15,11 @@ use Rattle.ref_model.specs.State.{JavaThread, State}
 use Rattle.ref_model.specs.Waiting.{at_time, status_at_time, thread_at_time}
 use Rattle.program_state.specs.declared.state.ProgramState.{ProgramState}
 use Rattle.program_state.specs.Deadlines.{HoldsDeadlines, IsLeast, IsTimed, untimed, timed, coming_deadline, deadlines_of, key_at, later_than}
-use Rattle.schedule_soundness.specs.TimeLaws.{NobodyWaits}
-use Rattle.schedule_soundness.proofs.TimeLaws.{ticks_leave_threads}
 use Rattle.program_state.specs.States.{IsState}
 use Rattle.program_state.specs.Timers.{without_keys}
 use Rattle.program_state.specs.Times.{AreDue, Passes}
 use Rattle.program_state.proofs.WheelLaws.{held, holder, no_key, one_key, sleeper_of}
 use Rattle.program_state.proofs.DueLaws.{due_once, due_slot, due_thread, given_up, kept_key, length_without, none_stays, slot_due, thread_due}
-
--- ---- where nobody waits on a monitor time leaves the threads as they are
-
-ticks : (a : ProgramState) (r : State) (out : ℕ → Bool) (now : ℕ) → a.time < now → IsState a r out → NobodyWaits r → at_time r now ≡ Some (record r { now = now })
-ticks a r out now later is nobody = ticks_leave_threads r now (subst (λ n. n < now) is.now later) nobody
 
 -- ---- deadlines that are still to come
 
@@ -41,7 +34,7 @@ later_none before now (Some d) later none = by (leb_tells (suc now) d) (leb_tell
     by (inl to_come) (inr past) = absurd (omega arith)
 
 -- a deadline that was to come is that of the status
-was_coming : (before : ℕ) (d : Option ℕ) (until : ℕ) → later_than before d ≡ Some until → d ≡ Some until
+pub was_coming : (before : ℕ) (d : Option ℕ) (until : ℕ) → later_than before d ≡ Some until → d ≡ Some until
 was_coming before None until e = absurd cc
 was_coming before (Some d) until e = by (leb_tells (suc before) d)
   where
@@ -93,7 +86,7 @@ left_was now (Some x) s e = by (is_due now x) refl e
     by true due e = absurd cc
     by false not_due e = let same : x ≡ s = cc in (e, ap (is_due now) (sym same) ∙ not_due)
 
-holds_later : (now : ℕ) (wheel after : Sleepers) (keys : List (Option Key)) (threads : List ℕ) (r : State) → r.now < now
+pub holds_later : (now : ℕ) (wheel after : Sleepers) (keys : List (Option Key)) (threads : List ℕ) (r : State) → r.now < now
     → HoldsDeadlines (sleeper_at wheel) (key_at keys) (deadlines_of r.now r.threads) → IsDueList now (sleepers_of wheel) threads
     → ((key : ℕ) → sleeper_at after key ≡ unless_due now (sleeper_at wheel key)) → HoldsDeadlines (sleeper_at after) (key_at (without_keys keys threads)) (deadlines_of now r.threads)
 holds_later now wheel after keys threads r later holds d left =
@@ -110,33 +103,7 @@ holds_later now wheel after keys threads r later holds d left =
         let no : false ≡ true = sym was.1 ∙ ap (is_due now) same ∙ x.2 in
         absurd cc) ∙ holds.only k s was.0
 
--- ---- the call
-
-pub time_passes : (a : ProgramState) (wheel : Sleepers) (keys : Vec (Option Key)) (now : ℕ) (threads : List ℕ) → a.time < now → IsDueList now (sleepers_of a.wheel) threads
-    → ((key : ℕ) → sleeper_at wheel key ≡ unless_due now (sleeper_at a.wheel key)) → keys.items ≡ without_keys a.keys.items threads
-    → (r : State) (out : ℕ → Bool) → IsState a r out → NobodyWaits r → Passes now (record a { wheel = wheel; keys = keys; time = now }) r out
-time_passes a wheel keys now threads later d left cleared r out is nobody =
-    let before : r.now < now = subst (λ n. n < now) is.now later in
-    record {
-      ticks = ticks a r out now later is nobody;
-      is = record {
-        status = is.status;
-        memory = is.memory;
-        main_threw = is.main_threw;
-        rows = is.rows;
-        most_threads = is.most_threads;
-        limit = is.limit;
-        permits = is.permits;
-        interrupts = is.interrupts;
-        unnamed = is.unnamed;
-        monitors = is.monitors;
-        now = refl;
-        places = ap length cleared ∙ length_without a.keys.items threads ∙ is.places;
-        wheel = subst (λ ks. HoldsDeadlines (sleeper_at wheel) (key_at ks) (deadlines_of now r.threads)) (sym cleared)
-            (holds_later now a.wheel wheel a.keys.items threads r before is.wheel d left);
-        kept = is.kept;
-      };
-    }
+-- ---- who is due
 
 pub due_are : (a : ProgramState) (now : ℕ) (threads : List ℕ) → IsDueList now (sleepers_of a.wheel) threads → (r : State) (out : ℕ → Bool) → IsState a r out → AreDue r now threads
 due_are a now threads d r out is =

@@ -1,5 +1,5 @@
 -- The monitors of a state (JLS 17.1, 17.2): who owns each, and that threads are in the lists of monitors just where their phases say so.
-use Rattle.std.specs.Prelude.{◌≡◌, ℕ, Bool, List, Option, length, slice_get}
+use Rattle.std.specs.Prelude.{◌≡◌, ℕ, Bool, List, [], ◌∷◌, Option, Some, None, length, slice_get}
 use Rattle.std.specs.Option.{option_map, option_map_or}
 use Rattle.thread_lists.specs.Lists.{count}
 use Rattle.vthread_state.specs.declared.thread.Status.{Status}
@@ -71,6 +71,17 @@ pub record HasEndedWait (wake : Wake) (t : ℕ) (old : Monitors) (table : Thread
   pub threads : after ≡ with_woken wake table t
   pub monitors : LeavesWait t (spot_in table t) old new
   pub seated : AreSeated new after
+
+-- The waits of these threads have ended so, one after the other.
+abbrev pub HaveEndedWaits : Wake → List ℕ → Monitors → Threads → Monitors → Threads → Type 0
+HaveEndedWaits wake [] old table new after = (new ≡ old) × (after ≡ table)
+HaveEndedWaits wake (t ∷ ts) old table new after =
+    (mid : Monitors) × (between : Threads) × HasEndedWait wake t old table mid between × HaveEndedWaits wake ts mid between new after
+
+-- A thread lines up for a monitor, where there is one, and else nothing changes.
+abbrev pub LinesUpFor : ℕ → Option ℕ → Monitors → Monitors → Type 0
+LinesUpFor t None old new = new ≡ old
+LinesUpFor t (Some o) old new = Becomes old new o (after_line_up t (monitor_of old o))
 
 -- a thread with the one status is in the lists in which it is with the other
 pub record InSameLists (old new : Status) : Type 0 where

@@ -1,6 +1,7 @@
 //! Waits on monitors that end (JLS 17.2): the thread lines up to take the monitor again.
 
-ghost use Rattle.program_state.specs.Monitors.{AreSeated, HasEndedWait};
+ghost use Rattle.vthread_state.specs.declared.phase.Wake.TheVariants.{TimedOut};
+ghost use Rattle.program_state.specs.Monitors.{AreSeated, HasEndedWait, HaveEndedWaits};
 
 use monitors::Monitors;
 use vthread_state::{Phase, Status, ThreadTable, Wake};
@@ -31,4 +32,15 @@ pub(crate) fn end_monitor_wait(
         wake,
     };
     threads.set_phase(t, phase);
+}
+
+/// The waits of these threads on monitors end one after the other, since their time is over.
+pub(crate) fn end_monitor_waits(monitors: &mut Monitors, threads: &mut ThreadTable, due: &[u32])
+    requires { AreSeated monitors.old threads.old }
+    ensures { HaveEndedWaits TimedOut due.now monitors.old threads.old
+        monitors.new threads.new }
+{
+    for t in due {
+        end_monitor_wait(monitors, threads, *t, Wake::TimedOut);
+    }
 }
