@@ -24,13 +24,16 @@ use Rattle.schedule_soundness.proofs.ThreadLists.{set_other}
 use Rattle.thread_steps.specs.declared.parts.Parts.{Parts}
 use Rattle.thread_steps.specs.States.{Stage, memory_of, own_thread, state_of}
 use Rattle.thread_steps.specs.Concluding.{Steps}
-use Rattle.thread_steps.specs.Returning.{ThrowingSteps}
+use Rattle.thread_steps.specs.Returning.{ThrowProceeds, ThrowingSteps}
+use Rattle.thread_steps.specs.declared.throwing.MonitorThrow.{MonitorThrow}
+use Rattle.thread_steps.specs.declared.throwing.Thrown.TheVariants.{Holds}
 use Rattle.program_state.specs.declared.state.ProgramState.{ProgramState}
 use Rattle.program_state.specs.Running.{HasStepped, StandsAt}
 use Rattle.program_state.specs.Settling.{IsSettled, is_running_status, is_stepped, throws_status}
 use Rattle.program_state.proofs.MonitorLaws.{plain_lists}
 use Rattle.program_state.specs.States.{HasFrames, IsInPhase, IsState, is_plain_phase, is_plain_status, is_started}
 use Rattle.program_state.specs.Steps.{Leads, StepsTo}
+use Rattle.program_state.specs.Throwing.{HoldsMonitor}
 use Rattle.program_state.proofs.StateLaws.{still_out, rows_set, thread_changed, others_same, row_there}
 
 -- ---- results
@@ -238,3 +241,10 @@ throw_steps w a new b t name o own frames after there named steps settled r out 
   where
     own_name : at.thread.thread.name ≡ name
     own_name = let there' = row_there a.threads r t at.thread is.rows at.at in let same : at.thread.thread ≡ own = cc in ap (λ (x : Thread). x.name) same ∙ named
+
+-- it leaves a frame with its monitor first
+pub throw_holds : (w : World) (q : MonitorThrow) (a : ProgramState) (b : Parts) (t name o : ℕ) (m n : Continuation)
+    → ThrowProceeds w t name o (Holds q) (record a.memory { status = Live (Throwing o) }) m.stack.frames b n.stack.frames
+    → HoldsMonitor w q o a m (record a { memory = record b { status = a.memory.status } }) n
+throw_holds w q a b t name o m n held =
+    record { throws = held.0; state = ap (λ (p : Parts). record a { memory = record p { status = a.memory.status } }) held.1; frames = held.2 }

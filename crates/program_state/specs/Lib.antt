@@ -10,6 +10,7 @@ pub mod Creating
 pub mod Starting
 pub mod Requests
 pub mod Running
+pub mod Throwing
 pub mod Waking
 pub mod Waiting
 pub mod Times
