@@ -32,6 +32,7 @@ use Rattle.thread_steps.specs.Asking.{asking_of, AsksAt}
 use Rattle.thread_steps.specs.States.{memory_of}
 use Rattle.program_state.specs.declared.reply.Reply.{Reply}
 use Rattle.program_state.specs.declared.reply.Reply.TheVariants as replies
+use Rattle.program_state.specs.declared.starting.First.{First}
 use Rattle.program_state.specs.declared.starting.Start.TheVariants.{Begins, Throws}
 use Rattle.program_state.specs.declared.state.ProgramState.{ProgramState}
 use Rattle.program_state.specs.Creating.{has_room}
@@ -135,26 +136,27 @@ rows_length (x ∷ xs) = ap suc (rows_length xs)
 same_count : (a : ProgramState) (r q : State) (out : ℕ → Bool) → IsState a r out → IsState a q out → length q.threads ≡ length r.threads
 same_count a r q out x y = sym (rows_length q.threads) ∙ ap length (sym y.rows ∙ x.rows) ∙ rows_length r.threads
 
-pub request_starts : (w : World) (q : PendingRequest) (t u : ℕ) (a new : ProgramState) (k : Continuation) (before after : List Frame) → IsPending w q a.memory before
-    → q.request ≡ requests.Starts u → IsStart w u a (Begins k) → IsBegun u k a new → GoesOnWithout q before after → StepsTo w (Starts t u) Run t a before new after
-request_starts w q t u a new k before after p starts start begun goes_on r out is here at =
+pub request_starts : (w : World) (q : PendingRequest) (t u : ℕ) (a new : ProgramState) (first : First) (before after : List Frame) → IsPending w q a.memory before
+    → q.request ≡ requests.Starts u → IsStart w u a (Begins first) → IsBegun u first a new → GoesOnWithout q before after → StepsTo w (Starts t u) Run t a before new after
+request_starts w q t u a new first before after p starts start begun goes_on r out is here at =
     let s = start r out is in
     let g = s.gives in
     let f : Frame = p.frame in
     let asking : Asking = asking_of q p.frame p.below in
-    let between : State = record r { threads = slice_set r.threads u (begun_thread s.new.thread g.frame) } in
-    let now = begun_state a new r out u k g.frame s.new is begun g.thread_is g.frames in
-    let runs = begun_runs r t u g.frame before s.new at in
+    let y : JavaThread = begun_thread s.new.thread first.monitor g.frame in
+    let between : State = record r { threads = slice_set r.threads u y } in
+    let now = begun_state a new r out u first g.frame s.new is begun g.thread_is g.frames in
+    let runs = begun_runs r t u first.monitor g.frame before s.new at in
     let l = gone_on new between out t q.next before after p.frame p.below (drop q.operands f.stack) now here runs p.top
     (subst (λ fs. GoesOn q.next (drop q.operands (top_stack fs)) before after) p.top goes_on) in
-    let count : length l.next.threads ≡ length r.threads = same_count new between l.next out now l.is ∙ length-set r.threads u (begun_thread s.new.thread g.frame) in
+    let count : length l.next.threads ≡ length r.threads = same_count new between l.next out now l.is ∙ length-set r.threads u y in
     record {
       next = l.next;
       makes = pending_step w q a.memory before r t p is.memory ∙ ap (λ x. asked w r t asking (request_of x)) starts ∙ g.begins t asking
-          ∙ ap (λ (x : State). goes x t asking) (begun_is r u s.new.thread g.frame s.new.there) ∙ l.makes;
+          ∙ ap (λ (x : State). goes x t asking) (begun_is r u s.new.thread first.monitor g.frame s.new.there) ∙ l.makes;
       is = l.is;
       has = l.has;
-      others = starts_then t u r l.next g.frame s.new before at l.others count;
+      others = starts_then t u r l.next first.monitor g.frame s.new before at l.others count;
     }
 
 -- ---- permits and interrupts

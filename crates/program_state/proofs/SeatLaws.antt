@@ -1,6 +1,6 @@
 -- A thread lines up for a monitor: it is in the lists in which its phase says so.
-use Rattle.std.proofs.Common.{arith, ◌≡◌, ◌≢◌, ◌≤◌, ◌+◌, ◌++◌, ◌⊎◌, ℕ, Bool, true, false, not, List, [], ◌∷◌, Option, Some, None, Result, Ok, Err, eqb, inl, inr, length, refl, sym, subst, ap, ◌∙◌, add-zero}
-use Rattle.std.specs.Prelude.{◌<◌, OnOk, slice_get, slice_set}
+use Rattle.std.proofs.Common.{arith, ◌≡◌, ◌≢◌, ◌≤◌, ◌+◌, ◌++◌, ◌⊎◌, ℕ, Bool, true, false, not, List, [], ◌∷◌, Option, Some, None, eqb, inl, inr, length, refl, sym, subst, ap, ◌∙◌, add-zero}
+use Rattle.std.specs.Prelude.{◌<◌, slice_get, slice_set}
 use Rattle.std.specs.Option.{option_map_or}
 use Rattle.std.proofs.Math.ListN.{length-set}
 use Rattle.std.proofs.lemmas.Option.{slice_get_past}
@@ -22,7 +22,7 @@ use Rattle.ref_model.specs.Looks.{spot_in as spot_of_phase, spot_of}
 use Rattle.ref_model.specs.Waiting.{phase_woken, status_woken}
 use Rattle.ref_model.proofs.StateLaws.{get_set, set_same}
 use Rattle.schedule_soundness.proofs.ThreadLists.{set_other}
-use Rattle.program_state.specs.Monitors.{AreSeated, HasEndedWait, HaveSameLists, LeavesWait, ListsMove, stay, wait_ends, owner_in, spot_in, with_woken}
+use Rattle.program_state.specs.Monitors.{AreSeated, HasEndedWait, HaveSameLists, LeavesWait, LinesUpFor, ListsMove, stay, wait_ends, lines_up, owner_in, spot_in, with_woken}
 
 -- ---- a list that a thread leaves, or comes to
 
@@ -252,11 +252,45 @@ left_moves u in_no_list a new same = stay (same_lists_of a new same)
 left_moves u (in_entry_list o) a new same = stay (same_lists_of a new same)
 left_moves u done a new same = stay (same_lists_of a new same)
 
--- of a call that kept the monitors
-pub lists_kept : {A E : Type 0} (r : Result A E) (a new : Monitors) → new ≡ a → OnOk r (HaveSameLists a new)
-lists_kept (Ok x) a new same = same_lists_of a new same
-lists_kept (Err e) a new same = tt
+-- ---- a new thread lines up
 
-pub lists_stay : {A E : Type 0} (r : Result A E) (a new : Monitors) → new ≡ a → OnOk r (ListsMove a new)
-lists_stay (Ok x) a new same = stay (same_lists_of a new same)
-lists_stay (Err e) a new same = tt
+pub seats_lined : (a new : Monitors) (table : Threads) (u o : ℕ) (row : Thread) → AreSeated a table → thread_at table u ≡ Some row → row.status ≡ New
+    → Becomes a new o (after_line_up u (monitor_of a o)) → AreSeated new (with_status table u (Live (Entering o)))
+seats_lined a new table u o row seats at status becomes = record {
+  waits = waiters_in a new table after u o seats comes
+      (ap (λ (m : Monitor). count u m.wait_list) becomes.changed ∙ seats.waits u o ∙ ap (λ s. once_if (is_waiting o s)) own)
+      (λ t ne. ap (λ (m : Monitor). count t m.wait_list) becomes.changed) becomes.others;
+  enters = seats_in a new table after u o seats comes (ap (λ (m : Monitor). m.entry_list) becomes.changed) becomes.others;
+  places = becomes.threads ∙ seats.places ∙ sym comes.places;
+}
+  where
+    after : Threads
+    after = with_status table u (Live (Entering o))
+
+    own : spot_in table u ≡ unstarted
+    own = ap (λ m. option_map_or (λ (thread : Thread). spot_of thread.status) m absent) at ∙ ap spot_of status
+
+    comes : ComesInLine u o table after
+    comes = comes_in_line table u o row (λ thread. record thread { status = Live (Entering o) }) at refl (λ p. ap (λ s. is_entering p (spot_of s)) status)
+        (λ p ne. ap (λ s. is_waiting p (spot_of s)) status)
+
+pub lined_owner : (u o : ℕ) (a new : Monitors) → Becomes a new o (after_line_up u (monitor_of a o)) → (p : ℕ) → owner_in (monitor_of new p) ≡ owner_in (monitor_of a p)
+lined_owner u o a new becomes p = by (eqb_tells p o)
+  where
+    by : ((eqb p o ≡ true) × (p ≡ o)) ⊎ ((eqb p o ≡ false) × (p ≢ o)) → owner_in (monitor_of new p) ≡ owner_in (monitor_of a p)
+    by (inl here) = subst (λ n. owner_in (monitor_of new n) ≡ owner_in (monitor_of a n)) (sym here.1) (ap owner_in becomes.changed)
+    by (inr far) = ap owner_in (becomes.others p far.1)
+
+-- there was made room for it first
+pub lined_up : (t o : ℕ) (a mid new : Monitors) → ((p : ℕ) → monitor_of mid p ≡ monitor_of a p) → mid.threads ≡ a.threads → a.spare ≤ mid.spare
+    → Becomes mid new o (after_line_up t (monitor_of mid o)) → Becomes a new o (after_line_up t (monitor_of a o))
+lined_up t o a mid new same threads spare becomes = record {
+  changed = becomes.changed ∙ ap (after_line_up t) (same o);
+  others = λ p ne. becomes.others p ne ∙ same p;
+  threads = becomes.threads ∙ threads;
+  spare = omega (arith, spare, becomes.spare);
+}
+
+pub line_moves : (t : ℕ) (monitor : Option ℕ) (a new : Monitors) → LinesUpFor t monitor a new → ListsMove a new
+line_moves t None a new same = stay (same_lists_of a new same)
+line_moves t (Some o) a new becomes = lines_up t o becomes

@@ -1,7 +1,7 @@
 -- What a step of one thread makes of the state of a program.
 use Rattle.std.specs.Prelude.{◌≡◌, ◌≢◌, ℕ, Bool, true, false, List, Option, Some, length, slice_get}
 use Rattle.vthread_state.specs.declared.phase.Phase.{Phase}
-use Rattle.vthread_state.specs.declared.phase.Phase.TheVariants.{Run, Waiting, Reenter}
+use Rattle.vthread_state.specs.declared.phase.Phase.TheVariants.{Waiting, Reenter}
 use Rattle.vthread_state.specs.declared.phase.Wake.TheVariants.{Interrupted}
 use Rattle.vthread_state.specs.declared.thread.Status.TheVariants.{Live}
 use Rattle.state_model.specs.Frames.{Frame}
@@ -10,7 +10,7 @@ use Rattle.ref_model.specs.Ending.{is_live}
 use Rattle.ref_model.specs.Enabled.{is_free}
 use Rattle.ref_model.specs.State.{JavaThread, State}
 use Rattle.ref_model.specs.Step.{phase_step}
-use Rattle.schedule_soundness.specs.PutLaws.{OthersStay, OthersStayBeside, IsNew}
+use Rattle.schedule_soundness.specs.PutLaws.{OthersStay, OthersStayBeside, IsLive, IsNew}
 use Rattle.schedule_model.specs.Look.{is_in_line}
 use Rattle.monitor_soundness.specs.MonitorPuts.{MonitorStep, Notifies}
 use Rattle.program_state.specs.declared.state.ProgramState.{ProgramState}
@@ -32,17 +32,11 @@ abbrev pub StepsTo : World → (State → State → Type 0) → Phase → ℕ �
 StepsTo w leaves phase t old before new after = (r : State) (out : ℕ → Bool) → IsState old r out → out t ≡ true →
     IsInPhase r t phase before → Leads (λ s. phase_step w s t before phase) leaves new t after r out
 
--- A thread is live and runs.
-pub record IsRunning (r : State) (u : ℕ) : Type 0 where
-  pub thread : JavaThread
-  pub there : slice_get r.threads u ≡ Some thread
-  pub status : thread.thread.status ≡ Live Run
-
--- Thread t starts thread u, and makes none.
+-- Thread t starts thread u, which runs or is in line for the monitor that it enters first, and makes none.
 pub record Starts (t u : ℕ) (before after : State) : Type 0 where
   pub others : OthersStayBeside t u before after
   pub new : IsNew before u
-  pub runs : IsRunning after u
+  pub live : IsLive after u
   pub count : length after.threads ≡ length before.threads
 
 -- A live thread keeps its status, and its permit and its interrupt status stay set where they were.

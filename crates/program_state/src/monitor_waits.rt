@@ -1,8 +1,10 @@
-//! Waits on monitors that end (JLS 17.2): the thread lines up to take the monitor again.
+//! Threads that line up for monitors: those whose waits end, to take the monitor again (JLS 17.2), and new ones.
 
+ghost use Rattle.std.specs.Prelude.{◌<◌, OnOk};
 ghost use Rattle.vthread_state.specs.declared.phase.Wake.TheVariants.{TimedOut};
-ghost use Rattle.program_state.specs.Monitors.{AreSeated, HasEndedWait, HaveEndedWaits};
+ghost use Rattle.program_state.specs.Monitors.{AreSeated, HasEndedWait, HaveEndedWaits, LinesUpFor};
 
+use items::NoMemory;
 use monitors::Monitors;
 use vthread_state::{Phase, Status, ThreadTable, Wake};
 
@@ -43,4 +45,24 @@ pub(crate) fn end_monitor_waits(monitors: &mut Monitors, threads: &mut ThreadTab
     for t in due {
         end_monitor_wait(monitors, threads, *t, Wake::TimedOut);
     }
+}
+
+/// A thread lines up for a monitor, where there is one. A thread that is in a list of one counts as memory run out.
+pub(crate) fn line_up_for(
+    monitors: &mut Monitors,
+    t: u32,
+    monitor: Option<u32>,
+) -> Result<(), NoMemory>
+    requires { t < monitors.old.threads }
+    ensures { OnOk result (LinesUpFor t monitor monitors.old monitors.new) }
+{
+    let Some(o) = monitor else {
+        return Ok(());
+    };
+    monitors.room(1)?;
+    if monitors.holds(t) {
+        return Err(NoMemory);
+    }
+    monitors.line_up(o, t);
+    Ok(())
 }

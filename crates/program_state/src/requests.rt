@@ -79,14 +79,15 @@ fn start_thread<W: ThreadWorld>(
     requires starts { pending.request ≡ ThreadRequest.Starts u }
     requires asks { IsPending (W.world world.now) pending state.old.memory
         mounted.old.stack.frames }
+    requires seated { AreSeated state.old.monitors state.old.threads }
     ensures made { IfOk result (λ outcome. IsRequestMade (W.world world.now) pending outcome
         state.old mounted.old state.new mounted.new) }
     ensures lists { OnOk result (ListsMove state.old.monitors state.new.monitors) }
     ensures thread { mounted.new.thread ≡ mounted.old.thread }
 {
     match start_of(alloc, world, state, u)? {
-        Start::Begins(frozen) => {
-            begin_thread(state, u, frozen)?;
+        Start::Begins(first) => {
+            begin_thread(state, u, first)?;
             mounted.operands_fit();
             go_on(mounted, pending);
             Ok(RequestOutcome::Starts(u))

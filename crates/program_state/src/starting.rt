@@ -1,8 +1,12 @@
 //! Threads that are started (java.lang.Thread).
 
-ghost use Rattle.std.specs.Prelude.{◌≡◌, IfOk, OnOk};
-ghost use Rattle.program_state.specs.Starting.{IsBegun, IsFirst, IsRun, IsStart};
+ghost use Rattle.std.specs.Prelude.{◌≡◌, ◌<◌, true, false, length, IfOk, OnOk};
+ghost use Rattle.vthread_state.specs.declared.thread.Status.TheVariants.{Live};
+ghost use Rattle.vthread_state.specs.Threads.{with_status};
+ghost use Rattle.program_state.specs.Monitors.{AreSeated};
+ghost use Rattle.program_state.specs.Starting.{IsBegun, IsFirst, IsRun, IsStart, begin_phase};
 
+use crate::monitor_waits::line_up_for;
 use crate::state::{ProgramState, row_at};
 use crate::world::ThreadWorld;
 use continuation::{Frozen, Mounted};
@@ -13,13 +17,20 @@ use link_model::{MethodCode, is_synchronized};
 use link_rules::Choice;
 use ref_model::Exception;
 use std::alloc::Global;
-use vthread_state::Status;
+use vthread_state::{Phase, Status, ThreadTable};
+
+/// The frames of a thread that begins, and the monitor that it enters first, where its run is synchronized.
+#[derive(Drop)]
+pub(crate) struct First {
+    pub(crate) frozen: Frozen,
+    pub(crate) monitor: Option<u32>,
+}
 
 /// What a start of a thread comes to.
 #[derive(Drop)]
 pub(crate) enum Start {
-    /// It begins with these frames.
-    Begins(Frozen),
+    /// It begins so.
+    Begins(First),
     /// The thread that starts it throws a new exception.
     Throws(Exception),
 }
@@ -42,7 +53,7 @@ fn first_frames(
     code: &MethodCode,
     object: u32,
 ) -> Result<Frozen, NoMemory>
-    ensures { IfOk result (IsFirst thread method code.now object) }
+    ensures { IfOk result (IsFirst thread method code.now object false) }
 {
     if code.max_locals == 0 {
         return Err(NoMemory);
@@ -57,7 +68,31 @@ fn first_frames(
     }
 }
 
-// A thread begins with the method of a number as its run. A synchronized method isn't begun yet, and counts as memory run out.
+// The same of a synchronized method. The number of the object's monitor lies in one more local variable of the frame, the last.
+fn synchronized_frames(
+    alloc: Global,
+    thread: u32,
+    method: u32,
+    code: &MethodCode,
+    object: u32,
+) -> Result<Frozen, NoMemory>
+    ensures { IfOk result (IsFirst thread method code.now object true) }
+{
+    if code.max_locals == 0 {
+        return Err(NoMemory);
+    }
+    let mut mounted = Mounted::new(alloc, thread);
+    match mounted.push_frame(method, code.max_locals as u32 + 1, code.max_stack, 0, false) {
+        Ok(()) => {
+            mounted.set_local(0, Slot::One(Value::Ref(object)));
+            mounted.set_local(code.max_locals, Slot::One(Value::Ref(object)));
+            freeze(mounted)
+        }
+        Err(_) => Err(NoMemory),
+    }
+}
+
+// A thread begins with the method of a number as its run. It enters the monitor of its object first, where the method is synchronized.
 fn begin_run<W: ThreadWorld>(
     alloc: Global,
     world: &W,
@@ -74,10 +109,13 @@ fn begin_run<W: ThreadWorld>(
         return Err(NoMemory);
     };
     if is_synchronized(info) {
-        return Err(NoMemory);
+        let frozen = synchronized_frames(alloc, thread, method, code, object)?;
+        let monitor = Some(object);
+        return Ok(Start::Begins(First { frozen, monitor }));
     }
     let frozen = first_frames(alloc, thread, method, code, object)?;
-    Ok(Start::Begins(frozen))
+    let monitor = None;
+    Ok(Start::Begins(First { frozen, monitor }))
 }
 
 /// What a start of thread u comes to: what is selected for its object as its run begins (JVMS 5.4.6).
@@ -112,16 +150,33 @@ pub(crate) fn start_of<W: ThreadWorld>(
     }
 }
 
-/// A new thread is live, and has these frames. One that isn't new counts as memory run out.
-pub(crate) fn begin_thread(state: &mut ProgramState, u: u32, frozen: Frozen) -> Result<(), NoMemory>
-    ensures { OnOk result (IsBegun u frozen state.old state.new) }
+// A new thread is live, and runs or waits to enter a monitor. One that isn't new counts as memory run out.
+fn start_in(threads: &mut ThreadTable, u: u32, monitor: Option<u32>) -> Result<(), NoMemory>
+    requires { u < length threads.old.threads }
+    ensures { OnOk result (threads.new
+        ≡ with_status threads.old u (Live (begin_phase monitor))) }
+{
+    let Ok(()) = threads.start(u) else {
+        return Err(NoMemory);
+    };
+    let Some(o) = monitor else {
+        return Ok(());
+    };
+    threads.set_phase(u, Phase::Entering(o));
+    Ok(())
+}
+
+/// A new thread is live, has these frames, and lines up for the monitor that it enters first. One that isn't new counts as memory run out.
+pub(crate) fn begin_thread(state: &mut ProgramState, u: u32, first: First) -> Result<(), NoMemory>
+    requires { AreSeated state.old.monitors state.old.threads }
+    ensures { OnOk result (IsBegun u first state.old state.new) }
 {
     if u >= state.threads.count() || u as usize >= state.frozen.len() {
         return Err(NoMemory);
     }
-    if state.threads.start(u).is_err() {
-        return Err(NoMemory);
-    }
+    let First { frozen, monitor } = first;
+    line_up_for(&mut state.monitors, u, monitor)?;
+    start_in(&mut state.threads, u, monitor)?;
     state.frozen[u as usize] = Some(frozen);
     Ok(())
 }
