@@ -40,7 +40,6 @@ use Rattle.program_state.specs.Creating.{IsAdded, IsNameMade, daemon_of, first_n
 use Rattle.program_state.specs.Deadlines.{coming_deadline, deadlines_of, key_at, key_number, later_than}
 use Rattle.program_state.specs.Replies.{Answers}
 use Rattle.program_state.specs.States as places
-use Rattle.monitors.specs.Monitors.{Monitors}
 use Rattle.program_state.specs.Monitors.{HoldsMonitors}
 use Rattle.program_state.proofs.MonitorLaws.{monitors_more}
 use Rattle.program_state.specs.States.{IsInPhase, IsKept, IsState}

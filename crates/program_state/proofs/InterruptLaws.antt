@@ -1,5 +1,5 @@
 -- An interrupt ends a wait on a monitor (JLS 17.2.3).
-use Rattle.std.proofs.Common.{◌≡◌, ◌≢◌, ◌⊎◌, inl, inr, eqb, ℕ, Bool, true, false, List, length, Option, Some, None, refl, ap, sym, subst, ◌∙◌}
+use Rattle.std.proofs.Common.{◌≡◌, ◌≢◌, ◌⊎◌, inl, inr, eqb, ℕ, Bool, true, false, Option, Some, None, refl, ap, sym, subst, ◌∙◌}
 use Rattle.std.specs.Prelude.{◌||◌, map, slice_get, slice_set, if◌then◌else◌}
 use Rattle.std.specs.Global.{Vec}
 use Rattle.std.proofs.Math.ListN.{length-set}
@@ -15,7 +15,6 @@ use Rattle.vthread_state.specs.declared.thread.Thread.{Thread}
 use Rattle.vthread_state.specs.Threads.{Threads, thread_at}
 use Rattle.monitors.specs.Monitors.{Monitors}
 use Rattle.link_model.specs.World.{World}
-use Rattle.state_model.specs.Frames.{Frame}
 use Rattle.ref_model.specs.Asking.{goes}
 use Rattle.ref_model.specs.Ending.{is_live}
 use Rattle.ref_model.specs.Looks.{deadline_in, spot_in as spot_of_phase}
@@ -31,7 +30,7 @@ use Rattle.program_state.specs.declared.state.ProgramState.{ProgramState}
 use Rattle.program_state.specs.Deadlines.{HoldsDeadlines, deadlines_of, key_at, later_than, with_deadline}
 use Rattle.program_state.specs.Monitors.{HasEndedWait, spot_in}
 use Rattle.program_state.specs.Replies.{Answers}
-use Rattle.program_state.specs.States.{IsInPhase, IsState, is_started}
+use Rattle.program_state.specs.States.{IsState, is_started}
 use Rattle.program_state.specs.Steps.{Wakes, lines_up}
 use Rattle.program_state.specs.Timers.{IsTimerCleared}
 use Rattle.program_state.specs.Waking.{LeavesWoken, woken_in}

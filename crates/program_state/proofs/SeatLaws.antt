@@ -1,6 +1,6 @@
 -- A thread lines up for a monitor: it is in the lists in which its phase says so.
-use Rattle.std.proofs.Common.{arith, ◌≡◌, ◌≢◌, ◌≤◌, ◌+◌, ◌++◌, ◌⊎◌, ℕ, Bool, true, false, not, List, [], ◌∷◌, Option, Some, None, eqb, inl, inr, length, refl, sym, subst, ap, ◌∙◌, add-zero}
-use Rattle.std.specs.Prelude.{◌<◌, slice_get, slice_set}
+use Rattle.std.proofs.Common.{arith, ◌≡◌, ◌≢◌, ◌≤◌, ◌+◌, ◌++◌, ◌⊎◌, ℕ, true, false, not, List, [], ◌∷◌, Option, Some, None, eqb, inl, inr, length, refl, sym, subst, ap, ◌∙◌, add-zero}
+use Rattle.std.specs.Prelude.{◌<◌, slice_set}
 use Rattle.std.specs.Option.{option_map_or}
 use Rattle.std.proofs.Math.ListN.{length-set}
 use Rattle.std.proofs.lemmas.Option.{slice_get_past}

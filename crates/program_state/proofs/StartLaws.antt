@@ -27,7 +27,7 @@ use Rattle.link_model.specs.declared.members.MethodInfo.{MethodInfo}
 use Rattle.link_model.specs.Methods.{choice_of}
 use Rattle.state_model.specs.Frames.{Frame}
 use Rattle.continuation.specs.Continuation.{Continuation}
-use Rattle.frames.specs.Frames.{entered, with_local}
+use Rattle.frames.specs.Frames.{with_local}
 use Rattle.ref_model.specs.declared.exception.Exception.TheVariants as exceptions
 use Rattle.ref_model.specs.Asking.{Asking, goes}
 use Rattle.ref_model.specs.Ending.{is_live}
@@ -52,7 +52,7 @@ use Rattle.program_state.specs.declared.starting.Start.{Start}
 use Rattle.program_state.specs.declared.starting.Start.TheVariants.{Begins, Throws}
 use Rattle.program_state.specs.declared.state.ProgramState.{ProgramState}
 use Rattle.program_state.specs.Deadlines.{HoldsDeadlines, deadlines_of, key_at, later_than, with_deadline}
-use Rattle.program_state.specs.Starting.{IsBegun, IsFirst, IsRun, IsStart, StartGives, StartsSo, begin_phase}
+use Rattle.program_state.specs.Starting.{IsBegun, IsFirst, IsPushed, IsRun, IsStart, StartGives, StartsSo, begin_phase}
 use Rattle.program_state.specs.States as places
 use Rattle.program_state.specs.Monitors.{AreSeated, HoldsMonitors, LinesUpFor}
 use Rattle.program_state.proofs.MonitorLaws.{holds_seated, monitors_kept, plain_lists, seated}
@@ -88,18 +88,17 @@ set_first : (n : ℕ) (slot : Slot) → 0 < n → slice_set (replicate n Second)
 set_first zero slot some = absurd (omega arith)
 set_first (suc n) slot some = let less : suc n - 1 ≡ n = omega arith in ap (λ k. slot ∷ replicate k Second) (sym less)
 
--- a frame that was entered with no operands, and its first local variable set
-pub first_made : (thread method : ℕ) (code : MethodCode) (object : ℕ) (k : Continuation) (frames : List Frame) → 0 < code.max_locals → k.thread ≡ thread
-    → frames ≡ entered method code.max_locals code.max_stack 0 [] → k.stack.frames ≡ with_local 0 (One (values.Ref object)) frames → IsFirst thread method code object false k
-first_made thread method code object k frames some thread_is pushed set =
+pub first_made : (thread method : ℕ) (code : MethodCode) (object : ℕ) (m : Continuation) → 0 < code.max_locals → IsPushed thread method code object code.max_locals m
+    → IsFirst thread method code object false m
+first_made thread method code object m some pushed =
     let whole : code.max_locals - 0 ≡ code.max_locals = omega arith in
     let locals : slice_set (replicate (code.max_locals - 0) Second) 0 (One (values.Ref object)) ≡ One (values.Ref object) ∷ replicate (code.max_locals - 1) Second =
     ap (λ n. slice_set (replicate n Second) 0 (One (values.Ref object))) whole ∙ set_first code.max_locals (One (values.Ref object)) some in
     record {
-      thread_is = thread_is;
+      thread_is = pushed.thread_is;
       frame = object_frame method code object;
       is = first_is method code object some;
-      frames = set ∙ ap (with_local 0 (One (values.Ref object))) pushed ∙ ap (λ slots. record (object_frame method code object) { locals = slots } ∷ []) locals;
+      frames = pushed.frames ∙ ap (λ slots. record (object_frame method code object) { locals = slots } ∷ []) locals;
     }
 
 -- the last local variable is set
@@ -116,16 +115,15 @@ set_both (suc n) slot some =
     ∙ ap (λ k. (slot ∷ replicate k Second) ++ slot ∷ []) (sym less)
 
 -- the same with one more local variable, the last, which was set too
-pub locked_made : (thread method : ℕ) (code : MethodCode) (object : ℕ) (k : Continuation) (frames : List Frame) → 0 < code.max_locals → k.thread ≡ thread
-    → frames ≡ entered method (code.max_locals + 1) code.max_stack 0 [] → k.stack.frames ≡ with_local code.max_locals (One (values.Ref object)) (with_local 0 (One (values.Ref object)) frames)
-    → IsFirst thread method code object true k
-locked_made thread method code object k frames some thread_is pushed set =
+pub locked_made : (thread method : ℕ) (code : MethodCode) (object : ℕ) (m k : Continuation) → 0 < code.max_locals → IsPushed thread method code object (code.max_locals + 1) m
+    → k.thread ≡ m.thread → k.stack.frames ≡ with_local code.max_locals (One (values.Ref object)) m.stack.frames → IsFirst thread method code object true k
+locked_made thread method code object m k some pushed thread_is set =
     let slot : Slot = One (values.Ref object) in
     record {
-      thread_is = thread_is;
+      thread_is = thread_is ∙ pushed.thread_is;
       frame = object_frame method code object;
       is = first_is method code object some;
-      frames = set ∙ ap (λ fs. with_local code.max_locals slot (with_local 0 slot fs)) pushed
+      frames = set ∙ ap (with_local code.max_locals slot) pushed.frames
           ∙ ap (λ slots. record (object_frame method code object) { locals = slots } ∷ []) (set_both code.max_locals slot some);
     }
 

@@ -1,13 +1,13 @@
 -- The state after time went on, by its parts, and what became of the lists of monitors.
-use Rattle.std.proofs.Common.{◌≡◌, ◌⊎◌, inl, inr, ℕ, zero, suc, ◌<◌, ◌≤◌, ◌==◌, Bool, true, false, List, [], ◌∷◌, length, Option, Some, None, refl, ap, sym, subst, ◌∙◌}
-use Rattle.std.specs.Prelude.{Contains, map, nat_le, nat_lt, slice_get, if◌then◌else◌}
+use Rattle.std.proofs.Common.{◌≡◌, ℕ, suc, ◌<◌, ◌≤◌, Bool, true, false, List, [], ◌∷◌, length, Option, Some, None, refl, ap, sym, subst, ◌∙◌}
+use Rattle.std.specs.Prelude.{Contains, map, slice_get, if◌then◌else◌}
 use Rattle.std.specs.Global.{Vec}
 use Rattle.std.specs.Option.{option_map_or}
 use Rattle.std.proofs.lemmas.Bool.{le-leb, le-ltb, lt-ltb}
 use Rattle.std.proofs.lemmas.List.{length-map}
 use Rattle.sleep_wheel.specs.declared.sleeper.Key.{Key}
 use Rattle.sleep_wheel.specs.Sleepers.{IsDueList, Sleepers, sleeper_at, sleepers_of, unless_due}
-use Rattle.vthread_state.specs.declared.phase.Phase.TheVariants.{Waiting, Reenter}
+use Rattle.vthread_state.specs.declared.phase.Phase.TheVariants.{Waiting}
 use Rattle.vthread_state.specs.declared.phase.Wake.TheVariants.{TimedOut}
 use Rattle.vthread_state.specs.declared.thread.Status.{Status}
 use Rattle.vthread_state.specs.declared.thread.Status.TheVariants.{New, Live, Done}

@@ -1,25 +1,20 @@
 -- Deadlines as time goes on.
-use Rattle.std.proofs.Common.{◌≡◌, ◌⊎◌, inl, inr, ℕ, suc, ◌<◌, ◌≤◌, Bool, true, false, List, [], ◌∷◌, length, Option, Some, None, refl, ap, sym, subst, ◌∙◌, arith}
-use Rattle.std.specs.Prelude.{◌↔◌, Contains, IsNone, IfSome, map, nat_le, nat_lt, slice_get, if◌then◌else◌}
-use Rattle.std.specs.Global.{Vec}
+use Rattle.std.proofs.Common.{◌≡◌, ◌⊎◌, inl, inr, ℕ, suc, ◌<◌, ◌≤◌, Bool, true, false, List, Option, Some, None, refl, ap, sym, ◌∙◌, arith}
+use Rattle.std.specs.Prelude.{◌↔◌, Contains, IsNone, IfSome, nat_le, nat_lt, slice_get, if◌then◌else◌}
 use Rattle.std.proofs.lemmas.Bool.{leb-true, le-leb, lt-ltb, le-ltb}
 use Rattle.std.proofs.lemmas.Bool.Decides.{leb_tells}
 use Rattle.sleep_wheel.specs.declared.sleeper.Key.{Key}
 use Rattle.sleep_wheel.specs.declared.sleeper.Sleeper.{Sleeper}
 use Rattle.sleep_wheel.specs.Sleepers.{IsDueList, IsEarliest, Sleepers, is_due, sleeper_at, sleepers_of, unless_due}
-use Rattle.vthread_state.specs.declared.phase.Phase.TheVariants.{Run, Throwing, Parked, Asleep, Joining}
-use Rattle.vthread_state.specs.declared.thread.Status.{Status}
-use Rattle.vthread_state.specs.declared.thread.Status.TheVariants.{New, Live, Done}
 use Rattle.ref_model.specs.Looks.{deadline_in}
 use Rattle.ref_model.specs.State.{JavaThread, State}
-use Rattle.ref_model.specs.Waiting.{at_time, status_at_time, thread_at_time}
 use Rattle.program_state.specs.declared.state.ProgramState.{ProgramState}
 use Rattle.program_state.specs.Deadlines.{HoldsDeadlines, IsLeast, IsTimed, untimed, timed, coming_deadline, deadlines_of, key_at, later_than}
 use Rattle.program_state.specs.States.{IsState}
 use Rattle.program_state.specs.Timers.{without_keys}
-use Rattle.program_state.specs.Times.{AreDue, Passes}
+use Rattle.program_state.specs.Times.{AreDue}
 use Rattle.program_state.proofs.WheelLaws.{held, holder, no_key, one_key, sleeper_of}
-use Rattle.program_state.proofs.DueLaws.{due_once, due_slot, due_thread, given_up, kept_key, length_without, none_stays, slot_due, thread_due}
+use Rattle.program_state.proofs.DueLaws.{due_once, due_slot, due_thread, given_up, kept_key, none_stays, slot_due, thread_due}
 
 -- ---- deadlines that are still to come
 

@@ -1,6 +1,6 @@
 -- Time that goes on ends waits on monitors, one after the other.
-use Rattle.std.proofs.Common.{arith, ◌≡◌, ◌≢◌, ◌⊎◌, ◌+◌, ◌<◌, ◌≤◌, ◌++◌, ℕ, zero, suc, Bool, true, false, List, [], ◌∷◌, Option, Some, None, eqb, get_or, inl, inr, length, refl, sym, subst, ap, take, ◌∙◌}
-use Rattle.std.specs.Prelude.{Contains, map, slice_get, if◌then◌else◌}
+use Rattle.std.proofs.Common.{arith, ◌≡◌, ◌≢◌, ◌⊎◌, ◌+◌, ◌<◌, ◌≤◌, ◌++◌, ℕ, Bool, true, false, List, [], ◌∷◌, Option, Some, None, eqb, get_or, inl, inr, length, refl, sym, subst, ap, take, ◌∙◌}
+use Rattle.std.specs.Prelude.{Contains, slice_get, if◌then◌else◌}
 use Rattle.std.specs.List.{AllByRecursion, IsDistinct}
 use Rattle.std.specs.Option.{option_map_or}
 use Rattle.std.proofs.lemmas.Grind.{common_steps}
@@ -9,7 +9,6 @@ use Rattle.thread_lists.specs.Lists.{without}
 use Rattle.vthread_state.specs.declared.phase.Phase.{Phase}
 use Rattle.vthread_state.specs.declared.phase.Phase.TheVariants.{Run, Throwing, Entering, Waiting, Reenter, Parked, Asleep, Joining}
 use Rattle.vthread_state.specs.declared.phase.Wake.{Wake}
-use Rattle.vthread_state.specs.declared.phase.Wake.TheVariants.{TimedOut}
 use Rattle.vthread_state.specs.declared.thread.Status.{Status}
 use Rattle.vthread_state.specs.declared.thread.Status.TheVariants.{New, Live, Done}
 use Rattle.vthread_state.specs.declared.thread.Thread.{Thread}

@@ -1,13 +1,11 @@
 -- Permits and interrupts for a thread.
-use Rattle.std.proofs.Common.{◌≡◌, ◌≢◌, ◌⊎◌, inl, inr, eqb, ℕ, ◌==◌, ◌||◌, Bool, true, false, Option, Some, None, refl, ap, sym, subst, ◌∙◌}
+use Rattle.std.proofs.Common.{◌≡◌, ◌≢◌, ◌⊎◌, inl, inr, eqb, ℕ, ◌||◌, Bool, true, false, Option, Some, None, refl, ap, sym, subst, ◌∙◌}
 use Rattle.std.specs.Prelude.{slice_get, slice_set, if◌then◌else◌}
 use Rattle.std.proofs.Math.ListN.{length-set}
 use Rattle.std.proofs.lemmas.Bool.Decides.{eqb_tells}
 use Rattle.wakes.specs.Flags.{Flags}
 use Rattle.std.specs.Option.{option_map_or}
 use Rattle.vthread_state.specs.declared.phase.Phase.{Phase}
-use Rattle.vthread_state.specs.declared.phase.Phase.TheVariants.{Run, Throwing, Entering, Waiting, Reenter, Parked, Asleep, Joining}
-use Rattle.vthread_state.specs.declared.phase.Wake.{Wake}
 use Rattle.vthread_state.specs.declared.phase.Wake.TheVariants.{Interrupted}
 use Rattle.vthread_state.specs.declared.thread.Status.{Status}
 use Rattle.vthread_state.specs.declared.thread.Status.TheVariants.{New, Live, Done}
@@ -21,7 +19,7 @@ use Rattle.ref_model.specs.Requesting.{asked, thread_interrupted, thread_unparke
 use Rattle.ref_model.specs.Requests.{request_of}
 use Rattle.ref_model.specs.State.{JavaThread, State, with_thread}
 use Rattle.ref_model.specs.Looks.{spot_in, spot_of}
-use Rattle.ref_model.specs.Waiting.{phase_woken, status_woken, thread_woken}
+use Rattle.ref_model.specs.Waiting.{status_woken, thread_woken}
 use Rattle.schedule_model.specs.Look.{absent, is_in_line, is_in_wait_list}
 use Rattle.ref_model.specs.declared.request.ThreadRequest.{ThreadRequest}
 use Rattle.ref_model.specs.declared.request.ThreadRequest.TheVariants as requests

@@ -1,5 +1,5 @@
 -- The monitors of a state (JLS 17.1, 17.2): who owns each, and that threads are in the lists of monitors just where their phases say so.
-use Rattle.std.specs.Prelude.{◌≡◌, ℕ, Bool, List, [], ◌∷◌, Option, Some, None, length, slice_get}
+use Rattle.std.specs.Prelude.{◌≡◌, ℕ, List, [], ◌∷◌, Option, Some, None, length, slice_get}
 use Rattle.std.specs.Option.{option_map, option_map_or}
 use Rattle.thread_lists.specs.Lists.{count}
 use Rattle.vthread_state.specs.declared.thread.Status.{Status}

@@ -10,6 +10,7 @@ use Rattle.link_model.specs.World.{World}
 use Rattle.link_model.specs.Decoded.{code_at}
 use Rattle.link_model.specs.declared.members.MethodCode.{MethodCode}
 use Rattle.state_model.specs.Frames.{Frame}
+use Rattle.frames.specs.Frames.{entered, with_local}
 use Rattle.continuation.specs.Continuation.{Continuation}
 use Rattle.ref_model.specs.Asking.{Asking, goes}
 use Rattle.ref_model.specs.Frames.{first_frame}
@@ -24,6 +25,11 @@ use Rattle.program_state.specs.declared.starting.Start.TheVariants.{Begins, Thro
 use Rattle.program_state.specs.declared.state.ProgramState.{ProgramState}
 use Rattle.program_state.specs.Monitors.{LinesUpFor}
 use Rattle.program_state.specs.States.{IsState}
+
+-- the frame of a method with so many local variables, of which the first has an object
+pub record IsPushed (thread method : ℕ) (code : MethodCode) (object locals : ℕ) (k : Continuation) : Type 0 where
+  pub thread_is : k.thread ≡ thread
+  pub frames : k.stack.frames ≡ with_local 0 (One (values.Ref object)) (entered method locals code.max_stack 0 [])
 
 -- the frames of a thread that begins with a method on an object, which is synchronized or not
 pub record IsFirst (thread method : ℕ) (code : MethodCode) (object : ℕ) (synchronized : Bool) (k : Continuation) : Type 0 where

@@ -47,13 +47,6 @@ pub(crate) fn is_reached(now: u64, deadline: Option<u64>) -> bool
     }
 }
 
-// The time so many nanoseconds from now, at most the greatest number of 64 bits.
-fn deadline_after(now: u64, nanos: u64) -> u64
-    ensures { result ≡ waiting.deadline_after now nanos }
-{
-    now.saturating_add(nanos)
-}
-
 /// The time so many milliseconds from now, of which none is negative.
 pub(crate) fn millis_after(now: u64, millis: i64) -> u64
     ensures { result ≡ waiting.millis_after now millis }
@@ -83,7 +76,7 @@ pub(crate) fn park_deadline(now: u64, nanos: Option<i64>) -> Option<u64>
     ensures { result ≡ waiting.park_deadline now nanos }
 {
     match nanos {
-        Some(nanos) => Some(deadline_after(now, nanos.unsigned_abs())),
+        Some(nanos) => Some(now.saturating_add(nanos.unsigned_abs())),
         None => None,
     }
 }

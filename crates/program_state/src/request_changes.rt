@@ -33,8 +33,8 @@ fn refuses_daemon(row: Thread, daemon: bool) -> bool
 
 /// setDaemon. A virtual thread is a daemon, and a thread that runs isn't changed.
 pub(crate) fn set_daemon(state: &mut ProgramState, u: u32, daemon: bool) -> Result<Reply, NoMemory>
-    ensures answers { (w : World) (t : ℕ) → IfOk result (Answers w (ThreadRequest.SetsDaemon u daemon)
-        (OthersStay t) t state.old state.new) }
+    ensures answers { (w : World) (t : ℕ) → IfOk result (Answers w
+        (ThreadRequest.SetsDaemon u daemon) (OthersStay t) t state.old state.new) }
     ensures monitors { state.new.monitors ≡ state.old.monitors }
 {
     let row = row_at(&state.threads, u)?;

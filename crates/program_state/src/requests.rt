@@ -188,7 +188,8 @@ pub fn make_request<W: ThreadWorld>(
     mounted: &mut Mounted,
     pending: PendingRequest,
 ) -> Result<RequestOutcome, NoMemory>
-    requires asks { IsPending (W.world world.now) pending state.old.memory mounted.old.stack.frames }
+    requires asks { IsPending (W.world world.now) pending state.old.memory
+        mounted.old.stack.frames }
     requires seated { AreSeated state.old.monitors state.old.threads }
     ensures made { IfOk result (λ outcome. IsRequestMade (W.world world.now) pending outcome
         state.old mounted.old state.new mounted.new) }

@@ -4,7 +4,7 @@ ghost use Rattle.std.specs.Prelude.{◌≡◌, ◌<◌, true, false, length, IfO
 ghost use Rattle.vthread_state.specs.declared.thread.Status.TheVariants.{Live};
 ghost use Rattle.vthread_state.specs.Threads.{with_status};
 ghost use Rattle.program_state.specs.Monitors.{AreSeated};
-ghost use Rattle.program_state.specs.Starting.{IsBegun, IsFirst, IsRun, IsStart, begin_phase};
+ghost use Rattle.program_state.specs.Starting.{IsBegun, IsFirst, IsPushed, IsRun, IsStart, begin_phase};
 
 use crate::monitor_waits::line_up_for;
 use crate::state::{ProgramState, row_at};
@@ -45,6 +45,28 @@ fn freeze(mounted: Mounted) -> Result<Frozen, NoMemory>
     }
 }
 
+// The frame of a thread that begins with a method on an object, with so many local variables.
+fn push_first(
+    alloc: Global,
+    thread: u32,
+    method: u32,
+    code: &MethodCode,
+    object: u32,
+    locals: u32,
+) -> Result<Mounted, NoMemory>
+    requires { 0 < locals }
+    ensures { IfOk result (IsPushed thread method code.now object locals) }
+{
+    let mut mounted = Mounted::new(alloc, thread);
+    match mounted.push_frame(method, locals, code.max_stack, 0, false) {
+        Ok(()) => {
+            mounted.set_local(0, Slot::One(Value::Ref(object)));
+            Ok(mounted)
+        }
+        Err(_) => Err(NoMemory),
+    }
+}
+
 // The frames of a thread that begins with a method on an object. A method without local variables counts as memory run out.
 fn first_frames(
     alloc: Global,
@@ -58,14 +80,8 @@ fn first_frames(
     if code.max_locals == 0 {
         return Err(NoMemory);
     }
-    let mut mounted = Mounted::new(alloc, thread);
-    match mounted.push_frame(method, code.max_locals as u32, code.max_stack, 0, false) {
-        Ok(()) => {
-            mounted.set_local(0, Slot::One(Value::Ref(object)));
-            freeze(mounted)
-        }
-        Err(_) => Err(NoMemory),
-    }
+    let locals = code.max_locals as u32;
+    freeze(push_first(alloc, thread, method, code, object, locals)?)
 }
 
 // The same of a synchronized method. The number of the object's monitor lies in one more local variable of the frame, the last.
@@ -81,15 +97,10 @@ fn synchronized_frames(
     if code.max_locals == 0 {
         return Err(NoMemory);
     }
-    let mut mounted = Mounted::new(alloc, thread);
-    match mounted.push_frame(method, code.max_locals as u32 + 1, code.max_stack, 0, false) {
-        Ok(()) => {
-            mounted.set_local(0, Slot::One(Value::Ref(object)));
-            mounted.set_local(code.max_locals, Slot::One(Value::Ref(object)));
-            freeze(mounted)
-        }
-        Err(_) => Err(NoMemory),
-    }
+    let locals = code.max_locals as u32 + 1;
+    let mut mounted = push_first(alloc, thread, method, code, object, locals)?;
+    mounted.set_local(code.max_locals, Slot::One(Value::Ref(object)));
+    freeze(mounted)
 }
 
 // A thread begins with the method of a number as its run. It enters the monitor of its object first, where the method is synchronized.

@@ -66,9 +66,9 @@ fn set_phase(threads: &mut ThreadTable, t: u32, phase: Phase) -> Result<(), NoMe
     }
 }
 
-// Sets the status of a live thread, after which it runs, throws or is done. Any other status counts as memory run out, and so does a
-// thread that isn't live.
-fn set_status(threads: &mut ThreadTable, t: u32, status: Status) -> Result<(), NoMemory>
+/// Sets the status of a live thread, after which it runs, throws or is done. Any other status counts as memory run out, and so does a
+/// thread that isn't live.
+pub(crate) fn set_status(threads: &mut ThreadTable, t: u32, status: Status) -> Result<(), NoMemory>
     ensures { OnOk result (IsStatusSet t status threads.old threads.new) }
 {
     if t >= threads.count() || !threads.is_alive(t) {
@@ -160,11 +160,4 @@ pub(crate) fn settle_throwing(state: &mut ProgramState, t: u32, o: u32) -> Resul
         return Ok(());
     }
     settle_status(state, t)
-}
-
-/// A live thread runs again. A thread that isn't live counts as memory run out.
-pub(crate) fn set_running(threads: &mut ThreadTable, t: u32) -> Result<(), NoMemory>
-    ensures { OnOk result (IsStatusSet t (Live Run) threads.old threads.new) }
-{
-    set_status(threads, t, Status::Live(Phase::Run))
 }

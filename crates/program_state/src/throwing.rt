@@ -32,8 +32,7 @@ pub fn throwing_step<W: ThreadWorld>(
     let name = row_at(&state.threads, t)?.name;
     let status = state.memory.status;
     state.memory.status = Status::Live(Phase::Throwing(o));
-    let thrown =
-        thread_steps::throwing_step(alloc, world, &mut state.memory, mounted, t, name, o)?;
+    let thrown = thread_steps::throwing_step(alloc, world, &mut state.memory, mounted, t, name, o)?;
     if mounted.thread() != t {
         return Err(NoMemory);
     }

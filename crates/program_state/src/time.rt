@@ -16,9 +16,8 @@ use crate::timers::clear_keys;
 use items::NoMemory;
 
 /// Lets time go on, to this in nanoseconds: the threads whose deadline is reached by that, in the order of the deadlines, and of their
-/// numbers at one deadline. They come off the wheel, and those
-/// that wait on a monitor line up for it, one after the other. It takes time by their number, and not by that of all threads. Where memory runs out
-/// nothing changes.
+/// numbers at one deadline. They come off the wheel, and those that wait on a monitor line up for it, one after the other. It takes time by
+/// their number, and not by that of all threads. Where memory runs out nothing changes.
 pub fn pass_time(state: &mut ProgramState, now: u64) -> Result<Vec<u32>, NoMemory>
     requires later { state.old.time < now }
     requires seated { AreSeated state.old.monitors state.old.threads }

@@ -24,7 +24,7 @@ use crate::clock::is_reached;
 use crate::flags::{has_permit, is_interrupted, take_interrupt, take_permit};
 use crate::replies::{conclude_reply, throw};
 use crate::reply::Reply;
-use crate::state::{ProgramState, row_at, set_running};
+use crate::state::{ProgramState, row_at, set_status};
 use crate::timers::clear_timer;
 use crate::world::ThreadWorld;
 use continuation::Mounted;
@@ -197,7 +197,7 @@ fn end_wait(state: &mut ProgramState, t: u32) -> Result<bool, NoMemory>
 {
     let phase = live_phase(&state.threads, t)?;
     clear_timer(&mut state.wheel, &mut state.keys, t)?;
-    set_running(&mut state.threads, t)?;
+    set_status(&mut state.threads, t, Status::Live(Phase::Run))?;
     take_wake(&mut state.wakes, t, phase)
 }
 

@@ -93,12 +93,16 @@ pub(crate) fn interrupt(state: &mut ProgramState, t: u32, u: u32) -> Result<Opti
     if u as usize >= state.wakes.count() {
         return Err(NoMemory);
     }
+    state.wakes.interrupt(u);
     if is_waiting(phase) {
         clear_timer(&mut state.wheel, &mut state.keys, u)?;
-        end_monitor_wait(&mut state.monitors, &mut state.threads, u, Wake::Interrupted);
-        state.wakes.interrupt(u);
+        end_monitor_wait(
+            &mut state.monitors,
+            &mut state.threads,
+            u,
+            Wake::Interrupted,
+        );
         return Ok(woken_thread(t, u, phase));
     }
-    state.wakes.interrupt(u);
     Ok(woken_thread(t, u, phase))
 }

@@ -4,7 +4,6 @@ use Rattle.vthread_state.specs.declared.phase.Phase.TheVariants.{Run}
 use Rattle.vthread_state.specs.declared.thread.Status.TheVariants.{Live}
 use Rattle.vthread_state.specs.Threads.{status_at}
 use Rattle.verify_types.specs.Environment.{Instruction}
-use Rattle.thread_steps.specs.declared.parts.Parts.{Parts}
 use Rattle.thread_steps.specs.declared.progress.Progress.{Progress}
 use Rattle.thread_steps.specs.Asking as asking
 use Rattle.program_state.specs.declared.state.ProgramState.{ProgramState}

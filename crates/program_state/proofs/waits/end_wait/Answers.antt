@@ -9,8 +9,8 @@ returns-clause-ends c =
     let t = c.args.t in
     let phase = c.in_ok-phase.phase in
     let flags = c.take_wake.new.wakes in
-    let table = c.set_running.new.threads in
+    let table = c.set_status.new.threads in
     let wheel = c.clear_timer.new.wheel in
     let keys = c.clear_timer.new.keys in
     if_ok (λ interrupted. IsWakeTaken t phase interrupted a.wakes flags) (EndsWait t a (record a { threads = table; wakes = flags; wheel = wheel; keys = keys })) c.take_wake.result c.take_wake.ensures
-    (λ interrupted taken. wait_ended a table flags wheel keys t phase interrupted c.in_ok-phase.ensures c.in_ok-set_running.ensures c.in_ok-clear_timer.ensures taken)
+    (λ interrupted taken. wait_ended a table flags wheel keys t phase interrupted c.in_ok-phase.ensures c.in_ok-set_status.ensures c.in_ok-clear_timer.ensures taken)

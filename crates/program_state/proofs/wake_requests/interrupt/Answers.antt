@@ -1,4 +1,4 @@
-use Rattle.std.proofs.Common.{sym, ap, ◌∙◌}
+use Rattle.std.proofs.Common.{sym, ◌∙◌}
 use Rattle.program_state.specs.Monitors.{spot_in}
 use Rattle.program_state.proofs.InterruptLaws.{interrupt_ends}
 use Rattle.program_state.proofs.SeatLaws.{left_moves}
@@ -17,8 +17,8 @@ returns-then-is_waiting-clause-lists c =
 
 pub returns-clause-answers : goal.returns-clause-answers
 returns-clause-answers c w =
-    interrupt_wakes w c.args.t c.args.u c.args.state.now c.interrupt-2.new.self c.in_ok-row.row c.in-Live.phase c.woken_thread-2.result c.in_ok-row.ensures c.in-Live.is
-    (sym c.is_waiting.ensures ∙ c.if-is_waiting.false) c.interrupt-2.ensures c.woken_thread-2.ensures
+    interrupt_wakes w c.args.t c.args.u c.args.state.now c.interrupt.new.self c.in_ok-row.row c.in-Live.phase c.woken_thread-2.result c.in_ok-row.ensures c.in-Live.is
+    (sym c.is_waiting.ensures ∙ c.if-is_waiting.false) c.interrupt.ensures c.woken_thread-2.ensures
 
 pub returns-in_default-clause-answers : goal.returns-in_default-clause-answers
 returns-in_default-clause-answers c w = interrupt_idle w c.args.t c.args.u c.args.state.now c.in_ok-row.row c.in_ok-row.ensures (idle_status (c.in_ok-row.row).status c.in_default.not-Live)

@@ -1,7 +1,3 @@
-use Rattle.std.proofs.Common.{sym, ap, ◌∙◌, false}
-use Rattle.std.specs.Prelude.{Bool}
-use Rattle.vthread_state.specs.declared.thread.Status.{Status}
-use Rattle.ref_model.specs.Ending.{is_live}
 use Rattle.program_state.proofs.WakeLaws.{idle_status, unpark_idle, unpark_wakes}
 use Rattle.program_state.proofs.wake_requests.unpark.Goals as goal
 
