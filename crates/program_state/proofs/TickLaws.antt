@@ -2,7 +2,6 @@
 use Rattle.std.proofs.Common.{◌≡◌, ℕ, suc, ◌<◌, ◌≤◌, Bool, true, false, List, [], ◌∷◌, length, Option, Some, None, refl, ap, sym, subst, ◌∙◌}
 use Rattle.std.specs.Prelude.{Contains, map, slice_get, if◌then◌else◌}
 use Rattle.std.specs.Global.{Vec}
-use Rattle.std.specs.Option.{option_map_or}
 use Rattle.std.proofs.lemmas.Bool.{le-leb, le-ltb, lt-ltb}
 use Rattle.std.proofs.lemmas.List.{length-map}
 use Rattle.sleep_wheel.specs.declared.sleeper.Key.{Key}
@@ -16,16 +15,15 @@ use Rattle.continuation.specs.Continuation.{Continuation}
 use Rattle.link_model.specs.World.{World}
 use Rattle.monitors.specs.Monitors.{Monitors}
 use Rattle.monitor_soundness.specs.TickLaws.{NoWaitIsOver}
-use Rattle.monitor_soundness.proofs.Times.{Timed, wakes, waits, is_other, at_later, later, other_then, timed, waits_then, woken_then}
+use Rattle.monitor_soundness.proofs.Times.{Timed, wakes, waits, is_other, later, other_then, timed, waits_then, woken_then}
 use Rattle.ref_model.specs.Ending.{is_live}
-use Rattle.ref_model.specs.Looks.{deadline_in, look_of, spot_of}
+use Rattle.ref_model.specs.Looks.{deadline_in, look_of}
 use Rattle.ref_model.specs.State.{JavaThread, State}
-use Rattle.ref_model.specs.Waiting.{at_time, is_reached, status_at_time, status_woken, thread_at_time}
-use Rattle.schedule_model.specs.Look.{Spot, absent, unstarted, in_no_list, in_entry_list, in_wait_list, done, is_in_wait_list}
+use Rattle.ref_model.specs.Waiting.{is_reached, status_at_time, status_woken, thread_at_time}
 use Rattle.schedule_soundness.proofs.ThreadLists.{map_none, map_there, not_none}
 use Rattle.program_state.specs.declared.state.ProgramState.{ProgramState}
 use Rattle.program_state.specs.Deadlines.{HoldsDeadlines, coming_deadline, deadlines_of, key_at, later_than}
-use Rattle.program_state.specs.Monitors.{HaveEndedWaits, spot_at, spot_in}
+use Rattle.program_state.specs.Monitors.{HaveEndedWaits}
 use Rattle.program_state.specs.States.{IsKept, IsState, is_started}
 use Rattle.program_state.specs.Timers.{without_keys}
 use Rattle.program_state.specs.Times.{AreDue, DueMove, Passes}
@@ -35,7 +33,7 @@ use Rattle.program_state.proofs.MonitorLaws.{holds_seated, seated, spots_are}
 use Rattle.program_state.proofs.SeatLaws.{still_status}
 use Rattle.program_state.proofs.StateLaws.{row_of, row_there, still_lies}
 use Rattle.program_state.proofs.TimeLaws.{due_are, holds_later, was_coming}
-use Rattle.program_state.proofs.WaitTimeLaws.{GoWhereWoken, ends_enters, ends_in, ends_limit, ends_none, ends_out, ends_owner, ends_seated, ends_still, ends_waits, spot_woken}
+use Rattle.program_state.proofs.WaitTimeLaws.{AreSeen, ends_enters, ends_in, ends_limit, ends_none, ends_out, ends_owner, ends_seated, ends_still, ends_waits}
 use Rattle.program_state.proofs.WheelLaws.{holds_same, sleeper_of}
 
 -- ---- lists
@@ -186,47 +184,12 @@ time_passes a wheel keys m table now due goes_on d left cleared ended r out is o
 
 -- ---- the lists of monitors
 
-spot_stays : (s : Spot) → is_in_wait_list s ≡ false → spot_woken s ≡ s
-spot_stays absent e = refl
-spot_stays unstarted e = refl
-spot_stays in_no_list e = refl
-spot_stays (in_wait_list o) e = absurd cc
-spot_stays (in_entry_list o) e = refl
-spot_stays done e = refl
-
-due_go : (w : World) (a : ProgramState) (now : ℕ) (due : List ℕ) (r : State) (out : ℕ → Bool) → IsState a r out → NoWaitIsOver r → AreDue r now due
-    → GoWhereWoken due a.threads (look_of w r) (look_of w (later r now))
-due_go w a now due r out is open_waits these u c = (sym table_spot, by (slice_get r.threads u) refl)
-  where
-    spot_here : Option JavaThread → Spot
-    spot_here o = option_map_or (λ (z : JavaThread). spot_of z.thread.status) o absent
-
-    table_spot : spot_in a.threads u ≡ spot_at r.threads u
-    table_spot = spots_are a.threads r.threads is.rows u
-
-    there : (x : JavaThread) → slice_get r.threads u ≡ Some x → Timed r now x → spot_of (thread_at_time now x).thread.status ≡ spot_woken (spot_of x.thread.status)
-    there x at (wakes o count deadline status coming reached) =
-        ap (λ (y : JavaThread). spot_of y.thread.status) (woken_then now x o count deadline status reached)
-        ∙ ap (λ s. spot_of (status_woken TimedOut s)) status ∙ sym (ap (λ s. spot_woken (spot_of s)) status)
-    there x at (waits o count deadline status off) = absurd (waiter_stays r now due these u x at o count deadline status off c)
-    there x at (is_other loose) = ap (λ (y : JavaThread). spot_of y.thread.status) (other_then now x loose) ∙ sym (spot_stays (spot_of x.thread.status) loose)
-
-    by : (o : Option JavaThread) → slice_get r.threads u ≡ o → spot_at (later r now).threads u ≡ spot_woken (spot_in a.threads u)
-    by None at =
-        let d = due_reached r now due these u c in
-        let no : None ≡ Some d.0 = sym (ap (coming_deadline r.now) at) ∙ d.1 in
-        absurd cc
-    by (Some x) at =
-        ap spot_here (map_there (thread_at_time now) r.threads u x at) ∙ there x at (timed r now u x open_waits at) ∙ ap spot_woken (sym (table_spot ∙ ap spot_here at))
-
 pub due_move : (a : ProgramState) (m : Monitors) (table : Threads) (now : ℕ) (due : List ℕ) → IsDueList now (sleepers_of a.wheel) due
-    → HaveEndedWaits TimedOut due a.monitors a.threads m table → (w : World) (r q : State) (out : ℕ → Bool) → IsState a r out → NoWaitIsOver r → at_time r now ≡ Some q
-    → DueMove w r q due a.monitors m
-due_move a m table now due d ended w r q out is open_waits tick =
-    let these = due_are a now due d r out is in
-    let go = due_go w a now due r out is open_waits these in
-    at_later r q now (λ (s : State). DueMove w r s due a.monitors m) tick
-    (record {
-      waits = ends_waits TimedOut due a.monitors m a.threads table (look_of w r) (look_of w (later r now)) ended these.once go;
-      enters = ends_enters TimedOut due a.monitors m a.threads table (look_of w r) (look_of w (later r now)) ended these.once go;
-    })
+    → HaveEndedWaits TimedOut due a.monitors a.threads m table → (w : World) (r : State) (out : ℕ → Bool) → IsState a r out → DueMove w r due a.monitors m
+due_move a m table now due d ended w r out is =
+    let once = (due_are a now due d r out is).once in
+    let seen : AreSeen due a.threads (look_of w r) = λ u c. sym (spots_are a.threads r.threads is.rows u) in
+    record {
+      waits = ends_waits TimedOut due a.monitors m a.threads table (look_of w r) ended once seen;
+      enters = ends_enters TimedOut due a.monitors m a.threads table (look_of w r) ended once seen;
+    }

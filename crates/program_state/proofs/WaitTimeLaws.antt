@@ -1,5 +1,5 @@
 -- Time that goes on ends waits on monitors, one after the other.
-use Rattle.std.proofs.Common.{arith, ◌≡◌, ◌≢◌, ◌⊎◌, ◌+◌, ◌<◌, ◌≤◌, ◌++◌, ℕ, Bool, true, false, List, [], ◌∷◌, Option, Some, None, eqb, get_or, inl, inr, length, refl, sym, subst, ap, take, ◌∙◌}
+use Rattle.std.proofs.Common.{arith, ◌≡◌, ◌≢◌, ◌⊎◌, ◌+◌, ◌<◌, ◌≤◌, ◌++◌, ℕ, true, false, List, [], ◌∷◌, Option, Some, None, eqb, get_or, inl, inr, length, refl, sym, subst, ap, take, ◌∙◌}
 use Rattle.std.specs.Prelude.{Contains, slice_get, if◌then◌else◌}
 use Rattle.std.specs.List.{AllByRecursion, IsDistinct}
 use Rattle.std.specs.Option.{option_map_or}
@@ -13,10 +13,9 @@ use Rattle.vthread_state.specs.declared.thread.Status.{Status}
 use Rattle.vthread_state.specs.declared.thread.Status.TheVariants.{New, Live, Done}
 use Rattle.vthread_state.specs.declared.thread.Thread.{Thread}
 use Rattle.vthread_state.specs.Threads.{Threads, thread_at, threads_with}
-use Rattle.schedule_model.specs.Look.{Look, Spot, absent, unstarted, in_no_list, in_entry_list, in_wait_list, done, is_entering, is_waiting}
+use Rattle.schedule_model.specs.Look.{Look, Spot, absent, unstarted, in_no_list, in_entry_list, in_wait_list, done, is_waiting}
 use Rattle.monitors.specs.Monitors.{Monitor, Monitors, monitor_of}
-use Rattle.monitor_soundness.specs.ListLaws.{moved_list}
-use Rattle.monitor_soundness.specs.TickLaws.{moved_by}
+use Rattle.monitor_soundness.specs.TickLaws.{left_by, lined_up_by}
 use Rattle.ref_model.specs.Looks.{spot_of}
 use Rattle.ref_model.specs.Waiting.{phase_woken, status_woken}
 use Rattle.ref_model.proofs.StateLaws.{get_set}
@@ -139,17 +138,8 @@ ends_in wake (t ∷ ts) a n table after u row e c at = by wake t ts a n table af
 
 -- ---- the lists
 
--- where a thread is after its wait
-abbrev pub spot_woken : Spot → Spot
-spot_woken (in_wait_list o) = in_entry_list o
-spot_woken spot = spot
-
--- a thread that stays where it is changes no list
-stays_there : (b : Bool) (t : ℕ) (list : List ℕ) → (if b then (if b then list else list ++ t ∷ []) else (if b then without t list else list)) ≡ list
-stays_there true t list = refl
-stays_there false t list = refl
-
-waits_moved : (t o : ℕ) (s : Spot) (a n : Monitors) → LeavesWait t s a n → (monitor_of n o).wait_list ≡ moved_list (is_waiting o) t s (spot_woken s) (monitor_of a o).wait_list
+waits_moved : (t o : ℕ) (s : Spot) (a n : Monitors) → LeavesWait t s a n
+    → (monitor_of n o).wait_list ≡ (if is_waiting o s then without t (monitor_of a o).wait_list else (monitor_of a o).wait_list)
 waits_moved t o (in_wait_list p) a n becomes = by (eqb_tells o p)
   where
     by : ((eqb o p ≡ true) × (o ≡ p)) ⊎ ((eqb o p ≡ false) × (o ≢ p)) → (monitor_of n o).wait_list ≡ (if eqb p o then without t (monitor_of a o).wait_list else (monitor_of a o).wait_list)
@@ -165,7 +155,8 @@ waits_moved t o in_no_list a n same = ap (λ m. (monitor_of m o).wait_list) same
 waits_moved t o (in_entry_list p) a n same = ap (λ m. (monitor_of m o).wait_list) same
 waits_moved t o done a n same = ap (λ m. (monitor_of m o).wait_list) same
 
-enters_moved : (t o : ℕ) (s : Spot) (a n : Monitors) → LeavesWait t s a n → (monitor_of n o).entry_list ≡ moved_list (is_entering o) t s (spot_woken s) (monitor_of a o).entry_list
+enters_moved : (t o : ℕ) (s : Spot) (a n : Monitors) → LeavesWait t s a n
+    → (monitor_of n o).entry_list ≡ (if is_waiting o s then (monitor_of a o).entry_list ++ t ∷ [] else (monitor_of a o).entry_list)
 enters_moved t o (in_wait_list p) a n becomes = by (eqb_tells o p)
   where
     by : ((eqb o p ≡ true) × (o ≡ p)) ⊎ ((eqb o p ≡ false) × (o ≢ p)) → (monitor_of n o).entry_list ≡ (if eqb p o then (monitor_of a o).entry_list ++ t ∷ [] else (monitor_of a o).entry_list)
@@ -178,7 +169,7 @@ enters_moved t o (in_wait_list p) a n becomes = by (eqb_tells o p)
 enters_moved t o absent a n same = ap (λ m. (monitor_of m o).entry_list) same
 enters_moved t o unstarted a n same = ap (λ m. (monitor_of m o).entry_list) same
 enters_moved t o in_no_list a n same = ap (λ m. (monitor_of m o).entry_list) same
-enters_moved t o (in_entry_list p) a n same = ap (λ m. (monitor_of m o).entry_list) same ∙ sym (stays_there (is_entering o (in_entry_list p)) t (monitor_of a o).entry_list)
+enters_moved t o (in_entry_list p) a n same = ap (λ m. (monitor_of m o).entry_list) same
 enters_moved t o done a n same = ap (λ m. (monitor_of m o).entry_list) same
 
 -- a thread of a list without one twice isn't the one before it
@@ -194,35 +185,30 @@ distinct_parts : (t : ℕ) (ts : List ℕ) → IsDistinct same_thread (t ∷ ts)
 unfolding IsDistinct
 distinct_parts t ts d = (all_other t ts d.0, d.1)
 
--- where the threads are that wait, before and after that
-abbrev pub GoWhereWoken : List ℕ → Threads → Look → Look → Type 0
-GoWhereWoken ts table before after = (u : ℕ) → Contains ts u → (before.spot u ≡ spot_in table u) × (after.spot u ≡ spot_woken (spot_in table u))
+-- these threads are seen where the table has them
+abbrev pub AreSeen : List ℕ → Threads → Look → Type 0
+AreSeen ts table l = (u : ℕ) → Contains ts u → l.spot u ≡ spot_in table u
 
-rest_goes : (wake : Wake) (t : ℕ) (ts : List ℕ) (table between : Threads) (l k : Look) → GoWhereWoken (t ∷ ts) table l k → IsDistinct same_thread (t ∷ ts) → between ≡ with_woken wake table t
-    → GoWhereWoken ts between l k
-rest_goes wake t ts table between l k go one set u c =
+rest_seen : (wake : Wake) (t : ℕ) (ts : List ℕ) (table between : Threads) (l : Look) → AreSeen (t ∷ ts) table l → IsDistinct same_thread (t ∷ ts) → between ≡ with_woken wake table t
+    → AreSeen ts between l
+rest_seen wake t ts table between l seen one set u c =
     let ne = (distinct_parts t ts one).0 u c in
     let same : spot_in between u ≡ spot_in table u =
     ap (λ o. option_map_or (λ (thread : Thread). spot_of thread.status) o absent) (ap (λ x. thread_at x u) set ∙ other_row wake table t u (λ e. ne (sym e))) in
-    let g = go u (contains_more t ts u c) in
-    (g.0 ∙ sym same, g.1 ∙ ap spot_woken (sym same))
+    seen u (contains_more t ts u c) ∙ sym same
 
-pub ends_waits : (wake : Wake) (ts : List ℕ) (a n : Monitors) (table after : Threads) (l k : Look) → HaveEndedWaits wake ts a table n after → IsDistinct same_thread ts → GoWhereWoken ts table l k
-    → (o : ℕ) → (monitor_of n o).wait_list ≡ moved_by (is_waiting o) l k ts (monitor_of a o).wait_list
-ends_waits wake [] a n table after l k e one go o = ap (λ m. (monitor_of m o).wait_list) e.0
-ends_waits wake (t ∷ ts) a n table after l k e one go o =
-    let own = go t (contains_it t ts t refl) in
-    ends_waits wake ts e.0 n e.1 after l k e.3 (distinct_parts t ts one).1 (rest_goes wake t ts table e.1 l k go one (e.2).threads) o
-    ∙ ap (moved_by (is_waiting o) l k ts) (waits_moved t o (spot_in table t) a e.0 (e.2).monitors
-    ∙ ap (λ s. moved_list (is_waiting o) t s (spot_woken (spot_in table t)) (monitor_of a o).wait_list) (sym own.0)
-    ∙ ap (λ s. moved_list (is_waiting o) t (l.spot t) s (monitor_of a o).wait_list) (sym own.1))
+pub ends_waits : (wake : Wake) (ts : List ℕ) (a n : Monitors) (table after : Threads) (l : Look) → HaveEndedWaits wake ts a table n after → IsDistinct same_thread ts → AreSeen ts table l
+    → (o : ℕ) → (monitor_of n o).wait_list ≡ left_by l o ts (monitor_of a o).wait_list
+ends_waits wake [] a n table after l e one seen o = ap (λ m. (monitor_of m o).wait_list) e.0
+ends_waits wake (t ∷ ts) a n table after l e one seen o =
+    ends_waits wake ts e.0 n e.1 after l e.3 (distinct_parts t ts one).1 (rest_seen wake t ts table e.1 l seen one (e.2).threads) o
+    ∙ ap (left_by l o ts) (waits_moved t o (spot_in table t) a e.0 (e.2).monitors
+    ∙ ap (λ s. if is_waiting o s then without t (monitor_of a o).wait_list else (monitor_of a o).wait_list) (sym (seen t (contains_it t ts t refl))))
 
-pub ends_enters : (wake : Wake) (ts : List ℕ) (a n : Monitors) (table after : Threads) (l k : Look) → HaveEndedWaits wake ts a table n after → IsDistinct same_thread ts → GoWhereWoken ts table l k
-    → (o : ℕ) → (monitor_of n o).entry_list ≡ moved_by (is_entering o) l k ts (monitor_of a o).entry_list
-ends_enters wake [] a n table after l k e one go o = ap (λ m. (monitor_of m o).entry_list) e.0
-ends_enters wake (t ∷ ts) a n table after l k e one go o =
-    let own = go t (contains_it t ts t refl) in
-    ends_enters wake ts e.0 n e.1 after l k e.3 (distinct_parts t ts one).1 (rest_goes wake t ts table e.1 l k go one (e.2).threads) o
-    ∙ ap (moved_by (is_entering o) l k ts) (enters_moved t o (spot_in table t) a e.0 (e.2).monitors
-    ∙ ap (λ s. moved_list (is_entering o) t s (spot_woken (spot_in table t)) (monitor_of a o).entry_list) (sym own.0)
-    ∙ ap (λ s. moved_list (is_entering o) t (l.spot t) s (monitor_of a o).entry_list) (sym own.1))
+pub ends_enters : (wake : Wake) (ts : List ℕ) (a n : Monitors) (table after : Threads) (l : Look) → HaveEndedWaits wake ts a table n after → IsDistinct same_thread ts → AreSeen ts table l
+    → (o : ℕ) → (monitor_of n o).entry_list ≡ lined_up_by l o ts (monitor_of a o).entry_list
+ends_enters wake [] a n table after l e one seen o = ap (λ m. (monitor_of m o).entry_list) e.0
+ends_enters wake (t ∷ ts) a n table after l e one seen o =
+    ends_enters wake ts e.0 n e.1 after l e.3 (distinct_parts t ts one).1 (rest_seen wake t ts table e.1 l seen one (e.2).threads) o
+    ∙ ap (lined_up_by l o ts) (enters_moved t o (spot_in table t) a e.0 (e.2).monitors
+    ∙ ap (λ s. if is_waiting o s then (monitor_of a o).entry_list ++ t ∷ [] else (monitor_of a o).entry_list) (sym (seen t (contains_it t ts t refl))))

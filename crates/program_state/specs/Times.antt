@@ -3,10 +3,9 @@ use Rattle.std.specs.Prelude.{◌≡◌, ◌≤◌, ◌==◌, ◌↔◌, ℕ, Bo
 use Rattle.std.specs.List.{IsDistinct}
 use Rattle.sleep_wheel.specs.declared.sleeper.Sleeper.{Sleeper}
 use Rattle.sleep_wheel.specs.Sleepers.{sleeper_cmp}
-use Rattle.schedule_model.specs.Look.{is_entering, is_waiting}
 use Rattle.link_model.specs.World.{World}
 use Rattle.monitors.specs.Monitors.{Monitors, monitor_of}
-use Rattle.monitor_soundness.specs.TickLaws.{moved_by}
+use Rattle.monitor_soundness.specs.TickLaws.{left_by, lined_up_by}
 use Rattle.ref_model.specs.Looks.{look_of}
 use Rattle.ref_model.specs.State.{State}
 use Rattle.ref_model.specs.Waiting.{at_time}
@@ -20,10 +19,10 @@ pub record Passes (now : ℕ) (new : ProgramState) (r : State) (out : ℕ → Bo
   pub ticks : at_time r now ≡ Some next
   pub is : IsState new next out
 
--- the lists of monitors after a tick: those that are due went where they go one after the other, in this order
-pub record DueMove (w : World) (r q : State) (due : List ℕ) (old new : Monitors) : Type 0 where
-  pub waits : (o : ℕ) → (monitor_of new o).wait_list ≡ moved_by (is_waiting o) (look_of w r) (look_of w q) due (monitor_of old o).wait_list
-  pub enters : (o : ℕ) → (monitor_of new o).entry_list ≡ moved_by (is_entering o) (look_of w r) (look_of w q) due (monitor_of old o).entry_list
+-- the lists of monitors after a tick: those that are due and wait on one go from its wait list to its entry list, one after the other, in this order
+pub record DueMove (w : World) (r : State) (due : List ℕ) (old new : Monitors) : Type 0 where
+  pub waits : (o : ℕ) → (monitor_of new o).wait_list ≡ left_by (look_of w r) o due (monitor_of old o).wait_list
+  pub enters : (o : ℕ) → (monitor_of new o).entry_list ≡ lined_up_by (look_of w r) o due (monitor_of old o).entry_list
 
 -- the threads whose deadlines were to come and are reached at a time, in the order of (deadline, thread)
 pub record AreDue (r : State) (now : ℕ) (threads : List ℕ) : Type 0 where

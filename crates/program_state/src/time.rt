@@ -23,9 +23,9 @@ pub fn pass_time(state: &mut ProgramState, now: u64) -> Result<Vec<u32>, NoMemor
     requires seated { AreSeated state.old.monitors state.old.threads }
     ensures passes { OnOk result ((r : State) (out : ℕ → Bool) → IsState state.old r out
         → NoWaitIsOver r → Passes now state.new r out) }
-    ensures moves { IfOk result (λ due. (w : World) (r q : State) (out : ℕ → Bool)
-        → IsState state.old r out → NoWaitIsOver r → at_time r now ≡ Some q
-        → DueMove w r q due.items state.old.monitors state.new.monitors) }
+    ensures moves { IfOk result (λ due. (w : World) (r : State) (out : ℕ → Bool)
+        → IsState state.old r out
+        → DueMove w r due.items state.old.monitors state.new.monitors) }
     ensures due { IfOk result (λ due. (r : State) (out : ℕ → Bool) → IsState state.old r out
         → AreDue r now due.items) }
     ensures err { OnErr result (state.new ≡ state.old) }
