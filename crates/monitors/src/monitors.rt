@@ -108,6 +108,16 @@ impl Monitors {
         }
     }
 
+    /// How often the owner of a monitor entered it, 0 where it has none.
+    pub fn count(&self, o: u32) -> u32
+        ensures { result ≡ (monitor_of self.now o).count }
+    {
+        match find(&self.records, o) {
+            Some(kept) => kept.count(),
+            None => 0,
+        }
+    }
+
     /// The thread with this index in the wait list of a monitor. This goes past the threads before it.
     pub fn waiter(&self, o: u32, i: u32) -> Option<u32>
         ensures { result ≡ slice_get (monitor_of self.now o).wait_list i }
@@ -229,6 +239,7 @@ impl Monitors {
         ensures ok { OnOk result
             (Becomes self.old self.new o (after_notify (monitor_of self.old o))) }
         ensures err { OnErr result (self.new ≡ self.old) }
+        ensures spare { self.new.spare ≡ self.old.spare }
     {
         self.lists.once();
         let kept = find_owned(&self.records, o, t)?;

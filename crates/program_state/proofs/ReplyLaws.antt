@@ -58,7 +58,7 @@ behind_is f next stack held = by (nat_le (length stack) f.room) (le-leb (length 
     by true e = refl
     by false e = absurd cc
 
-frames_leave : (r : State) (t : ℕ) (x : JavaThread) (frames : List Frame) → slice_get r.threads t ≡ Some x → OthersStay t r (with_frames r t frames)
+pub frames_leave : (r : State) (t : ℕ) (x : JavaThread) (frames : List Frame) → slice_get r.threads t ≡ Some x → OthersStay t r (with_frames r t frames)
 frames_leave r t x frames at =
     let y : JavaThread = record x { frames = frames } in
     subst (OthersStay t r) (sym (frames_is r t x frames at))

@@ -79,7 +79,7 @@ row_asks w i act r t f below x e =
     bind_is (row_effect w i act r.memory (length (f ∷ below)) f) (after_effect w r t i.instr.next f below) y.0 (asked w r t x.1 x.0) y.1
     (effect_asks w r t i.instr.next f below y.0 x y.2)
 
-event_asks : (w : World) (r : State) (t : ℕ) (f : Frame) (below : List Frame) (x : Request × Asking) → asking_in w r.memory (f ∷ below) ≡ Some x
+pub event_asks : (w : World) (r : State) (t : ℕ) (f : Frame) (below : List Frame) (x : Request × Asking) → asking_in w r.memory (f ∷ below) ≡ Some x
     → event_step w r t (f ∷ below) ≡ asked w r t x.1 x.0
 event_asks w r t f below x e =
     let i = some_is (fetched w f) (λ i. row_effect w i (row_of i.instr.op) r.memory (length (f ∷ below)) f >>= asking_by f below i.instr.next) x e in
@@ -98,7 +98,7 @@ pending_step w q a frames r t p same =
 abbrev pub LeavesThen : ℕ → ProgramState → ProgramState → (State → State → Type 0) → (State → State → Type 0) → Type 0
 LeavesThen t mid new first leaves = (r s q : State) (out : ℕ → Bool) → IsState mid s out → IsState new q out → first r s → OthersStay t s q → leaves r q
 
-request_goes_on : (w : World) (q : PendingRequest) (t : ℕ) (a mid new : ProgramState) (before after : List Frame) (reply : Reply) (first leaves : State → State → Type 0)
+pub request_goes_on : (w : World) (q : PendingRequest) (t : ℕ) (a mid new : ProgramState) (before after : List Frame) (reply : Reply) (first leaves : State → State → Type 0)
     → LeavesThen t mid new first leaves → IsPending w q a.memory before → Answers w q.request first t a mid reply → Concludes w q t reply mid before new after
     → StepsTo w leaves Run t a before new after
 request_goes_on w q t a mid new before after reply first leaves then p answers concludes r out is here at =
@@ -212,7 +212,7 @@ awakes_then : (t u : ℕ) (r s q : State) → u ≢ t → Awakes u r s → Other
 awakes_then t u r s q ne (gets woken free) last = gets (woken_then t u r s q ne woken last) free
 awakes_then t u r s q ne (lines_up woken) last = lines_up (interrupted_then t u r s q ne woken last)
 
-notified_then : (o : ℕ) (x y z : Option JavaThread) → StaysOrIsNotified o x y → Stays y z → StaysOrIsNotified o x z
+pub notified_then : (o : ℕ) (x y z : Option JavaThread) → StaysOrIsNotified o x y → Stays y z → StaysOrIsNotified o x z
 notified_then o x y z (stays first) last = stays (stays_then x y z first last)
 notified_then o x y z (is_notified old new was is waits status) (no_thread e f) = absurd (not_none y new e is)
 notified_then o x y z (is_notified old new was is waits status) (is_new v e f n) = absurd (not_none y new e is)

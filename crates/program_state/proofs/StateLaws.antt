@@ -157,13 +157,13 @@ pub record IsPut (a new : ProgramState) (r : State) (t : ℕ) (y : JavaThread) :
   pub places : length new.keys.items ≡ length a.keys.items
   pub wheel : HoldsDeadlines (sleeper_at new.wheel) (key_at new.keys.items) (with_deadline (deadlines_of r.now r.threads) t (later_than r.now (deadline_in y.thread.status)))
 
-abbrev permit_of : JavaThread → Bool
+abbrev pub permit_of : JavaThread → Bool
 permit_of x = x.permit
 
-abbrev interrupt_of : JavaThread → Bool
+abbrev pub interrupt_of : JavaThread → Bool
 interrupt_of x = x.interrupted
 
-deadlines_put : (now : ℕ) (threads : List JavaThread) (t u : ℕ) (x y : JavaThread) → slice_get threads t ≡ Some x
+pub deadlines_put : (now : ℕ) (threads : List JavaThread) (t u : ℕ) (x y : JavaThread) → slice_get threads t ≡ Some x
     → deadlines_of now (slice_set threads t y) u ≡ with_deadline (deadlines_of now threads) t (later_than now (deadline_in y.thread.status)) u
 deadlines_put now threads t u x y at = by (eqb_tells u t)
   where

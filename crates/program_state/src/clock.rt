@@ -11,7 +11,7 @@ use ref_model::ThreadRequest;
 const NANOS_IN_MILLI: u64 = 1_000_000;
 
 /// Whether there is a time, and it is negative.
-pub(crate) fn is_negative(time: Option<i64>) -> bool
+pub fn is_negative(time: Option<i64>) -> bool
     ensures { result ≡ waiting.is_negative time }
 {
     match time {
@@ -56,7 +56,7 @@ pub(crate) fn millis_after(now: u64, millis: i64) -> u64
 }
 
 /// The deadline of join: none without a time, and none for 0.
-pub(crate) fn deadline_of(now: u64, millis: Option<i64>) -> Option<u64>
+pub fn deadline_of(now: u64, millis: Option<i64>) -> Option<u64>
     ensures { result ≡ waiting.deadline_of now millis }
 {
     match millis {

@@ -14,7 +14,7 @@ pub(crate) fn has_permit(wakes: &Wakes, t: u32) -> bool
 }
 
 /// Whether a thread's interrupt status is set (Thread).
-pub(crate) fn is_interrupted(wakes: &Wakes, t: u32) -> bool
+pub fn is_interrupted(wakes: &Wakes, t: u32) -> bool
     ensures { result ≡ flag_at wakes.now.interrupts t }
 {
     (t as usize) < wakes.count() && wakes.interrupted(t)
@@ -31,7 +31,7 @@ pub(crate) fn take_permit(wakes: &mut Wakes, t: u32) -> Result<bool, NoMemory>
 }
 
 /// Clears a thread's interrupt status, and says whether it was set.
-pub(crate) fn take_interrupt(wakes: &mut Wakes, t: u32) -> Result<bool, NoMemory>
+pub fn take_interrupt(wakes: &mut Wakes, t: u32) -> Result<bool, NoMemory>
     ensures { IfOk result (λ had. IsInterruptTaken t had wakes.old wakes.new) }
 {
     if t as usize >= wakes.count() {

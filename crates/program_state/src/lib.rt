@@ -25,12 +25,15 @@ mod waits;
 mod wake_requests;
 mod world;
 
-pub use clock::reads_clock;
+pub use clock::{deadline_of, is_negative, reads_clock};
 pub use endings::ending;
+pub use flags::{is_interrupted, take_interrupt};
+pub use replies::go_on;
 pub use requests::{RequestOutcome, make_request};
 pub use running::run_step;
-pub use state::ProgramState;
+pub use state::{ProgramState, row_at, settle_status};
 pub use throwing::throwing_step;
 pub use time::{earliest, pass_time};
-pub use waits::{finish_wait, is_enabled, woken_by_end};
+pub use timers::{clear_timer, set_timer};
+pub use waits::{finish_wait, is_enabled, live_phase, woken_by_end};
 pub use world::ThreadWorld;

@@ -16,7 +16,7 @@ use ref_model::Exception;
 use thread_steps::{MachineWorld, PendingRequest, raise};
 
 /// The thread goes on at its next instruction.
-pub(crate) fn go_on(mounted: &mut Mounted, pending: PendingRequest)
+pub fn go_on(mounted: &mut Mounted, pending: PendingRequest)
     requires top { HasTop mounted.old }
     requires takes { pending.operands ≤ length (operands mounted.old) }
     ensures frames { GoesOnWithout pending mounted.old.stack.frames mounted.new.stack.frames }

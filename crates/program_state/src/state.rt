@@ -39,7 +39,7 @@ pub struct ProgramState {
 }
 
 /// A thread as it is. A thread that isn't there counts as memory run out.
-pub(crate) fn row_at(threads: &ThreadTable, t: u32) -> Result<Thread, NoMemory>
+pub fn row_at(threads: &ThreadTable, t: u32) -> Result<Thread, NoMemory>
     ensures { IfOk result (λ row. thread_at threads.now t ≡ Some row) }
 {
     if t >= threads.count() {
@@ -85,7 +85,7 @@ pub(crate) fn set_status(threads: &mut ThreadTable, t: u32, status: Status) -> R
 }
 
 /// Writes the status that a step left in the memory to the table, where it is that of a thread that runs, throws or is done.
-pub(crate) fn settle_status(state: &mut ProgramState, t: u32) -> Result<(), NoMemory>
+pub fn settle_status(state: &mut ProgramState, t: u32) -> Result<(), NoMemory>
     ensures settled { OnOk result (IsSettled t state.old state.new) }
     ensures monitors { state.new.monitors ≡ state.old.monitors }
 {

@@ -35,7 +35,7 @@ fn add_sleeper(
 }
 
 /// The deadline of a thread that has none goes onto the wheel, where it is greater than the time.
-pub(crate) fn set_timer(
+pub fn set_timer(
     wheel: &mut Wheel,
     keys: &mut Vec<Option<Key>>,
     now: u64,
@@ -71,11 +71,7 @@ fn clear_key(keys: &mut Vec<Option<Key>>, t: u32)
 }
 
 /// The deadline of a thread comes off the wheel, if it is there. A key that no sleeper has counts as memory run out.
-pub(crate) fn clear_timer(
-    wheel: &mut Wheel,
-    keys: &mut Vec<Option<Key>>,
-    t: u32,
-) -> Result<(), NoMemory>
+pub fn clear_timer(wheel: &mut Wheel, keys: &mut Vec<Option<Key>>, t: u32) -> Result<(), NoMemory>
     ensures { OnOk result (IsTimerCleared t wheel.old keys.old.items
         wheel.new keys.new.items) }
 {

@@ -179,8 +179,8 @@ fn take_wake(wakes: &mut Wakes, t: u32, phase: Phase) -> Result<bool, NoMemory>
     }
 }
 
-// The phase of a live thread. A thread that isn't live counts as memory run out.
-fn live_phase(threads: &ThreadTable, t: u32) -> Result<Phase, NoMemory>
+/// The phase of a live thread. A thread that isn't live counts as memory run out.
+pub fn live_phase(threads: &ThreadTable, t: u32) -> Result<Phase, NoMemory>
     ensures { IfOk result (λ phase. status_at threads.now t ≡ Some (Live phase)) }
 {
     match row_at(threads, t)?.status {
