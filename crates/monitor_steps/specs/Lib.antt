@@ -1,0 +1,6 @@
+pub mod Outcomes
+pub mod Owners
+pub mod Replies
+pub mod Entries
+pub mod Frames
+pub mod Waits
