@@ -12,11 +12,11 @@ returns-clause-leads g c =
     let m = c.args.mounted.now in
     let n = c.throw_unowned.new.mounted in
     let b = c.throw_unowned.new.parts in
-    let row = c.in_ok-row_at.field-0 in
+    let row = c.in_ok-name.field-0 in
     let new = c.settle_status.new.state in
     on_ok c.settle_status.result c.settle_status.ensures (λ settled.
     subst (λ (t : ℕ). UnownedLeads w c.args.o t a m.stack.frames new n.stack.frames) c.thread-t.ensures
-    (unowned_leads w c.args.o c.thread-t.result row.name row a new b m.stack.frames n.stack.frames c.in_ok-row_at.ensures refl c.in_ok-throw_unowned.ensures settled))
+    (unowned_leads w c.args.o c.thread-t.result row.name row a new b m.stack.frames n.stack.frames c.in_ok-name.ensures refl c.in_ok-throw_unowned.ensures settled))
 
 pub returns-clause-monitors : goal.returns-clause-monitors
 returns-clause-monitors g c =
