@@ -96,7 +96,7 @@ monitor_taken a m t o free none becomes r out frames is here at =
 
 -- ---- where a thread is
 
-spot_had : (r : State) (t : ℕ) (x : JavaThread) (status : Status) → slice_get r.threads t ≡ Some x → x.thread.status ≡ status → spot_at r.threads t ≡ spot_of status
+pub spot_had : (r : State) (t : ℕ) (x : JavaThread) (status : Status) → slice_get r.threads t ≡ Some x → x.thread.status ≡ status → spot_at r.threads t ≡ spot_of status
 spot_had r t x status at e = ap (λ o. option_map_or (λ (z : JavaThread). spot_of z.thread.status) o absent) at ∙ ap spot_of e
 
 -- A thread that isn't in the lists of a monitor is in line for it.

@@ -26,7 +26,7 @@ use Rattle.monitor_steps.proofs.StateMoves.{owners_put}
 abbrev pub owner_with : ℕ → ℕ → Owner
 owner_with t count = record { thread = t; count = count }
 
-owner_is : (t : ℕ) (m : Monitor) → m.owner ≡ Some t → owner_in m ≡ Some (owner_with t m.count)
+pub owner_is : (t : ℕ) (m : Monitor) → m.owner ≡ Some t → owner_in m ≡ Some (owner_with t m.count)
 owner_is t m owner = ap (option_map (λ u. owner_with u m.count)) owner
 
 not_one : (c : ℕ) → ltb 1 c ≡ true → (c == 1) ≡ false

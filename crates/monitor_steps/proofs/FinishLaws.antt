@@ -11,6 +11,7 @@ use Rattle.vthread_state.specs.declared.phase.Phase.TheVariants.{Run, Entering, 
 use Rattle.vthread_state.specs.declared.phase.Wake.{Wake}
 use Rattle.vthread_state.specs.declared.phase.Wake.TheVariants.{Notified, TimedOut, Interrupted}
 use Rattle.vthread_state.specs.declared.thread.Status.TheVariants.{Live}
+use Rattle.vthread_state.specs.Threads.{status_at}
 use Rattle.link_model.specs.World.{World}
 use Rattle.state_model.specs.Frames.{Frame}
 use Rattle.continuation.specs.Continuation.{Continuation}
@@ -19,6 +20,7 @@ use Rattle.heap_instructions.specs.Operands.{operands}
 use Rattle.invocation.specs.declared.synchronized_calls.SynchronizedCall.{SynchronizedCall}
 use Rattle.invocation.specs.SynchronizedCalls.{IsBegun}
 use Rattle.invocation.specs.Targets.{callee_frame}
+use Rattle.monitors.specs.Monitors.{IsInLine, monitor_of}
 use Rattle.ref_model.specs.declared.exception.Exception.TheVariants as exceptions
 use Rattle.ref_model.specs.Asking.{Asking, goes, goes_into, thrown_interrupted, waits, with_run}
 use Rattle.ref_model.specs.Monitors.{entered_once, may_take, with_entry, with_monitor}
@@ -39,7 +41,7 @@ use Rattle.program_state.specs.declared.state.ProgramState.{ProgramState}
 use Rattle.program_state.specs.Replies.{GoesOnWithout}
 use Rattle.program_state.specs.Replying.{IsRaised}
 use Rattle.program_state.specs.Requests.{IsPending}
-use Rattle.program_state.specs.Running.{IsCallPending}
+use Rattle.program_state.specs.Running.{IsCallPending, Stays}
 use Rattle.program_state.specs.States.{HasFrames, IsInPhase, IsState}
 use Rattle.program_state.specs.Steps.{Leads, PutsNobody, StepsTo, keeps_monitor, leaves_others}
 use Rattle.program_state.specs.Waking.{IsInterruptTaken}
@@ -47,6 +49,7 @@ use Rattle.program_state.proofs.FlagLaws.{flags_put, interrupt_flags}
 use Rattle.program_state.proofs.ReplyLaws.{frames_leave, goes_concluded}
 use Rattle.program_state.proofs.RequestLaws.{event_asks}
 use Rattle.program_state.proofs.StateLaws.{frames_had, other_frames, others_same, others_then, thread_is}
+use Rattle.program_state.proofs.StepLaws.{phase_in_table}
 use Rattle.program_state.proofs.WaitEndLaws.{raised_alike}
 use Rattle.monitor_steps.specs.declared.line.AfterEntry.{AfterEntry}
 use Rattle.monitor_steps.specs.declared.line.AfterEntry.TheVariants as entries
@@ -259,3 +262,17 @@ call_waits w call t old new before entered p r out is here at =
       has = status_frames r t (Entering o) before Run at;
       others = leaves_others (status_others r t (Entering o) before Run at);
     }
+
+-- ---- whatever it was in line for
+
+pub line_stays : (line : Line) (a b : ProgramState) (m n : Continuation) → Stays a m b n → IsInLine m.thread (monitor_of a.monitors line.monitor) → IsInLine n.thread (monitor_of b.monitors line.monitor)
+line_stays line a b m n stays lined =
+    subst (λ (k : Continuation). IsInLine k.thread (monitor_of b.monitors line.monitor)) (sym stays.mounted)
+    (subst (λ (s : ProgramState). IsInLine m.thread (monitor_of s.monitors line.monitor)) (sym stays.state) lined)
+
+pub any_phase : (w : World) (line : Line) (t : ℕ) (old new : ProgramState) (before after : List Frame) (own : Phase) → status_at old.threads t ≡ Some (Live own) → line_in own before ≡ Some line
+    → StepsInLine w line t old before new after → (phase : Phase) → StepsTo w (PutsNobody t) phase t old before new after
+any_phase w line t old new before after own told lined steps phase r out is here at =
+    let both : Some (Live own) ≡ Some (Live phase) = sym told ∙ phase_in_table old r out t phase before is at in
+    let same : own ≡ phase = cc in
+    steps phase (subst (λ p. line_in p before ≡ Some line) same lined) r out is here at

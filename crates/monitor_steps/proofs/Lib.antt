@@ -6,3 +6,4 @@ pub mod ReplyLaws
 pub mod AnswerLaws
 pub mod FinishLaws
 pub mod LeaveLaws
+pub mod WaitLaws

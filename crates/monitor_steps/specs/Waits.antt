@@ -1,7 +1,9 @@
 -- Threads that begin to wait on a monitor, and those that are notified (JLS 17.2), as the parts of a state have it.
 use Rattle.std.specs.Prelude.{◌≡◌, ℕ, ℤ, Bool, true, false, List, Option, Some, None, slice_get}
-use Rattle.vthread_state.specs.declared.phase.Phase.TheVariants.{Run, Waiting}
+use Rattle.vthread_state.specs.declared.phase.Phase.TheVariants.{Run, Reenter, Waiting}
+use Rattle.vthread_state.specs.declared.phase.Wake.TheVariants.{Notified}
 use Rattle.vthread_state.specs.declared.thread.Status.TheVariants.{Live}
+use Rattle.vthread_state.specs.Threads.{status_at, with_status as with_status_at}
 use Rattle.link_model.specs.World.{World}
 use Rattle.state_model.specs.Frames.{Frame}
 use Rattle.monitors.specs.Monitors.{Becomes, after_notify, monitor_of}
@@ -13,6 +15,7 @@ use Rattle.ref_model.specs.Requests.{waits_on}
 use Rattle.ref_model.specs.State.{State, with_owner, with_status}
 use Rattle.ref_model.specs.Waiting.{has_waiter, is_waiting_on, with_notified}
 use Rattle.program_state.specs.declared.state.ProgramState.{ProgramState}
+use Rattle.program_state.specs.Timers.{IsTimerCleared}
 use Rattle.program_state.specs.Monitors.{ListsMove}
 use Rattle.program_state.specs.States.{IsInPhase, IsState}
 use Rattle.monitor_steps.specs.declared.reply.MonitorReply.TheVariants as replies
@@ -44,6 +47,19 @@ pub record WaitsTo (t o : ℕ) (deadline : Option ℕ) (old new : ProgramState) 
   pub lists : ListsMove old.monitors new.monitors
 
 -- ---- notify
+
+-- Thread u waited on a monitor, and has been notified: it is to take the monitor as often as it had entered it, and has no deadline any more.
+pub record IsNotifiedThere (u : ℕ) (old new : ProgramState) : Type 0 where
+  pub monitor : ℕ
+  pub count : ℕ
+  pub deadline : Option ℕ
+  pub waited : status_at old.threads u ≡ Some (Live (Waiting monitor count deadline))
+  pub timer : IsTimerCleared u old.wheel old.keys.items new.wheel new.keys.items
+  pub state : new ≡ record old {
+    threads = with_status_at old.threads u (Live (Reenter monitor count Notified));
+    wheel = new.wheel;
+    keys = new.keys;
+  }
 
 -- Thread u waited on the monitor, and is in line for it.
 pub record WaitEnds (o u : ℕ) (r : State) (out : ℕ → Bool) (new : ProgramState) : Type 0 where
