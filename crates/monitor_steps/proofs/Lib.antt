@@ -7,3 +7,4 @@ pub mod AnswerLaws
 pub mod FinishLaws
 pub mod LeaveLaws
 pub mod WaitLaws
+pub mod NotifyLaws

@@ -26,17 +26,16 @@ use Rattle.ref_model.specs.Requests.{Request, waits_on}
 use Rattle.ref_model.specs.State.{JavaThread, Owner, State, is_interrupted, with_interrupt, with_owner, with_status}
 use Rattle.ref_model.specs.Throwing.{raised}
 use Rattle.ref_model.specs.Waiting.{deadline_of, is_negative}
-use Rattle.ref_model.specs.declared.request.ThreadRequest.TheVariants as requests
 use Rattle.ref_model.proofs.StateLaws.{get_set}
 use Rattle.schedule_soundness.specs.PutLaws.{OthersStay}
-use Rattle.program_state.specs.declared.reply.Reply.TheVariants as replies_before
+use Rattle.schedule_soundness.proofs.ThreadLists.{set_other}
 use Rattle.program_state.specs.declared.state.ProgramState.{ProgramState}
 use Rattle.program_state.specs.Deadlines.{HoldsDeadlines, coming_deadline, deadlines_of, key_at, later_than, with_deadline}
 use Rattle.program_state.specs.Monitors.{ListsMove, owner_in, stay, waits}
 use Rattle.program_state.specs.States.{IsInPhase, IsState}
 use Rattle.program_state.specs.Timers.{IsTimerSet}
 use Rattle.program_state.specs.Waking.{IsInterruptTaken}
-use Rattle.program_state.proofs.FlagLaws.{interrupt_answers, interrupt_had, no_interrupt_taken}
+use Rattle.program_state.proofs.FlagLaws.{flags_put, interrupt_flags, interrupt_had, no_interrupt_taken}
 use Rattle.program_state.proofs.StateLaws.{others_same, still_out, thread_is}
 use Rattle.monitor_steps.specs.declared.outcome.MonitorOutcome.TheVariants as outcomes
 use Rattle.monitor_steps.specs.declared.reply.MonitorReply.TheVariants as replies
@@ -103,9 +102,18 @@ wait_interrupted t o time a flags positive owned taken =
       answers = record {
         first = tt;
         is = λ w r out frames is here at.
-            let h = interrupt_answers w (requests.WaitsOn o time) t a flags true (replies_before.Throws exceptions.InterruptedException) taken
-            (λ s out x k is at. wait_calm w s t o k time true positive (not_owned a t o true s out is owned) (interrupt_had a s out t true flags is taken)) r out frames is at in
-            record { state = h.state; same = h.same; is = h.is; runs = h.runs; others = h.others };
+            let x : JavaThread = at.thread in
+            let z : JavaThread = record x { interrupted = false } in
+            let next : State = record r { threads = slice_set r.threads t z } in
+            let f = interrupt_flags a flags r out t x false is at.at taken.after in
+            record {
+              state = next;
+              same = λ k. wait_calm w r t o k time true positive (not_owned a t o true r out is owned) (interrupt_had a r out t true flags is taken)
+                  ∙ ap (λ s. raised w s t exceptions.InterruptedException) (thread_is r t (λ y. record y { interrupted = false }) x at.at);
+              is = flags_put a flags r out t x z is at.at refl refl f.permits f.interrupts;
+              runs = record { thread = z; at = get_set r.threads t x z at.at; status = at.status; has = at.has };
+              others = others_same t r next (λ u ne. set_other r.threads t u z ne) refl refl;
+            };
       };
       lists = stay (same_all a.monitors);
     }

@@ -7,6 +7,7 @@ mod entering;
 mod finishing;
 mod leaving;
 mod line;
+mod notifying;
 mod outcome;
 mod owning;
 mod phases;
@@ -15,6 +16,7 @@ mod replying;
 mod requests;
 mod returning;
 mod throwing;
+mod waiting;
 
 pub use calling::make_call;
 pub use finishing::finish_entry;

@@ -9,10 +9,12 @@ ghost use Rattle.monitor_steps.specs.Outcomes.{IsMade};
 ghost use Rattle.monitor_steps.specs.Replies.{AnswersSo};
 
 use crate::entering::enter_monitor;
+use crate::notifying::notify;
 use crate::outcome::MonitorOutcome;
 use crate::owning::leave_once;
 use crate::reply::MonitorReply;
 use crate::replying::conclude;
+use crate::waiting::wait_on;
 use continuation::Mounted;
 use items::NoMemory;
 use program_state::{ProgramState, ThreadWorld};
@@ -55,6 +57,8 @@ fn answer(
     match request {
         ThreadRequest::Enters(monitor) => enter(state, t, monitor),
         ThreadRequest::Exits(monitor) => exit(state, t, monitor),
+        ThreadRequest::Notifies(monitor) => notify(state, t, monitor),
+        ThreadRequest::WaitsOn { monitor, millis } => wait_on(state, t, monitor, millis),
         _ => Err(NoMemory),
     }
 }
