@@ -8,3 +8,4 @@ pub mod FinishLaws
 pub mod LeaveLaws
 pub mod WaitLaws
 pub mod NotifyLaws
+pub mod NotifyAllLaws

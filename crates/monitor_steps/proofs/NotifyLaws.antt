@@ -58,11 +58,11 @@ use Rattle.monitor_steps.proofs.WaitLaws.{owned_not_free, throws_same}
 
 -- ---- lists
 
-first_of : (xs : List ℕ) (u : ℕ) → slice_get xs 0 ≡ Some u → (rest : List ℕ) × (xs ≡ u ∷ rest)
+pub first_of : (xs : List ℕ) (u : ℕ) → slice_get xs 0 ≡ Some u → (rest : List ℕ) × (xs ≡ u ∷ rest)
 first_of [] u e = absurd cc
 first_of (x ∷ xs) u e = let same : x ≡ u = cc in (xs, ap (λ n. n ∷ xs) same)
 
-none_of : (xs : List ℕ) → slice_get xs 0 ≡ None → xs ≡ []
+pub none_of : (xs : List ℕ) → slice_get xs 0 ≡ None → xs ≡ []
 none_of [] e = refl
 none_of (x ∷ xs) e = absurd cc
 
@@ -247,7 +247,7 @@ notify_none t o a new owned told =
       lists = list_notifies o told.becomes;
     }
 
-waiter_there : (o : ℕ) (r : State) (u : ℕ) (row : Option JavaThread) → slice_get r.threads u ≡ row → option_map_or (thread_waits_on o) row false ≡ true
+pub waiter_there : (o : ℕ) (r : State) (u : ℕ) (row : Option JavaThread) → slice_get r.threads u ≡ row → option_map_or (thread_waits_on o) row false ≡ true
     → (x : JavaThread) × (slice_get r.threads u ≡ Some x) × (thread_waits_on o x ≡ true)
 waiter_there o r u None at e = absurd cc
 waiter_there o r u (Some x) at e = (x, at, e)

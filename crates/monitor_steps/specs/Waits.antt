@@ -1,19 +1,19 @@
 -- Threads that begin to wait on a monitor, and those that are notified (JLS 17.2), as the parts of a state have it.
-use Rattle.std.specs.Prelude.{◌≡◌, ℕ, ℤ, Bool, true, false, List, Option, Some, None, slice_get}
+use Rattle.std.specs.Prelude.{◌≡◌, ◌≢◌, ◌++◌, ℕ, ℤ, Bool, true, false, List, Option, Some, None, slice_get}
 use Rattle.vthread_state.specs.declared.phase.Phase.TheVariants.{Run, Reenter, Waiting}
 use Rattle.vthread_state.specs.declared.phase.Wake.TheVariants.{Notified}
 use Rattle.vthread_state.specs.declared.thread.Status.TheVariants.{Live}
 use Rattle.vthread_state.specs.Threads.{status_at, with_status as with_status_at}
 use Rattle.link_model.specs.World.{World}
 use Rattle.state_model.specs.Frames.{Frame}
-use Rattle.monitors.specs.Monitors.{Becomes, after_notify, monitor_of}
+use Rattle.monitors.specs.Monitors.{Becomes, after_notify, after_notify_all, monitor_of}
 use Rattle.ref_model.specs.declared.exception.Exception.{Exception}
 use Rattle.ref_model.specs.Asking.{Asking}
 use Rattle.ref_model.specs.Monitors.{owns, times_entered}
 use Rattle.ref_model.specs.Requesting.{asked, wait_begun}
 use Rattle.ref_model.specs.Requests.{waits_on}
-use Rattle.ref_model.specs.State.{State, with_owner, with_status}
-use Rattle.ref_model.specs.Waiting.{has_waiter, is_waiting_on, with_notified}
+use Rattle.ref_model.specs.State.{JavaThread, State, with_owner, with_status}
+use Rattle.ref_model.specs.Waiting.{has_waiter, is_waiting_on, thread_waits_on, thread_woken, with_all_notified, with_notified}
 use Rattle.program_state.specs.declared.state.ProgramState.{ProgramState}
 use Rattle.program_state.specs.Timers.{IsTimerCleared}
 use Rattle.program_state.specs.Monitors.{ListsMove}
@@ -81,3 +81,35 @@ pub record NotifiesFirst (o : ℕ) (old new : ProgramState) (waiter : Option ℕ
   pub notified : (r : State) (out : ℕ → Bool) → IsState old r out → IsNotified o waiter r out new
   pub becomes : Becomes old.monitors new.monitors o (after_notify (monitor_of old.monitors o))
   pub spare : new.monitors.spare ≡ old.monitors.spare
+
+-- ---- notifyAll
+
+-- a thread is as it was, or waited on the monitor and has been notified
+pub data IsOrWaited (o : ℕ) (before now : Option JavaThread) : Type 0 where
+  is_same : now ≡ before → IsOrWaited o before now
+  has_waited : (x : JavaThread) → before ≡ Some x → thread_waits_on o x ≡ true → now ≡ Some (thread_woken Notified x) → IsOrWaited o before now
+
+-- Some threads that waited on the monitor were notified, in a state whose parts are these.
+pub record SomeNotified (o : ℕ) (r : State) (out : ℕ → Bool) (now : ProgramState) : Type 0 where
+  pub threads : List JavaThread
+  pub is : IsState now (record r { threads = threads }) out
+  pub each : (u : ℕ) → IsOrWaited o (slice_get r.threads u) (slice_get threads u)
+
+-- So it is in each state whose parts were the old ones: the first of those that waited came last in line, in their order.
+pub record NotifiesSome (o : ℕ) (old now : ProgramState) : Type 0 where
+  pub states : (r : State) (out : ℕ → Bool) → IsState old r out → SomeNotified o r out now
+  pub moved : List ℕ
+  pub rest : List ℕ
+  pub split : (monitor_of old.monitors o).wait_list ≡ moved ++ rest
+  pub at : monitor_of now.monitors o ≡ record (monitor_of old.monitors o) {
+    entry_list = (monitor_of old.monitors o).entry_list ++ moved;
+    wait_list = rest;
+  }
+  pub others : (p : ℕ) → p ≢ o → monitor_of now.monitors p ≡ monitor_of old.monitors p
+  pub threads : now.monitors.threads ≡ old.monitors.threads
+  pub spare : now.monitors.spare ≡ old.monitors.spare
+
+-- All threads that waited on it were notified.
+pub record NotifiesAll (o : ℕ) (old new : ProgramState) : Type 0 where
+  pub notified : (r : State) (out : ℕ → Bool) → IsState old r out → IsState new (with_all_notified r o) out
+  pub becomes : Becomes old.monitors new.monitors o (after_notify_all (monitor_of old.monitors o))

@@ -3,7 +3,7 @@
 ghost use Rattle.std.specs.Prelude.{IfOk, OnOk};
 ghost use Rattle.ref_model.specs.Requests.{request_of};
 ghost use Rattle.monitor_steps.specs.Replies.{AnswersSo};
-ghost use Rattle.monitor_steps.specs.Waits.{IsNotifiedThere, NotifiesFirst};
+ghost use Rattle.monitor_steps.specs.Waits.{IsNotifiedThere, NotifiesAll, NotifiesFirst};
 
 use crate::outcome::MonitorOutcome;
 use crate::owning::is_owner;
@@ -60,4 +60,35 @@ pub(crate) fn notify(state: &mut ProgramState, t: u32, o: u32) -> Result<Monitor
         Some(u) => Ok(MonitorReply::Goes(MonitorOutcome::Notifies(u))),
         None => Ok(MonitorReply::Goes(MonitorOutcome::Done)),
     }
+}
+
+// The owner of a monitor notifies each thread that waits on it, in their order. Another thread than the owner counts as memory run out.
+fn notify_each(state: &mut ProgramState, t: u32, o: u32) -> Result<(), NoMemory>
+    ensures { OnOk result (NotifiesAll o state.old state.new) }
+{
+    for _ in 0..state.threads.count() {
+        let waiter = notify_first(state, t, o)?;
+        if waiter.is_none() {
+            return Ok(());
+        }
+    }
+    Err(NoMemory)
+}
+
+/// notifyAll, of the owner alone.
+pub(crate) fn notify_all(
+    state: &mut ProgramState,
+    t: u32,
+    o: u32,
+) -> Result<MonitorReply, NoMemory>
+    ensures { IfOk result (AnswersSo (request_of (ThreadRequest.NotifiesAll o)) t
+        state.old state.new) }
+{
+    if !is_owner(&state.monitors, t, o) {
+        return Ok(MonitorReply::Throws(
+            Exception::IllegalMonitorStateException,
+        ));
+    }
+    notify_each(state, t, o)?;
+    Ok(MonitorReply::Goes(MonitorOutcome::Done))
 }

@@ -9,7 +9,7 @@ ghost use Rattle.monitor_steps.specs.Outcomes.{IsMade};
 ghost use Rattle.monitor_steps.specs.Replies.{AnswersSo};
 
 use crate::entering::enter_monitor;
-use crate::notifying::notify;
+use crate::notifying::{notify, notify_all};
 use crate::outcome::MonitorOutcome;
 use crate::owning::leave_once;
 use crate::reply::MonitorReply;
@@ -58,6 +58,7 @@ fn answer(
         ThreadRequest::Enters(monitor) => enter(state, t, monitor),
         ThreadRequest::Exits(monitor) => exit(state, t, monitor),
         ThreadRequest::Notifies(monitor) => notify(state, t, monitor),
+        ThreadRequest::NotifiesAll(monitor) => notify_all(state, t, monitor),
         ThreadRequest::WaitsOn { monitor, millis } => wait_on(state, t, monitor, millis),
         _ => Err(NoMemory),
     }
