@@ -1,5 +1,5 @@
 -- What is answered to monitorenter and monitorexit.
-use Rattle.std.proofs.Common.{◌≡◌, ◌==◌, ℕ, Bool, true, false, List, Option, Some, None, refl, ap, sym, subst, ◌∙◌}
+use Rattle.std.proofs.Common.{◌≡◌, ℕ, true, false, List, Some, None, refl, ap, sym, subst, ◌∙◌}
 use Rattle.std.specs.Prelude.{if◌then◌else◌, is_none, slice_get, slice_set}
 use Rattle.vthread_state.specs.declared.phase.Phase.{Phase}
 use Rattle.vthread_state.specs.declared.phase.Phase.TheVariants.{Run, Entering}
@@ -11,7 +11,7 @@ use Rattle.ref_model.specs.declared.exception.Exception.TheVariants as exception
 use Rattle.ref_model.specs.Asking.{Asking, goes, waits}
 use Rattle.ref_model.specs.Monitors.{entered_once, owns, with_entry, with_exit}
 use Rattle.ref_model.specs.Requesting.{asked}
-use Rattle.ref_model.specs.Requests.{Request, enters, exits}
+use Rattle.ref_model.specs.Requests.{enters, exits}
 use Rattle.ref_model.specs.State.{JavaThread, State, with_status}
 use Rattle.ref_model.specs.Throwing.{raised}
 use Rattle.ref_model.proofs.StateLaws.{get_set}
@@ -19,15 +19,15 @@ use Rattle.schedule_soundness.specs.PutLaws.{OthersStay}
 use Rattle.schedule_soundness.proofs.ThreadLists.{set_other}
 use Rattle.program_state.specs.declared.state.ProgramState.{ProgramState}
 use Rattle.program_state.specs.Monitors.{ListsMove, stay}
-use Rattle.program_state.specs.States.{HasFrames, IsInPhase, IsState}
+use Rattle.program_state.specs.States.{HasFrames, IsInPhase}
 use Rattle.program_state.specs.Steps.{PutsNobody, keeps_monitor, leaves_others}
 use Rattle.program_state.proofs.StateLaws.{others_same, thread_is}
 use Rattle.monitor_steps.specs.declared.outcome.MonitorOutcome.{MonitorOutcome}
 use Rattle.monitor_steps.specs.declared.outcome.MonitorOutcome.TheVariants as outcomes
 use Rattle.monitor_steps.specs.declared.reply.MonitorReply.TheVariants as replies
 use Rattle.monitor_steps.specs.Entries.{EntersTo}
-use Rattle.monitor_steps.specs.Owners.{IsLeft, IsLeftAs, owns_in}
-use Rattle.monitor_steps.specs.Replies.{Answers, AnswersSo, LeavesOthers, asked_of}
+use Rattle.monitor_steps.specs.Owners.{IsLeft, IsLeftAs}
+use Rattle.monitor_steps.specs.Replies.{AnswersSo, asked_of}
 use Rattle.monitor_steps.proofs.ExitLaws.{as_left, left_first, left_lists, left_others, left_owned, left_state, monitor_step, not_owned, owner_now, same_all}
 use Rattle.monitor_steps.proofs.StateMoves.{with_status_as}
 

@@ -1,6 +1,6 @@
 -- Threads that take a monitor or line up for it.
-use Rattle.std.proofs.Common.{◌≡◌, ◌≢◌, ◌+◌, ◌<◌, ◌≤◌, ◌==◌, ◌++◌, arith, ℕ, Bool, true, false, not, List, [], ◌∷◌, Option, Some, None, refl, ap, sym, subst, ◌∙◌}
-use Rattle.std.specs.Prelude.{if◌then◌else◌, is_none, slice_get, slice_set}
+use Rattle.std.proofs.Common.{◌≡◌, ◌+◌, ◌≤◌, ◌==◌, ◌++◌, arith, ℕ, Bool, true, false, not, List, [], ◌∷◌, Option, Some, None, refl, ap, sym, subst, ◌∙◌}
+use Rattle.std.specs.Prelude.{if◌then◌else◌, is_none, slice_get}
 use Rattle.std.specs.Option.{option_map, option_map_or}
 use Rattle.std.proofs.lemmas.Bool.{eqb-true}
 use Rattle.thread_lists.specs.Lists.{count}
@@ -12,22 +12,22 @@ use Rattle.vthread_state.specs.declared.thread.Status.TheVariants.{Live}
 use Rattle.vthread_state.specs.declared.thread.Thread.{Thread}
 use Rattle.vthread_state.specs.Threads.{Threads, status_at, thread_at, with_status as with_status_at}
 use Rattle.state_model.specs.Frames.{Frame}
-use Rattle.schedule_model.specs.Look.{Spot, absent, in_entry_list, is_entering, is_waiting}
+use Rattle.schedule_model.specs.Look.{absent, in_entry_list, is_entering, is_waiting}
 use Rattle.schedule_model.specs.Woken.{once_if}
 use Rattle.monitors.specs.declared.monitors.Enter.{Enter}
 use Rattle.monitors.specs.declared.monitors.Enter.TheVariants as answers
 use Rattle.monitors.specs.Monitors.{Becomes, IsInLine, Monitor, Monitors, after_enter, after_line_up, after_retake, is_taken, monitor_of}
 use Rattle.ref_model.specs.Looks.{phase_deadline, deadline_in, spot_in as spot_in_phase, spot_of}
-use Rattle.ref_model.specs.Monitors.{entered_once, is_open_to, may_take, with_entry}
+use Rattle.ref_model.specs.Monitors.{entered_once, is_open_to, may_take}
 use Rattle.ref_model.specs.Resuming.{is_first_entry}
-use Rattle.ref_model.specs.State.{JavaThread, Owner, State, with_owner, with_status}
+use Rattle.ref_model.specs.State.{JavaThread, Owner, State, with_owner}
 use Rattle.program_state.specs.declared.state.ProgramState.{ProgramState}
-use Rattle.program_state.specs.Monitors.{AreSeated, HaveSameLists, ListsMove, lines_up, owner_in, retakes, spot_at, spot_in, stay}
-use Rattle.program_state.specs.States.{IsInPhase, IsState}
+use Rattle.program_state.specs.Monitors.{AreSeated, ListsMove, lines_up, retakes, spot_at, spot_in, stay}
+use Rattle.program_state.specs.States.{IsState}
 use Rattle.program_state.proofs.StateLaws.{thread_is}
 use Rattle.monitor_steps.specs.declared.line.AfterEntry.TheVariants as entries
 use Rattle.monitor_steps.specs.declared.line.Line.{Line}
-use Rattle.monitor_steps.specs.Entries.{EntersTo, HasTaken, LinesUp, Takes, TakesTo, after_wake, line_in, with_taken}
+use Rattle.monitor_steps.specs.Entries.{EntersTo, TakesTo, after_wake, line_in}
 use Rattle.monitor_steps.proofs.MonitorMoves.{Moves, count_last, count_left, count_more, holds_moved, holds_owner, lists_same, other_number, owner_at, owner_elsewhere, same_number}
 use Rattle.monitor_steps.proofs.StateMoves.{out_moved, owners_put, with_status_as}
 

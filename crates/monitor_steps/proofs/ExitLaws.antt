@@ -1,12 +1,11 @@
 -- How the owner of a monitor leaves it once.
-use Rattle.std.proofs.Common.{◌≡◌, ◌≢◌, ◌-◌, ◌==◌, ◌<◌, ◌≤◌, arith, ltb, ℕ, zero, suc, Bool, true, false, List, Option, Some, None, refl, ap, sym, subst, ◌∙◌}
+use Rattle.std.proofs.Common.{◌≡◌, ◌-◌, ◌==◌, ◌<◌, arith, ltb, ℕ, zero, suc, Bool, true, false, Option, Some, None, refl, ap, sym, subst, ◌∙◌}
 use Rattle.std.specs.Prelude.{if◌then◌else◌, is_none, slice_get}
 use Rattle.std.specs.Option.{option_map}
 use Rattle.std.proofs.lemmas.Bool.{ltb-true, ltb-false}
-use Rattle.monitors.specs.Monitors.{Becomes, Monitor, Monitors, after_exit, monitor_of}
-use Rattle.ref_model.specs.Enabled.{is_free}
+use Rattle.monitors.specs.Monitors.{Monitor, Monitors, after_exit, monitor_of}
 use Rattle.ref_model.specs.Monitors.{is_owner, left_once, owns, with_exit}
-use Rattle.ref_model.specs.State.{JavaThread, Owner, State}
+use Rattle.ref_model.specs.State.{Owner, State}
 use Rattle.schedule_soundness.specs.PutLaws.{OthersStay, Stays}
 use Rattle.monitor_soundness.specs.MonitorPuts.{MonitorStep}
 use Rattle.program_state.specs.declared.state.ProgramState.{ProgramState}
@@ -15,7 +14,6 @@ use Rattle.program_state.specs.States.{IsState}
 use Rattle.program_state.specs.Steps.{keeps_monitor}
 use Rattle.monitor_steps.specs.declared.outcome.MonitorOutcome.{MonitorOutcome}
 use Rattle.monitor_steps.specs.declared.outcome.MonitorOutcome.TheVariants as outcomes
-use Rattle.monitor_steps.specs.Outcomes.{Frees}
 use Rattle.monitor_steps.specs.Owners.{HasLeft, IsLeft, IsLeftAs, owns_in}
 use Rattle.monitor_steps.specs.Replies.{LeavesOthers, TellsFirst}
 use Rattle.monitor_steps.proofs.MonitorMoves.{enters_of, holds_owner, lists_same, other_number, owner_at, owner_elsewhere, same_number, waits_of}

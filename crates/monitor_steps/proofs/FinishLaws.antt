@@ -1,10 +1,9 @@
 -- The step of a thread that is in line for a monitor, and the call of a synchronized method whose monitor is taken.
-use Rattle.std.proofs.Common.{◌≡◌, ◌==◌, ◌≤◌, ◌<◌, ℕ, Bool, true, false, drop, length, List, [], ◌∷◌, Option, Some, None, refl, ap, sym, subst, ◌∙◌}
+use Rattle.std.proofs.Common.{◌≡◌, ℕ, Bool, true, false, drop, List, ◌∷◌, Option, Some, None, refl, ap, sym, subst, ◌∙◌}
 use Rattle.std.specs.Prelude.{if◌then◌else◌, is_none, slice_get, slice_set}
 use Rattle.std.proofs.lemmas.List.{set-set}
 use Rattle.items.specs.Options.{◌>>=◌}
 use Rattle.items.proofs.Binds.{bind_is}
-use Rattle.instruction_rows.specs.declared.value.Slot.{Slot}
 use Rattle.wakes.specs.Flags.{Flags}
 use Rattle.vthread_state.specs.declared.phase.Phase.{Phase}
 use Rattle.vthread_state.specs.declared.phase.Phase.TheVariants.{Run, Entering, Reenter}
@@ -16,18 +15,17 @@ use Rattle.link_model.specs.World.{World}
 use Rattle.state_model.specs.Frames.{Frame}
 use Rattle.continuation.specs.Continuation.{Continuation}
 use Rattle.frames.specs.Frames.{top_stack, with_stack}
-use Rattle.heap_instructions.specs.Operands.{operands}
 use Rattle.invocation.specs.declared.synchronized_calls.SynchronizedCall.{SynchronizedCall}
 use Rattle.invocation.specs.SynchronizedCalls.{IsBegun}
 use Rattle.invocation.specs.Targets.{callee_frame}
 use Rattle.monitors.specs.Monitors.{IsInLine, monitor_of}
 use Rattle.ref_model.specs.declared.exception.Exception.TheVariants as exceptions
 use Rattle.ref_model.specs.Asking.{Asking, goes, goes_into, thrown_interrupted, waits, with_run}
-use Rattle.ref_model.specs.Monitors.{entered_once, may_take, with_entry, with_monitor}
+use Rattle.ref_model.specs.Monitors.{entered_once, with_entry, with_monitor}
 use Rattle.ref_model.specs.Requesting.{asked}
 use Rattle.ref_model.specs.Requests.{Request, calls, enters, request_of, waits_on}
 use Rattle.ref_model.specs.Resuming.{asking_in, entered_with, finished_asking, is_first_entry, resumed, waited}
-use Rattle.ref_model.specs.State.{JavaThread, Owner, State, with_frames, with_interrupt, with_owner, with_status}
+use Rattle.ref_model.specs.State.{JavaThread, State, with_frames, with_owner, with_status}
 use Rattle.ref_model.specs.Step.{event_step, phase_step, row_or_event}
 use Rattle.ref_model.specs.Throwing.{raised}
 use Rattle.ref_model.proofs.StateLaws.{get_set}
@@ -35,14 +33,14 @@ use Rattle.schedule_soundness.specs.PutLaws.{OthersStay}
 use Rattle.schedule_soundness.proofs.ThreadLists.{set_other}
 use Rattle.thread_steps.specs.declared.parts.Parts.{Parts}
 use Rattle.thread_steps.specs.declared.progress.PendingRequest.{PendingRequest}
-use Rattle.thread_steps.specs.Asking.{IsCalling, asking_of}
+use Rattle.thread_steps.specs.Asking.{asking_of}
 use Rattle.thread_steps.specs.States.{memory_of}
 use Rattle.program_state.specs.declared.state.ProgramState.{ProgramState}
 use Rattle.program_state.specs.Replies.{GoesOnWithout}
 use Rattle.program_state.specs.Replying.{IsRaised}
 use Rattle.program_state.specs.Requests.{IsPending}
 use Rattle.program_state.specs.Running.{IsCallPending, Stays}
-use Rattle.program_state.specs.States.{HasFrames, IsInPhase, IsState}
+use Rattle.program_state.specs.States.{IsInPhase, IsState}
 use Rattle.program_state.specs.Steps.{Leads, PutsNobody, StepsTo, keeps_monitor, leaves_others}
 use Rattle.program_state.specs.Waking.{IsInterruptTaken}
 use Rattle.program_state.proofs.FlagLaws.{flags_put, interrupt_flags}
@@ -54,7 +52,7 @@ use Rattle.program_state.proofs.WaitEndLaws.{raised_alike}
 use Rattle.monitor_steps.specs.declared.line.AfterEntry.{AfterEntry}
 use Rattle.monitor_steps.specs.declared.line.AfterEntry.TheVariants as entries
 use Rattle.monitor_steps.specs.declared.line.Line.{Line}
-use Rattle.monitor_steps.specs.Entries.{EntersTo, HasTaken, StepsInLine, TakesTo, after_wake, line_in, may_line_up, with_taken}
+use Rattle.monitor_steps.specs.Entries.{EntersTo, StepsInLine, TakesTo, after_wake, line_in, may_line_up, with_taken}
 use Rattle.monitor_steps.proofs.AnswerLaws.{entry_others, same_phase, status_frames, status_others}
 use Rattle.monitor_steps.proofs.ExitLaws.{monitor_step, owner_now}
 use Rattle.monitor_steps.proofs.StateMoves.{with_status_as}

@@ -1,6 +1,6 @@
 -- Frames that are left with their monitor, by a return or an exception.
-use Rattle.std.proofs.Common.{◌≡◌, ◌<◌, length, ℕ, suc, Bool, true, false, List, [], ◌∷◌, Option, Some, None, refl, ap, sym, subst, ◌∙◌, arith}
-use Rattle.std.specs.Prelude.{if◌then◌else◌, slice_get}
+use Rattle.std.proofs.Common.{◌≡◌, ◌<◌, length, ℕ, suc, Bool, true, false, List, ◌∷◌, Option, Some, None, refl, ap, sym, subst, ◌∙◌, arith}
+use Rattle.std.specs.Prelude.{if◌then◌else◌}
 use Rattle.items.specs.Options.{◌>>=◌}
 use Rattle.opcodes.specs.declared.op.ValueKind.{ValueKind}
 use Rattle.vthread_state.specs.declared.phase.Phase.{Phase}
@@ -21,20 +21,20 @@ use Rattle.ref_model.specs.Monitors.{owns, with_exit}
 use Rattle.ref_model.specs.State.{State}
 use Rattle.ref_model.specs.Step.{frame_returned, monitor_returned, phase_step, row_or_event}
 use Rattle.ref_model.specs.LocalRows.{row}
-use Rattle.ref_model.specs.Throwing.{exception_made, frame_dropped, frame_with_monitor_left, raised, thrown_below}
+use Rattle.ref_model.specs.Throwing.{exception_made, frame_dropped, raised, thrown_below}
 use Rattle.schedule_soundness.specs.PutLaws.{OthersStay}
 use Rattle.thread_steps.specs.declared.parts.Parts.{Parts}
 use Rattle.thread_steps.specs.declared.progress.MonitorReturn.{MonitorReturn}
 use Rattle.thread_steps.specs.declared.throwing.MonitorThrow.{MonitorThrow}
 use Rattle.thread_steps.specs.Returning.{IsThread, ThrowsFrom, UnlockedDrops, UnlockedReturns, UnownedThrows}
-use Rattle.thread_steps.specs.States.{Stage, memory_of}
+use Rattle.thread_steps.specs.States.{memory_of}
 use Rattle.program_state.specs.declared.state.ProgramState.{ProgramState}
 use Rattle.program_state.specs.Monitors.{ListsMove}
 use Rattle.program_state.specs.Replying.{IsRaised}
 use Rattle.program_state.specs.Running.{IsReturnPending}
 use Rattle.program_state.specs.Settling.{IsSettled}
 use Rattle.program_state.specs.States.{IsInPhase, IsState}
-use Rattle.program_state.specs.Steps.{Leads, PutsNobody, StepsTo, leaves_others}
+use Rattle.program_state.specs.Steps.{Leads, StepsTo, leaves_others}
 use Rattle.program_state.proofs.StateLaws.{row_there}
 use Rattle.program_state.proofs.StepLaws.{stage_leads, stage_of}
 use Rattle.monitor_steps.specs.declared.outcome.MonitorOutcome.{MonitorOutcome}

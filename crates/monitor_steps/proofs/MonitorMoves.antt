@@ -1,5 +1,5 @@
 -- The lists and owners of monitors, where one of them changed.
-use Rattle.std.proofs.Common.{cond, not, ◌==◌, ◌≡◌, ◌≢◌, ◌+◌, ◌≤◌, ◌++◌, ◌⊎◌, arith, inl, inr, eqb, ℕ, zero, suc, Bool, true, false, List, [], ◌∷◌, Option, Some, None, length, refl, ap, sym, subst, ◌∙◌}
+use Rattle.std.proofs.Common.{cond, not, ◌==◌, ◌≡◌, ◌≢◌, ◌+◌, ◌++◌, ◌⊎◌, arith, inl, inr, eqb, ℕ, Bool, true, false, List, [], ◌∷◌, Option, Some, refl, ap, sym, ◌∙◌}
 use Rattle.std.specs.Prelude.{slice_get, slice_set, if◌then◌else◌}
 use Rattle.std.specs.Option.{option_map_or}
 use Rattle.std.proofs.Math.ListN.{length-set}

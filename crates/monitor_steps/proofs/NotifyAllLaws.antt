@@ -1,5 +1,5 @@
 -- What is answered to notifyAll.
-use Rattle.std.proofs.Common.{append_assoc, append-nil, ◌≡◌, ◌≢◌, ◌<◌, ◌≤◌, ◌+◌, ◌==◌, ◌++◌, ◌||◌, ◌⊎◌, inl, inr, eqb, arith, ℕ, zero, suc, Bool, true, false, List, [], ◌∷◌, Option, Some, None, refl, ap, sym, subst, ◌∙◌}
+use Rattle.std.proofs.Common.{append_assoc, append-nil, ◌≡◌, ◌≢◌, ◌++◌, ◌||◌, ◌⊎◌, inl, inr, eqb, arith, ℕ, zero, suc, Bool, true, false, List, [], ◌∷◌, Option, Some, None, refl, ap, sym, subst, ◌∙◌}
 use Rattle.std.specs.Prelude.{drop, if◌then◌else◌, is_some, map, slice_get, slice_set, take}
 use Rattle.std.specs.List.{list_any}
 use Rattle.std.proofs.lemmas.Bool.Decides.{eqb_tells}
@@ -9,13 +9,13 @@ use Rattle.vthread_state.specs.declared.thread.Status.{Status}
 use Rattle.vthread_state.specs.declared.thread.Status.TheVariants.{New, Live, Done}
 use Rattle.link_model.specs.World.{World}
 use Rattle.state_model.specs.Frames.{Frame}
-use Rattle.monitors.specs.Monitors.{Becomes, Monitor, Monitors, after_notify, after_notify_all, monitor_of}
+use Rattle.monitors.specs.Monitors.{Monitor, after_notify, monitor_of}
 use Rattle.ref_model.specs.declared.exception.Exception.TheVariants as exceptions
-use Rattle.ref_model.specs.Asking.{Asking, goes}
+use Rattle.ref_model.specs.Asking.{goes}
 use Rattle.ref_model.specs.Requests.{notifies_all as asks_notify_all}
 use Rattle.ref_model.specs.State.{JavaThread, State}
 use Rattle.ref_model.specs.Throwing.{raised}
-use Rattle.ref_model.specs.Waiting.{notified_on, status_waits_on, status_woken, thread_waits_on, thread_woken, with_all_notified, with_notified}
+use Rattle.ref_model.specs.Waiting.{notified_on, status_waits_on, status_woken, thread_waits_on, thread_woken, with_all_notified}
 use Rattle.ref_model.proofs.StateLaws.{get_set}
 use Rattle.schedule_soundness.proofs.ThreadLists.{map_none, map_there, set_other}
 use Rattle.monitor_soundness.specs.MonitorPuts.{StaysOrIsNotified, is_notified, stays}

@@ -1,58 +1,52 @@
 -- What is answered to notify.
-use Rattle.std.proofs.Common.{append-nil, ◌≡◌, ◌≢◌, ◌<◌, ◌==◌, ◌++◌, ◌&&◌, ◌||◌, ◌⊎◌, inl, inr, eqb, arith, ℕ, zero, suc, Bool, true, false, length, List, [], ◌∷◌, Option, Some, None, refl, ap, sym, subst, ◌∙◌}
-use Rattle.std.specs.Prelude.{drop, map, if◌then◌else◌, is_none, slice_get, slice_set, take}
-use Rattle.std.specs.Global.{Vec}
+use Rattle.std.proofs.Common.{append-nil, ◌≡◌, ◌≢◌, ◌<◌, ◌==◌, ◌++◌, ◌&&◌, ◌||◌, ◌⊎◌, inl, inr, eqb, arith, ℕ, suc, Bool, true, false, List, [], ◌∷◌, Option, Some, None, refl, ap, sym, subst, ◌∙◌}
+use Rattle.std.specs.Prelude.{drop, map, if◌then◌else◌, slice_get, slice_set, take}
 use Rattle.std.specs.List.{list_any}
 use Rattle.std.specs.Option.{option_map, option_map_or}
 use Rattle.std.proofs.lemmas.Bool.{eqb-true}
 use Rattle.std.proofs.lemmas.Bool.Decides.{eqb_tells}
 use Rattle.thread_lists.specs.Lists.{count}
 use Rattle.thread_lists.proofs.CountLaws.{count-same, count-other, first-held}
-use Rattle.sleep_wheel.specs.declared.sleeper.Key.{Key}
-use Rattle.sleep_wheel.specs.Sleepers.{Sleepers, sleeper_at}
-use Rattle.vthread_state.specs.declared.phase.Phase.{Phase}
 use Rattle.vthread_state.specs.declared.phase.Phase.TheVariants.{Run, Throwing, Entering, Waiting, Reenter, Parked, Asleep, Joining}
 use Rattle.vthread_state.specs.declared.phase.Wake.TheVariants.{Notified}
 use Rattle.vthread_state.specs.declared.thread.Status.{Status}
 use Rattle.vthread_state.specs.declared.thread.Status.TheVariants.{New, Live, Done}
 use Rattle.vthread_state.specs.declared.thread.Thread.{Thread}
-use Rattle.vthread_state.specs.Threads.{Threads, status_at, thread_at, with_status as with_status_at}
+use Rattle.vthread_state.specs.Threads.{thread_at, with_status as with_status_at}
 use Rattle.link_model.specs.World.{World}
 use Rattle.state_model.specs.Frames.{Frame}
 use Rattle.continuation.specs.Continuation.{Continuation}
-use Rattle.schedule_model.specs.Look.{Spot, absent, in_entry_list, in_wait_list, is_entering, is_waiting}
+use Rattle.schedule_model.specs.Look.{absent, in_wait_list, is_entering, is_waiting}
 use Rattle.schedule_model.specs.Woken.{once_if}
-use Rattle.monitors.specs.Monitors.{Becomes, Monitor, Monitors, after_notify, monitor_of}
+use Rattle.monitors.specs.Monitors.{Becomes, Monitors, after_notify, monitor_of}
 use Rattle.ref_model.specs.declared.exception.Exception.TheVariants as exceptions
-use Rattle.ref_model.specs.Asking.{Asking, goes}
+use Rattle.ref_model.specs.Asking.{goes}
 use Rattle.ref_model.specs.Ending.{is_live}
-use Rattle.ref_model.specs.Looks.{deadline_in, spot_of}
+use Rattle.ref_model.specs.Looks.{spot_of}
 use Rattle.ref_model.specs.Monitors.{owns}
-use Rattle.ref_model.specs.Requesting.{asked, asked_with, none_notified}
+use Rattle.ref_model.specs.Requesting.{none_notified}
 use Rattle.ref_model.specs.Requests.{notifies as asks_notify}
-use Rattle.ref_model.specs.State.{JavaThread, Owner, State}
+use Rattle.ref_model.specs.State.{JavaThread, State}
 use Rattle.ref_model.specs.Throwing.{raised}
-use Rattle.ref_model.specs.Waiting.{has_waiter, is_waiting_on, phase_waits_on, status_waits_on, status_woken, thread_waits_on, thread_woken, with_notified}
+use Rattle.ref_model.specs.Waiting.{is_waiting_on, status_waits_on, status_woken, thread_waits_on, thread_woken, with_notified}
 use Rattle.ref_model.proofs.StateLaws.{get_set}
-use Rattle.schedule_soundness.specs.PutLaws.{OthersStay, Stays}
 use Rattle.schedule_soundness.proofs.ThreadLists.{set_other}
 use Rattle.monitor_soundness.specs.MonitorPuts.{StaysOrIsNotified, is_notified, stays}
 use Rattle.program_state.specs.declared.state.ProgramState.{ProgramState}
 use Rattle.program_state.specs.Deadlines.{deadlines_of}
-use Rattle.program_state.specs.Monitors.{HaveSameLists, HoldsMonitors, ListsMove, notifies as list_notifies, owner_in, spot_at, stay}
+use Rattle.program_state.specs.Monitors.{HaveSameLists, notifies as list_notifies, owner_in, spot_at}
 use Rattle.program_state.specs.States.{IsInPhase, IsKept, IsState}
 use Rattle.program_state.specs.States as places
-use Rattle.program_state.specs.Steps.{PutsNobody, leaves_others, notifies}
-use Rattle.program_state.specs.Timers.{IsTimerCleared}
+use Rattle.program_state.specs.Steps.{leaves_others, notifies}
 use Rattle.program_state.proofs.RequestLaws.{notified_then}
 use Rattle.program_state.proofs.StateLaws.{row_back, stays_same, thread_is}
 use Rattle.monitor_steps.specs.declared.outcome.MonitorOutcome.TheVariants as outcomes
 use Rattle.monitor_steps.specs.declared.reply.MonitorReply.TheVariants as replies
 use Rattle.monitor_steps.specs.Owners.{owns_in}
-use Rattle.monitor_steps.specs.Replies.{Answers, AnswersSo, GoesFrom}
-use Rattle.monitor_steps.specs.Waits.{IsNotified, IsNotifiedThere, NoneWaits, NotifiesFirst, WaitEnds}
-use Rattle.monitor_steps.proofs.ExitLaws.{not_owned, same_all}
-use Rattle.monitor_steps.proofs.MonitorMoves.{Moves, count_last, count_more, enters_of, holds_moved, lists_same, other_number, same_number, waits_of}
+use Rattle.monitor_steps.specs.Replies.{AnswersSo, GoesFrom}
+use Rattle.monitor_steps.specs.Waits.{IsNotifiedThere, NotifiesFirst, WaitEnds}
+use Rattle.monitor_steps.proofs.ExitLaws.{not_owned}
+use Rattle.monitor_steps.proofs.MonitorMoves.{Moves, count_last, count_more, holds_moved, lists_same, other_number, same_number}
 use Rattle.monitor_steps.proofs.StateMoves.{owners_put, thread_moved, with_status_as}
 use Rattle.monitor_steps.proofs.WaitLaws.{owned_not_free, throws_same}
 

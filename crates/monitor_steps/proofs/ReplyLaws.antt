@@ -1,22 +1,18 @@
 -- From what a request on a monitor is answered to the step of the thread that asked.
-use Rattle.std.proofs.Common.{◌≡◌, ℕ, Bool, true, false, List, [], ◌∷◌, Option, Some, None, Result, Ok, Err, refl, ap, sym, subst, ◌∙◌}
+use Rattle.std.proofs.Common.{◌≡◌, ℕ, Bool, true, List, Option, Some, Result, Ok, Err, refl, ap, sym, subst, ◌∙◌}
 use Rattle.std.specs.Prelude.{IfOk, OnOk, slice_get}
-use Rattle.items.specs.Options.{◌>>=◌}
 use Rattle.items.proofs.Binds.{bind_is}
 use Rattle.vthread_state.specs.declared.phase.Phase.TheVariants.{Run}
-use Rattle.vthread_state.specs.declared.thread.Status.TheVariants.{Live}
 use Rattle.link_model.specs.World.{World}
 use Rattle.state_model.specs.Frames.{Frame}
 use Rattle.monitors.specs.Monitors.{Monitors}
-use Rattle.ref_model.specs.Asking.{Asking, goes}
-use Rattle.ref_model.specs.Requesting.{asked, asked_with}
+use Rattle.ref_model.specs.Asking.{Asking}
+use Rattle.ref_model.specs.Requesting.{asked_with}
 use Rattle.ref_model.specs.Requests.{Request, request_of}
 use Rattle.ref_model.specs.Resuming.{asking_at, asking_in}
 use Rattle.ref_model.specs.State.{JavaThread, State, frames_at, running_frames}
 use Rattle.ref_model.specs.Step.{phase_step, picking_step}
-use Rattle.ref_model.specs.Throwing.{raised}
 use Rattle.ref_model.specs.declared.exception.Exception.{Exception}
-use Rattle.schedule_soundness.specs.PutLaws.{OthersStay}
 use Rattle.thread_steps.specs.declared.progress.PendingRequest.{PendingRequest}
 use Rattle.thread_steps.specs.Asking.{asking_of}
 use Rattle.thread_steps.specs.States.{memory_of}
@@ -35,7 +31,7 @@ use Rattle.monitor_steps.specs.declared.outcome.MonitorOutcome.TheVariants as ou
 use Rattle.monitor_steps.specs.declared.reply.MonitorReply.{MonitorReply}
 use Rattle.monitor_steps.specs.declared.reply.MonitorReply.TheVariants as replies
 use Rattle.monitor_steps.specs.Outcomes.{IsMade}
-use Rattle.monitor_steps.specs.Replies.{Answers, AnswersSo, GoesFrom, IsConcluded, IsReply, LeavesOthers, ReplyTells, TellsFirst, ThrowsFrom, WaitsFrom, asked_of}
+use Rattle.monitor_steps.specs.Replies.{Answers, AnswersSo, IsConcluded, LeavesOthers, TellsFirst, asked_of}
 
 -- ---- the step that is asked for
 

@@ -1,13 +1,12 @@
 -- A state by its parts, where the owner of a monitor changed, and one thread with it.
-use Rattle.std.proofs.Common.{◌≡◌, ◌≢◌, ℕ, Bool, true, List, Option, Some, length, refl, ap, sym, ◌∙◌}
-use Rattle.std.specs.Prelude.{map, slice_get, slice_set}
+use Rattle.std.proofs.Common.{◌≡◌, ℕ, Bool, true, Option, Some, length, refl, ap, sym, ◌∙◌}
+use Rattle.std.specs.Prelude.{slice_get, slice_set}
 use Rattle.std.specs.Global.{Vec}
 use Rattle.std.proofs.Math.ListN.{length-set}
 use Rattle.sleep_wheel.specs.declared.sleeper.Key.{Key}
 use Rattle.sleep_wheel.specs.Sleepers.{Sleepers, sleeper_at}
 use Rattle.vthread_state.specs.declared.thread.Status.{Status}
 use Rattle.vthread_state.specs.Threads.{Threads, with_status}
-use Rattle.continuation.specs.Continuation.{Continuation}
 use Rattle.monitors.specs.Monitors.{Monitors}
 use Rattle.ref_model.specs.Looks.{deadline_in}
 use Rattle.ref_model.specs.State.{JavaThread, Owner, State}

@@ -1,8 +1,7 @@
 -- What is answered to wait.
-use Rattle.std.proofs.Common.{◌≡◌, ◌≢◌, ◌==◌, ◌++◌, ℕ, ℤ, Bool, true, false, length, List, [], ◌∷◌, Option, Some, None, refl, ap, sym, subst, ◌∙◌}
+use Rattle.std.proofs.Common.{◌≡◌, ℕ, ℤ, Bool, true, false, List, Option, Some, None, refl, ap, sym, subst, ◌∙◌}
 use Rattle.std.specs.Prelude.{if◌then◌else◌, is_none, slice_get, slice_set}
 use Rattle.std.specs.Global.{Vec}
-use Rattle.std.specs.Option.{option_map}
 use Rattle.wakes.specs.Flags.{Flags}
 use Rattle.sleep_wheel.specs.declared.sleeper.Key.{Key}
 use Rattle.sleep_wheel.specs.Sleepers.{Sleepers, sleeper_at}
@@ -23,15 +22,14 @@ use Rattle.ref_model.specs.Looks.{deadline_in, spot_of}
 use Rattle.ref_model.specs.Monitors.{is_owner, owns, times_entered}
 use Rattle.ref_model.specs.Requesting.{asked, unless_interrupted, unless_unowned, wait_begun}
 use Rattle.ref_model.specs.Requests.{Request, waits_on}
-use Rattle.ref_model.specs.State.{JavaThread, Owner, State, is_interrupted, with_interrupt, with_owner, with_status}
+use Rattle.ref_model.specs.State.{JavaThread, Owner, State, is_interrupted, with_owner, with_status}
 use Rattle.ref_model.specs.Throwing.{raised}
 use Rattle.ref_model.specs.Waiting.{deadline_of, is_negative}
 use Rattle.ref_model.proofs.StateLaws.{get_set}
-use Rattle.schedule_soundness.specs.PutLaws.{OthersStay}
 use Rattle.schedule_soundness.proofs.ThreadLists.{set_other}
 use Rattle.program_state.specs.declared.state.ProgramState.{ProgramState}
 use Rattle.program_state.specs.Deadlines.{HoldsDeadlines, coming_deadline, deadlines_of, key_at, later_than, with_deadline}
-use Rattle.program_state.specs.Monitors.{ListsMove, owner_in, stay, waits}
+use Rattle.program_state.specs.Monitors.{ListsMove, stay, waits}
 use Rattle.program_state.specs.States.{IsInPhase, IsState}
 use Rattle.program_state.specs.Timers.{IsTimerSet}
 use Rattle.program_state.specs.Waking.{IsInterruptTaken}
@@ -40,7 +38,7 @@ use Rattle.program_state.proofs.StateLaws.{others_same, still_out, thread_is}
 use Rattle.monitor_steps.specs.declared.outcome.MonitorOutcome.TheVariants as outcomes
 use Rattle.monitor_steps.specs.declared.reply.MonitorReply.TheVariants as replies
 use Rattle.monitor_steps.specs.Owners.{owns_in}
-use Rattle.monitor_steps.specs.Replies.{Answers, AnswersSo}
+use Rattle.monitor_steps.specs.Replies.{AnswersSo}
 use Rattle.monitor_steps.specs.Waits.{IsRefusal, MayWait, WaitsIn, WaitsTo}
 use Rattle.monitor_steps.proofs.AnswerLaws.{same_phase, status_frames, status_others}
 use Rattle.monitor_steps.proofs.EntryLaws.{spot_had}
@@ -69,7 +67,6 @@ throws_same request t o a e each =
       };
       lists = stay (same_all a.monitors);
     }
-
 
 wait_so : (w : World) (r : State) (t o : ℕ) (k : Asking) (time : Option ℤ) (negative : Bool) → is_negative time ≡ negative
     → asked w r t k (waits_on o time) ≡ (if negative then raised w r t exceptions.IllegalArgumentException else unless_unowned w r t o (unless_interrupted w r t (wait_begun r t o time)))

@@ -4,7 +4,7 @@ use Rattle.vthread_state.specs.declared.phase.Phase.{Phase}
 use Rattle.vthread_state.specs.declared.phase.Phase.TheVariants.{Run}
 use Rattle.link_model.specs.World.{World}
 use Rattle.state_model.specs.Frames.{Frame}
-use Rattle.monitors.specs.Monitors.{Monitors, monitor_of}
+use Rattle.monitors.specs.Monitors.{monitor_of}
 use Rattle.ref_model.specs.State.{State}
 use Rattle.ref_model.specs.Step.{picking_step}
 use Rattle.monitor_soundness.specs.MonitorPuts.{LosesOwner, MonitorStep}

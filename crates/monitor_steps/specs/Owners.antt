@@ -1,6 +1,6 @@
 -- Who owns a monitor, by the parts of a state, and how its owner leaves it once (JLS 17.1).
 use Rattle.std.specs.Prelude.{◌≡◌, ◌==◌, ℕ, Bool, true, false, Option, Some, None, nat_lt, slice_get}
-use Rattle.monitors.specs.Monitors.{Becomes, Monitor, Monitors, after_exit, monitor_of}
+use Rattle.monitors.specs.Monitors.{Becomes, Monitors, after_exit, monitor_of}
 use Rattle.ref_model.specs.Monitors.{is_owner}
 use Rattle.program_state.specs.Monitors.{owner_in}
 use Rattle.monitor_steps.specs.declared.outcome.MonitorOutcome.{MonitorOutcome}

@@ -182,9 +182,7 @@ pub fn finish_entry<W: ThreadWorld>(
     let line = line_in(mounted, phase)?;
     match line.then_goes {
         AfterEntry::Begins => take_monitor(state, t, line),
-        AfterEntry::Resumes => resume(
-            alloc, world, cache, state, mounted, instr, resolution, line,
-        ),
+        AfterEntry::Resumes => resume(alloc, world, cache, state, mounted, instr, resolution, line),
         AfterEntry::Throws => throw_interrupted(world, state, mounted, line),
     }
 }

@@ -52,9 +52,7 @@ pub(crate) fn notify(state: &mut ProgramState, t: u32, o: u32) -> Result<Monitor
         state.old state.new) }
 {
     if !is_owner(&state.monitors, t, o) {
-        return Ok(MonitorReply::Throws(
-            Exception::IllegalMonitorStateException,
-        ));
+        return Ok(MonitorReply::Throws(Exception::IllegalMonitorStateException));
     }
     match notify_first(state, t, o)? {
         Some(u) => Ok(MonitorReply::Goes(MonitorOutcome::Notifies(u))),
@@ -76,18 +74,12 @@ fn notify_each(state: &mut ProgramState, t: u32, o: u32) -> Result<(), NoMemory>
 }
 
 /// notifyAll, of the owner alone.
-pub(crate) fn notify_all(
-    state: &mut ProgramState,
-    t: u32,
-    o: u32,
-) -> Result<MonitorReply, NoMemory>
+pub(crate) fn notify_all(state: &mut ProgramState, t: u32, o: u32) -> Result<MonitorReply, NoMemory>
     ensures { IfOk result (AnswersSo (request_of (ThreadRequest.NotifiesAll o)) t
         state.old state.new) }
 {
     if !is_owner(&state.monitors, t, o) {
-        return Ok(MonitorReply::Throws(
-            Exception::IllegalMonitorStateException,
-        ));
+        return Ok(MonitorReply::Throws(Exception::IllegalMonitorStateException));
     }
     notify_each(state, t, o)?;
     Ok(MonitorReply::Goes(MonitorOutcome::Done))

@@ -55,13 +55,7 @@ fn begin_wait(
     let Ok((count, first)) = state.monitors.wait(o, t) else {
         return Err(NoMemory);
     };
-    set_timer(
-        &mut state.wheel,
-        &mut state.keys,
-        state.time,
-        t,
-        deadline,
-    )?;
+    set_timer(&mut state.wheel, &mut state.keys, state.time, t, deadline)?;
     let phase = Phase::Waiting {
         monitor: o,
         count,

@@ -1,5 +1,4 @@
 use Rattle.std.proofs.Common.{Bool, true, false, ℕ, subst}
-use Rattle.program_state.specs.Steps.{PutsNobody, StepsTo}
 use Rattle.program_state.proofs.StepLaws.{on_ok}
 use Rattle.monitor_steps.specs.Entries.{EntersTo}
 use Rattle.monitor_steps.proofs.FinishLaws.{call_goes, call_waits}

@@ -1,6 +1,5 @@
-use Rattle.std.proofs.Common.{Bool, ℕ, ap, sym, subst, ◌∙◌}
-use Rattle.std.specs.Prelude.{if◌then◌else◌}
-use Rattle.monitors.specs.Monitors.{Becomes, Monitor, after_enter, is_taken, monitor_of}
+use Rattle.std.proofs.Common.{ap, sym, subst, ◌∙◌}
+use Rattle.monitors.specs.Monitors.{Becomes, Monitor, after_enter, monitor_of}
 use Rattle.monitor_steps.proofs.EntryLaws.{after_room, blocked_is, blocked_lists, got_is, monitor_lined_up, monitor_taken, taken_lists}
 use Rattle.monitor_steps.proofs.entering.enter_monitor.Goals as goal
 

@@ -1,4 +1,4 @@
-use Rattle.std.proofs.Common.{Bool, true, sym, subst, ◌∙◌}
+use Rattle.std.proofs.Common.{Bool, sym, subst, ◌∙◌}
 use Rattle.std.specs.Bool.{OnTrue}
 use Rattle.monitors.specs.Monitors.{Becomes, after_retake, monitor_of}
 use Rattle.program_state.proofs.StepLaws.{on_ok}

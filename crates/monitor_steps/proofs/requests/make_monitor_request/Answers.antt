@@ -1,11 +1,10 @@
-use Rattle.std.proofs.Common.{Result, ℕ, subst, sym}
+use Rattle.std.proofs.Common.{ℕ, subst}
 use Rattle.program_state.proofs.StepLaws.{if_ok}
 use Rattle.vthread_state.specs.declared.phase.Phase.TheVariants.{Run}
 use Rattle.ref_model.specs.Requests.{request_of}
-use Rattle.monitor_steps.specs.declared.outcome.MonitorOutcome.{MonitorOutcome}
 use Rattle.monitor_steps.specs.Outcomes.{IsMade}
 use Rattle.monitor_steps.specs.Replies.{AnswersSo, IsConcluded}
-use Rattle.monitor_steps.proofs.ReplyLaws.{ok_lists, request_lists, request_made}
+use Rattle.monitor_steps.proofs.ReplyLaws.{ok_lists, request_made}
 use Rattle.monitor_steps.proofs.requests.make_monitor_request.Goals as goal
 
 pub returns-clause-made : goal.returns-clause-made
