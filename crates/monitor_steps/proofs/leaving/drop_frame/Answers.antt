@@ -14,10 +14,10 @@ returns-clause-leads g c =
     let b = c.drop_unlocked.new.parts in
     let row = c.in_ok-name.field-0 in
     let new = c.settle_status.new.state in
-    on_ok c.settle_status.result c.settle_status.ensures (λ settled.
+    on_ok c.settle_status.result c.settle_status.ensures.settled (λ settled.
     subst (λ (t : ℕ). DropLeads w c.args.o c.args.class t a m.stack.frames new n.stack.frames) c.thread-t.ensures
     (drop_leads w c.args.o c.args.class c.thread-t.result row.name row a new b m.stack.frames n.stack.frames c.in_ok-name.ensures refl c.in_ok-drop_unlocked.ensures settled))
 
 pub returns-clause-monitors : goal.returns-clause-monitors
 returns-clause-monitors g c =
-    on_ok c.settle_status.result c.settle_status.ensures (λ settled. ap (λ (s : ProgramState). s.monitors) settled.state)
+    on_ok c.settle_status.result c.settle_status.ensures.settled (λ settled. ap (λ (s : ProgramState). s.monitors) settled.state)

@@ -12,10 +12,10 @@ returns-clause-leads g c =
     let m = c.args.mounted.now in
     let n = c.return_unlocked.new.mounted in
     let b = c.return_unlocked.new.parts in
-    on_ok c.settle_status.result c.settle_status.ensures (λ settled.
+    on_ok c.settle_status.result c.settle_status.ensures.settled (λ settled.
     return_leads w c.args.kind m.thread a c.settle_status.new.state b m.stack.frames n.stack.frames c.in_ok-return_unlocked.ensures
     (subst (λ (t : ℕ). IsSettled t (record a { memory = b }) c.settle_status.new.state) c.thread-t.ensures settled))
 
 pub returns-clause-monitors : goal.returns-clause-monitors
 returns-clause-monitors g c =
-    on_ok c.settle_status.result c.settle_status.ensures (λ settled. ap (λ (s : ProgramState). s.monitors) settled.state)
+    on_ok c.settle_status.result c.settle_status.ensures.settled (λ settled. ap (λ (s : ProgramState). s.monitors) settled.state)
