@@ -1,9 +1,9 @@
 -- Frames that are pushed are those of the opening.
-use Rattle.std.proofs.Common.{◌≡◌, ℕ, zero, suc, ◌-◌, ◌<◌, Bool, true, false, List, [], ◌∷◌, ◌++◌, drop, length, get_or, Option, Some, None, refl, sym, ap, ◌∙◌, arith, drop-cons}
+use Rattle.std.proofs.Common.{◌≡◌, ℕ, zero, suc, ◌+◌, ◌-◌, ◌<◌, Bool, true, false, List, [], ◌∷◌, ◌++◌, drop, length, get_or, Option, Some, None, IsSome, refl, sym, subst, ap, ◌∙◌, arith, drop-cons}
 use Rattle.std.specs.Prelude.{nat_le, replicate, slice_set, if◌then◌else◌}
 use Rattle.std.proofs.lemmas.Bool.Decides.{nat_tests}
 use Rattle.std.proofs.lemmas.Grind.{common_steps}
-use Rattle.std.proofs.lemmas.List.{length-replicate}
+use Rattle.std.proofs.lemmas.List.{length-replicate, length-set}
 use Rattle.items.specs.Options.{◌>>=◌}
 use Rattle.items.proofs.Binds.{bind_is}
 use Rattle.instruction_rows.specs.declared.value.Value.TheVariants as values
@@ -15,8 +15,8 @@ use Rattle.link_model.specs.Decoded.{code_at}
 use Rattle.state_model.specs.Frames.{Frame}
 use Rattle.frames.specs.Frames.{entered, top_locals, top_stack, with_local, with_stack}
 use Rattle.ref_model.specs.Frames.{first_frame}
-use Rattle.ref_model.specs.Opening.{frame_of, frames_of, initializers}
-use Rattle.startup.specs.FirstFrames.{HasFrame, IsFirst, frames_with, main_frame}
+use Rattle.ref_model.specs.Opening.{frame_of, frames_of, guarded_by, initializers}
+use Rattle.startup.specs.FirstFrames.{count_with, holding, HasFrame, IsFirst, frames_with, main_frame}
 
 -- the frame of a method with these local variables
 begun : ℕ → MethodCode → List Slot → Frame
@@ -73,6 +73,18 @@ main_without w n words code frames new e some made set =
       is = frame_is w n code (x ∷ []) e (grind (arith, nat_tests));
       all = set ∙ ap (with_local 0 x) made ∙ ap (λ locals. begun n code locals ∷ []) (set_first code.max_locals x some);
     }
+
+-- the last local variable is set
+set_tail : (k : ℕ) (y : Slot) → slice_set (replicate (k + 1) Second) k y ≡ replicate k Second ++ y ∷ []
+set_tail zero y = refl
+set_tail (suc k) y =
+    let more : suc k + 1 ≡ suc (k + 1) = omega arith in
+    ap (λ n. slice_set (replicate n Second) (suc k) y) more ∙ ap (λ slots. Second ∷ slots) (set_tail k y)
+
+set_last : (xs : List Slot) (k m : ℕ) (y : Slot) → length xs + k ≡ m → slice_set (xs ++ replicate (k + 1) Second) m y ≡ (xs ++ replicate k Second) ++ y ∷ []
+set_last [] k m y e = subst (λ i. slice_set (replicate (k + 1) Second) i y ≡ replicate k Second ++ y ∷ []) (omega (arith, e)) (set_tail k y)
+set_last (x ∷ xs) k zero y e = absurd (omega (arith, e))
+set_last (x ∷ xs) k (suc m) y e = ap (λ slots. x ∷ slots) (set_last xs k m y (omega (arith, e)))
 
 -- the local variables of main where the last holds the monitor
 main_with : (w : World) (n words o : ℕ) (code : MethodCode) (frames new : List Frame) → code_at w n ≡ Some code → 0 < code.max_locals
