@@ -7,6 +7,7 @@ mod MountLaws
 mod UnmountLaws
 mod AheadLaws
 mod JoinerLaws
+mod ListLaws
 mod StepLaws
 mod PlainLaws
 mod BeginLaws

@@ -13,17 +13,22 @@ use Rattle.monitors.specs.Monitors.{Becomes, Monitor, Monitors, monitor_of}
 use Rattle.schedule_model.specs.Look.{Look, Spot, absent, is_entering, is_live, is_waiting}
 use Rattle.schedule_model.specs.Schedule.{Schedule}
 use Rattle.schedule_model.specs.Puts.{all_threads, beginning_with, updated_list}
-use Rattle.schedule_model.specs.Entries.{after_step}
-use Rattle.schedule_model.specs.Woken.{once_if}
+use Rattle.schedule_model.specs.Entries.{after_step, after_tick}
+use Rattle.schedule_model.specs.Woken.{AreListed, once_if}
 use Rattle.schedule_model.proofs.ListLaws.{IsOrder, beginning_in_order, count-filter_no, count-filter_yes}
 use Rattle.schedule_model.proofs.PutLaws.{entering_live, waiting_live}
 use Rattle.ref_model.specs.State.{JavaThread, State}
+use Rattle.ref_model.specs.Waiting.{at_time}
 use Rattle.ref_model.specs.Looks.{look_of, spot_of}
 use Rattle.schedule_soundness.proofs.OtherMoves.{spot_at}
+use Rattle.schedule_soundness.specs.TimeLaws.{AreDue}
 use Rattle.monitor_soundness.specs.ListLaws.{moved_list}
+use Rattle.monitor_soundness.specs.TickLaws.{NoWaitIsOver, left_by, lined_up_by}
 use Rattle.monitor_soundness.proofs.Filters.{filter_all, filter_none}
 use Rattle.monitor_soundness.proofs.ListLaws.{all_kept, list_stays, one_moves, only_kept, stays_off}
+use Rattle.monitor_soundness.proofs.TickLaws.{ticks_move_the_due}
 use Rattle.program_state.specs.Monitors.{HoldsMonitors, ListsMove, stay, lines_up, retakes, waits, wait_ends, notifies, notifies_all}
+use Rattle.program_state.specs.Times.{DueMove}
 use Rattle.machine.specs.Lists.{HasLists}
 
 -- ---- how one list changes
@@ -268,3 +273,32 @@ module _ (w : World) (r q : State) (s : Schedule) (a b : Monitors) (was : HasLis
 
   pub lists_after_step : (c t : ℕ) (yields : Bool) → HasLists b (after_step (look_of w r) (look_of w q) s c t yields)
   lists_after_step c t yields = record { waits = λ o. sym (waits_follow o); enters = λ o. sym (enters_follow o) }
+
+-- ---- after an entry that leaves them as they are
+
+pub lists_stay : (a b : Monitors) (s n : Schedule) → b ≡ a → n.wait_list ≡ s.wait_list → n.entry_list ≡ s.entry_list → HasLists a s → HasLists b n
+lists_stay a b s n kept_same wait_lists entry_lists h = record {
+  waits = λ o. ap (λ m. (monitor_of m o).wait_list) kept_same ∙ h.waits o ∙ sym (ap (λ f. f o) wait_lists);
+  enters = λ o. ap (λ m. (monitor_of m o).entry_list) kept_same ∙ h.enters o ∙ sym (ap (λ f. f o) entry_lists);
+}
+
+-- ---- after a tick
+
+module _ (w : World) (r q : State) (s : Schedule) (now : ℕ) (due : List ℕ) (a b : Monitors) (was : HasLists a s)
+    (held : HoldsMonitors a r.threads r.owners) (ticks : at_time r now ≡ Some q) (to_come : NoWaitIsOver r)
+    (are_due : AreDue (look_of w r) now due) (move : DueMove w r due a b) where
+  listed : AreListed (look_of w r) s
+  listed = record {
+    waits = λ t o. ap (count t) (sym (was.waits o)) ∙ held.waits t o;
+    enters = λ t o. ap (count t) (sym (was.enters o)) ∙ held.enters t o;
+  }
+
+  pub lists_after_tick : (c : ℕ) → HasLists b (after_tick (look_of w r) (look_of w q) s c)
+  lists_after_tick c = record {
+    waits = λ o.
+        move.waits o ∙ ap (left_by (look_of w r) o due) (was.waits o)
+        ∙ sym (ticks_move_the_due w r q s now o due listed ticks to_come are_due).0;
+    enters = λ o.
+        move.enters o ∙ ap (lined_up_by (look_of w r) o due) (was.enters o)
+        ∙ sym (ticks_move_the_due w r q s now o due listed ticks to_come are_due).1;
+  }

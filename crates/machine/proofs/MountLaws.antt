@@ -22,6 +22,7 @@ use Rattle.machine.specs.Insides.{AreParts, IsFrozen, is_out}
 use Rattle.machine.proofs.PlaceLaws.{in_from, mounts, next_in, take_length, taken_else, taken_here, taken_out}
 use Rattle.machine.proofs.EndingLaws.{not_ended}
 use Rattle.machine.proofs.EntryLaws.{is_scheduled}
+use Rattle.machine.proofs.ListLaws.{lists_stay}
 use Rattle.machine.proofs.StateLaws.{Lies, SameBut, lies, live_at, live_is, taken_state}
 
 -- a history that goes on, of which carrier c is idle, and what it would take
@@ -78,6 +79,7 @@ module _ (p : Setting) (first : State) (v : Scheduled State) (n : ℕ) (state : 
         state =
             taken_state state new v.state (is_out v.schedule) (is_out then_schedule) t is_live lies_there.kept same h.parts.state lies_there.at frozen
             (taken_out l v.schedule c d t h.idle) (λ u ne. taken_else l v.schedule c d t u h.idle ne);
+        lists = lists_stay state.monitors new.monitors v.schedule then_schedule same.monitors refl refl h.parts.lists;
         deques = left_is;
         room = subst (λ m. length v.state.threads ≤ m) (sym room) h.parts.room;
         mounted = puts ∙ ap (λ ms. slice_set ms c (Some t)) h.parts.mounted;

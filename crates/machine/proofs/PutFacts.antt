@@ -1,5 +1,5 @@
 -- Whom code puts.
-use Rattle.std.proofs.Common.{◌≡◌, ◌<◌, ◌≤◌, ◌&&◌, ℕ, Bool, true, false, List, [], ◌∷◌, Option, None, Some, length, refl, ap, sym, ◌∙◌, arith, cond}
+use Rattle.std.proofs.Common.{◌≡◌, ◌<◌, ◌≤◌, ◌&&◌, ℕ, Bool, true, false, List, [], ◌∷◌, Option, None, Some, length, refl, ap, sym, ◌∙◌, arith, cond, not, ◌==◌}
 use Rattle.std.specs.Prelude.{Contains, filter, is_some, slice_get}
 use Rattle.std.proofs.lemmas.Bool.{and_parts, eqb-true}
 use Rattle.std.proofs.lemmas.Option.{slice_get_within}
@@ -8,10 +8,12 @@ use Rattle.vthread_state.specs.declared.thread.Thread.{Thread}
 use Rattle.vthread_state.specs.Threads.{joins, target_of_status}
 use Rattle.thread_lists.specs.Lists.{count, push, total}
 use Rattle.ref_model.specs.declared.ending.Ending.{Ending}
+use Rattle.ref_model.specs.State.{State}
+use Rattle.ref_model.specs.Enabled.{enabled}
 use Rattle.program_state.specs.declared.state.ProgramState.{ProgramState}
 use Rattle.program_state.specs.Waiting.{AreWoken, has_ended_in, lies_in}
 use Rattle.machine.specs.declared.made.Others.TheVariants as moves
-use Rattle.machine.specs.Puts.{EndsSo, GoesSo, HasPut, nobody, started, woken, nobody_over, joiners, is_loose, is_nowhere}
+use Rattle.machine.specs.Puts.{EndsSo, GoesSo, HasPut, nobody, started, woken, nobody_over, joiners, is_loose, is_nowhere, is_to_go}
 use Rattle.machine.proofs.PlaceLaws.{push_none}
 use Rattle.machine.proofs.PushLaws.{rising_once}
 
@@ -70,8 +72,20 @@ nowhere_free state lists u nowhere goes is both =
     eqb-true (total (count u) lists) 0
     (and_parts (lies_in state.frozen.items u) (is_loose lists u) (sym is ∙ (and_parts nowhere goes both).0)).1
 
--- who is nowhere is in no deque
-pub nowhere_loose : (state : ProgramState) (lists : List (List ℕ)) (u : ℕ) (nowhere : Bool) → nowhere ≡ is_nowhere state lists u → nowhere ≡ true
+-- who is to go is in no deque
+twice_not : (b : Bool) → not (not b) ≡ b
+twice_not true = refl
+twice_not false = refl
+
+pub to_go_loose : (lists : List (List ℕ)) (u : ℕ) (lies goes holds : Bool) → holds ≡ not (total (count u) lists == 0) → ((lies && goes) && not holds) ≡ true
     → total (count u) lists ≡ 0
-nowhere_loose state lists u nowhere is so =
-    eqb-true (total (count u) lists) 0 (and_parts (lies_in state.frozen.items u) (is_loose lists u) (sym is ∙ so)).1
+to_go_loose lists u lies goes holds is all =
+    eqb-true (total (count u) lists) 0
+    (sym (twice_not (total (count u) lists == 0)) ∙ sym (ap not is) ∙ (and_parts (lies && goes) (not holds) all).1)
+
+pub to_go_is : (state : ProgramState) (r : State) (lists : List (List ℕ)) (u : ℕ) (lies goes holds : Bool) → lies ≡ lies_in state.frozen.items u
+    → goes ≡ enabled r u → holds ≡ not (total (count u) lists == 0) → ((lies && goes) && not holds) ≡ is_to_go state r lists u
+to_go_is state r lists u lies goes holds lies_is goes_is holds_is =
+    ap (λ b. (b && goes) && not holds) lies_is ∙ ap (λ b. (lies_in state.frozen.items u && b) && not holds) goes_is
+    ∙ ap (λ b. (lies_in state.frozen.items u && enabled r u) && not b) holds_is
+    ∙ ap (λ b. (lies_in state.frozen.items u && enabled r u) && b) (twice_not (total (count u) lists == 0))

@@ -24,6 +24,7 @@ use Rattle.schedule_soundness.proofs.ThreadLists.{not_none, same_some, set_other
 use Rattle.sleep_wheel.specs.Sleepers.{sleeper_at}
 use Rattle.program_state.specs.declared.state.ProgramState.{ProgramState}
 use Rattle.program_state.specs.Deadlines.{HoldsDeadlines, deadlines_of, key_at}
+use Rattle.program_state.specs.Monitors.{HoldsMonitors}
 use Rattle.program_state.specs.States.{IsKept, IsState, absent, mounted, waiting, idle, is_started}
 use Rattle.machine.specs.Hands.{IsLive}
 
@@ -109,6 +110,7 @@ pub record SameBut (a b : ProgramState) : Type 0 where
   pub memory : b.memory ≡ a.memory
   pub threads : b.threads ≡ a.threads
   pub wakes : b.wakes ≡ a.wakes
+  pub monitors : b.monitors ≡ a.monitors
   pub wheel : b.wheel ≡ a.wheel
   pub keys : b.keys.items ≡ a.keys.items
   pub now : b.time ≡ a.time
@@ -126,11 +128,10 @@ one_place a b r out new t same is here elsewhere = record {
   rows = ap (λ x. x.threads) same.threads ∙ is.rows;
   most_threads = same.most_threads ∙ is.most_threads;
   limit = ap (λ x. x.limit) same.threads ∙ is.limit;
-  plain = is.plain;
   permits = ap (λ f. f.permits) same.wakes ∙ is.permits;
   interrupts = ap (λ f. f.interrupts) same.wakes ∙ is.interrupts;
   unnamed = same.unnamed ∙ is.unnamed;
-  owners = is.owners;
+  monitors = subst (λ m. HoldsMonitors m r.threads r.owners) (sym same.monitors) is.monitors;
   now = same.now ∙ is.now;
   places = ap (λ ks. length ks) same.keys ∙ is.places;
   wheel = subst (λ w. HoldsDeadlines (sleeper_at w) (key_at b.keys.items) (deadlines_of r.now r.threads)) (sym same.wheel)
@@ -181,11 +182,10 @@ others_out a r out new is same = record {
   rows = is.rows;
   most_threads = is.most_threads;
   limit = is.limit;
-  plain = is.plain;
   permits = is.permits;
   interrupts = is.interrupts;
   unnamed = is.unnamed;
-  owners = is.owners;
+  monitors = is.monitors;
   now = is.now;
   places = is.places;
   wheel = is.wheel;

@@ -10,7 +10,7 @@ use Rattle.std.proofs.lemmas.Option.{slice_get_within}
 use Rattle.items.specs.Options.{◌>>=◌}
 use Rattle.items.proofs.Binds.{bind_is}
 use Rattle.history.specs.declared.entry.What.TheVariants.{Clock}
-use Rattle.vthread_state.specs.declared.phase.Phase.TheVariants.{Run, Throwing, Entering, Waiting, Reenter, Parked, Asleep, Joining}
+use Rattle.vthread_state.specs.declared.phase.Wake.TheVariants.{TimedOut}
 use Rattle.vthread_state.specs.declared.thread.Status.{Status}
 use Rattle.vthread_state.specs.declared.thread.Status.TheVariants.{New, Live, Done}
 use Rattle.thread_lists.specs.Lists.{Lists, count, push, total}
@@ -25,20 +25,25 @@ use Rattle.schedule_model.specs.Run.{Scheduled, scheduled_after, with_schedule}
 use Rattle.ref_model.specs.Setting.{Setting}
 use Rattle.ref_model.specs.State.{JavaThread, State}
 use Rattle.ref_model.specs.Ending.{ending, is_live}
-use Rattle.ref_model.specs.Waiting.{at_time}
+use Rattle.ref_model.specs.Enabled.{enabled}
+use Rattle.ref_model.specs.Waiting.{at_time, status_woken, thread_woken}
 use Rattle.ref_model.specs.Looks.{deadline_in, look_of, machine_from, spot_of}
 use Rattle.schedule_soundness.specs.HistoryLaws.{IsProgramAfter}
-use Rattle.schedule_soundness.specs.TimeLaws.{AreDue, IsDue, NobodyWaits}
+use Rattle.schedule_soundness.specs.TimeLaws.{AreDue, IsDue}
 use Rattle.schedule_soundness.proofs.DeadlineOrder.{sorted_threads}
-use Rattle.schedule_soundness.proofs.TimeLaws.{ticks_put_who_is_due}
+use Rattle.monitor_soundness.specs.TickLaws.{IsTicked, NoWaitIsOver}
+use Rattle.monitor_soundness.proofs.TickLaws.{ticks_put_the_due}
+use Rattle.monitor_soundness.proofs.Times.{ticks_change_time, ticks_leave_others, ticks_wake_waiters}
 use Rattle.program_state.specs.declared.state.ProgramState.{ProgramState}
 use Rattle.program_state.specs.Deadlines.{coming_deadline, deadlines_of, later_than}
-use Rattle.program_state.specs.States.{IsKept, IsState, absent, mounted, waiting, idle, is_plain_status}
+use Rattle.program_state.specs.States.{IsKept, IsState, absent, mounted, waiting, idle}
 use Rattle.program_state.specs.Times as times
-use Rattle.program_state.specs.Times.{Passes}
+use Rattle.program_state.specs.Times.{DueMove, Passes}
+use Rattle.program_state.specs.Waiting.{lies_in}
 use Rattle.machine.specs.Insides.{AreParts, is_out}
-use Rattle.machine.specs.Puts.{is_loose, is_nowhere}
+use Rattle.machine.specs.Puts.{is_loose, is_nowhere, is_to_go}
 use Rattle.machine.proofs.EndingLaws.{not_ended}
+use Rattle.machine.proofs.ListLaws.{lists_after_tick}
 use Rattle.machine.proofs.PlaceLaws.{in_none, out_on, push_length}
 
 no_both : (b : Bool) → b ≡ true → b ≡ false → ⊥
@@ -46,20 +51,6 @@ no_both b i j = absurd cc
 
 same_thread : (o : Option JavaThread) (x y : JavaThread) → o ≡ Some x → o ≡ Some y → x ≡ y
 same_thread o x y e f = cc
-
--- ---- nobody waits on a monitor
-
-plain_waits : (status : Status) → is_plain_status status ≡ true → is_in_wait_list (spot_of status) ≡ false
-plain_waits New e = refl
-plain_waits Done e = refl
-plain_waits (Live Run) e = refl
-plain_waits (Live (Throwing o)) e = refl
-plain_waits (Live (Parked deadline)) e = refl
-plain_waits (Live (Asleep deadline)) e = refl
-plain_waits (Live (Joining u deadline)) e = refl
-plain_waits (Live (Entering o)) e = absurd cc
-plain_waits (Live (Waiting o n deadline)) e = absurd cc
-plain_waits (Live (Reenter o n wake)) e = absurd cc
 
 -- ---- deadlines that are still to come
 
@@ -203,6 +194,14 @@ nowhere_place lists new q s u x is same at alive = by (is.kept u)
     by (idle z off there place dead) =
         absurd (no_both (is_live z.thread.status) (ap (λ (y : JavaThread). is_live y.thread.status) (same_thread (slice_get q.threads u) z x there at) ∙ alive) dead)
 
+-- so one that is due is to go where it is in no place and may step
+swapped : (lies loose goes : Bool) → ((lies && goes) && loose) ≡ ((lies && loose) && goes)
+swapped true true true = refl
+swapped true true false = refl
+swapped true false true = refl
+swapped true false false = refl
+swapped false loose goes = refl
+
 filter_in : (p q : ℕ → Bool) (xs : List ℕ) → ((t : ℕ) → Contains xs t → p t ≡ q t) → filter p xs ≡ filter q xs
 filter_in p q [] same = refl
 filter_in p q (x ∷ xs) same =
@@ -223,17 +222,25 @@ pub record Before (p : Setting) (first : State) (v : Scheduled State) (n : ℕ) 
 
 -- after it
 pub record Ticked (p : Setting) (v : Scheduled State) (state new : ProgramState) (deques left : Lists) (c now : ℕ) (due : List ℕ) : Type 0 where
+  pub to_come : NoWaitIsOver v.state
   pub passes : Passes now new v.state (is_out v.schedule)
+  pub moves : DueMove p.world v.state due state.monitors new.monitors
   pub due_are : times.AreDue v.state now due
-  pub lists : left.lists ≡ push deques.lists c (filter (is_nowhere new deques.lists) due)
+  pub lists : left.lists ≡ push deques.lists c (filter (is_to_go new passes.next deques.lists) due)
   pub room : left.threads ≡ deques.threads
 
-module _ (p : Setting) (first : State) (v : Scheduled State) (n : ℕ) (state : ProgramState) (deques : Lists) (on : List (Option ℕ)) (c now : ℕ) (b : Before p first v n state deques on c now) where
+woken_lives : (status : Status) → is_live status ≡ true → is_live (status_woken TimedOut status) ≡ true
+woken_lives New e = e
+woken_lives (Live phase) e = refl
+woken_lives Done e = e
+
+module _ (p : Setting) (first : State) (v : Scheduled State) (n : ℕ) (state : ProgramState) (deques : Lists) (on : List (Option ℕ)) (c now : ℕ) (b : Before p first v n state deques on c now)
+    (new : ProgramState) (left : Lists) (due : List ℕ) (h : Ticked p v state new deques left c now due) where
   abbrev pub then_state : State
-  then_state = record v.state { now = now }
+  then_state = h.passes.next
 
   abbrev pub then : Scheduled State
-  then = with_schedule (record v.state { now = now }) (after_tick (look_of p.world v.state) (look_of p.world (record v.state { now = now })) v.schedule c)
+  then = with_schedule h.passes.next (after_tick (look_of p.world v.state) (look_of p.world h.passes.next) v.schedule c)
 
   may : may_tick (look_of p.world v.state) v.schedule c ≡ true
   may = and_from (not (look_of p.world v.state).ended) _ (ap not (not_ended v.state b.going)) (lt-ltb c (length v.schedule.mounted) b.carrier)
@@ -241,63 +248,89 @@ module _ (p : Setting) (first : State) (v : Scheduled State) (n : ℕ) (state : 
   abbrev ticked_with : State → Option (Scheduled State)
   ticked_with q = Some (with_schedule q (after_tick (look_of p.world v.state) (look_of p.world q) v.schedule c))
 
-  module _ (new : ProgramState) (left : Lists) (due : List ℕ) (h : Ticked p v state new deques left c now due) where
-    pub tick_enters : scheduled_after (machine_from p first) v c (Clock now) ≡ Some then
-    tick_enters =
-        ap (λ i. cond i (at_time v.state now >>= ticked_with) None) may
-        ∙ bind_is (at_time v.state now) ticked_with then_state (Some then) h.passes.ticks refl
+  pub tick_enters : scheduled_after (machine_from p first) v c (Clock now) ≡ Some then
+  tick_enters =
+      ap (λ i. cond i (at_time v.state now >>= ticked_with) None) may
+      ∙ bind_is (at_time v.state now) ticked_with then_state (Some then) h.passes.ticks refl
 
-    nobody : NobodyWaits v.state
-    nobody t x at = plain_waits x.thread.status (b.parts.state.plain t x at)
+  abbrev enters : ℕ → List ℕ
+  enters o = updated_list (is_entering o) (look_of p.world v.state) (look_of p.world then_state)
+      (by_deadline (look_of p.world v.state) (look_of p.world then_state)) (v.schedule.entry_list o)
 
-    abbrev enters : ℕ → List ℕ
-    enters o = updated_list (is_entering o) (look_of p.world v.state) (look_of p.world then_state)
-        (by_deadline (look_of p.world v.state) (look_of p.world then_state)) (v.schedule.entry_list o)
+  seen : AreDue (look_of p.world v.state) now due
+  seen = due_seen p v.state now due h.due_are
 
-    seen : AreDue (look_of p.world v.state) now due
-    seen = due_seen p v.state now due h.due_are
+  ticked : IsTicked v.state then_state now
+  ticked = ticks_change_time v.state then_state now h.passes.ticks
 
-    nowhere_due : (t : ℕ) → Contains due t → (o : Option JavaThread) → slice_get v.state.threads t ≡ o
-        → is_nowhere new deques.lists t ≡ (places t v.schedule == 0)
-    nowhere_due t there None at =
-        let d = (seen.just t).0 there in
-        let no : None ≡ Some d.deadline = sym (ap deadline_at at) ∙ d.has in
-        absurd cc
-    nowhere_due t there (Some x) at =
-        nowhere_place deques.lists new then_state v.schedule t x h.passes.is b.parts.deques at (due_lives p v.state now t x ((seen.just t).0 there) at)
+  pub tick_goes : ending then_state ≡ None
+  tick_goes = ticked.goes_on ∙ b.going
 
-    puts_are : put_by (look_of p.world v.state) (look_of p.world then_state) enters v.schedule (by_deadline (look_of p.world v.state) (look_of p.world then_state))
-        ≡ filter (is_nowhere new deques.lists) due
-    puts_are =
-        ticks_put_who_is_due p first v then_state now enters due b.after b.going h.passes.ticks nobody seen
-        ∙ sym (filter_in (is_nowhere new deques.lists) (λ t. places t v.schedule == 0) due (λ t there. nowhere_due t there (slice_get v.state.threads t) refl))
+  -- who is due lives afterwards
+  lives_then : (t : ℕ) (x : JavaThread) → slice_get v.state.threads t ≡ Some x → IsDue (look_of p.world v.state) now t
+      → (y : JavaThread) × (slice_get then_state.threads t ≡ Some y) × (is_live y.thread.status ≡ true)
+  lives_then t x at d = by (cases_Bool (is_in_wait_list (spot_of x.thread.status)))
+    where
+      live : is_live x.thread.status ≡ true
+      live = due_lives p v.state now t x d at
 
-    pub tick_parts : AreParts n new left on then
-    tick_parts = record {
-      state = h.passes.is;
-      deques =
-          h.lists ∙ ap (λ ls. push ls c (filter (is_nowhere new deques.lists) due)) b.parts.deques ∙ ap (push v.schedule.deques c) (sym puts_are);
-      room = subst (λ k. length v.state.threads ≤ k) (sym h.room) b.parts.room;
-      mounted = b.parts.mounted;
-      carriers =
-          push_length v.schedule.deques c (put_by (look_of p.world v.state) (look_of p.world then_state) enters v.schedule (by_deadline (look_of p.world v.state) (look_of p.world then_state)))
-          ∙ b.parts.carriers;
-    }
+      by : (is_in_wait_list (spot_of x.thread.status) ≡ true) ⊎ (is_in_wait_list (spot_of x.thread.status) ≡ false)
+          → (y : JavaThread) × (slice_get then_state.threads t ≡ Some y) × (is_live y.thread.status ≡ true)
+      by (inl waits) =
+          (thread_woken TimedOut x, ticks_wake_waiters p.world v.state then_state now t x h.passes.ticks at waits d, woken_lives x.thread.status live)
+      by (inr off) = (x, ticks_leave_others p.world v.state then_state now t x h.passes.ticks h.to_come at (inl off), live)
+
+  to_go_due : (t : ℕ) → Contains due t → (o : Option JavaThread) → slice_get v.state.threads t ≡ o
+      → is_to_go new then_state deques.lists t ≡ ((places t v.schedule == 0) && enabled then_state t)
+  to_go_due t there None at =
+      let d = (seen.just t).0 there in
+      let no : None ≡ Some d.deadline = sym (ap deadline_at at) ∙ d.has in
+      absurd cc
+  to_go_due t there (Some x) at =
+      let lives = lives_then t x at ((seen.just t).0 there) in
+      swapped (lies_in new.frozen.items t) (is_loose deques.lists t) (enabled then_state t)
+      ∙ ap (λ i. i && enabled then_state t) (nowhere_place deques.lists new then_state v.schedule t lives.0 h.passes.is b.parts.deques lives.1 lives.2)
+
+  puts_are : put_by (look_of p.world v.state) (look_of p.world then_state) enters v.schedule (by_deadline (look_of p.world v.state) (look_of p.world then_state))
+      ≡ filter (is_to_go new then_state deques.lists) due
+  puts_are =
+      ticks_put_the_due p first v then_state now enters due b.after b.going h.passes.ticks h.to_come seen
+      ∙ sym (filter_in (is_to_go new then_state deques.lists) (λ t. (places t v.schedule == 0) && enabled then_state t) due
+      (λ t there. to_go_due t there (slice_get v.state.threads t) refl))
+
+  pub tick_parts : AreParts n new left on then
+  tick_parts = record {
+    state = h.passes.is;
+    lists =
+        lists_after_tick p.world v.state then_state v.schedule now due state.monitors new.monitors b.parts.lists b.parts.state.monitors h.passes.ticks
+        h.to_come seen h.moves c;
+    deques =
+        h.lists ∙ ap (λ ls. push ls c (filter (is_to_go new then_state deques.lists) due)) b.parts.deques ∙ ap (push v.schedule.deques c) (sym puts_are);
+    room =
+        subst (λ k. k ≤ left.threads) (sym ticked.as_many) (subst (λ k. length v.state.threads ≤ k) (sym h.room) b.parts.room);
+    mounted = b.parts.mounted;
+    carriers =
+        push_length v.schedule.deques c (put_by (look_of p.world v.state) (look_of p.world then_state) enters v.schedule (by_deadline (look_of p.world v.state) (look_of p.world then_state)))
+        ∙ b.parts.carriers;
+  }
 
 -- those that are due were made
-pub due_below : (p : Setting) (first : State) (v : Scheduled State) (n : ℕ) (state : ProgramState) (deques : Lists) (on : List (Option ℕ)) (c now : ℕ)
-    (b : Before p first v n state deques on c now) (due : List ℕ) → times.AreDue v.state now due → (u : ℕ) → Contains due u → u < deques.threads
-due_below p first v n state deques on c now b due are_due u there = by (slice_get v.state.threads u) refl
+pub due_made : (p : Setting) (r : State) (now : ℕ) (due : List ℕ) → times.AreDue r now due → (u : ℕ) → Contains due u → u < length r.threads
+due_made p r now due are_due u there = by (slice_get r.threads u) refl
   where
-    by : (o : Option JavaThread) → slice_get v.state.threads u ≡ o → u < deques.threads
+    by : (o : Option JavaThread) → slice_get r.threads u ≡ o → u < length r.threads
     by None at =
-        let d = ((due_seen p v.state now due are_due).just u).0 there in
+        let d = ((due_seen p r now due are_due).just u).0 there in
         let no : None ≡ Some d.deadline = sym (ap deadline_at at) ∙ d.has in
         absurd cc
-    by (Some x) at =
-        let inside = slice_get_within v.state.threads u x at in
-        let room = b.parts.room in
-        omega arith
+    by (Some x) at = slice_get_within r.threads u x at
+
+pub due_below : (p : Setting) (first : State) (v : Scheduled State) (n : ℕ) (state : ProgramState) (deques : Lists) (on : List (Option ℕ)) (c now : ℕ)
+    (b : Before p first v n state deques on c now) (due : List ℕ) → times.AreDue v.state now due → (u : ℕ) → Contains due u → u < deques.threads
+due_below p first v n state deques on c now b due are_due u there =
+    let inside = due_made p v.state now due are_due u there in
+    let room = b.parts.room in
+    omega arith
 
 -- each of them is once in the list
 pub due_once : (p : Setting) (r : State) (now : ℕ) (due : List ℕ) → times.AreDue r now due → (u : ℕ) → count u due ≤ 1

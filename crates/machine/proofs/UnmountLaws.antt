@@ -25,6 +25,7 @@ use Rattle.machine.specs.Hands.{HasHand, IsLive}
 use Rattle.machine.specs.Insides.{AreParts, is_out}
 use Rattle.machine.proofs.PlaceLaws.{mounted_out, mounted_within, out_on, push_length, push_none, put_else, put_idle, put_in, unmounts}
 use Rattle.machine.proofs.EntryLaws.{is_scheduled}
+use Rattle.machine.proofs.ListLaws.{lists_stay}
 use Rattle.machine.proofs.StateLaws.{Over, SameBut, ended_state, over_at, put_state}
 
 -- a history after which carrier c may put down thread t
@@ -104,6 +105,7 @@ module _ (p : Setting) (first : State) (v : Scheduled State) (n : ℕ) (state : 
   settled_parts new left on k wanted alive live over same hand number frozen is lists room puts =
       record {
         state = settled_state new k alive live over same hand number frozen;
+        lists = lists_stay state.monitors new.monitors v.schedule then_schedule same.monitors refl refl h.parts.lists;
         deques = lists ∙ ap (λ ls. push ls c (cond wanted (t ∷ []) [])) h.parts.deques ∙ ap (λ b. push v.schedule.deques c (cond b (t ∷ []) [])) is;
         room = subst (λ m. length v.state.threads ≤ m) (sym room) h.parts.room;
         mounted = puts ∙ ap (λ ms. slice_set ms c None) h.parts.mounted;
@@ -115,7 +117,8 @@ module _ (p : Setting) (first : State) (v : Scheduled State) (n : ℕ) (state : 
   retired_parts on ended puts =
       let x = over_at v.state t ended in
       record {
-        state = ended_state state state v.state (is_out v.schedule) (is_out then_schedule) t x (record { memory = refl; threads = refl; wakes = refl; wheel = refl; keys = refl; now = refl; unnamed = refl; most_threads = refl }) refl h.parts.state out off elsewhere;
+        state = ended_state state state v.state (is_out v.schedule) (is_out then_schedule) t x (record { memory = refl; threads = refl; wakes = refl; monitors = refl; wheel = refl; keys = refl; now = refl; unnamed = refl; most_threads = refl }) refl h.parts.state out off elsewhere;
+        lists = lists_stay state.monitors state.monitors v.schedule then_schedule refl refl refl h.parts.lists;
         deques =
             h.parts.deques ∙ sym (push_none v.schedule.deques c)
             ∙ ap (λ b. push v.schedule.deques c (cond b (t ∷ []) [])) (sym (not_enabled v.state t x));

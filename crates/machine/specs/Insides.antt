@@ -17,6 +17,7 @@ use Rattle.program_state.specs.declared.state.ProgramState.{ProgramState}
 use Rattle.program_state.specs.States.{IsState}
 use Rattle.machine.specs.declared.machine.Machine.TheInside.{Inside}
 use Rattle.machine.specs.Legal.{IsAccepted, IsCause}
+use Rattle.machine.specs.Lists.{HasLists}
 use Rattle.machine.specs.Machines.{Known}
 
 -- some carrier has the thread mounted
@@ -31,6 +32,7 @@ pub record IsFrozen (frozen : List (Option Continuation)) (t : ℕ) : Type 0 whe
 -- These parts are those of the program and its schedule, which has so many carriers.
 pub record AreParts (n : ℕ) (a : ProgramState) (d : Lists) (on : List (Option ℕ)) (v : Scheduled State) : Type 0 where
   pub state : IsState a v.state (is_out v.schedule)
+  pub lists : HasLists a.monitors v.schedule
   pub deques : d.lists ≡ v.schedule.deques
   pub room : length v.state.threads ≤ d.threads
   pub mounted : on ≡ v.schedule.mounted

@@ -3,6 +3,7 @@ pub mod Hands
 pub mod Legal
 pub mod Turns
 pub mod Begin
+pub mod Lists
 pub mod Insides
 pub mod Ready
 pub mod AtHand

@@ -32,6 +32,10 @@ is_loose lists u = total (count u) lists == 0
 abbrev pub is_nowhere : ProgramState → List (List ℕ) → ℕ → Bool
 is_nowhere state lists u = lies_in state.frozen.items u && is_loose lists u
 
+-- the same, and it may step
+abbrev pub is_to_go : ProgramState → State → List (List ℕ) → ℕ → Bool
+is_to_go state r lists u = (lies_in state.frozen.items u && enabled r u) && is_loose lists u
+
 -- These are put after a step of thread t: the thread that it started; the one that it gave a permit or an interrupt, if that is in no place
 -- and may step; with its end, while the program goes on, those that wait for it and are in no place.
 pub data ArePut (state : ProgramState) (lists : List (List ℕ)) (t : ℕ) (others : Others) (threads : List ℕ) : Type 0 where

@@ -7,13 +7,14 @@ ghost use Rattle.thread_steps.specs.States.{memory_of};
 ghost use Rattle.vthread_state.specs.declared.phase.Phase.TheVariants.{Run};
 ghost use Rattle.vthread_state.specs.declared.thread.Status.TheVariants.{Live};
 ghost use Rattle.program_state.specs.States.{IsState};
-ghost use Rattle.machine.specs.Begin.{main_row};
+ghost use Rattle.machine.specs.Begin.{AreFirst, main_row};
 
 use continuation::{Frozen, Mounted};
 use heap_objs::Heap;
 use instruction_rows::Value;
 use items::NoMemory;
 use link_model::MAIN_NAME;
+use monitors::Monitors;
 use native_methods::NativeState;
 use program_state::ProgramState;
 use ref_model::Limits;
@@ -57,7 +58,7 @@ fn first_frozen(alloc: Global, mounted: Mounted) -> Result<Vec<Option<Frozen>>, 
 // The memory of a program that begins.
 fn first_memory(alloc: Global, heap: Heap, statics: Vec<Value>) -> Parts
     ensures memory { memory_of result
-        ≡ (opening_state 0 heap.objects (heap.cells - heap.used) statics.items []).memory }
+        ≡ (opening_state 0 heap.objects (heap.cells - heap.used) statics.items [] None).memory }
     ensures status { result.status ≡ Live Run }
     ensures main { result.main_threw ≡ false }
 {
@@ -93,6 +94,19 @@ fn first_keys(alloc: Global) -> Result<Vec<Option<Key>>, NoMemory>
     Ok(keys)
 }
 
+// The main thread owns the monitor that it begins with, if any.
+fn first_monitors(alloc: Global, owned: Option<u32>) -> Result<Monitors, NoMemory>
+    ensures { IfOk result (λ monitors. AreFirst monitors owned) }
+{
+    let mut monitors = Monitors::new(alloc);
+    monitors.add_thread()?;
+    if let Some(monitor) = owned {
+        monitors.room(1)?;
+        let _ = monitors.enter(monitor, 0);
+    }
+    Ok(monitors)
+}
+
 /// The state of a program that begins, in which no thread is mounted.
 pub(crate) fn first_state(
     alloc: Global,
@@ -100,18 +114,22 @@ pub(crate) fn first_state(
     limits: Limits,
 ) -> Result<ProgramState, NoMemory>
     requires { opened.mounted.thread ≡ 0 }
-    ensures { IfOk result (λ state. IsState state (opened_state limits opened) (λ t. false)) }
+    ensures state { IfOk result (λ state.
+        IsState state (opened_state limits opened) (λ t. false)) }
+    ensures monitors { IfOk result (λ state. AreFirst state.monitors opened.monitor) }
 {
     let Opened {
         heap,
         statics,
         mounted,
+        monitor,
     } = opened;
     Ok(ProgramState {
         memory: first_memory(alloc, heap, statics),
         threads: first_threads(alloc, limits.threads)?,
         frozen: first_frozen(alloc, mounted)?,
         wakes: first_wakes(alloc)?,
+        monitors: first_monitors(alloc, monitor)?,
         wheel: Wheel::new(alloc)?,
         keys: first_keys(alloc)?,
         time: 0,

@@ -173,6 +173,7 @@ fn running_step(
             }
             end_step(alloc, state, deques, c, t)
         }
+        Progress::Calls(_) | Progress::Returns(_) => StepResult::LacksMemory,
         Progress::Asks(pending) => {
             asking_step(alloc, program, state, deques, mounted, c, pending, now)
         }

@@ -29,7 +29,7 @@ use program_state::{
 use ref_model::ThreadRequest;
 use startup::ReadyProgram;
 use std::alloc::Global;
-use thread_steps::{PendingRequest, Progress};
+use thread_steps::{PendingRequest, Progress, Thrown};
 use vthread_state::Phase;
 
 // Whether a thread's interrupt status is set.
@@ -141,11 +141,13 @@ fn throwing_move(
         state.old mounted.old.stack.frames state.new mounted.new.stack.frames) }
     ensures thread { OnOk result (mounted.new.thread ≡ mounted.old.thread) }
 {
-    throwing_step(alloc, program, state, mounted, o)?;
-    Ok(Move {
-        others: Others::Stay,
-        yields: false,
-    })
+    match throwing_step(alloc, program, state, mounted, o)? {
+        Thrown::Stepped => Ok(Move {
+            others: Others::Stay,
+            yields: false,
+        }),
+        Thrown::Holds(_) => Err(NoMemory),
+    }
 }
 
 // The instruction of the top frame. A thread without one counts as memory run out.

@@ -1,9 +1,11 @@
 //! Whom a step puts into the deque of its carrier.
 
-ghost use Rattle.std.specs.Prelude.{◌≡◌, ◌<◌, ◌≤◌, ℕ, false, [], ◌∷◌, Contains, filter, length, true, OnOk};
+ghost use Rattle.std.specs.Prelude.{◌≡◌, ◌<◌, ◌≤◌, ℕ, Bool, false, [], ◌∷◌, Contains, filter, length, true, OnOk};
 ghost use Rattle.thread_lists.specs.Lists.{count, push, total};
 ghost use Rattle.program_state.specs.Waiting.{has_ended_in, lies_in};
-ghost use Rattle.machine.specs.Puts.{HasPut, IsTouched, is_nowhere as is_nowhere_in};
+ghost use Rattle.ref_model.specs.State.{State};
+ghost use Rattle.program_state.specs.States.{IsState};
+ghost use Rattle.machine.specs.Puts.{HasPut, IsTouched, is_nowhere as is_nowhere_in, is_to_go};
 ghost use Rattle.machine.specs.declared.made.Others.TheVariants as moves;
 
 use crate::carriers::{put_if, put_loose};
@@ -66,29 +68,34 @@ fn is_nowhere(state: &ProgramState, deques: &Deques, u: u32) -> bool
     lies(&state.frozen, u) && !deques.holds(u)
 }
 
-// Puts a thread that is neither mounted nor in a deque.
-fn put_if_nowhere(state: &ProgramState, deques: &mut Deques, c: u32, t: u32)
+// Puts a thread that is neither mounted nor in a deque and may step.
+fn put_if_to_go(state: &ProgramState, deques: &mut Deques, c: u32, t: u32)
+    requires thread { t < length state.now.threads.threads }
     requires carrier { c < length deques.old.lists }
     requires room { t < deques.old.threads }
-    ensures lists { deques.new.lists
-        ≡ push deques.old.lists c (filter (is_nowhere_in state.now deques.old.lists) (t ∷ [])) }
+    ensures lists { (r : State) (out : ℕ → Bool) → IsState state.now r out → deques.new.lists
+        ≡ push deques.old.lists c (filter (is_to_go state.now r deques.old.lists) (t ∷ [])) }
+    ensures carriers { length deques.new.lists ≡ length deques.old.lists }
     ensures room { deques.new.threads ≡ deques.old.threads }
 {
-    let nowhere = is_nowhere(state, deques, t);
-    put_if(deques, c, t, nowhere);
+    let lies = lies(&state.frozen, t);
+    let goes = may_step(state, t);
+    let loose = !deques.holds(t);
+    put_if(deques, c, t, (lies & goes) & loose);
 }
 
-/// Puts those of some threads that are neither mounted nor in a deque into that of a carrier, in this order.
+/// Puts those of some threads that are neither mounted nor in a deque, and may step, into that of a carrier, in this order.
 pub(crate) fn put_due(state: &ProgramState, deques: &mut Deques, c: u32, threads: &[u32])
     requires carrier { c < length deques.old.lists }
+    requires below { (u : ℕ) → Contains threads.now u → u < length state.now.threads.threads }
     requires room { (u : ℕ) → Contains threads.now u → u < deques.old.threads }
     requires once { (u : ℕ) → count u threads.now ≤ 1 }
-    ensures lists { deques.new.lists
-        ≡ push deques.old.lists c (filter (is_nowhere_in state.now deques.old.lists) threads.now) }
+    ensures lists { (r : State) (out : ℕ → Bool) → IsState state.now r out → deques.new.lists
+        ≡ push deques.old.lists c (filter (is_to_go state.now r deques.old.lists) threads.now) }
     ensures room { deques.new.threads ≡ deques.old.threads }
 {
     for t in threads {
-        put_if_nowhere(state, deques, c, *t);
+        put_if_to_go(state, deques, c, *t);
     }
 }
 

@@ -13,4 +13,5 @@ invariant_of-result c =
     let mounted = c.in_ok-first_mounted.field-0.items in
     subst (λ (es : List Entry). IsConsistent p c.args.carriers state deques mounted es None) (sym c.new.ensures.items)
     (first_consistent p c.args.carriers (opened_state c.args.limits c.in_ok-opened.opened) state deques mounted c.is_accepted.ensures c.requires.carriers
-    c.in_ok-opened.ensures.state refl c.in_ok-first_state.ensures c.in_ok-first_deques.ensures c.in_ok-first_mounted.ensures)
+    c.in_ok-opened.ensures.state refl c.in_ok-first_state.ensures.state c.in_ok-opened.opened.monitor c.in_ok-first_state.ensures.monitors
+    c.in_ok-first_deques.ensures c.in_ok-first_mounted.ensures)

@@ -30,7 +30,7 @@ invariant_of-self-2 c =
     c.args.c c.in_ok-t.field-0-0 c.in_ok-t.t (ap machine_ending c.self.view_is ∙ c.requires.going)
     (subst (λ (m : Known). Idle m c.args.c) (sym c.self.view_is) c.requires.idle) (sym c.in_ok-t.ensures.value)
     new c.take.new.self c.set_mounted.new.mounted.items c.take.result (c.take.ensures.value ∙ sym c.in_ok-t.ensures.value)
-    (record { memory = refl; threads = refl; wakes = refl; wheel = refl; keys = refl; now = refl; unnamed = refl; most_threads = refl }) c.take_frozen-frozen.ensures.after c.take.ensures.leaves c.set_mounted.ensures)
+    (record { memory = refl; threads = refl; wakes = refl; monitors = refl; wheel = refl; keys = refl; now = refl; unnamed = refl; most_threads = refl }) c.take_frozen-frozen.ensures.after c.take.ensures.leaves c.set_mounted.ensures)
 
 pub returns-clause-hand : goal.returns-clause-hand
 returns-clause-hand c =

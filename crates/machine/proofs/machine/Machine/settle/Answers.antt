@@ -100,7 +100,7 @@ invariant_of-self c =
     (sym c.push_reserved.ensures.items)
     (settle_kept (setting_in a) a.carriers a.state a.deques a.mounted.items a.history.items a.told (vec_capacity a.history - length a.history.items) c.self.invariant
     c.args.c t none mayt k number handt new c.put_if.new.deques c.set_mounted.new.mounted.items c.may_step-goes_on.result c.is_alive-live.result left c.is_alive-live.ensures
-    (record { memory = refl; threads = refl; wakes = refl; wheel = refl; keys = refl; now = refl; unnamed = refl; most_threads = refl }) c.put_frozen.ensures c.may_step-goes_on.ensures c.put_if.ensures.lists c.put_if.ensures.room
+    (record { memory = refl; threads = refl; wakes = refl; monitors = refl; wheel = refl; keys = refl; now = refl; unnamed = refl; most_threads = refl }) c.put_frozen.ensures c.may_step-goes_on.ensures c.put_if.ensures.lists c.put_if.ensures.room
     c.set_mounted.ensures)
 
 pub returns-clause-idle : goal.returns-clause-idle
