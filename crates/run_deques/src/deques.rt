@@ -1,7 +1,7 @@
 //! The deques of the carriers, and what a carrier takes next.
 
-ghost use Rattle.std.specs.Prelude.{◌≡◌, ◌↔◌, ◌<◌, ◌≤◌, ◌==◌, ℕ, [], ◌∷◌, All, drop, length, max, not, replicate, take, IfOk, IsNone, OnOk};
-ghost use Rattle.thread_lists.specs.Lists.{count, push, total};
+ghost use Rattle.std.specs.Prelude.{◌≡◌, ◌↔◌, ◌+◌, ◌<◌, ◌≤◌, ◌==◌, ℕ, [], ◌∷◌, All, Some, drop, length, max, not, replicate, slice_get, take, IfOk, IsNone, OnOk};
+ghost use Rattle.thread_lists.specs.Lists.{count, first, list_at, push, total};
 ghost use Rattle.run_deques.specs.Take.{after_take, front, next};
 
 use items::NoMemory;
@@ -94,6 +94,23 @@ impl Deques {
         let (deque, thread) = self.next(c)?;
         let _ = self.lists.take_first(deque);
         Some((deque, thread))
+    }
+
+    /// The first thread of a deque.
+    pub fn first(&self, c: u32) -> Option<u32>
+        requires { c < length self.now.lists }
+        ensures { result ≡ first self.now.lists c }
+    {
+        self.lists.first(c)
+    }
+
+    /// The thread behind one in its deque, if there is one.
+    pub fn behind(&self, t: u32) -> Option<u32>
+        ensures { (c i : ℕ) → c < length self.now.lists
+            → slice_get (list_at self.now.lists c) i ≡ Some t
+            → result ≡ slice_get (list_at self.now.lists c) (i + 1) }
+    {
+        self.lists.behind(t)
     }
 
     /// Whether a thread is in a deque.

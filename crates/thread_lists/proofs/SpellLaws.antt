@@ -263,6 +263,25 @@ step heads threads lists s k n p t h e is =
 pub step_end : (k n : ℕ) (xs : List ℕ) (p : Place) (j : ℕ) → p ≡ start_of k (drop n xs) → p ≡ Head j → (slice_get xs n ≡ None) × (length xs ≤ n)
 step_end k n xs p j e is = start-head k xs n j (sym e ∙ is)
 
+-- the place at which a thread stands in its list, and the thread behind it
+at_thread : (k : ℕ) (xs : List ℕ) (n t : ℕ) → slice_get xs n ≡ Some t → Thread t ≡ start_of k (drop n xs)
+at_thread k [] n t e = absurd cc
+at_thread k (x ∷ xs) zero t e = let i : t ≡ x = cc in ap Thread i
+at_thread k (x ∷ xs) (suc n) t e = at_thread k xs n t e
+
+pub listed_inside : (heads threads : List Link) (lists : List (List ℕ)) → Spells heads threads lists → (k n t : ℕ) → k < length heads → slice_get (list_at lists k) n ≡ Some t → t < length threads
+listed_inside heads threads lists s k n t h e = (step heads threads lists s k n (Thread t) t h (at_thread k (list_at lists k) n t e) refl).inside
+
+pub behind_thread : (heads threads : List Link) (lists : List (List ℕ)) → Spells heads threads lists → (k n t u : ℕ) → k < length heads → slice_get (list_at lists k) n ≡ Some t → next_of heads threads (Thread t) ≡ Thread u → Some u ≡ slice_get (list_at lists k) (n + 1)
+behind_thread heads threads lists s k n t u h e is =
+    let next = (step heads threads lists s k n (Thread t) t h (at_thread k (list_at lists k) n t e) refl).next in
+    sym (start-thread k (list_at lists k) (n + 1) u (sym next ∙ is)).0
+
+pub behind_none : (heads threads : List Link) (lists : List (List ℕ)) → Spells heads threads lists → (k n t j : ℕ) → k < length heads → slice_get (list_at lists k) n ≡ Some t → next_of heads threads (Thread t) ≡ Head j → None ≡ slice_get (list_at lists k) (n + 1)
+behind_none heads threads lists s k n t j h e is =
+    let next = (step heads threads lists s k n (Thread t) t h (at_thread k (list_at lists k) n t e) refl).next in
+    sym (start-head k (list_at lists k) (n + 1) j (sym next ∙ is)).0
+
 leads_on : (f g : Place → Place) (k : ℕ) (us : List ℕ) (t : ℕ) (vs : List ℕ) → count t (us ++ t ∷ vs) ≤ 1 → Leads f g (Head k) (us ++ t ∷ vs) (Head k) → f (Thread t) ≡ Thread t → ⊥
 leads_on f g k us t [] once r e = let i : Head k ≡ Thread t = sym (Leads-back f g (Head k) (Head k) us t [] r).0 ∙ e in cc
 leads_on f g k us t (v ∷ vs) once r e =

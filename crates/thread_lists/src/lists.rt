@@ -1,10 +1,11 @@
 //! Lists of threads, as a value that its callers hold.
 
-ghost use Rattle.std.specs.Prelude.{◌≡◌, ◌≢◌, ◌+◌, ◌^◌, ◌<◌, ◌≤◌, ◌==◌, ℕ, [], ◌∷◌, ◌++◌, length, max, not, replicate, slice_get, IfOk, OnOk, OnErr};
+ghost use Rattle.std.specs.Prelude.{◌≡◌, ◌≢◌, ◌+◌, ◌^◌, ◌<◌, ◌≤◌, ◌==◌, ℕ, [], ◌∷◌, ◌++◌, Some, length, max, not, replicate, slice_get, IfOk, OnOk, OnErr};
 ghost use Rattle.thread_lists.specs.Lists.{append, count, drop_first, first, leave, list_at, push, total};
 
 use crate::ring::{
-    Link, Place, add_heads, count_of, is_linked, link_all, link_last, thread_at, threads_of, unlink,
+    Link, Place, add_heads, count_of, is_linked, link_all, link_last, thread_at, thread_behind,
+    threads_of, unlink,
 };
 use items::NoMemory;
 use std::alloc::Global;
@@ -119,6 +120,15 @@ impl ThreadLists {
         ensures { result ≡ first self.now.lists list }
     {
         self.get(list, 0)
+    }
+
+    /// The thread behind one in its list, if there is one.
+    pub fn behind(&self, thread: u32) -> Option<u32>
+        ensures { (k i : ℕ) → k < length self.now.lists
+            → slice_get (list_at self.now.lists k) i ≡ Some thread
+            → result ≡ slice_get (list_at self.now.lists k) (i + 1) }
+    {
+        thread_behind(&self.heads, &self.threads, thread)
     }
 
     /// How many threads a list has. This goes along the list.

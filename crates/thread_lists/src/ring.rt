@@ -1,6 +1,6 @@
 //! Rings of linked places, one for each list: a head and the threads of the list.
 
-ghost use Rattle.std.specs.Prelude.{◌≡◌, ◌≢◌, ◌<◌, ◌==◌, ℕ, List, [], ◌∷◌, ◌++◌, length, not, replicate, slice_get, slice_set, IfOk, OnErr, OnOk};
+ghost use Rattle.std.specs.Prelude.{◌≡◌, ◌≢◌, ◌+◌, ◌<◌, ◌==◌, ℕ, List, [], ◌∷◌, ◌++◌, Some, length, not, replicate, slice_get, slice_set, IfOk, OnErr, OnOk};
 ghost use Rattle.thread_lists.specs.declared.ring.Link.{Link};
 ghost use Rattle.thread_lists.specs.Lists.{append, count, leave, list_at, push, total};
 ghost use Rattle.thread_lists.specs.Ring.{IsLinked, IsPlace, Joined, SetsNext, SetsPrevious, Spells, link_of, spelled};
@@ -157,6 +157,22 @@ pub fn thread_at(heads: &[Link], threads: &[Link], list: u32, index: u32) -> Opt
     }
     match place {
         Place::Thread(thread) => Some(thread),
+        Place::Head(_) => None,
+    }
+}
+
+/// The thread behind one in its list, if there is one.
+pub fn thread_behind(heads: &[Link], threads: &[Link], thread: u32) -> Option<u32>
+    requires { IsLinked heads.now threads.now }
+    ensures { (k i : ℕ) → k < length heads.now
+        → slice_get (list_at (spelled heads.now threads.now) k) i ≡ Some thread
+        → result ≡ slice_get (list_at (spelled heads.now threads.now) k) (i + 1) }
+{
+    if thread as usize >= threads.len() {
+        return None;
+    }
+    match link_at(heads, threads, Place::Thread(thread)).next {
+        Place::Thread(next) => Some(next),
         Place::Head(_) => None,
     }
 }
