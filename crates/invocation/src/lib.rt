@@ -18,6 +18,8 @@ pub use entering::{Entered, enter};
 pub use invocation_cache::InvocationCache;
 pub use invocations::{invoke, static_callee};
 pub use returning::{Left, leave, return_unlocked};
-pub use synchronized_calls::{Asked, SynchronizedCall, ask_for_monitor, class_monitor, enter_synchronized};
+pub use synchronized_calls::{
+    Asked, SynchronizedCall, ask_for_monitor, class_monitor, enter_synchronized,
+};
 pub use target::{Callee, Target};
 pub use world::CallWorld;

@@ -98,7 +98,7 @@ main_with w n words o code frames new e some made set =
     let rest : code.max_locals + 1 - 1 ≡ k + 1 = omega arith in
     let long : length (x ∷ []) + k ≡ code.max_locals = omega arith in
     let locals : slice_set ([] ++ replicate (code.max_locals + 1 - 0) Second) 0 x ≡ (x ∷ []) ++ replicate (k + 1) Second =
-        set_first (code.max_locals + 1) x (omega arith) ∙ ap (λ m. (x ∷ []) ++ replicate m Second) rest in
+    set_first (code.max_locals + 1) x (omega arith) ∙ ap (λ m. (x ∷ []) ++ replicate m Second) rest in
     record {
       frame = begun n code ((x ∷ []) ++ replicate k Second);
       is = frame_is w n code (x ∷ []) e (grind (arith, nat_tests));
