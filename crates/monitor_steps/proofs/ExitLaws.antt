@@ -11,9 +11,10 @@ use Rattle.monitor_soundness.specs.MonitorPuts.{MonitorStep}
 use Rattle.program_state.specs.declared.state.ProgramState.{ProgramState}
 use Rattle.program_state.specs.Monitors.{HaveSameLists, ListsMove, owner_in, stay}
 use Rattle.program_state.specs.States.{IsState}
-use Rattle.program_state.specs.Steps.{keeps_monitor}
+use Rattle.program_state.specs.Steps.{PutsNobody, keeps_monitor, leaves_others}
 use Rattle.monitor_steps.specs.declared.outcome.MonitorOutcome.{MonitorOutcome}
 use Rattle.monitor_steps.specs.declared.outcome.MonitorOutcome.TheVariants as outcomes
+use Rattle.monitor_steps.specs.Outcomes.{Frees, StaysOrKeeps, others_stay, owner_stays}
 use Rattle.monitor_steps.specs.Owners.{HasLeft, IsLeft, IsLeftAs, owns_in}
 use Rattle.monitor_steps.specs.Replies.{LeavesOthers, TellsFirst}
 use Rattle.monitor_steps.proofs.MonitorMoves.{enters_of, holds_owner, lists_same, other_number, owner_at, owner_elsewhere, same_number, waits_of}
@@ -108,13 +109,19 @@ monitor_step t o owner r s q threads owners now others =
 pub owner_now : (o : ℕ) (owner : Option Owner) (r s q : State) (t : ℕ) → s.owners ≡ (λ p. if p == o then owner else r.owners p) → OthersStay t s q → q.owners o ≡ owner
 owner_now o owner r s q t owners others = ap (λ (f : ℕ → Option Owner). f o) (others.owners ∙ owners) ∙ owner_at r.owners o owner
 
-pub left_others : (a : ProgramState) (m : Monitors) (t o : ℕ) (outcome : MonitorOutcome) (r : State) (out : ℕ → Bool) → IsState a r out → IsLeftAs t o outcome a.monitors m
-    → (q : State) → OthersStay t (with_exit r o) q → LeavesOthers t o outcome r q
-left_others a m t o outcomes.Done r out is left q others =
-    keeps_monitor o (monitor_step t o (left_once (r.owners o)) r (with_exit r o) q refl refl refl others)
+-- what the step leaves of others
+abbrev pub LeavesSo : ℕ → ℕ → MonitorOutcome → State → State → Type 0
+LeavesSo t o outcomes.Done before after = StaysOrKeeps t before after
+LeavesSo t o (outcomes.Frees first) before after = Frees t o before after
+LeavesSo t o (outcomes.Notifies u) before after = ⊥
+
+pub left_so : (a : ProgramState) (m : Monitors) (t o : ℕ) (outcome : MonitorOutcome) (r : State) (out : ℕ → Bool) → IsState a r out → IsLeftAs t o outcome a.monitors m
+    → (q : State) → OthersStay t (with_exit r o) q → LeavesSo t o outcome r q
+left_so a m t o outcomes.Done r out is left q others =
+    owner_stays o (monitor_step t o (left_once (r.owners o)) r (with_exit r o) q refl refl refl others)
     (ap is_none (owner_now o (left_once (r.owners o)) r (with_exit r o) q t refl others ∙ ap left_once (owner_had a m t o r out is left.0))
     ∙ ap (λ b. is_none (if b then None else Some (owner_with t ((monitor_of a.monitors o).count - 1)))) (not_one (monitor_of a.monitors o).count left.1))
-left_others a m t o (outcomes.Frees first) r out is left q others =
+left_so a m t o (outcomes.Frees first) r out is left q others =
     record {
       step = monitor_step t o (left_once (r.owners o)) r (with_exit r o) q refl refl refl others;
       loses = record {
@@ -124,7 +131,20 @@ left_others a m t o (outcomes.Frees first) r out is left q others =
             (is_one (monitor_of a.monitors o).count left.1 left.0.entered);
       };
     }
-left_others a m t o (outcomes.Notifies u) r out is left q others = absurd left
+left_so a m t o (outcomes.Notifies u) r out is left q others = absurd left
+
+puts_nobody : (t : ℕ) (before after : State) → StaysOrKeeps t before after → PutsNobody t before after
+puts_nobody t before after (others_stay others) = leaves_others others
+puts_nobody t before after (owner_stays o step owned) = keeps_monitor o step owned
+
+leaves_so : (t o : ℕ) (outcome : MonitorOutcome) (before after : State) → LeavesSo t o outcome before after → LeavesOthers t o outcome before after
+leaves_so t o outcomes.Done before after h = puts_nobody t before after h
+leaves_so t o (outcomes.Frees first) before after h = h
+leaves_so t o (outcomes.Notifies u) before after h = absurd h
+
+pub left_others : (a : ProgramState) (m : Monitors) (t o : ℕ) (outcome : MonitorOutcome) (r : State) (out : ℕ → Bool) → IsState a r out → IsLeftAs t o outcome a.monitors m
+    → (q : State) → OthersStay t (with_exit r o) q → LeavesOthers t o outcome r q
+left_others a m t o outcome r out is left q others = leaves_so t o outcome r q (left_so a m t o outcome r out is left q others)
 
 pub left_first : (t o : ℕ) (outcome : MonitorOutcome) (old new : Monitors) → IsLeftAs t o outcome old new → TellsFirst o outcome old new
 left_first t o outcomes.Done old new left = tt

@@ -34,17 +34,17 @@ use Rattle.program_state.specs.Replying.{IsRaised}
 use Rattle.program_state.specs.Running.{IsReturnPending}
 use Rattle.program_state.specs.Settling.{IsSettled}
 use Rattle.program_state.specs.States.{IsInPhase, IsState}
-use Rattle.program_state.specs.Steps.{Leads, StepsTo, leaves_others}
+use Rattle.program_state.specs.Steps.{Leads, StepsTo}
 use Rattle.program_state.proofs.StateLaws.{row_there}
 use Rattle.program_state.proofs.StepLaws.{stage_leads, stage_of}
 use Rattle.monitor_steps.specs.declared.outcome.MonitorOutcome.{MonitorOutcome}
 use Rattle.monitor_steps.specs.declared.outcome.MonitorOutcome.TheVariants as outcomes
 use Rattle.monitor_steps.specs.Frames.{DropLeads, ReturnLeads, UnownedLeads}
-use Rattle.monitor_steps.specs.Outcomes.{IsMade}
+use Rattle.monitor_steps.specs.Outcomes.{IsLeaving, others_stay}
 use Rattle.monitor_steps.specs.Owners.{IsLeft, IsLeftAs}
-use Rattle.monitor_steps.specs.Replies.{LeavesOthers, TellsFirst}
+use Rattle.monitor_steps.specs.Replies.{TellsFirst}
 use Rattle.monitor_steps.proofs.AnswerLaws.{same_phase}
-use Rattle.monitor_steps.proofs.ExitLaws.{as_left, left_first, left_lists, left_others, left_owned, left_state, not_owned}
+use Rattle.monitor_steps.proofs.ExitLaws.{LeavesSo, as_left, left_first, left_lists, left_owned, left_so, left_state, not_owned}
 
 -- ---- the frame, where the monitor was left
 
@@ -80,7 +80,7 @@ unowned_leads w o t name row a new b before after there named unowned settled r 
 exit_steps : (w : World) (phase : Phase) (t o : ℕ) (outcome : MonitorOutcome) (old new : ProgramState) (m : Monitors) (before after : List Frame) (act : State → Option State) → IsLeftAs t o outcome old.monitors m
     → ((r : State) (out : ℕ → Bool) → IsState old r out → owns r t o ≡ true → phase_step w r t before phase ≡ act (with_exit r o))
     → ((s : State) (out : ℕ → Bool) → IsState (record old { monitors = m }) s out → out t ≡ true → IsInPhase s t phase before → Leads act (OthersStay t) new t after s out)
-    → StepsTo w (LeavesOthers t o outcome) phase t old before new after
+    → StepsTo w (LeavesSo t o outcome) phase t old before new after
 exit_steps w phase t o outcome old new m before after act left step leads r out is here at =
     let has = as_left t o outcome old.monitors m left in
     let l = leads (with_exit r o) out (left_state old m t o r out is has) here (same_phase r (with_exit r o) t phase before refl at) in
@@ -89,11 +89,11 @@ exit_steps w phase t o outcome old new m before after act left step leads r out 
       makes = step r out is (left_owned old m t o r out is has) ∙ l.makes;
       is = l.is;
       has = l.has;
-      others = left_others old m t o outcome r out is left l.next l.others;
+      others = left_so old m t o outcome r out is left l.next l.others;
     }
 
 exit_outcome : (w : World) (phase : Phase) (t o : ℕ) (outcome : MonitorOutcome) (old new : ProgramState) (m : Monitors) (before after : List Frame) → IsLeftAs t o outcome old.monitors m
-    → new.monitors ≡ m → StepsTo w (LeavesOthers t o outcome) phase t old before new after → IsMade w outcome phase t old before new after
+    → new.monitors ≡ m → StepsTo w (LeavesSo t o outcome) phase t old before new after → IsLeaving w outcome phase t old before new after
 exit_outcome w phase t o outcomes.Done old new m before after left same steps = steps
 exit_outcome w phase t o (outcomes.Frees first) old new m before after left same steps =
     record { monitor = o; steps = steps; first_is = subst (λ n. TellsFirst o (outcomes.Frees first) old.monitors n) (sym same) (left_first t o (outcomes.Frees first) old.monitors m left) }
@@ -108,7 +108,7 @@ return_step : (w : World) (q : MonitorReturn) (before : List Frame) (r : State) 
 return_step w q before r t p = ap (λ fs. row_or_event w r t fs (row w fs)) p.top ∙ p.returns.step r t
 
 pub return_made : (w : World) (q : MonitorReturn) (t : ℕ) (outcome : MonitorOutcome) (old new : ProgramState) (m : Monitors) (before after : List Frame) → IsReturnPending w q before
-    → IsLeft t q.monitor (Some outcome) old.monitors m → ReturnLeads w q.kind t (record old { monitors = m }) before new after → new.monitors ≡ m → IsMade w outcome Run t old before new after
+    → IsLeft t q.monitor (Some outcome) old.monitors m → ReturnLeads w q.kind t (record old { monitors = m }) before new after → new.monitors ≡ m → IsLeaving w outcome Run t old before new after
 return_made w q t outcome old new m before after p left leads same =
     let o : ℕ = q.monitor in
     exit_outcome w Run t o outcome old new m before after left same
@@ -118,7 +118,7 @@ return_made w q t outcome old new m before after p left leads same =
     (λ s out is here at. leads s out p.frame p.below is here at p.top))
 
 pub return_throws : (w : World) (q : MonitorReturn) (t : ℕ) (old new : ProgramState) (m : Monitors) (before : List Frame) → IsReturnPending w q before → IsLeft t q.monitor None old.monitors m
-    → IsRaised w exceptions.IllegalMonitorStateException t (record old { monitors = m }) new → IsMade w outcomes.Done Run t old before new before
+    → IsRaised w exceptions.IllegalMonitorStateException t (record old { monitors = m }) new → IsLeaving w outcomes.Done Run t old before new before
 return_throws w q t old new m before p left raises r out is here at =
     let o : ℕ = q.monitor in
     let l = raises r out before (subst (λ (n : Monitors). IsState (record old { monitors = n }) r out) (sym left.1) is) here at in
@@ -129,14 +129,14 @@ return_throws w q t old new m before p left raises r out is here at =
           (not_owned old t o false r out is left.0) ∙ l.makes;
       is = l.is;
       has = l.has;
-      others = leaves_others l.others;
+      others = others_stay l.others;
     }
 
 -- ---- an exception on its way
 
 pub throw_made : (w : World) (q : MonitorThrow) (o t : ℕ) (outcome : MonitorOutcome) (old new : ProgramState) (m : Monitors) (before after : List Frame) (f : Frame) (below : List Frame) → before ≡ f ∷ below
     → ThrowsFrom w q o (memory_of old.memory) before → IsLeft t q.monitor (Some outcome) old.monitors m → DropLeads w o q.class t (record old { monitors = m }) before new after → new.monitors ≡ m
-    → IsMade w outcome (Throwing o) t old before new after
+    → IsLeaving w outcome (Throwing o) t old before new after
 throw_made w q o t outcome old new m before after f below top throws left leads same =
     let k : ℕ = q.monitor in
     exit_outcome w (Throwing o) t k outcome old new m before after left same
@@ -148,7 +148,7 @@ throw_made w q o t outcome old new m before after f below top throws left leads 
 
 pub throw_unowned : (w : World) (q : MonitorThrow) (o t : ℕ) (old new : ProgramState) (m : Monitors) (before after : List Frame) (f : Frame) (below : List Frame) → before ≡ f ∷ below
     → ThrowsFrom w q o (memory_of old.memory) before → IsLeft t q.monitor None old.monitors m → UnownedLeads w o t (record old { monitors = m }) before new after
-    → IsMade w outcomes.Done (Throwing o) t old before new after
+    → IsLeaving w outcomes.Done (Throwing o) t old before new after
 throw_unowned w q o t old new m before after f below top throws left leads r out is here at =
     let k : ℕ = q.monitor in
     let l = leads r out f below (subst (λ (n : Monitors). IsState (record old { monitors = n }) r out) (sym left.1) is) here at top in
@@ -159,7 +159,7 @@ throw_unowned w q o t old new m before after f below top throws left leads r out
           else (exception_made w r.memory exceptions.IllegalMonitorStateException >>= thrown_below w r t f below)) (not_owned old t k false r out is left.0) ∙ l.makes;
       is = l.is;
       has = l.has;
-      others = leaves_others l.others;
+      others = others_stay l.others;
     }
 
 -- ---- the frame that is left

@@ -1,12 +1,14 @@
 -- What a step of a thread on a monitor comes to (JLS 17.1, 17.2), and whom it lets go on.
-use Rattle.std.specs.Prelude.{◌≡◌, ℕ, Bool, true, List, Option, Some, slice_get}
+use Rattle.std.specs.Prelude.{◌≡◌, ℕ, Bool, true, false, List, Option, Some, slice_get}
 use Rattle.vthread_state.specs.declared.phase.Phase.{Phase}
 use Rattle.vthread_state.specs.declared.phase.Phase.TheVariants.{Run}
 use Rattle.link_model.specs.World.{World}
 use Rattle.state_model.specs.Frames.{Frame}
 use Rattle.monitors.specs.Monitors.{monitor_of}
+use Rattle.ref_model.specs.Enabled.{is_free}
 use Rattle.ref_model.specs.State.{State}
 use Rattle.ref_model.specs.Step.{picking_step}
+use Rattle.schedule_soundness.specs.PutLaws.{OthersStay}
 use Rattle.monitor_soundness.specs.MonitorPuts.{LosesOwner, MonitorStep}
 use Rattle.program_state.specs.declared.state.ProgramState.{ProgramState}
 use Rattle.program_state.specs.States.{IsInPhase, IsState}
@@ -18,6 +20,11 @@ use Rattle.monitor_steps.specs.declared.outcome.MonitorOutcome.TheVariants as ou
 pub record Frees (t o : ℕ) (before after : State) : Type 0 where
   pub step : MonitorStep t o before after
   pub loses : LosesOwner o before after
+
+-- The others stay; or thread t does something to a monitor, which has an owner afterwards, and the others stay but for that.
+pub data StaysOrKeeps (t : ℕ) (before after : State) : Type 0 where
+  others_stay : OthersStay t before after → StaysOrKeeps t before after
+  owner_stays : (o : ℕ) → MonitorStep t o before after → is_free after o ≡ false → StaysOrKeeps t before after
 
 -- By the step of thread t, in this phase, a monitor has no owner. This thread is the first in line for it then, if there is one.
 pub record FreesMonitor (w : World) (first : Option ℕ) (phase : Phase) (t : ℕ) (old : ProgramState) (before : List Frame) (new : ProgramState) (after : List Frame) : Type 0 where
@@ -42,3 +49,10 @@ abbrev pub IsMade : World → MonitorOutcome → Phase → ℕ → ProgramState 
 IsMade w outcomes.Done phase t old before new after = StepsTo w (PutsNobody t) phase t old before new after
 IsMade w (outcomes.Frees first) phase t old before new after = FreesMonitor w first phase t old before new after
 IsMade w (outcomes.Notifies u) phase t old before new after = (phase ≡ Run) × NotifiesThread w u t old before new after
+
+-- What became of a step that leaves a frame, and with it the monitor that the frame held, or throws IllegalMonitorStateException. It may be the
+-- last one of thread t.
+abbrev pub IsLeaving : World → MonitorOutcome → Phase → ℕ → ProgramState → List Frame → ProgramState → List Frame → Type 0
+IsLeaving w outcomes.Done phase t old before new after = StepsTo w (StaysOrKeeps t) phase t old before new after
+IsLeaving w (outcomes.Frees first) phase t old before new after = FreesMonitor w first phase t old before new after
+IsLeaving w (outcomes.Notifies u) phase t old before new after = ⊥

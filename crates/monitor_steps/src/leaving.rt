@@ -6,7 +6,7 @@ ghost use Rattle.thread_steps.specs.Returning.{ThrowsFrom};
 ghost use Rattle.thread_steps.specs.States.{memory_of};
 ghost use Rattle.program_state.specs.Monitors.{ListsMove};
 ghost use Rattle.monitor_steps.specs.Frames.{DropLeads, UnownedLeads};
-ghost use Rattle.monitor_steps.specs.Outcomes.{IsMade};
+ghost use Rattle.monitor_steps.specs.Outcomes.{IsLeaving};
 
 use crate::outcome::MonitorOutcome;
 use crate::owning::leave_once;
@@ -79,7 +79,7 @@ pub fn leave_throw<W: ThreadWorld>(
     requires frame { 0 < length mounted.old.stack.frames }
     requires throws { ThrowsFrom (W.world world.now) q o (memory_of state.old.memory)
         mounted.old.stack.frames }
-    ensures made { IfOk result (λ outcome. IsMade (W.world world.now) outcome (Throwing o)
+    ensures made { IfOk result (λ outcome. IsLeaving (W.world world.now) outcome (Throwing o)
         mounted.old.thread
         state.old mounted.old.stack.frames state.new mounted.new.stack.frames) }
     ensures lists { OnOk result (ListsMove state.old.monitors state.new.monitors) }

@@ -8,7 +8,7 @@ ghost use Rattle.invocation.specs.FrameSteps.{returned_kinds};
 ghost use Rattle.program_state.specs.Monitors.{ListsMove};
 ghost use Rattle.program_state.specs.Running.{IsReturnPending};
 ghost use Rattle.monitor_steps.specs.Frames.{ReturnLeads};
-ghost use Rattle.monitor_steps.specs.Outcomes.{IsMade};
+ghost use Rattle.monitor_steps.specs.Outcomes.{IsLeaving};
 
 use crate::outcome::MonitorOutcome;
 use crate::owning::leave_once;
@@ -51,7 +51,7 @@ pub fn make_return<W: ThreadWorld>(
     q: MonitorReturn,
 ) -> Result<MonitorOutcome, NoMemory>
     requires { IsReturnPending (W.world world.now) q mounted.old.stack.frames }
-    ensures made { IfOk result (λ outcome. IsMade (W.world world.now) outcome Run mounted.old.thread
+    ensures made { IfOk result (λ outcome. IsLeaving (W.world world.now) outcome Run mounted.old.thread
         state.old mounted.old.stack.frames state.new mounted.new.stack.frames) }
     ensures lists { OnOk result (ListsMove state.old.monitors state.new.monitors) }
     ensures thread { OnOk result (mounted.new.thread ≡ mounted.old.thread) }
