@@ -1,5 +1,5 @@
 -- A machine that begins.
-use Rattle.std.proofs.Common.{◌≡◌, ◌≢◌, ◌⊎◌, inl, inr, eqb, cond, ◌<◌, ℕ, zero, suc, true, false, List, [], ◌∷◌, Option, None, Some, length, slice_get, refl, ap, sym, subst, ◌∙◌, arith}
+use Rattle.std.proofs.Common.{◌≡◌, ◌≢◌, ◌⊎◌, inl, inr, eqb, cond, ◌<◌, ℕ, zero, suc, true, false, List, [], ◌∷◌, Option, None, Some, length, slice_get, refl, ap, sym, ◌∙◌, arith}
 use Rattle.std.specs.Prelude.{replicate}
 use Rattle.std.proofs.lemmas.Bool.Decides.{eqb_tells}
 use Rattle.std.proofs.lemmas.List.{length-replicate}

@@ -1,6 +1,6 @@
 -- A step that code made, as an entry.
 use Rattle.std.proofs.Common.{◌≡◌, ◌<◌, ◌≤◌, ◌++◌, ℕ, Bool, true, false, List, [], ◌∷◌, Option, None, Some, length, refl, ap, sym, subst, ◌∙◌, arith}
-use Rattle.std.specs.Prelude.{IfOk, Ok, Result, is_none}
+use Rattle.std.specs.Prelude.{Err, IfOk, Ok, Result, is_none}
 use Rattle.std.specs.Option.{option_map_or}
 use Rattle.std.proofs.lemmas.Bool.{and_from}
 use Rattle.std.proofs.lemmas.Option.{slice_get_within}
@@ -21,6 +21,7 @@ use Rattle.ref_model.specs.Ending.{ending}
 use Rattle.ref_model.specs.Looks.{reads_clock_next}
 use Rattle.ref_model.specs.Step.{enabled}
 use Rattle.program_state.specs.declared.state.ProgramState.{ProgramState}
+use Rattle.program_state.specs.Monitors.{AreSeated}
 use Rattle.program_state.specs.Running.{Stays}
 use Rattle.program_state.specs.States.{HasFrames, IsState}
 use Rattle.machine.specs.declared.after.After.{After}
@@ -30,12 +31,15 @@ use Rattle.machine.specs.declared.made.Attempt.TheVariants.{Made, LacksThreads, 
 use Rattle.machine.specs.declared.made.Move.{Move}
 use Rattle.machine.specs.declared.made.StepResult.{StepResult}
 use Rattle.machine.specs.Insides.{AreParts, is_out}
-use Rattle.machine.specs.Moves.{IsInTime, IsMoved, LacksRoom, Moves, MovesAtAnyTime, ReadsFirst, StaysIfReading, alone}
+use Rattle.machine.specs.Moves.{IsInTime, IsMoved, LacksRoom, Moves, MovesAtAnyTime, ReadsFirst, StaysIfReading, alone, picked}
+use Rattle.machine.specs.declared.made.Others.{Others}
 use Rattle.machine.specs.declared.made.Others.TheVariants as moves
 use Rattle.machine.specs.Puts.{HasPut, IsTouched}
-use Rattle.machine.specs.Steps.{Enters, IsConcluded, IsEntered, IsTold, IsTried, IsTriedSo, Lacks, StepsFrom, WaitsForClock, outcome_of, told_of}
+use Rattle.machine.specs.Steps.{Becomes, Enters, IsConcluded, IsEntered, IsPicking, IsTold, IsTried, IsTriedSo, Lacks, StepsFrom, WaitsForClock, outcome_of, picked_by, told_of}
+use Rattle.program_state.proofs.MonitorLaws.{seated}
 use Rattle.machine.proofs.AheadLaws.{enabled_alive}
 use Rattle.machine.proofs.EntryLaws.{is_scheduled}
+use Rattle.machine.proofs.MoveLaws.{reads_none}
 use Rattle.machine.proofs.OutcomeLaws.{goes_by}
 use Rattle.machine.proofs.PlaceLaws.{mounted_within}
 use Rattle.machine.proofs.PutFacts.{put_nobody}
@@ -49,6 +53,10 @@ module _ (w : World) (n : ℕ) (state : ProgramState) (deques : Lists) (on : Lis
       let lists = ap (λ ls. length ls) x.parts.deques in
       let inside = mounted_within x.before.schedule c t x.hand.mounted in
       omega arith
+
+  -- each thread is in the lists of monitors where its phase says so
+  pub step_seated : AreSeated state.monitors state.threads
+  step_seated = seated state x.before.state (is_out x.before.schedule) x.parts.state
 
   pub lacks_by : (new : ProgramState) → LacksRoom w t state frames new → Lacks w n state deques on c t k frames x new deques
   lacks_by new h = record {
@@ -71,7 +79,7 @@ module _ (w : World) (n : ℕ) (state : ProgramState) (deques : Lists) (on : Lis
   module _ (made : Move) (new : ProgramState) (after : List Frame) (made_so : Moves w made t state frames new after) where
     pub moved : IsMoved w made t new after (with_frames x.before.state t frames) (is_out x.before.schedule)
     moved =
-        made_so (with_frames x.before.state t frames) (is_out x.before.schedule) (ahead_is w n state deques on c t k frames x)
+        made_so.leads (with_frames x.before.state t frames) (is_out x.before.schedule) (ahead_is w n state deques on c t k frames x)
         (ahead_out w n state deques on c t k frames x) (ahead_has w n state deques on c t k frames x)
 
     pub step_below : t < length new.threads.threads
@@ -81,31 +89,34 @@ module _ (w : World) (n : ℕ) (state : ProgramState) (deques : Lists) (on : Lis
         omega arith
 
     pub who_is_touched : IsTouched made.others (length new.threads.threads)
-    who_is_touched = touched w n state deques on c t k frames x made new after moved
+    who_is_touched = touched w n state deques on c t k frames x made new after made_so.lists made_so.first moved
 
     pub who_starts : (u : ℕ) → made.others ≡ moves.Starts u → total (count u) deques.lists ≡ 0
-    who_starts u e = start_free w n state deques on c t k frames x made new after moved u e
+    who_starts u e = start_free w n state deques on c t k frames x made new after made_so.lists made_so.first moved u e
 
     pub enters_by : (left : Lists) (now : ℕ) (told : After) → IsInTime w now t state frames → HasPut new t made.others c deques.lists left.lists → length new.threads.threads ≤ left.threads
         → ((r : State) (out : ℕ → Bool) → IsState new r out → told ≡ outcome_of (has_ended r t) made.yields (enabled r t))
-        → Enters w n state deques on c t k frames x now told new left after
+        → Enters w n state deques on c t k frames x now told (picked made.others) new left after
     enters_by left now told in_time put room tells =
-        let v = then w n state deques on c t k frames x made new after moved in
+        let v = then w n state deques on c t k frames x made new after made_so.lists made_so.first moved in
         let is = tells moved.leads.next (is_out x.before.schedule) moved.leads.is in
         record {
           in_time = in_time_by now in_time;
+          unread = reads_none w (with_frames x.before.state t frames) moved.leads.next t (picked made.others) moved.leads.makes;
           then = v;
-          makes = step_enters w n state deques on c t k frames x made new after moved;
-          parts = then_parts w n state deques on c t k frames x made new after moved left put room;
-          hand = then_hand w n state deques on c t k frames x made new after moved;
-          outcome = subst (λ a. IsTold a v t) (sym is) (then_outcome w n state deques on c t k frames x made new after moved);
+          makes = step_enters w n state deques on c t k frames x made new after made_so.lists made_so.first moved;
+          parts = then_parts w n state deques on c t k frames x made new after made_so.lists made_so.first moved left put room;
+          hand = then_hand w n state deques on c t k frames x made new after made_so.lists made_so.first moved;
+          outcome = subst (λ a. IsTold a v t) (sym is) (then_outcome w n state deques on c t k frames x made new after made_so.lists made_so.first moved);
         }
 
-    pub concluded_by : (left : Lists) (now : ℕ) (tried : Attempt After) → IsInTime w now t state frames → IsConcluded new t made c deques left tried
-        → IsTried w n state deques on c t k frames x now tried new left after
-    concluded_by left now (Made told) in_time ends = enters_by left now told in_time ends.put ends.room ends.outcome
-    concluded_by left now LacksThreads in_time ends = absurd ends.outcome
-    concluded_by left now ReadsClock in_time ends = absurd ends.outcome
+    pub concluded_by : (left : Lists) (now : ℕ) (pick : Option ℕ) (tried : Attempt After) → IsInTime w now t state frames → IsConcluded new t made c deques left pick tried
+        → IsTried w n state deques on c t k frames x now tried pick new left after
+    concluded_by left now pick (Made told) in_time ends =
+        subst (λ u. Enters w n state deques on c t k frames x now told u new left after) (sym ends.pick_is)
+        (enters_by left now told in_time ends.put ends.room ends.outcome)
+    concluded_by left now pick LacksThreads in_time ends = absurd ends.outcome
+    concluded_by left now pick ReadsClock in_time ends = absurd ends.outcome
 
   -- ---- the step of a thread that runs, which leaves the table of threads as it was, in a program that goes on
 
@@ -124,7 +135,7 @@ module _ (w : World) (n : ℕ) (state : ProgramState) (deques : Lists) (on : Lis
     alive_now : (r : State) (out : ℕ → Bool) → IsState new r out → HasFrames r t after → has_ended r t ≡ false
     alive_now r out is has = enabled_alive r t has.thread has.at (enabled_now r out is has)
 
-    pub enters_running : (now : ℕ) → Enters w n state deques on c t k frames x now Runs new deques after
+    pub enters_running : (now : ℕ) → Enters w n state deques on c t k frames x now Runs None new deques after
     enters_running now =
         let m = moved alone new after made_so.0 in
         let is = m.leads.is in
@@ -133,17 +144,18 @@ module _ (w : World) (n : ℕ) (state : ProgramState) (deques : Lists) (on : Lis
         let out = is_out x.before.schedule in
         let alive = alive_now r out is has in
         let goes = goes_by (has_ended r t) false (enabled r t) alive refl (enabled_now r out is has) in
-        let v = then w n state deques on c t k frames x alone new after m in
-        let parts = then_parts w n state deques on c t k frames x alone new after m deques (put_nobody new t c deques.lists (ended_in new r out t is ∙ alive)) room in
-        let hand = then_hand w n state deques on c t k frames x alone new after m in
+        let v = then w n state deques on c t k frames x alone new after made_so.0.lists made_so.0.first m in
+        let parts = then_parts w n state deques on c t k frames x alone new after made_so.0.lists made_so.0.first m deques (put_nobody new t c moves.Stay deques.lists refl (ended_in new r out t is ∙ alive)) room in
+        let hand = then_hand w n state deques on c t k frames x alone new after made_so.0.lists made_so.0.first m in
         record {
           in_time = in_time_by now (made_so.1 now);
+          unread = λ reads. refl;
           then = v;
-          makes = step_enters w n state deques on c t k frames x alone new after m;
+          makes = step_enters w n state deques on c t k frames x alone new after made_so.0.lists made_so.0.first m;
           parts = parts;
           hand = hand;
           outcome = (
-            subst (λ a. IsTold a v t) (sym goes) (then_outcome w n state deques on c t k frames x alone new after m),
+            subst (λ a. IsTold a v t) (sym goes) (then_outcome w n state deques on c t k frames x alone new after made_so.0.lists made_so.0.first m),
             record { thread = hand.thread; at = hand.at; status = status_is new v.state (is_out v.schedule) t hand.thread Run parts.state hand.at still_runs },
           );
         }
@@ -163,25 +175,43 @@ entered_by made after result h entries told tells c most step is items same so =
     subst (λ r. IsEntered r h told c step most entries tells result) (sym is) (items, same, so)
 
 -- the end of a step that was made
-pub concluded_so : (w : World) (made : Move) (state new : ProgramState) (m : Continuation) (deques left : Lists) (c now : ℕ) (tried : Result (Attempt After) NoMemory) (after : List Frame)
-    → Moves w made m.thread state m.stack.frames new after → IsInTime w now m.thread state m.stack.frames → IfOk tried (IsConcluded new m.thread made c deques left)
-    → IsTriedSo w state deques c m now tried new left after
-concluded_so w made state new m deques left c now tried after made_so in_time ends carriers n on from =
-    IfOk-weaker tried (IsConcluded new m.thread made c deques left) (λ o. IsTried w carriers state deques on c m.thread n m.stack.frames from now o new left after)
-    (λ o is. concluded_by w carriers state deques on c m.thread n m.stack.frames from made new after made_so left now o in_time is) ends
+pub concluded_so : (w : World) (made : Move) (state new : ProgramState) (m : Continuation) (deques left : Lists) (c now : ℕ) (tried : Result (Attempt After) NoMemory) (pick : Option ℕ)
+    (after : List Frame) → Moves w made m.thread state m.stack.frames new after → IsInTime w now m.thread state m.stack.frames
+    → IfOk tried (IsConcluded new m.thread made c deques left pick) → IsTriedSo w state deques c m now tried pick new left after
+concluded_so w made state new m deques left c now tried pick after made_so in_time ends carriers n on from =
+    IfOk-weaker tried (IsConcluded new m.thread made c deques left pick) (λ o. IsTried w carriers state deques on c m.thread n m.stack.frames from now o pick new left after)
+    (λ o is. concluded_by w carriers state deques on c m.thread n m.stack.frames from made new after made_so left now pick o in_time is) ends
 
-pub concluded_stays : (state : ProgramState) (t c : ℕ) (made : Move) (deques left : Lists) (m k : Continuation) (tried : Result (Attempt After) NoMemory)
-    → IfOk tried (IsConcluded state t made c deques left) → IfOk tried (λ o. StaysIfReading o m k)
-concluded_stays state t c made deques left m k tried ends = IfOk-weaker tried (IsConcluded state t made c deques left) (λ o. StaysIfReading o m k) by ends
+pub concluded_stays : (state : ProgramState) (t c : ℕ) (made : Move) (deques left : Lists) (pick : Option ℕ) (m k : Continuation) (tried : Result (Attempt After) NoMemory)
+    → IfOk tried (IsConcluded state t made c deques left pick) → IfOk tried (λ o. StaysIfReading o m k)
+concluded_stays state t c made deques left pick m k tried ends =
+    IfOk-weaker tried (IsConcluded state t made c deques left pick) (λ o. StaysIfReading o m k) by ends
   where
-    by : (o : Attempt After) → IsConcluded state t made c deques left o → StaysIfReading o m k
+    by : (o : Attempt After) → IsConcluded state t made c deques left pick o → StaysIfReading o m k
     by (Made told) is = tt
     by LacksThreads is = tt
     by ReadsClock is = absurd is.outcome
 
 -- what holds of a step that was tried holds where its instruction asks something, since nothing has changed
-pub still_tried : (w : World) (old mid new : ProgramState) (m n : Continuation) (deques left : Lists) (c now : ℕ) (tried : Result (Attempt After) NoMemory) (after : List Frame)
-    → Stays old m mid n → IsTriedSo w mid deques c n now tried new left after → IsTriedSo w old deques c m now tried new left after
-still_tried w old mid new m n deques left c now tried after stays is =
-    subst (λ (k : Continuation). IsTriedSo w old deques c k now tried new left after) stays.mounted
-    (subst (λ (s : ProgramState). IsTriedSo w s deques c n now tried new left after) stays.state is)
+pub still_tried : (w : World) (old mid new : ProgramState) (m n : Continuation) (deques left : Lists) (c now : ℕ) (tried : Result (Attempt After) NoMemory) (pick : Option ℕ)
+    (after : List Frame) → Stays old m mid n → IsTriedSo w mid deques c n now tried pick new left after → IsTriedSo w old deques c m now tried pick new left after
+still_tried w old mid new m n deques left c now tried pick after stays is =
+    subst (λ (k : Continuation). IsTriedSo w old deques c k now tried pick new left after) stays.mounted
+    (subst (λ (s : ProgramState). IsTriedSo w s deques c n now tried pick new left after) stays.state is)
+
+-- ---- whom a step picked
+
+-- the result is that of its thread, if it picked nobody, or its thread goes on
+pub picks_none : (others : Others) (became : StepResult) → picked others ≡ None → picked_by became ≡ None → IfOk (told_of became) (IsPicking others became (picked_by became))
+picks_none others became none nobody = by (told_of became) refl
+  where
+    by : (o : Result (Attempt After) NoMemory) → told_of became ≡ o → IfOk o (IsPicking others became (picked_by became))
+    by (Ok tried) is = record { same = is; pick_is = nobody ∙ sym none }
+    by (Err e) is = tt
+
+pub concluded_with : (state : ProgramState) (t : ℕ) (made : Move) (c : ℕ) (old new : Lists) (became : StepResult) (pick : Option ℕ) (tried : Result (Attempt After) NoMemory)
+    → HasPut state t made.others c old.lists new.lists → length state.threads.threads ≤ new.threads → IfOk (told_of became) (Becomes state t made.yields)
+    → IfOk tried (IsPicking made.others became pick) → IfOk tried (IsConcluded state t made c old new pick)
+concluded_with state t made c old new became pick tried put room becomes picks =
+    IfOk-weaker tried (IsPicking made.others became pick) (IsConcluded state t made c old new pick)
+    (λ o is. record { put = put; room = room; outcome = subst (λ r. IfOk r (Becomes state t made.yields)) is.same becomes; pick_is = is.pick_is }) picks

@@ -1,5 +1,5 @@
--- Whom the end of a thread puts: those that wait for it and are in no place.
-use Rattle.std.proofs.Common.{◌≡◌, ◌≢◌, inl, inr, ℕ, zero, suc, Bool, true, false, List, [], ◌∷◌, Option, None, Some, refl, ap, sym, subst, ◌∙◌, arith, cond}
+-- Whom the end of a thread puts: those that wait for it and are in no place, and the first in line for a monitor that it left.
+use Rattle.std.proofs.Common.{◌≡◌, ◌≢◌, ◌⊎◌, inl, inr, ℕ, zero, suc, Bool, true, false, List, [], ◌∷◌, Option, None, Some, refl, ap, sym, subst, ◌∙◌, arith, cond}
 use Rattle.std.specs.Prelude.{◌↔◌, Contains, filter, is_some, map, slice_get}
 use Rattle.std.specs.Option.{option_map_or}
 use Rattle.std.proofs.lemmas.Bool.{cases_Bool, eq-eqb, eqb-true}
@@ -16,13 +16,15 @@ use Rattle.ref_model.specs.State.{JavaThread, State}
 use Rattle.ref_model.specs.Enabled.{has_ended, is_done}
 use Rattle.ref_model.specs.Ending.{ending, is_live}
 use Rattle.schedule_soundness.specs.HistoryLaws.{IsProgramAfter}
-use Rattle.schedule_soundness.specs.PutLaws.{OthersStay, Stays, no_thread, is_new, is_kept, rows_of}
+use Rattle.schedule_soundness.specs.PutLaws.{Stays, no_thread, is_new, is_kept, rows_of}
 use Rattle.program_state.specs.declared.state.ProgramState.{ProgramState}
 use Rattle.program_state.specs.States.{IsKept, IsState, absent, mounted, waiting, idle}
-use Rattle.program_state.specs.Waiting.{AreWoken}
+use Rattle.program_state.specs.Waiting.{lies_in}
 use Rattle.machine.specs.Insides.{is_out}
-use Rattle.machine.specs.Puts.{is_loose}
+use Rattle.machine.specs.Hands.{IsLive}
+use Rattle.machine.specs.Puts.{AreWokenWith, is_loose}
 use Rattle.machine.proofs.PlaceLaws.{in_from, in_none}
+use Rattle.machine.proofs.StateLaws.{lies, live_is}
 
 no_both : (b : Bool) → b ≡ true → b ≡ false → ⊥
 no_both b i j = absurd cc
@@ -152,7 +154,7 @@ pub record AtEnd (p : Setting) (first : State) (v : Scheduled State) (q : State)
   pub after : IsProgramAfter p first v
   pub going : ending v.state ≡ None
   pub out : is_out v.schedule t ≡ true
-  pub others : OthersStay t v.state q
+  pub others : (u : ℕ) → u ≢ t → Stays (slice_get v.state.threads u) (slice_get q.threads u)
   pub is : IsState state q (is_out v.schedule)
   pub ended : has_ended q t ≡ true
 
@@ -169,31 +171,76 @@ ended_joins q t u ended j =
 pub no_place : (s : Schedule) (u : ℕ) → is_out s u ≡ false → in_deques u s ≡ 0 → places u s ≡ 0
 no_place s u off loose = let down = in_none s u off in omega arith
 
-pub put_joiners : (p : Setting) (first : State) (v : Scheduled State) (q : State) (state : ProgramState) (t : ℕ) (joiners : List ℕ) → AtEnd p first v q state t
-    → AreWoken t state joiners → (u : ℕ) → Contains (filter (is_loose v.schedule.deques) joiners) u ↔ ((joins_in (rows_of v.state) u ≡ Some t) × (places u v.schedule ≡ 0))
-put_joiners p first v q state t joiners h woken u = (to, from)
+-- the frames of a live thread that isn't mounted lie with those that no carrier runs
+live_lying : (u : ℕ) (b : Bool) (o : Option JavaThread) (place : Option (Option Continuation)) (x : JavaThread) → IsKept u b o place → b ≡ false → o ≡ Some x
+    → is_live x.thread.status ≡ true → option_map_or (λ (k : Option Continuation). is_some k) place false ≡ true
+live_lying u b o place x kept off at alive = ap (λ f. option_map_or (λ (k : Option Continuation). is_some k) f false) (lies u b o place x kept off at alive).at
+
+-- those that join the thread, or are the first in line, and are in no place
+abbrev pub IsWokenWith : Scheduled State → ℕ → Option ℕ → ℕ → Type 0
+IsWokenWith v t first u = ((joins_in (rows_of v.state) u ≡ Some t) ⊎ (first ≡ Some u)) × (places u v.schedule ≡ 0)
+
+module _ (p : Setting) (begun : State) (v : Scheduled State) (q : State) (state : ProgramState) (t : ℕ) (first : Option ℕ) (woken : List ℕ) (h : AtEnd p begun v q state t)
+    (are : AreWokenWith t state first woken) (lives : (u : ℕ) → first ≡ Some u → IsLive q u) where
+  other : (u : ℕ) → Joins (slice_get q.threads u) t → u ≢ t
+  other u j e = ended_joins q t t h.ended (subst (λ n. Joins (slice_get q.threads n) t) e j)
+
+  -- before the step, and in the parts after it
+  joined_before : (u : ℕ) → joins state.threads u ≡ Some t → joins_in (rows_of v.state) u ≡ Some t
+  joined_before u joined =
+      let j = joins_thread q u t (sym (rows_joins state q (is_out v.schedule) u h.is) ∙ joined) in
+      thread_joins v.state u t (joiner_before t u (slice_get v.state.threads u) (slice_get q.threads u) (h.others u (other u j)) j)
+
+  joined_after : (u : ℕ) → is_out v.schedule u ≡ false → joins_in (rows_of v.state) u ≡ Some t → Joins (slice_get q.threads u) t
+  joined_after u off joined =
+      let ne : u ≢ t = λ e. no_both (is_out v.schedule t) h.out (subst (λ n. is_out v.schedule n ≡ false) e off) in
+      joiner_after t u (slice_get v.state.threads u) (slice_get q.threads u) (h.others u ne) (joins_thread v.state u t joined)
+
+  to : (u : ℕ) → Contains (filter (is_loose v.schedule.deques) woken) u → IsWokenWith v t first u
+  to u here =
+      let kept = in_filter (is_loose v.schedule.deques) woken u here in
+      let facts = (are.just_these u).0 kept.0 in
+      let off = lying_in u (is_out v.schedule u) (slice_get q.threads u) (slice_get state.frozen.items u) (h.is.kept u) facts.1 in
+      (who facts.0, no_place v.schedule u off (eqb-true (in_deques u v.schedule) 0 kept.1))
+    where
+      who : (joins state.threads u ≡ Some t) ⊎ (first ≡ Some u) → (joins_in (rows_of v.state) u ≡ Some t) ⊎ (first ≡ Some u)
+      who (inl joined) = inl (joined_before u joined)
+      who (inr is) = inr is
+
+  from : (u : ℕ) → IsWokenWith v t first u → Contains (filter (is_loose v.schedule.deques) woken) u
+  from u facts =
+      let none = facts.1 in
+      let off = in_from v.schedule u (omega arith) in
+      let free : in_deques u v.schedule ≡ 0 = omega arith in
+      to_filter (is_loose v.schedule.deques) woken u ((are.just_these u).1 (who off facts.0)) (eq-eqb (in_deques u v.schedule) 0 free)
+    where
+      who : is_out v.schedule u ≡ false → (joins_in (rows_of v.state) u ≡ Some t) ⊎ (first ≡ Some u)
+          → ((joins state.threads u ≡ Some t) ⊎ (first ≡ Some u)) × (lies_in state.frozen.items u ≡ true)
+      who off (inl joined) =
+          let j = joined_after u off joined in (
+            inl (rows_joins state q (is_out v.schedule) u h.is ∙ thread_joins q u t j),
+            in_lying u t (is_out v.schedule u) (slice_get q.threads u) (slice_get state.frozen.items u) (h.is.kept u) off j,
+          )
+      who off (inr is) =
+          let l = lives u is in (
+            inr is,
+            live_lying u (is_out v.schedule u) (slice_get q.threads u) (slice_get state.frozen.items u) l.live.thread (h.is.kept u) off l.live.at (live_is q u l),
+          )
+
+  pub put_woken : (u : ℕ) → Contains (filter (is_loose v.schedule.deques) woken) u ↔ IsWokenWith v t first u
+  put_woken u = (to u, from u)
+
+-- with no monitor that it left they are those that join it
+pub put_joiners : (p : Setting) (begun : State) (v : Scheduled State) (q : State) (state : ProgramState) (t : ℕ) (first : Option ℕ) (woken : List ℕ) → first ≡ None
+    → AtEnd p begun v q state t → AreWokenWith t state first woken → (u : ℕ)
+    → Contains (filter (is_loose v.schedule.deques) woken) u ↔ ((joins_in (rows_of v.state) u ≡ Some t) × (places u v.schedule ≡ 0))
+put_joiners p begun v q state t first woken none h are u = (λ here. only (both.0 here), λ facts. both.1 (inl facts.0, facts.1))
   where
-    other : Joins (slice_get q.threads u) t → u ≢ t
-    other j e = ended_joins q t t h.ended (subst (λ n. Joins (slice_get q.threads n) t) e j)
+    no_first : {A : Type 0} (i : ℕ) → first ≡ Some i → A
+    no_first i is = let bad : ◌≡◌ {A = Option ℕ} None (Some i) = sym none ∙ is in absurd cc
 
-    to : Contains (filter (is_loose v.schedule.deques) joiners) u → (joins_in (rows_of v.state) u ≡ Some t) × (places u v.schedule ≡ 0)
-    to here =
-        let kept = in_filter (is_loose v.schedule.deques) joiners u here in
-        let facts = (woken.just_these u).0 kept.0 in
-        let j = joins_thread q u t (sym (rows_joins state q (is_out v.schedule) u h.is) ∙ facts.0) in
-        let i = joiner_before t u (slice_get v.state.threads u) (slice_get q.threads u) (h.others.threads u (other j)) j in
-        let off = lying_in u (is_out v.schedule u) (slice_get q.threads u) (slice_get state.frozen.items u) (h.is.kept u) facts.1 in
-        (thread_joins v.state u t i, no_place v.schedule u off (eqb-true (in_deques u v.schedule) 0 kept.1))
+    both : Contains (filter (is_loose v.schedule.deques) woken) u ↔ IsWokenWith v t first u
+    both = put_woken p begun v q state t first woken h are (λ i is. no_first i is) u
 
-    from : (joins_in (rows_of v.state) u ≡ Some t) × (places u v.schedule ≡ 0) → Contains (filter (is_loose v.schedule.deques) joiners) u
-    from facts =
-        let i = joins_thread v.state u t facts.0 in
-        let none = facts.1 in
-        let off = in_from v.schedule u (omega arith) in
-        let free : in_deques u v.schedule ≡ 0 = omega arith in
-        let ne : u ≢ t = λ e. no_both (is_out v.schedule t) h.out (subst (λ n. is_out v.schedule n ≡ false) e off) in
-        let j = joiner_after t u (slice_get v.state.threads u) (slice_get q.threads u) (h.others.threads u ne) i in
-        to_filter (is_loose v.schedule.deques) joiners u
-        ((woken.just_these u).1
-        (rows_joins state q (is_out v.schedule) u h.is ∙ thread_joins q u t j, in_lying u t (is_out v.schedule u) (slice_get q.threads u) (slice_get state.frozen.items u) (h.is.kept u) off j))
-        (eq-eqb (in_deques u v.schedule) 0 free)
+    only : IsWokenWith v t first u → (joins_in (rows_of v.state) u ≡ Some t) × (places u v.schedule ≡ 0)
+    only facts = (elim facts.0 [ inl joined ↦ joined | inr is ↦ no_first u is ], facts.1)

@@ -8,6 +8,7 @@ mod UnmountLaws
 mod AheadLaws
 mod JoinerLaws
 mod ListLaws
+mod PickLaws
 mod StepLaws
 mod PlainLaws
 mod BeginLaws

@@ -1,5 +1,5 @@
 -- The lists of monitors after a step are those of the schedule.
-use Rattle.std.proofs.Common.{◌≡◌, ◌≢◌, ◌⊎◌, inl, inr, eqb, ◌<◌, ◌≤◌, ◌==◌, ◌+◌, ℕ, zero, suc, Bool, true, false, List, [], ◌∷◌, ◌++◌, append-nil, length, Option, Some, None, refl, ap, sym, subst, ◌∙◌, ◌&&◌, not, arith, cond, drop, take}
+use Rattle.std.proofs.Common.{◌≡◌, ◌≢◌, ◌⊎◌, inl, inr, eqb, ◌<◌, ◌≤◌, ◌==◌, ◌+◌, ℕ, Bool, true, false, List, [], ◌∷◌, ◌++◌, append-nil, length, Option, Some, None, refl, ap, sym, subst, ◌∙◌, ◌&&◌, not, arith, cond, drop, take}
 use Rattle.std.specs.Prelude.{slice_get}
 use Rattle.std.specs.List.{filter}
 use Rattle.std.proofs.lemmas.Bool.{cases_Bool}
@@ -10,7 +10,7 @@ use Rattle.thread_lists.specs.Lists.{count, without}
 use Rattle.thread_lists.proofs.CountLaws.{count-append, count-other, count-same, count-without, without-first, without-none}
 use Rattle.link_model.specs.World.{World}
 use Rattle.monitors.specs.Monitors.{Becomes, Monitor, Monitors, monitor_of}
-use Rattle.schedule_model.specs.Look.{Look, Spot, absent, is_entering, is_live, is_waiting}
+use Rattle.schedule_model.specs.Look.{Look, Spot, is_entering, is_live, is_waiting}
 use Rattle.schedule_model.specs.Schedule.{Schedule}
 use Rattle.schedule_model.specs.Puts.{all_threads, beginning_with, updated_list}
 use Rattle.schedule_model.specs.Entries.{after_step, after_tick}
@@ -19,7 +19,7 @@ use Rattle.schedule_model.proofs.ListLaws.{IsOrder, beginning_in_order, count-fi
 use Rattle.schedule_model.proofs.PutLaws.{entering_live, waiting_live}
 use Rattle.ref_model.specs.State.{JavaThread, State}
 use Rattle.ref_model.specs.Waiting.{at_time}
-use Rattle.ref_model.specs.Looks.{look_of, spot_of}
+use Rattle.ref_model.specs.Looks.{look_of}
 use Rattle.schedule_soundness.proofs.OtherMoves.{spot_at}
 use Rattle.schedule_soundness.specs.TimeLaws.{AreDue}
 use Rattle.monitor_soundness.specs.ListLaws.{moved_list}

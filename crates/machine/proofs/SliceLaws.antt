@@ -43,7 +43,8 @@ use Rattle.machine.specs.Turns.{HasStepped}
 use Rattle.machine.proofs.AheadLaws.{ahead_enabled, enabled_alive, frames_running, hand_ahead}
 use Rattle.machine.proofs.EntryLaws.{entry_of, given, goes_on, parts_are, program_after, with_one_more}
 use Rattle.machine.proofs.LocalLaws.{row_quiet}
-use Rattle.machine.proofs.MoveLaws.{quiet_yields}
+use Rattle.monitor_steps.specs.Outcomes.{others_stay}
+use Rattle.machine.proofs.MoveLaws.{quiet_yields, same_lists}
 use Rattle.machine.proofs.NextLaws.{known_of, there}
 use Rattle.machine.proofs.PlaceLaws.{push_none}
 use Rattle.machine.proofs.StateLaws.{rows_length}
@@ -151,16 +152,16 @@ module _ (p : Setting) (n : ℕ) (state : ProgramState) (deques : Lists) (on : L
         makes = makes_it;
         is = other_frames state r out t frames is_r out_r;
         has = frames_had r t (record hand.thread { frames = last.0 }) frames at_r;
-        others = others;
+        others = others_stay others;
       };
       yields = quiet;
     }
 
     abbrev pub slice_then : Scheduled State
-    slice_then = then p.world n state deques on c t k last.0 slice_from (record { others = moves.Stay; yields = false }) state frames moved
+    slice_then = then p.world n state deques on c t k last.0 slice_from (record { others = moves.Stay; yields = false }) state frames (same_lists state.monitors state.monitors refl) tt moved
 
     slice_enters : scheduled_after (machine_from p x.first) x.after c (Step t (suc k) None) ≡ Some slice_then
-    slice_enters = step_enters p.world n state deques on c t k last.0 slice_from (record { others = moves.Stay; yields = false }) state frames moved
+    slice_enters = step_enters p.world n state deques on c t k last.0 slice_from (record { others = moves.Stay; yields = false }) state frames (same_lists state.monitors state.monitors refl) tt moved
 
     nobody_put : HasPut state t moves.Stay c deques.lists deques.lists
     nobody_put = record {
@@ -171,7 +172,7 @@ module _ (p : Setting) (n : ℕ) (state : ProgramState) (deques : Lists) (on : L
 
     slice_parts : AreParts n state deques on slice_then
     slice_parts =
-        then_parts p.world n state deques on c t k last.0 slice_from (record { others = moves.Stay; yields = false }) state frames moved deques nobody_put
+        then_parts p.world n state deques on c t k last.0 slice_from (record { others = moves.Stay; yields = false }) state frames (same_lists state.monitors state.monitors refl) tt moved deques nobody_put
         (let same = rows_length state v.state out slice_from.parts.state in let room = slice_from.parts.room in omega arith)
 
     -- afterwards the thread may step as before
@@ -188,7 +189,7 @@ module _ (p : Setting) (n : ℕ) (state : ProgramState) (deques : Lists) (on : L
     slice_goes =
         subst (λ b. IsTold (outcome_of b false true) slice_then t) after_alive
         (subst (λ b. IsTold (outcome_of (has_ended (with_frames r t frames) t) false b) slice_then t) after_on
-        (then_outcome p.world n state deques on c t k last.0 slice_from (record { others = moves.Stay; yields = false }) state frames moved))
+        (then_outcome p.world n state deques on c t k last.0 slice_from (record { others = moves.Stay; yields = false }) state frames (same_lists state.monitors state.monitors refl) tt moved))
 
     pub slice_kept : length h < p.limits.events → IsConsistent p n state deques on (h ++ entry_of c (Step t (suc k) None) ∷ []) told
     slice_kept few =
@@ -196,10 +197,12 @@ module _ (p : Setting) (n : ℕ) (state : ProgramState) (deques : Lists) (on : L
         (with_one_more p n state state deques deques on on h told x c (Step t (suc k) None) slice_then slice_enters few slice_parts)
 
     pub slice_stepped : (room : ℕ) → room ≡ spare - 1
-        → HasStepped Goes (known_of p n h spare told) (known_of p n (h ++ entry_of c (Step t (suc k) None) ∷ []) room told) c t k frames
+        → HasStepped Goes (known_of p n h spare told) (known_of p n (h ++ entry_of c (Step t (suc k) None) ∷ []) room told) c t k frames frames
     slice_stepped room less = record {
+      pick = None;
+      unread = λ w there reads. refl;
       entry = ap (λ i. known_of p n (h ++ entry_of c (Step t (suc k) None) ∷ []) i told) less;
-      hand = gives_after (λ w. HasHand p w c t 0 frames) (then_hand p.world n state deques on c t k last.0 slice_from (record { others = moves.Stay; yields = false }) state frames moved);
+      hand = gives_after (λ w. HasHand p w c t 0 frames) (then_hand p.world n state deques on c t k last.0 slice_from (record { others = moves.Stay; yields = false }) state frames (same_lists state.monitors state.monitors refl) tt moved);
       outcome = gives_after (λ w. w.schedule.owes t ≡ false) slice_goes;
     }
       where

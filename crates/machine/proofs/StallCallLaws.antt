@@ -5,12 +5,12 @@ use Rattle.std.specs.List.{list_any}
 use Rattle.std.proofs.lemmas.Bool.{eq-eqb}
 use Rattle.history.specs.declared.entry.Entry.{Entry}
 use Rattle.thread_lists.specs.Lists.{Lists}
-use Rattle.run_deques.specs.Take.{next}
 use Rattle.schedule_model.specs.Entries.{holds}
 use Rattle.ref_model.specs.declared.ending.Ending.{Ending}
 use Rattle.ref_model.specs.declared.ending.Ending.TheVariants.{Stalled}
 use Rattle.ref_model.specs.Setting.{Setting}
 use Rattle.ref_model.specs.State.{State}
+use Rattle.ref_model.specs.Step.{enabled}
 use Rattle.ref_model.specs.Looks.{is_stalled}
 use Rattle.program_state.specs.declared.state.ProgramState.{ProgramState}
 use Rattle.program_state.specs.Deadlines.{IsLeast, deadlines_of}
@@ -18,23 +18,15 @@ use Rattle.program_state.specs.States.{IsState}
 use Rattle.machine.specs.Insides.{AreParts, IsConsistent, is_out}
 use Rattle.machine.specs.Legal.{HasNotStalled, IsCause}
 use Rattle.machine.specs.Machines.{machine_ending}
-use Rattle.machine.specs.Stalls.{AreBelow, goes_on}
+use Rattle.machine.specs.Stalls.{AreBelow, DequesAreBelow, goes_on}
 use Rattle.machine.proofs.EntryLaws.{given, program_after}
 use Rattle.machine.proofs.NextLaws.{known_of, none_there, parts_there}
 use Rattle.machine.proofs.PlaceLaws.{mounted_out}
-use Rattle.machine.proofs.StallLaws.{deque_goes, mounted_goes, none_goes, timed_goes}
+use Rattle.machine.proofs.StallLaws.{deque_goes, deques_below, mounted_goes, none_goes, timed_goes}
 use Rattle.machine.proofs.StateLaws.{out_below}
 
 same_ending : (a b : Ending) → ◌≡◌ {A = Option Ending} (Some a) (Some b) → a ≡ b
 same_ending a b e = cc
-
-some_found : (o : Option (ℕ × ℕ)) → is_some o ≡ true → (found : ℕ × ℕ) × (o ≡ Some found)
-some_found None e = absurd cc
-some_found (Some found) e = (found, refl)
-
-none_found : (o : Option (ℕ × ℕ)) → is_some o ≡ false → o ≡ None
-none_found None e = refl
-none_found (Some found) e = absurd cc
 
 module _ (p : Setting) (n : ℕ) (state : ProgramState) (deques : Lists) (mounted : List (Option ℕ)) (h : List Entry) (told : Option Ending) (spare : ℕ) (x : IsConsistent p n state deques mounted h told)
     (none : machine_ending (known_of p n h spare told) ≡ None) where
@@ -53,11 +45,19 @@ module _ (p : Setting) (n : ℕ) (state : ProgramState) (deques : Lists) (mounte
     going = given (known_of p n h spare told) x.first x.after (λ v. is_stalled p.world v.state ≡ false) x.begins x.runs goes;
   }
 
-  pub by_deque : (o : Option (ℕ × ℕ)) → o ≡ next deques.lists 0 → is_some o ≡ true → HasNotStalled (known_of p n h spare told) (known_of p n h spare told)
-  by_deque o is some =
-      let found = some_found o some in
-      not_stalled (deque_goes p x.first x.after found.0 (program_after p n state deques mounted h told x) (none_there p n state deques mounted h told spare x none).going
-      parts.state.plain (ap (λ ls. next ls 0) (sym parts.deques) ∙ sym is ∙ found.1))
+  pub carriers_all : n ≡ length deques.lists
+  carriers_all = sym (ap length parts.deques ∙ parts.carriers)
+
+  pub deques_below_all : DequesAreBelow deques.lists (length state.threads.threads)
+  deques_below_all =
+      subst (λ ls. DequesAreBelow ls (length state.threads.threads)) (sym parts.deques)
+      (deques_below p x.first x.after state (is_out x.after.schedule) (program_after p n state deques mounted h told x)
+      (none_there p n state deques mounted h told spare x none).going parts.state)
+
+  pub by_deque : (b : Bool) → ((r : State) (out : ℕ → Bool) → IsState state r out → b ≡ list_any (list_any (enabled r)) deques.lists) → b ≡ true
+      → HasNotStalled (known_of p n h spare told) (known_of p n h spare told)
+  by_deque b tells some =
+      not_stalled (deque_goes p x.after.state deques.lists (sym (tells x.after.state (is_out x.after.schedule) parts.state) ∙ some))
 
   pub by_mounted : (b : Bool) → ((r : State) (out : ℕ → Bool) → IsState state r out → b ≡ list_any (goes_on r) mounted) → b ≡ true
       → HasNotStalled (known_of p n h spare told) (known_of p n h spare told)
@@ -71,11 +71,12 @@ module _ (p : Setting) (n : ℕ) (state : ProgramState) (deques : Lists) (mounte
       let least = tells x.after.state (is_out x.after.schedule) parts.state in
       not_stalled (timed_goes p x.after.state least.thread d least.is)
 
-  pub stalled_kept : (o : Option (ℕ × ℕ)) (b : Bool) (time : Option ℕ) → o ≡ next deques.lists 0 → is_some o ≡ false
+  pub stalled_kept : (a b : Bool) (time : Option ℕ)
+      → ((r : State) (out : ℕ → Bool) → IsState state r out → a ≡ list_any (list_any (enabled r)) deques.lists) → a ≡ false
       → ((r : State) (out : ℕ → Bool) → IsState state r out → b ≡ list_any (goes_on r) mounted) → b ≡ false
       → ((r : State) (out : ℕ → Bool) → IsState state r out → IsNone time ↔ ((t : ℕ) → deadlines_of r.now r.threads t ≡ None)) → is_some time ≡ false
       → IsConsistent p n state deques mounted h (Some Stalled)
-  stalled_kept o b time is nobody tells off times never = record {
+  stalled_kept a b time ready nobody tells off times never = record {
     accepted = x.accepted;
     some = x.some;
     first = x.first;
@@ -86,7 +87,7 @@ module _ (p : Setting) (n : ℕ) (state : ProgramState) (deques : Lists) (mounte
     cause = λ e there. subst (IsCause p x.after) (same_ending Stalled e there)
         (none_goes p x.first x.after (program_after p n state deques mounted h told x) (none_there p n state deques mounted h told spare x none).going
         ((times x.after.state (is_out x.after.schedule) parts.state).0 never)
-        (ap (λ ls. next ls 0) (sym parts.deques) ∙ sym is ∙ none_found o nobody)
+        (ap (list_any (list_any (enabled x.after.state))) (sym parts.deques) ∙ sym (ready x.after.state (is_out x.after.schedule) parts.state) ∙ nobody)
         (ap (list_any (goes_on x.after.state)) (sym parts.mounted) ∙ sym (tells x.after.state (is_out x.after.schedule) parts.state) ∙ off));
     parts = λ works. parts;
   }

@@ -4,21 +4,20 @@ use Rattle.std.specs.Prelude.{is_some, nat_lt, sum_by}
 use Rattle.std.specs.List.{list_any, range_with_len}
 use Rattle.std.specs.Option.{option_map_or}
 use Rattle.std.proofs.lemmas.Bool.Decides.{eqb_tells}
-use Rattle.std.proofs.lemmas.Bool.{and_right, cases_Bool, cases_lt, lt-ltb, ltb-true}
+use Rattle.std.proofs.lemmas.Bool.{and_right, cases_Bool, cases_lt, lt-ltb, ltb-true, or_parts}
+use Rattle.std.proofs.lemmas.List.Folds.{Any-from_list_any}
 use Rattle.std.proofs.lemmas.List.Sums.{sum_by-cons}
 use Rattle.std.proofs.lemmas.Option.{slice_get_within}
 use Rattle.vthread_state.specs.declared.phase.Phase.TheVariants.{Run, Throwing, Entering, Waiting, Reenter, Parked, Asleep, Joining}
 use Rattle.vthread_state.specs.declared.thread.Status.{Status}
 use Rattle.vthread_state.specs.declared.thread.Status.TheVariants.{New, Live, Done}
 use Rattle.thread_lists.specs.Lists.{count, total}
-use Rattle.thread_lists.proofs.CountLaws.{count-here}
-use Rattle.run_deques.specs.Take.{front, next, or}
-use Rattle.schedule_model.specs.Look.{Look, is_in_line, is_live}
-use Rattle.schedule_model.specs.Schedule.{in_deques, times}
+use Rattle.thread_lists.proofs.CountLaws.{count-other}
+use Rattle.schedule_model.specs.Look.{Look, is_live}
+use Rattle.schedule_model.specs.Schedule.{on_carriers, times}
 use Rattle.schedule_model.specs.Puts.{all_threads}
 use Rattle.schedule_model.specs.Run.{Scheduled}
 use Rattle.schedule_model.specs.Stalled.{can_go_on, has_time}
-use Rattle.run_deques.proofs.TakeLaws.{AreEmpty, AreEmpty-next}
 use Rattle.ref_model.specs.State.{JavaThread, State}
 use Rattle.ref_model.specs.Ending.{ending}
 use Rattle.ref_model.specs.Setting.{Setting}
@@ -26,12 +25,14 @@ use Rattle.ref_model.specs.Enabled.{is_ready}
 use Rattle.ref_model.specs.Step.{enabled}
 use Rattle.ref_model.specs.Looks.{deadline_in, is_stalled, look_of, spot_of}
 use Rattle.schedule_soundness.specs.HistoryLaws.{IsProgramAfter}
-use Rattle.schedule_soundness.proofs.Histories.{no_wake_up_is_lost}
+use Rattle.schedule_soundness.proofs.Histories.{deques_have_live}
 use Rattle.schedule_soundness.proofs.OtherMoves.{spot_at}
 use Rattle.schedule_soundness.proofs.Stalls.{stalls_by_places}
+use Rattle.program_state.specs.declared.state.ProgramState.{ProgramState}
 use Rattle.program_state.specs.Deadlines.{coming_deadline, deadlines_of, later_than}
-use Rattle.program_state.specs.States.{is_plain_status}
-use Rattle.machine.specs.Stalls.{goes_on}
+use Rattle.program_state.specs.States.{IsState}
+use Rattle.machine.specs.Stalls.{DequesAreBelow, goes_on}
+use Rattle.machine.proofs.StateLaws.{below_count, live_at}
 
 no_both : (b : Bool) → b ≡ true → b ≡ false → ⊥
 no_both b i j = absurd cc
@@ -122,64 +123,18 @@ timed_goes p r t d e = by (slice_get r.threads t) refl
 
 -- ---- a thread in a deque may step
 
-front_in : (j : ℕ) (lists : List (List ℕ)) (k t : ℕ) → front j lists ≡ Some (k, t) → 0 < total (count t) lists
-front_in j [] k t e = absurd cc
-front_in j ([] ∷ lists) k t e = let h = front_in (suc j) lists k t e in omega (arith, sum_by-cons (count t) [] lists)
-front_in j ((u ∷ us) ∷ lists) k t e =
-    let same : u ≡ t = ap thread_of e in
-    let here : 0 < count t (u ∷ us) = subst (λ v. 0 < count t (v ∷ us)) (sym same) (count-here t us) in
-    omega (arith, sum_by-cons (count t) (u ∷ us) lists)
-  where
-    thread_of : Option (ℕ × ℕ) → ℕ
-    thread_of None = 0
-    thread_of (Some found) = found.1
+pub deque_goes : (p : Setting) (r : State) (deques : List (List ℕ)) → list_any (list_any (enabled r)) deques ≡ true → is_stalled p.world r ≡ false
+deque_goes p r deques e =
+    let deque = Any-from_list_any (list_any (enabled r)) deques e in
+    let thread = Any-from_list_any (enabled r) deque.1 deque.4 in
+    enabled_goes p r thread.1 thread.4
 
-same_pair : (x y : ℕ × ℕ) → ◌≡◌ {A = Option (ℕ × ℕ)} (Some x) (Some y) → x ≡ y
-same_pair x y g = cc
-
-first_in : (lists : List (List ℕ)) (found : ℕ × ℕ) → next lists 0 ≡ Some found → 0 < total (count found.1) lists
-first_in lists found e = by (front 0 lists) refl
-  where
-    by : (o : Option (ℕ × ℕ)) → front 0 lists ≡ o → 0 < total (count found.1) lists
-    by None f = let bad : ◌≡◌ {A = Option (ℕ × ℕ)} None (Some found) = sym (ap (λ o. or o None) f) ∙ e in absurd cc
-    by (Some x) f =
-        let same : x ≡ found = same_pair x found (sym (ap (λ o. or o None) f) ∙ e) in
-        subst (λ y. 0 < total (count y.1) lists) same (front_in 0 lists x.0 x.1 f)
-
-line_status : (status : Status) → is_plain_status status ≡ true → is_in_line (spot_of status) ≡ false
-line_status New e = refl
-line_status Done e = refl
-line_status (Live Run) e = refl
-line_status (Live (Throwing o)) e = refl
-line_status (Live (Parked deadline)) e = refl
-line_status (Live (Asleep deadline)) e = refl
-line_status (Live (Joining u deadline)) e = refl
-line_status (Live (Entering o)) e = absurd cc
-line_status (Live (Waiting o n deadline)) e = absurd cc
-line_status (Live (Reenter o n wake)) e = absurd cc
-
--- all threads run, throw, are parked, asleep, or wait for the end of another
-abbrev pub ArePlain : State → Type 0
-ArePlain r = (t : ℕ) (x : JavaThread) → slice_get r.threads t ≡ Some x → is_plain_status x.thread.status ≡ true
-
-pub off_line : (r : State) → ArePlain r → (t : ℕ) → is_in_line (spot_at (slice_get r.threads t)) ≡ false
-off_line r plain t = by (slice_get r.threads t) refl
-  where
-    by : (o : Option JavaThread) → slice_get r.threads t ≡ o → is_in_line (spot_at (slice_get r.threads t)) ≡ false
-    by None e = ap (λ o. is_in_line (spot_at o)) e
-    by (Some x) e = ap (λ o. is_in_line (spot_at o)) e ∙ line_status x.thread.status (plain t x e)
-
-or_left : (a b : Bool) → (a || b) ≡ true → b ≡ false → a ≡ true
-or_left true b e f = refl
-or_left false true e f = absurd cc
-or_left false false e f = absurd cc
-
-pub deque_goes : (p : Setting) (first : State) (v : Scheduled State) (found : ℕ × ℕ) → IsProgramAfter p first v → ending v.state ≡ None
-    → ArePlain v.state → next v.schedule.deques 0 ≡ Some found → is_stalled p.world v.state ≡ false
-deque_goes p first v found a going plain e =
-    let woken = no_wake_up_is_lost p first v a (ap is_some going) in
-    let there = woken.deques found.1 (first_in v.schedule.deques found e) in
-    enabled_goes p v.state found.1 (or_left (enabled v.state found.1) _ there.1 (off_line v.state plain found.1))
+-- those in deques are in the table
+pub deques_below : (p : Setting) (first : State) (v : Scheduled State) (state : ProgramState) (out : ℕ → Bool) → IsProgramAfter p first v
+    → ending v.state ≡ None → IsState state v.state out → DequesAreBelow v.schedule.deques (length state.threads.threads)
+deques_below p first v state out a going is t there =
+    let live = live_at p.world v.state t (deques_have_live p first v a (ap is_some going) t there).0 in
+    below_count state v.state out t live.live.thread is live.live.at
 
 -- ---- a mounted thread may step
 
@@ -198,16 +153,12 @@ none_mounted : (r : State) (t : ℕ) (mounted : List (Option ℕ)) → list_any 
 none_mounted r t [] e there = absurd (omega arith)
 none_mounted r t (None ∷ mounted) e there = none_mounted r t mounted e (omega (arith, sum_by-cons (times t) None mounted))
 none_mounted r t (Some u ∷ mounted) e there =
-    elim (cases_Bool (enabled r u)) [
-      | inl on ↦ absurd (no_both (enabled r u || list_any (goes_on r) mounted) (ap (λ b. b || list_any (goes_on r) mounted) on) e)
-      | inr off ↦
-          let rest : list_any (goes_on r) mounted ≡ false = sym (ap (λ b. b || list_any (goes_on r) mounted) off) ∙ e in
-          elim (eqb_tells u t) [
-            | inl here ↦ subst (λ w. enabled r w ≡ false) here.1 off
-            | inr other ↦
-                let none : ◌≡◌ {A = ℕ} (times t (Some u)) 0 = ap (λ b. cond b 1 0) other.0 in
-                none_mounted r t mounted rest (omega (arith, sum_by-cons (times t) (Some u) mounted))
-          ]
+    let off = or_parts (enabled r u) (list_any (goes_on r) mounted) e in
+    elim (eqb_tells u t) [
+      | inl here ↦ subst (λ w. enabled r w ≡ false) here.1 off.0
+      | inr other ↦
+          let none : ◌≡◌ {A = ℕ} (times t (Some u)) 0 = ap (λ b. cond b 1 0) other.0 in
+          none_mounted r t mounted off.1 (omega (arith, sum_by-cons (times t) (Some u) mounted))
     ]
 
 -- a thread without a deadline to come has no time
@@ -228,16 +179,32 @@ no_time p r t none = by (slice_get r.threads t) refl
         untimed_look (look_of p.world r) t (deadline_in x.thread.status) (ap (λ o. option_map_or (λ (y : JavaThread). deadline_in y.thread.status) o None) at)
         (sym (ap (coming_deadline r.now) at) ∙ none)
 
-empty_total : (t : ℕ) (lists : List (List ℕ)) → AreEmpty lists → total (count t) lists ≡ 0
-empty_total t [] all = refl
-empty_total t ([] ∷ lists) all = let h = empty_total t lists (λ i d within. all (suc i) d (omega arith)) in omega (arith, sum_by-cons (count t) [] lists)
-empty_total t ((u ∷ us) ∷ lists) all = let bad = all 0 [] (omega arith) in absurd cc
+none_in_list : (r : State) (t : ℕ) (us : List ℕ) → list_any (enabled r) us ≡ false → 0 < count t us → enabled r t ≡ false
+none_in_list r t [] e there = absurd (omega arith)
+none_in_list r t (u ∷ us) e there =
+    let off = or_parts (enabled r u) (list_any (enabled r) us) e in
+    elim (eqb_tells u t) [
+      | inl here ↦ subst (λ w. enabled r w ≡ false) here.1 off.0
+      | inr other ↦ none_in_list r t us off.1 (omega (arith, count-other t u us other.1))
+    ]
+
+none_in_deques : (r : State) (t : ℕ) (deques : List (List ℕ)) → list_any (list_any (enabled r)) deques ≡ false → 0 < total (count t) deques
+    → enabled r t ≡ false
+none_in_deques r t [] e there = absurd (omega arith)
+none_in_deques r t (us ∷ deques) e there =
+    let off = or_parts (list_any (enabled r) us) (list_any (list_any (enabled r)) deques) e in
+    elim (cases_lt 0 (count t us)) [
+      | inl here ↦ none_in_list r t us off.0 here
+      | inr none ↦ none_in_deques r t deques off.1 (omega (arith, sum_by-cons (count t) us deques))
+    ]
 
 pub none_goes : (p : Setting) (first : State) (v : Scheduled State) → IsProgramAfter p first v → ending v.state ≡ None
-    → ((t : ℕ) → deadlines_of v.state.now v.state.threads t ≡ None) → next v.schedule.deques 0 ≡ None
+    → ((t : ℕ) → deadlines_of v.state.now v.state.threads t ≡ None) → list_any (list_any (enabled v.state)) v.schedule.deques ≡ false
     → list_any (goes_on v.state) v.schedule.mounted ≡ false → is_stalled p.world v.state ≡ true
-none_goes p first v a going timeless none off =
+none_goes p first v a going timeless in_deques off =
     stalls_by_places p first v a (ap is_some going) (λ t there.
-    let empty : in_deques t v.schedule ≡ 0 = empty_total t v.schedule.deques (AreEmpty-next v.schedule.deques 0 none) in
-    none_mounted v.state t v.schedule.mounted off (omega arith))
+    elim (cases_lt 0 (on_carriers t v.schedule)) [
+      | inl on ↦ none_mounted v.state t v.schedule.mounted off on
+      | inr not_on ↦ none_in_deques v.state t v.schedule.deques in_deques (omega arith)
+    ])
     (λ t. no_time p v.state t (timeless t))

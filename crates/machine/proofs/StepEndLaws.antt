@@ -55,22 +55,22 @@ module _ (p : Setting) (n : ℕ) (state : ProgramState) (deques : Lists) (on : L
     there_is = there p n state deques on h told spare x
 
     -- what code says of the step that it made
-    abbrev pub HasMade : Result (Attempt After) NoMemory → ProgramState → Lists → List Frame → Type 0
-    HasMade made new left after =
+    abbrev pub HasMade : Result (Attempt After) NoMemory → Option ℕ → ProgramState → Lists → List Frame → Type 0
+    HasMade made pick new left after =
         IfOk made (λ o. IsTried p.world n state deques on c t k frames
-        (steps_from p n state deques on h told spare x c t k frames next none holds free may ready) now o new left after)
+        (steps_from p n state deques on h told spare x c t k frames next none holds free may ready) now o pick new left after)
 
-    abbrev pub step_entry : Entry
-    step_entry = entry_of c (Step t (suc k) None)
+    abbrev pub step_entry : Option ℕ → Entry
+    step_entry pick = entry_of c (Step t (suc k) pick)
 
-    pub made_kept : (made : Result (Attempt After) NoMemory) (new : ProgramState) (left : Lists) (after : List Frame) (entries : List Entry) (tells : Option Ending) (result : After)
-        → length h < p.limits.events → HasMade made new left after → IsEntered made h told c (Step t (suc k) None) p.limits.threads entries tells result
+    pub made_kept : (made : Result (Attempt After) NoMemory) (pick : Option ℕ) (new : ProgramState) (left : Lists) (after : List Frame) (entries : List Entry) (tells : Option Ending) (result : After)
+        → length h < p.limits.events → HasMade made pick new left after → IsEntered made h told c (Step t (suc k) pick) p.limits.threads entries tells result
         → IsConsistent p n new left on entries tells
-    made_kept (Ok (Made a)) new left after entries tells result few enters is =
+    made_kept (Ok (Made a)) pick new left after entries tells result few enters is =
         subst (λ e. IsConsistent p n new left on entries e) (sym (is.1 ∙ none))
         (subst (λ es. IsConsistent p n new left on es None) (sym is.0)
-        (with_one_more p n state new deques left on on h told x c (Step t (suc k) None) enters.then enters.makes few enters.parts))
-    made_kept (Ok LacksThreads) new left after entries tells result few lacks is =
+        (with_one_more p n state new deques left on on h told x c (Step t (suc k) pick) enters.then enters.makes few enters.parts))
+    made_kept (Ok LacksThreads) pick new left after entries tells result few lacks is =
         subst (λ e. IsConsistent p n new left on entries e) (sym is.1)
         (subst (λ es. IsConsistent p n new left on es (Some (Limit Threads p.limits.threads))) (sym is.0) (record {
           accepted = x.accepted;
@@ -94,7 +94,7 @@ module _ (p : Setting) (n : ℕ) (state : ProgramState) (deques : Lists) (on : L
           );
           parts = λ works. lacks.parts;
         }))
-    made_kept (Ok ReadsClock) new left after entries tells result few waits is =
+    made_kept (Ok ReadsClock) pick new left after entries tells result few waits is =
         subst (λ e. IsConsistent p n new left on entries e) (sym is.1) (subst (λ es. IsConsistent p n new left on es told) (sym is.0) (record {
           accepted = x.accepted;
           some = x.some;
@@ -106,7 +106,7 @@ module _ (p : Setting) (n : ℕ) (state : ProgramState) (deques : Lists) (on : L
           cause = x.cause;
           parts = λ works. waits.parts;
         }))
-    made_kept (Err e) new left after entries tells result few nothing is =
+    made_kept (Err e) pick new left after entries tells result few nothing is =
         subst (λ e. IsConsistent p n new left on entries e) (sym is.1)
         (subst (λ es. IsConsistent p n new left on es (Some Halted)) (sym is.0) (record {
           accepted = x.accepted;
@@ -128,22 +128,26 @@ module _ (p : Setting) (n : ℕ) (state : ProgramState) (deques : Lists) (on : L
     outcome_is afters.ReadsClock v new is gives = absurd is
     outcome_is Halts v new is gives = absurd is
 
-    entered : (a : After) (new : ProgramState) (left : Lists) (after : List Frame) (room : ℕ)
-        → Enters p.world n state deques on c t k frames (steps_from p n state deques on h told spare x c t k frames next none holds free may ready) now a new left after
+    entered : (a : After) (pick : Option ℕ) (new : ProgramState) (left : Lists) (after : List Frame) (room : ℕ)
+        → Enters p.world n state deques on c t k frames (steps_from p n state deques on h told spare x c t k frames next none holds free may ready) now a pick new left after
         → room ≡ spare - 1
-        → HasStepped a (known_of p n h spare told) (known_of p n (h ++ step_entry ∷ []) room told) c t k after
-    entered a new left after room enters less = record {
-      entry = ap (λ r. known_of p n (h ++ step_entry ∷ []) r told) less;
+        → HasStepped a (known_of p n h spare told) (known_of p n (h ++ step_entry pick ∷ []) room told) c t k frames after
+    entered a pick new left after room enters less = record {
+      pick = pick;
+      unread =
+          given (known_of p n h spare told) x.first x.after (λ v. reads_clock_next p.world (with_frames v.state t frames) t ≡ true → pick ≡ None) x.begins x.runs
+          enters.unread;
+      entry = ap (λ r. known_of p n (h ++ step_entry pick ∷ []) r told) less;
       hand = gives_after (λ v. HasHand p v c t 0 after) enters.hand;
-      outcome = outcome_is a enters.then (known_of p n (h ++ step_entry ∷ []) room told) enters.outcome gives_after;
+      outcome = outcome_is a enters.then (known_of p n (h ++ step_entry pick ∷ []) room told) enters.outcome gives_after;
     }
       where
-        gives_after : (P : Scheduled State → Type 0) → P enters.then → Given (known_of p n (h ++ step_entry ∷ []) room told) P
+        gives_after : (P : Scheduled State → Type 0) → P enters.then → Given (known_of p n (h ++ step_entry pick ∷ []) room told) P
         gives_after P is =
-            given (known_of p n (h ++ step_entry ∷ []) room told) x.first enters.then P x.begins
-            (goes_on p n state deques on h told x c (Step t (suc k) None) enters.then enters.makes) is
+            given (known_of p n (h ++ step_entry pick ∷ []) room told) x.first enters.then P x.begins
+            (goes_on p n state deques on h told x c (Step t (suc k) pick) enters.then enters.makes) is
 
-    as_step : (a : After) (old new : Known) (after : List Frame) (v : Scheduled State) → IsTold a v t → HasStepped a old new c t k after → Steps a old new c t k now frames after
+    as_step : (a : After) (old new : Known) (after : List Frame) (v : Scheduled State) → IsTold a v t → HasStepped a old new c t k frames after → Steps a old new c t k now frames after
     as_step Goes old new after v told is = is
     as_step Runs old new after v told is = is
     as_step Leaves old new after v told is = is
@@ -151,25 +155,25 @@ module _ (p : Setting) (n : ℕ) (state : ProgramState) (deques : Lists) (on : L
     as_step afters.ReadsClock old new after v told is = absurd told
     as_step Halts old new after v told is = absurd told
 
-    pub made_steps : (made : Result (Attempt After) NoMemory) (new : ProgramState) (left : Lists) (after : List Frame) (entries : List Entry) (tells : Option Ending)
-        (result : After) (room cap : ℕ) → HasMade made new left after → IsEntered made h told c (Step t (suc k) None) p.limits.threads entries tells result
+    pub made_steps : (made : Result (Attempt After) NoMemory) (pick : Option ℕ) (new : ProgramState) (left : Lists) (after : List Frame) (entries : List Entry) (tells : Option Ending)
+        (result : After) (room cap : ℕ) → HasMade made pick new left after → IsEntered made h told c (Step t (suc k) pick) p.limits.threads entries tells result
         → room ≡ cap - length entries → spare ≡ cap - length h
         → Steps result (known_of p n h spare told) (known_of p n entries room tells) c t k now frames after
-    made_steps (Ok (Made a)) new left after entries tells result room cap enters is left_now left_then =
-        let longer = one_longer h step_entry in
+    made_steps (Ok (Made a)) pick new left after entries tells result room cap enters is left_now left_then =
+        let longer = one_longer h (step_entry pick) in
         let same = ap (λ es. length es) is.0 in
         let less : room ≡ spare - 1 = omega arith in
         subst (λ e. Steps result (known_of p n h spare told) (known_of p n entries room e) c t k now frames after) (sym is.1)
         (subst (λ es. Steps result (known_of p n h spare told) (known_of p n es room told) c t k now frames after) (sym is.0)
-        (subst (λ b. Steps b (known_of p n h spare told) (known_of p n (h ++ step_entry ∷ []) room told) c t k now frames after) (sym is.2)
-        (as_step a (known_of p n h spare told) (known_of p n (h ++ step_entry ∷ []) room told) after enters.then enters.outcome (entered a new left after room enters less))))
-    made_steps (Ok LacksThreads) new left after entries tells result room cap lacks is left_now left_then =
+        (subst (λ b. Steps b (known_of p n h spare told) (known_of p n (h ++ step_entry pick ∷ []) room told) c t k now frames after) (sym is.2)
+        (as_step a (known_of p n h spare told) (known_of p n (h ++ step_entry pick ∷ []) room told) after enters.then enters.outcome (entered a pick new left after room enters less))))
+    made_steps (Ok LacksThreads) pick new left after entries tells result room cap lacks is left_now left_then =
         let same = ap (λ es. length es) is.0 in
         let still : room ≡ spare = omega arith in
         subst (λ b. Steps b (known_of p n h spare told) (known_of p n entries room tells) c t k now frames after) (sym is.2)
         (lacks_threads (ap (λ es. known_of p n es room tells) is.0 ∙ ap (λ r. known_of p n h r tells) still ∙ ap (λ e. known_of p n h spare e) is.1)
         (given (known_of p n h spare told) x.first x.after (λ v. lacks_threads_next p.world (with_frames v.state t frames) t ≡ true) x.begins x.runs lacks.lacks))
-    made_steps (Ok ReadsClock) new left after entries tells result room cap waits is left_now left_then =
+    made_steps (Ok ReadsClock) pick new left after entries tells result room cap waits is left_now left_then =
         let same = ap (λ es. length es) is.0 in
         let still : room ≡ spare = omega arith in
         subst (λ b. Steps b (known_of p n h spare told) (known_of p n entries room tells) c t k now frames after) (sym is.2) (record {
@@ -180,17 +184,17 @@ module _ (p : Setting) (n : ℕ) (state : ProgramState) (deques : Lists) (on : L
       where
         tells_now : (P : Scheduled State → Type 0) → P x.after → Given (known_of p n h spare told) P
         tells_now P is = given (known_of p n h spare told) x.first x.after P x.begins x.runs is
-    made_steps (Err e) new left after entries tells result room cap nothing is left_now left_then =
+    made_steps (Err e) pick new left after entries tells result room cap nothing is left_now left_then =
         let same = ap (λ es. length es) is.0 in
         let still : room ≡ spare = omega arith in
         subst (λ b. Steps b (known_of p n h spare told) (known_of p n entries room tells) c t k now frames after) (sym is.2)
         (given_up (ap (λ es. known_of p n es room tells) is.0 ∙ ap (λ r. known_of p n h r tells) still ∙ ap (λ e. known_of p n h spare e) is.1))
 
     -- a step that reads the clock isn't made before this time
-    pub made_in_time : (made : Result (Attempt After) NoMemory) (new : ProgramState) (left : Lists) (after : List Frame) (entries : List Entry) (tells : Option Ending)
-        (result : After) → HasMade made new left after → IsEntered made h told c (Step t (suc k) None) p.limits.threads entries tells result
+    pub made_in_time : (made : Result (Attempt After) NoMemory) (pick : Option ℕ) (new : ProgramState) (left : Lists) (after : List Frame) (entries : List Entry) (tells : Option Ending)
+        (result : After) → HasMade made pick new left after → IsEntered made h told c (Step t (suc k) pick) p.limits.threads entries tells result
         → IsInTime result (known_of p n h spare told) t now frames
-    made_in_time (Ok (Made a)) new left after entries tells result enters is =
+    made_in_time (Ok (Made a)) pick new left after entries tells result enters is =
         subst (λ b. IsInTime b (known_of p n h spare told) t now frames) (sym is.2) (by a (given (known_of p n h spare told) x.first x.after
         (λ v. reads_clock_next p.world (with_frames v.state t frames) t ≡ true → now ≤ v.state.now) x.begins x.runs enters.in_time))
       where
@@ -202,15 +206,15 @@ module _ (p : Setting) (n : ℕ) (state : ProgramState) (deques : Lists) (on : L
         by Ends is = is
         by afters.ReadsClock is = tt
         by Halts is = tt
-    made_in_time (Ok LacksThreads) new left after entries tells result lacks is = subst (λ b. IsInTime b (known_of p n h spare told) t now frames) (sym is.2) tt
-    made_in_time (Ok ReadsClock) new left after entries tells result waits is = subst (λ b. IsInTime b (known_of p n h spare told) t now frames) (sym is.2) tt
-    made_in_time (Err e) new left after entries tells result nothing is = subst (λ b. IsInTime b (known_of p n h spare told) t now frames) (sym is.2) tt
+    made_in_time (Ok LacksThreads) pick new left after entries tells result lacks is = subst (λ b. IsInTime b (known_of p n h spare told) t now frames) (sym is.2) tt
+    made_in_time (Ok ReadsClock) pick new left after entries tells result waits is = subst (λ b. IsInTime b (known_of p n h spare told) t now frames) (sym is.2) tt
+    made_in_time (Err e) pick new left after entries tells result nothing is = subst (λ b. IsInTime b (known_of p n h spare told) t now frames) (sym is.2) tt
 
     -- what is mounted stays where the step isn't made since it reads the clock
-    pub made_stays : (made : Result (Attempt After) NoMemory) (new : ProgramState) (left : Lists) (after : List Frame) (entries : List Entry) (tells : Option Ending)
-        (result : After) (was is_ : Continuation) → HasMade made new left after → IsEntered made h told c (Step t (suc k) None) p.limits.threads entries tells result
+    pub made_stays : (made : Result (Attempt After) NoMemory) (pick : Option ℕ) (new : ProgramState) (left : Lists) (after : List Frame) (entries : List Entry) (tells : Option Ending)
+        (result : After) (was is_ : Continuation) → HasMade made pick new left after → IsEntered made h told c (Step t (suc k) pick) p.limits.threads entries tells result
         → IfOk made (λ tried. StaysIfReading tried was is_) → result ≡ afters.ReadsClock → is_ ≡ was
-    made_stays (Ok (Made a)) new left after entries tells result was is_ enters is stays reads = absurd (by a enters.then (sym is.2 ∙ reads) enters.outcome)
+    made_stays (Ok (Made a)) pick new left after entries tells result was is_ enters is stays reads = absurd (by a enters.then (sym is.2 ∙ reads) enters.outcome)
       where
         by : (a : After) (v : Scheduled State) → a ≡ afters.ReadsClock → IsTold a v t → ⊥
         by Goes v e is = absurd cc
@@ -219,6 +223,6 @@ module _ (p : Setting) (n : ℕ) (state : ProgramState) (deques : Lists) (on : L
         by Ends v e is = absurd cc
         by afters.ReadsClock v e is = is
         by Halts v e is = is
-    made_stays (Ok LacksThreads) new left after entries tells result was is_ lacks is stays reads = let bad : Halts ≡ afters.ReadsClock = sym is.2 ∙ reads in absurd cc
-    made_stays (Ok ReadsClock) new left after entries tells result was is_ waits is stays reads = stays
-    made_stays (Err e) new left after entries tells result was is_ nothing is stays reads = let bad : Halts ≡ afters.ReadsClock = sym is.2 ∙ reads in absurd cc
+    made_stays (Ok LacksThreads) pick new left after entries tells result was is_ lacks is stays reads = let bad : Halts ≡ afters.ReadsClock = sym is.2 ∙ reads in absurd cc
+    made_stays (Ok ReadsClock) pick new left after entries tells result was is_ waits is stays reads = stays
+    made_stays (Err e) pick new left after entries tells result was is_ nothing is stays reads = let bad : Halts ≡ afters.ReadsClock = sym is.2 ∙ reads in absurd cc

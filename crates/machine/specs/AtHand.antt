@@ -1,7 +1,7 @@
 -- The thread that a carrier steps: its phase, its frames, and its instruction.
 use Rattle.std.specs.Prelude.{◌≡◌, ℕ, Bool, true, false, List, Option, Some, None}
 use Rattle.vthread_state.specs.declared.phase.Phase.{Phase}
-use Rattle.vthread_state.specs.declared.phase.Phase.TheVariants.{Run, Parked, Asleep, Joining}
+use Rattle.vthread_state.specs.declared.phase.Phase.TheVariants.{Run, Entering, Reenter, Parked, Asleep, Joining}
 use Rattle.vthread_state.specs.Threads.{phase_at}
 use Rattle.link_model.specs.World.{World}
 use Rattle.state_model.specs.Frames.{Frame}
@@ -20,6 +20,12 @@ is_waiting (Parked deadline) = true
 is_waiting (Asleep deadline) = true
 is_waiting (Joining target deadline) = true
 is_waiting phase = false
+
+-- whether one is in line for a monitor
+abbrev pub is_in_line : Phase → Bool
+is_in_line (Entering o) = true
+is_in_line (Reenter o count wake) = true
+is_in_line phase = false
 
 -- these frames are such as the thread's phase asks for
 abbrev pub AreTyped : World → ProgramState → ℕ → List Frame → Type 0

@@ -28,11 +28,13 @@ use Rattle.machine.specs.declared.after.After.TheVariants.{Goes, Runs, Leaves, E
 use Rattle.machine.specs.declared.made.Attempt.{Attempt}
 use Rattle.machine.specs.declared.made.Attempt.TheVariants.{Made, LacksThreads, ReadsClock}
 use Rattle.machine.specs.declared.made.Move.{Move}
+use Rattle.machine.specs.declared.made.Others.{Others}
 use Rattle.machine.specs.declared.made.StepResult.{StepResult}
 use Rattle.machine.specs.declared.made.StepResult.TheVariants as results
 use Rattle.machine.specs.Hands.{HasHand, IsLive, IsLiveIn}
 use Rattle.machine.specs.Insides.{AreParts}
 use Rattle.machine.specs.Legal.{IsAccepted}
+use Rattle.machine.specs.Moves.{picked}
 use Rattle.machine.specs.Puts.{HasPut}
 
 -- A history of a program, after which thread t may step on carrier c, with these frames after local instructions that it doesn't have yet.
@@ -72,13 +74,14 @@ IsTold Ends v t = (v.schedule.owes t ≡ true) × (has_ended v.state t ≡ true)
 IsTold afters.ReadsClock v t = ⊥
 IsTold Halts v t = ⊥
 
--- The history goes on with the step, after which these are the parts, and the thread has these frames. A step that reads the clock isn't made
--- before this time.
+-- The history goes on with the step, which picks this thread or none, after which these are the parts, and the thread has these frames. A step
+-- that reads the clock isn't made before this time, and picks none.
 pub record Enters (w : World) (carriers : ℕ) (state : ProgramState) (deques : Lists) (on : List (Option ℕ)) (c t n : ℕ) (frames : List Frame)
-    (from : StepsFrom w carriers state deques on c t n frames) (now : ℕ) (told : After) (new : ProgramState) (left : Lists) (after : List Frame) : Type 0 where
+    (from : StepsFrom w carriers state deques on c t n frames) (now : ℕ) (told : After) (pick : Option ℕ) (new : ProgramState) (left : Lists) (after : List Frame) : Type 0 where
   pub in_time : reads_clock_next w (with_frames from.before.state t frames) t ≡ true → now ≤ from.before.state.now
+  pub unread : reads_clock_next w (with_frames from.before.state t frames) t ≡ true → pick ≡ None
   pub then : Scheduled State
-  pub makes : scheduled_after (machine_from from.setting from.first) from.before c (Step t (suc n) None) ≡ Some then
+  pub makes : scheduled_after (machine_from from.setting from.first) from.before c (Step t (suc n) pick) ≡ Some then
   pub parts : AreParts carriers new left on then
   pub hand : HasHand from.setting then c t 0 after
   pub outcome : IsTold told then t
@@ -97,27 +100,39 @@ pub record WaitsForClock (w : World) (carriers : ℕ) (state : ProgramState) (de
   pub reads : reads_clock_next w (with_frames from.before.state t frames) t ≡ true
 
 abbrev pub IsTried : (w : World) (carriers : ℕ) (state : ProgramState) (deques : Lists) (on : List (Option ℕ)) (c t n : ℕ) (frames : List Frame) →
-    StepsFrom w carriers state deques on c t n frames → ℕ → Attempt After → ProgramState → Lists → List Frame → Type 0
-IsTried w carriers state deques on c t n frames from now (Made told) new left after =
-    Enters w carriers state deques on c t n frames from now told new left after
-IsTried w carriers state deques on c t n frames from now LacksThreads new left after = Lacks w carriers state deques on c t n frames from new left
-IsTried w carriers state deques on c t n frames from now ReadsClock new left after = WaitsForClock w carriers state deques on c t n frames from now new left
+    StepsFrom w carriers state deques on c t n frames → ℕ → Attempt After → Option ℕ → ProgramState → Lists → List Frame → Type 0
+IsTried w carriers state deques on c t n frames from now (Made told) pick new left after =
+    Enters w carriers state deques on c t n frames from now told pick new left after
+IsTried w carriers state deques on c t n frames from now LacksThreads pick new left after = Lacks w carriers state deques on c t n frames from new left
+IsTried w carriers state deques on c t n frames from now ReadsClock pick new left after = WaitsForClock w carriers state deques on c t n frames from now new left
 
 -- so it was from each history after which the thread of this continuation may step
-abbrev pub IsTriedSo : World → ProgramState → Lists → ℕ → Continuation → ℕ → Result (Attempt After) NoMemory → ProgramState → Lists → List Frame → Type 0
-IsTriedSo w state deques c m now made new left after =
+abbrev pub IsTriedSo : World → ProgramState → Lists → ℕ → Continuation → ℕ → Result (Attempt After) NoMemory → Option ℕ → ProgramState → Lists → List Frame → Type 0
+IsTriedSo w state deques c m now made pick new left after =
     (carriers n : ℕ) (on : List (Option ℕ)) (from : StepsFrom w carriers state deques on c m.thread n m.stack.frames) →
-    IfOk made (λ tried. IsTried w carriers state deques on c m.thread n m.stack.frames from now tried new left after)
+    IfOk made (λ tried. IsTried w carriers state deques on c m.thread n m.stack.frames from now tried pick new left after)
 
 -- what came of a step, in one word, and in parts
 abbrev pub told_of : StepResult → Result (Attempt After) NoMemory
 told_of results.Goes = Ok (Made Goes)
 told_of results.Runs = Ok (Made Runs)
+told_of (results.Notifies u) = Ok (Made Goes)
 told_of results.Leaves = Ok (Made Leaves)
 told_of results.Ends = Ok (Made Ends)
 told_of results.LacksThreads = Ok LacksThreads
 told_of results.ReadsClock = Ok ReadsClock
 told_of results.LacksMemory = Err (record {})
+
+-- the thread that it picked
+abbrev pub picked_by : StepResult → Option ℕ
+picked_by results.Goes = None
+picked_by results.Runs = None
+picked_by (results.Notifies u) = Some u
+picked_by results.Leaves = None
+picked_by results.Ends = None
+picked_by results.LacksThreads = None
+picked_by results.ReadsClock = None
+picked_by results.LacksMemory = None
 
 -- ---- the end of a step
 
@@ -127,11 +142,17 @@ Becomes state t yields (Made after) = (r : State) (out : ℕ → Bool) → IsSta
 Becomes state t yields LacksThreads = ⊥
 Becomes state t yields ReadsClock = ⊥
 
--- whom it put, and what becomes of its thread
-pub record IsConcluded (state : ProgramState) (t : ℕ) (made : Move) (c : ℕ) (old new : Lists) (tried : Attempt After) : Type 0 where
+-- the same becomes of the thread of a step that did so much to others, which picked the thread that it notified
+pub record IsPicking (others : Others) (became : StepResult) (pick : Option ℕ) (tried : Attempt After) : Type 0 where
+  pub same : told_of became ≡ Ok tried
+  pub pick_is : pick ≡ picked others
+
+-- whom it put and picked, and what becomes of its thread
+pub record IsConcluded (state : ProgramState) (t : ℕ) (made : Move) (c : ℕ) (old new : Lists) (pick : Option ℕ) (tried : Attempt After) : Type 0 where
   pub put : HasPut state t made.others c old.lists new.lists
   pub room : length state.threads.threads ≤ new.threads
   pub outcome : Becomes state t made.yields tried
+  pub pick_is : pick ≡ picked made.others
 
 -- ---- the history after a step
 

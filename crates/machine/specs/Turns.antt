@@ -1,6 +1,5 @@
 -- The steps of a mounted thread.
 use Rattle.std.specs.Prelude.{◌≡◌, ◌≤◌, ℕ, suc, true, List, Option, Some, None, slice_get}
-use Rattle.history.specs.declared.entry.What.{What}
 use Rattle.history.specs.declared.entry.What.TheVariants.{Step}
 use Rattle.vthread_state.specs.declared.phase.Phase.TheVariants.{Run}
 use Rattle.vthread_state.specs.declared.thread.Status.{Status}
@@ -43,10 +42,6 @@ IsStepReady m t n frames next =
 
 -- ---- after a step
 
--- so many steps of a thread, of which the last picks none
-abbrev pub step_of : ℕ → ℕ → What
-step_of t n = Step t n None
-
 -- The thread goes on, and may be told to run; or it has to be unmounted, since it yielded or can't go on; or it has ended.
 abbrev pub IsOutcome : After → Known → ℕ → Type 0
 IsOutcome Goes m t = OwesNothing m t
@@ -56,9 +51,12 @@ IsOutcome Ends m t = OwesUnmount m t × HasEnded m t
 IsOutcome ReadsClock m t = ⊥
 IsOutcome Halts m t = ⊥
 
--- one entry more, of n local instructions and one step, after which the thread has these frames
-pub record HasStepped (after : After) (old new : Known) (c t n : ℕ) (frames : List Frame) : Type 0 where
-  pub entry : new ≡ with_entry old c (step_of t (suc n))
+-- One entry more, of n local instructions and one step, which picks a thread or none, and none if it reads the clock. The thread had and has
+-- these frames.
+pub record HasStepped (after : After) (old new : Known) (c t n : ℕ) (before frames : List Frame) : Type 0 where
+  pub pick : Option ℕ
+  pub entry : new ≡ with_entry old c (Step t (suc n) pick)
+  pub unread : Given old (λ v. reads_clock_next old.setting.world (with_frames v.state t before) t ≡ true → pick ≡ None)
   pub hand : Holds new c t 0 frames
   pub outcome : IsOutcome after new t
 
@@ -85,4 +83,4 @@ IsInTime after m t now frames =
 abbrev pub Steps : After → Known → Known → ℕ → ℕ → ℕ → ℕ → List Frame → List Frame → Type 0
 Steps Halts old new c t n now before frames = HasHalted old new t before
 Steps ReadsClock old new c t n now before frames = HasToRead old new t now before
-Steps after old new c t n now before frames = HasStepped after old new c t n frames
+Steps after old new c t n now before frames = HasStepped after old new c t n before frames

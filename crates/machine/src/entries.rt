@@ -8,19 +8,18 @@ ghost use Rattle.frame_soundness.specs.Typed.{Typed};
 ghost use Rattle.interp_local.specs.Fetched.{IsTopAt};
 ghost use Rattle.invocation.specs.InvocationCache.{AreSelected};
 ghost use Rattle.thread_lists.specs.Lists.{count, total};
-ghost use Rattle.program_state.specs.Requests.{IsPending};
 ghost use Rattle.program_state.specs.States.{IsState};
 ghost use Rattle.machine.specs.AtHand.{AreTyped, HasNext, IsAt};
-ghost use Rattle.machine.specs.Moves.{StaysIfReading, alone};
+ghost use Rattle.machine.specs.Moves.{IsAsked, StaysIfReading, alone};
 ghost use Rattle.machine.specs.Puts.{IsTouched};
 ghost use Rattle.machine.specs.Ready.{IsReady};
-ghost use Rattle.machine.specs.Steps.{Becomes, IsConcluded, IsEntered, IsTriedSo, MayBeMade, told_of};
+ghost use Rattle.machine.specs.Steps.{Becomes, IsConcluded, IsEntered, IsPicking, IsTriedSo, MayBeMade, picked_by, told_of};
 ghost use Rattle.machine.specs.declared.made.Others.TheVariants as moves;
 
 use crate::after::After;
 use crate::endings::may_step;
 use crate::made::{Attempt, Move, Others, StepResult};
-use crate::moves::{asking_move, other_move, running_move};
+use crate::moves::{asked_move, has_stepped, other_move, running_move};
 use crate::puts::{is_done, put_woken};
 use continuation::Mounted;
 use history::{Entry, What};
@@ -32,13 +31,14 @@ use ref_model::{Ending, Which};
 use run_deques::Deques;
 use startup::ReadyProgram;
 use std::alloc::Global;
-use thread_steps::{PendingRequest, Progress};
+use thread_steps::Progress;
 
 // What becomes of a thread after its step, which was a yield or not.
 #[inline(always)]
 fn outcome(state: &ProgramState, t: u32, yields: bool) -> StepResult
     requires { t < length state.now.threads.threads }
-    ensures { IfOk (told_of result) (Becomes state.now t yields) }
+    ensures becomes { IfOk (told_of result) (Becomes state.now t yields) }
+    ensures picks { picked_by result ≡ None }
 {
     if is_done(&state.threads, t) {
         return StepResult::Ends;
@@ -50,6 +50,21 @@ fn outcome(state: &ProgramState, t: u32, yields: bool) -> StepResult
         StepResult::Goes
     } else {
         StepResult::Leaves
+    }
+}
+
+// What becomes of a thread whose step may have notified another one. One that doesn't go on after that counts as memory run out.
+#[inline(always)]
+fn picking(others: Others, became: StepResult) -> StepResult
+    requires { picked_by became ≡ None }
+    ensures { IfOk (told_of result) (IsPicking others became (picked_by result)) }
+{
+    match others {
+        Others::Notifies(thread) => match became {
+            StepResult::Goes => StepResult::Notifies(thread),
+            _ => StepResult::LacksMemory,
+        },
+        _ => became,
     }
 }
 
@@ -69,10 +84,10 @@ fn conclude(
     requires free { (u : ℕ) → made.others ≡ moves.Starts u
         → total (count u) deques.old.lists ≡ 0 }
     ensures { IfOk (told_of result)
-        (IsConcluded state.now t made c deques.old deques.new) }
+        (IsConcluded state.now t made c deques.old deques.new (picked_by result)) }
 {
     match put_woken(alloc, state, deques, c, t, made.others) {
-        Ok(()) => outcome(state, t, made.yields),
+        Ok(()) => picking(made.others, outcome(state, t, made.yields)),
         Err(NoMemory) => StepResult::LacksMemory,
     }
 }
@@ -83,7 +98,7 @@ fn end_step(alloc: Global, state: &ProgramState, deques: &mut Deques, c: u32, t:
     requires thread { t < length state.now.threads.threads }
     requires carrier { c < length deques.old.lists }
     ensures { IfOk (told_of result)
-        (IsConcluded state.now t alone c deques.old deques.new) }
+        (IsConcluded state.now t alone c deques.old deques.new (picked_by result)) }
 {
     let made = Move {
         others: Others::Stay,
@@ -101,21 +116,21 @@ fn asking_step(
     deques: &mut Deques,
     mounted: &mut Mounted,
     c: u32,
-    pending: PendingRequest,
+    progress: Progress,
     now: u64,
 ) -> StepResult
     requires from { MayBeMade program.now state.old deques.old c mounted.old.thread
         mounted.old.stack.frames }
     requires runs { IsAt state.old mounted.old.thread Run }
-    requires asks { IsPending program.now pending state.old.memory mounted.old.stack.frames }
+    requires asked { IsAsked program.now progress state.old.memory mounted.old.stack.frames }
     ensures made { IsTriedSo program.now state.old deques.old c mounted.old now (told_of result)
-        state.new deques.new mounted.new.stack.frames }
+        (picked_by result) state.new deques.new mounted.new.stack.frames }
     ensures thread { OnOk (told_of result) (mounted.new.thread ≡ mounted.old.thread) }
     ensures kept { IfOk (told_of result) (λ tried.
         StaysIfReading tried mounted.old mounted.new) }
 {
     let t = mounted.thread();
-    let Ok(tried) = asking_move(alloc, program, state, mounted, pending, now) else {
+    let Ok(tried) = asked_move(alloc, program, state, mounted, progress, now) else {
         return StepResult::LacksMemory;
     };
     match tried {
@@ -155,7 +170,7 @@ fn running_step(
     requires next { IsTopAt program.now mounted.old.stack.frames next }
     requires selected { AreSelected program.now cache.old }
     ensures made { IsTriedSo program.now state.old deques.old c mounted.old now (told_of result)
-        state.new deques.new mounted.new.stack.frames }
+        (picked_by result) state.new deques.new mounted.new.stack.frames }
     ensures thread { OnOk (told_of result) (mounted.new.thread ≡ mounted.old.thread) }
     ensures kept { IfOk (told_of result) (λ tried.
         StaysIfReading tried mounted.old mounted.new) }
@@ -166,18 +181,13 @@ fn running_step(
     let Ok(same) = running_move(alloc, program, cache, state, mounted, &mut progress, next) else {
         return StepResult::LacksMemory;
     };
-    match progress {
-        Progress::Stepped => {
-            if same && goes_on(state) {
-                return StepResult::Runs;
-            }
-            end_step(alloc, state, deques, c, t)
-        }
-        Progress::Calls(_) | Progress::Returns(_) => StepResult::LacksMemory,
-        Progress::Asks(pending) => {
-            asking_step(alloc, program, state, deques, mounted, c, pending, now)
-        }
+    if !has_stepped(progress) {
+        return asking_step(alloc, program, state, deques, mounted, c, progress, now);
     }
+    if same && goes_on(state) {
+        return StepResult::Runs;
+    }
+    end_step(alloc, state, deques, c, t)
 }
 
 // The step of a thread that doesn't run.
@@ -197,7 +207,7 @@ fn other_step(
     requires typed { AreTyped program.now state.old mounted.old.thread mounted.old.stack.frames }
     requires selected { AreSelected program.now cache.old }
     ensures made { (now : ℕ) → IsTriedSo program.now state.old deques.old c mounted.old now
-        (told_of result) state.new deques.new mounted.new.stack.frames }
+        (told_of result) (picked_by result) state.new deques.new mounted.new.stack.frames }
     ensures thread { OnOk (told_of result) (mounted.new.thread ≡ mounted.old.thread) }
     ensures kept { IfOk (told_of result) (λ tried.
         StaysIfReading tried mounted.old mounted.new) }
@@ -231,7 +241,7 @@ pub(crate) fn make_step(
     requires next { HasNext program.now state.old mounted.old.thread mounted.old.stack.frames next }
     requires selected { AreSelected program.now cache.old }
     ensures made { IsTriedSo program.now state.old deques.old c mounted.old now (told_of result)
-        state.new deques.new mounted.new.stack.frames }
+        (picked_by result) state.new deques.new mounted.new.stack.frames }
     ensures thread { OnOk (told_of result) (mounted.new.thread ≡ mounted.old.thread) }
     ensures kept { IfOk (told_of result) (λ tried.
         StaysIfReading tried mounted.old mounted.new) }
@@ -262,6 +272,17 @@ fn enter(history: &mut Vec<Entry>, c: u32, step: What, after: After) -> After
     after
 }
 
+/// The thread that a step picked.
+#[inline(always)]
+pub(crate) fn pick_of(tried: StepResult) -> Option<u32>
+    ensures { result ≡ picked_by tried }
+{
+    match tried {
+        StepResult::Notifies(thread) => Some(thread),
+        _ => None,
+    }
+}
+
 /// What becomes of the run after a step was tried: the entry goes to the history, or nothing was made, and the run halts unless the step reads the
 /// clock.
 #[inline(always)]
@@ -281,6 +302,7 @@ pub(crate) fn enter_step(
     match tried {
         StepResult::Runs => enter(history, c, step, After::Runs),
         StepResult::Goes => enter(history, c, step, After::Goes),
+        StepResult::Notifies(_) => enter(history, c, step, After::Goes),
         StepResult::Leaves => enter(history, c, step, After::Leaves),
         StepResult::Ends => enter(history, c, step, After::Ends),
         StepResult::ReadsClock => After::ReadsClock,

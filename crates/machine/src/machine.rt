@@ -23,11 +23,11 @@ use crate::after::After;
 use crate::begin::{first_deques, first_mounted, first_state};
 use crate::carriers::{put_frozen, put_if, set_mounted, take_frozen};
 use crate::endings::{ended_within, limit_within, may_step};
-use crate::entries::{MOST_STEPS, enter_step, make_step};
+use crate::entries::{MOST_STEPS, enter_step, make_step, pick_of};
 use crate::laws::{is_accepted, main_pins};
 use crate::live::live_in;
 use crate::puts::put_due;
-use crate::stalls::any_enabled;
+use crate::stalls::{any_deque_goes, any_enabled};
 use continuation::{Frozen, Mounted};
 use history::{Entry, What};
 use interp_local::Fetched;
@@ -365,7 +365,7 @@ impl<'p> Machine<'p> {
         let step = What::Step {
             thread: t,
             steps: n + 1,
-            pick: None,
+            pick: pick_of(tried),
         };
         enter_step(
             &mut self.history,
@@ -386,7 +386,7 @@ impl<'p> Machine<'p> {
         requires hand { Holds self.old c mounted.now.thread 10001 mounted.now.stack.frames }
         requires free { OwesNothing self.old mounted.now.thread }
         ensures { HasStepped After.Goes self.old self.new c mounted.now.thread 10000
-            mounted.now.stack.frames }
+            mounted.now.stack.frames mounted.now.stack.frames }
     {
         self.history.push_reserved(Entry {
             carrier: c,
@@ -398,19 +398,20 @@ impl<'p> Machine<'p> {
         });
     }
 
-    /// Ends the run where no thread can go on: whether it does. Only mounted threads are looked at, and whether there is a thread in a deque.
+    /// Ends the run where no thread can go on: whether it does. Mounted threads are looked at, then whether a deadline is to come, and then the
+    /// threads in deques, up to the first that may step.
     pub fn stall(&mut self) -> bool
         requires { machine_ending self.old ≡ None }
         ensures { MatchBool result (self.new ≡ with_ending self.old endings.Stalled)
             (HasNotStalled self.old self.new) }
     {
-        if self.deques.next(0).is_some() {
-            return false;
-        }
         if any_enabled(&self.state, self.mounted.as_slice()) {
             return false;
         }
         if earliest(&self.state).is_some() {
+            return false;
+        }
+        if any_deque_goes(&self.state, &self.deques, self.carriers) {
             return false;
         }
         self.told = Some(Ending::Stalled);

@@ -2,12 +2,15 @@
 
 ghost use Rattle.std.specs.Prelude.{◌≡◌, ◌<◌, ℕ, Bool, Some, length, slice_get};
 ghost use Rattle.ref_model.specs.State.{State};
+ghost use Rattle.ref_model.specs.Step.{enabled};
+ghost use Rattle.thread_lists.specs.Lists.{list_at};
 ghost use Rattle.program_state.specs.States.{IsState};
 ghost use Rattle.std.specs.List.{list_any};
-ghost use Rattle.machine.specs.Stalls.{AreBelow, goes_on};
+ghost use Rattle.machine.specs.Stalls.{AreBelow, DequesAreBelow, goes_on};
 
 use crate::endings::may_step;
 use program_state::ProgramState;
+use run_deques::Deques;
 
 // Whether the thread that a carrier has mounted, if any, may step.
 fn goes(state: &ProgramState, thread: Option<u32>) -> bool
@@ -28,6 +31,39 @@ pub(crate) fn any_enabled(state: &ProgramState, mounted: &[Option<u32>]) -> bool
 {
     for thread in mounted {
         if goes(state, *thread) {
+            return true;
+        }
+    }
+    false
+}
+
+// Whether any thread of one deque may step. Those behind the first that may aren't looked at.
+fn deque_goes(state: &ProgramState, deques: &Deques, c: u32) -> bool
+    requires deque { c < length deques.now.lists }
+    requires below { DequesAreBelow deques.now.lists (length state.now.threads.threads) }
+    ensures { (r : State) (out : ℕ → Bool) → IsState state.now r out
+        → result ≡ list_any (enabled r) (list_at deques.now.lists c) }
+{
+    deques.once();
+    let mut next = deques.first(c);
+    while let Some(t) = next {
+        if may_step(state, t) {
+            return true;
+        }
+        next = deques.behind(t);
+    }
+    false
+}
+
+/// Whether any thread in a deque may step, of those of all carriers.
+pub(crate) fn any_deque_goes(state: &ProgramState, deques: &Deques, carriers: u32) -> bool
+    requires carriers { carriers ≡ length deques.now.lists }
+    requires below { DequesAreBelow deques.now.lists (length state.now.threads.threads) }
+    ensures { (r : State) (out : ℕ → Bool) → IsState state.now r out
+        → result ≡ list_any (list_any (enabled r)) deques.now.lists }
+{
+    for k in 0..carriers {
+        if deque_goes(state, deques, k) {
             return true;
         }
     }

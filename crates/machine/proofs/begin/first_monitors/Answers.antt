@@ -1,4 +1,4 @@
-use Rattle.std.proofs.Common.{◌≡◌, ◌+◌, ℕ, [], None, Some, ap, refl, subst, sym, ◌∙◌}
+use Rattle.std.proofs.Common.{◌≡◌, ◌+◌, ℕ, [], None, Some, ap, subst, sym, ◌∙◌}
 use Rattle.monitors.specs.Monitors.{Monitors, free, monitor_of}
 use Rattle.machine.specs.Begin.{AreFirst}
 use Rattle.machine.proofs.BeginLaws.{main_owns, none_owned}

@@ -1,10 +1,8 @@
-use Rattle.std.proofs.lemmas.Result.{IfOk-weaker}
-use Rattle.machine.specs.Steps.{Becomes, IsConcluded, told_of}
+use Rattle.machine.specs.Steps.{picked_by, told_of}
+use Rattle.machine.proofs.EnterLaws.{concluded_with}
 use Rattle.machine.proofs.entries.conclude.Goals as goal
 
 pub returns-in-Ok : goal.returns-in-Ok
 returns-in-Ok c =
-    let state = c.args.state.now in
-    let left = c.put_woken.new.deques in
-    IfOk-weaker (told_of c.outcome.result) (Becomes state c.args.t c.args.made.yields) (IsConcluded state c.args.t c.args.made c.args.c c.args.deques.now left)
-    (λ tried is. record { put = c.in-Ok.ensures.put; room = c.in-Ok.ensures.room; outcome = is }) c.outcome.ensures
+    concluded_with c.args.state.now c.args.t c.args.made c.args.c c.args.deques.now c.put_woken.new.deques c.outcome.result (picked_by c.picking.result)
+    (told_of c.picking.result) c.in-Ok.ensures.put c.in-Ok.ensures.room c.outcome.ensures.becomes c.picking.ensures

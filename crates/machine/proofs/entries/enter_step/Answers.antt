@@ -27,3 +27,9 @@ returns-in-Ends-clause-entered c =
     let x = c.enter-in-Ends in
     entered_by c.args.tried After.Ends x.result c.args.history.now.items x.new.history.items c.args.told.now c.args.told.now c.args.c c.args.most_threads c.args.step
     (ap told_of c.in-Ends.is) x.ensures.items refl x.ensures.after
+
+pub returns-in-Notifies-clause-entered : goal.returns-in-Notifies-clause-entered
+returns-in-Notifies-clause-entered c =
+    let x = c.enter-in-Notifies in
+    entered_by c.args.tried After.Goes x.result c.args.history.now.items x.new.history.items c.args.told.now c.args.told.now c.args.c c.args.most_threads c.args.step
+    (ap told_of c.in-Notifies.is) x.ensures.items refl x.ensures.after

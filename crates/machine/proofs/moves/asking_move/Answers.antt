@@ -1,72 +1,44 @@
-use Rattle.std.proofs.Common.{ap, subst, sym, ◌∙◌}
-use Rattle.vthread_state.specs.declared.phase.Phase.TheVariants.{Run}
-use Rattle.program_state.specs.declared.requests.RequestOutcome.{RequestOutcome}
-use Rattle.program_state.specs.Requests.{IsRequestMade}
-use Rattle.ref_model.specs.State.{is_interrupted}
-use Rattle.machine.specs.declared.made.Others.TheVariants as moves
-use Rattle.machine.proofs.MoveLaws.{lacks_room, moves_by, pending_in_time, pending_yields, reads_first}
+use Rattle.std.proofs.lemmas.Result.{IfOk-weaker}
+use Rattle.machine.specs.Moves.{IsMade, IsRequested, StaysIfReading}
+use Rattle.machine.proofs.MoveLaws.{pending_in_time, reads_first, requested_made, requested_stays}
 use Rattle.machine.proofs.moves.asking_move.Goals as goal
-
-pub returns-in-Done-clause-made : goal.returns-in-Done-clause-made
-returns-in-Done-clause-made c =
-    let w = c.args.program.now in
-    let m = c.args.mounted.now in
-    let n = c.make_request.new.mounted in
-    let old = c.args.state.now in
-    let new = c.make_request.new.state in
-    let steps = subst (λ (o : RequestOutcome). IsRequestMade w c.args.pending o old m new n) c.in-Done.is c.in_ok-make_request.ensures.made in (
-      moves_by w (record { others = moves.Stay; yields = c.is_yield-yields.result }) m.thread Run old new m.stack.frames n.stack.frames c.requires.runs steps
-          (λ r out is h.
-          pending_yields w c.args.pending old r out m.thread m.stack.frames c.is_interrupted-interrupted.result is h c.requires.asks
-          (c.is_interrupted-interrupted.ensures r out is ∙ ap (is_interrupted r) c.thread.ensures) ∙ sym c.is_yield-yields.ensures),
-      pending_in_time w c.args.pending c.args.now m.thread old m.stack.frames c.requires.runs c.requires.asks
-          (c.is_early.ensures.in_time c.if-is_early.false),
-    )
-
-pub returns-in-Starts-clause-made : goal.returns-in-Starts-clause-made
-returns-in-Starts-clause-made c =
-    let w = c.args.program.now in
-    let m = c.args.mounted.now in
-    let n = c.make_request.new.mounted in
-    let old = c.args.state.now in
-    let new = c.make_request.new.state in
-    let steps = subst (λ (o : RequestOutcome). IsRequestMade w c.args.pending o old m new n) c.in-Starts.is c.in_ok-make_request.ensures.made in (
-      moves_by w (record { others = moves.Starts c.in-Starts.thread; yields = c.is_yield-yields.result }) m.thread Run old new m.stack.frames n.stack.frames c.requires.runs steps
-          (λ r out is h.
-          pending_yields w c.args.pending old r out m.thread m.stack.frames c.is_interrupted-interrupted.result is h c.requires.asks
-          (c.is_interrupted-interrupted.ensures r out is ∙ ap (is_interrupted r) c.thread.ensures) ∙ sym c.is_yield-yields.ensures),
-      pending_in_time w c.args.pending c.args.now m.thread old m.stack.frames c.requires.runs c.requires.asks
-          (c.is_early.ensures.in_time c.if-is_early.false),
-    )
-
-pub returns-in-Wakes-clause-made : goal.returns-in-Wakes-clause-made
-returns-in-Wakes-clause-made c =
-    let w = c.args.program.now in
-    let m = c.args.mounted.now in
-    let n = c.make_request.new.mounted in
-    let old = c.args.state.now in
-    let new = c.make_request.new.state in
-    let steps = subst (λ (o : RequestOutcome). IsRequestMade w c.args.pending o old m new n) c.in-Wakes.is c.in_ok-make_request.ensures.made in (
-      moves_by w (record { others = moves.Wakes c.in-Wakes.thread; yields = c.is_yield-yields.result }) m.thread Run old new m.stack.frames n.stack.frames c.requires.runs steps
-          (λ r out is h.
-          pending_yields w c.args.pending old r out m.thread m.stack.frames c.is_interrupted-interrupted.result is h c.requires.asks
-          (c.is_interrupted-interrupted.ensures r out is ∙ ap (is_interrupted r) c.thread.ensures) ∙ sym c.is_yield-yields.ensures),
-      pending_in_time w c.args.pending c.args.now m.thread old m.stack.frames c.requires.runs c.requires.asks
-          (c.is_early.ensures.in_time c.if-is_early.false),
-    )
-
-pub returns-in-LacksThreads-clause-made : goal.returns-in-LacksThreads-clause-made
-returns-in-LacksThreads-clause-made c =
-    let w = c.args.program.now in
-    let m = c.args.mounted.now in
-    let n = c.make_request.new.mounted in
-    let old = c.args.state.now in
-    let new = c.make_request.new.state in
-    lacks_room w c.args.pending m.thread old new m n c.requires.runs c.requires.asks
-    (subst (λ (o : RequestOutcome). IsRequestMade w c.args.pending o old m new n) c.in-LacksThreads.is c.in_ok-make_request.ensures.made)
 
 pub returns-then-is_early-clause-made : goal.returns-then-is_early-clause-made
 returns-then-is_early-clause-made c =
     let m = c.args.mounted.now in
     reads_first c.args.program.now c.args.pending c.args.now m.thread c.args.state.now m.stack.frames c.requires.runs c.requires.asks
     (c.is_early.ensures.reads c.if-is_early.true) (c.is_early.ensures.early c.if-is_early.true)
+
+pub monitor_move-requires-clause-never : goal.monitor_move-requires-clause-never
+monitor_move-requires-clause-never c = c.is_on_monitor.ensures c.if-is_on_monitor.true
+
+pub returns-then-is_on_monitor-clause-made : goal.returns-then-is_on_monitor-clause-made
+returns-then-is_on_monitor-clause-made c =
+    let m = c.args.mounted.now in (
+      c.in_ok-made.ensures.made,
+      pending_in_time c.args.program.now c.args.pending c.args.now m.thread c.args.state.now m.stack.frames c.requires.runs c.requires.asks
+          (c.is_early.ensures.in_time c.if-is_early.false),
+    )
+
+pub returns-clause-made : goal.returns-clause-made
+returns-clause-made c =
+    let w = c.args.program.now in
+    let m = c.args.mounted.now in
+    let old = c.args.state.now in
+    let x = c.request_move in
+    let after = x.new.mounted.stack.frames in
+    IfOk-weaker x.result (λ tried. IsRequested w tried m.thread old m.stack.frames x.new.state after) (λ tried. IsMade w tried c.args.now m.thread old m.stack.frames x.new.state after)
+    (λ tried is.
+    requested_made w tried c.args.now m.thread old x.new.state m.stack.frames after
+    (pending_in_time w c.args.pending c.args.now m.thread old m.stack.frames c.requires.runs c.requires.asks (c.is_early.ensures.in_time c.if-is_early.false)) is)
+    x.ensures.made
+
+pub returns-clause-kept : goal.returns-clause-kept
+returns-clause-kept c =
+    let w = c.args.program.now in
+    let m = c.args.mounted.now in
+    let old = c.args.state.now in
+    let x = c.request_move in
+    let after = x.new.mounted.stack.frames in
+    IfOk-weaker x.result (λ tried. IsRequested w tried m.thread old m.stack.frames x.new.state after) (λ tried. StaysIfReading tried m x.new.mounted)
+    (λ tried is. requested_stays w tried m.thread old x.new.state m.stack.frames after m x.new.mounted is) x.ensures.made

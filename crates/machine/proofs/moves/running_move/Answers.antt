@@ -17,5 +17,5 @@ run_step-requires-clause-natives c =
 pub returns-clause-made : goal.returns-clause-made
 returns-clause-made c =
     on_ok_weaker c.run_step.result
-    (runs_or_asks c.args.program.now c.run_step.new.progress c.args.state.now c.run_step.new.state c.args.mounted.now c.run_step.new.mounted c.requires.runs)
+    (runs_or_asks c.args.program.now c.run_step.new.progress c.args.state.now c.run_step.new.state c.args.mounted.now c.run_step.new.mounted c.requires.runs c.run_step.ensures.monitors)
     c.run_step.ensures.progress

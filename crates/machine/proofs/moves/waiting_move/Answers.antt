@@ -1,7 +1,7 @@
 use Rattle.std.proofs.Common.{false, refl}
 use Rattle.interp_local.specs.Fetched.{instruction_of}
 use Rattle.machine.specs.declared.made.Others.TheVariants as moves
-use Rattle.machine.proofs.MoveLaws.{moves_by, waiting_in_time, waiting_yields}
+use Rattle.machine.proofs.MoveLaws.{moves_by, off_in_time, off_yields, same_lists, stay_steps, waiting_frames}
 use Rattle.machine.proofs.OperandLaws.{natives_found, operands_found}
 use Rattle.machine.proofs.moves.waiting_move.Goals as goal
 
@@ -17,9 +17,14 @@ finish_wait-requires-clause-natives c =
 pub returns-clause-made : goal.returns-clause-made
 returns-clause-made c =
     let w = c.args.program.now in
-    let m = c.args.mounted.now in (
-      moves_by w (record { others = moves.Stay; yields = false }) m.thread c.args.phase c.args.state.now c.finish_wait.new.state m.stack.frames
-          c.finish_wait.new.mounted.stack.frames c.requires.waits (c.in_ok-finish_wait.ensures.steps c.args.phase)
-          (λ r out is h. waiting_yields w r m.thread c.args.phase m.stack.frames c.requires.waiting h),
-      λ now. waiting_in_time w now m.thread c.args.phase c.args.state.now m.stack.frames c.requires.waiting c.requires.waits,
+    let m = c.args.mounted.now in
+    let old = c.args.state.now in
+    let new = c.finish_wait.new.state in
+    let after = c.finish_wait.new.mounted.stack.frames in
+    let off = waiting_frames m.stack.frames c.args.phase c.requires.waiting in (
+      moves_by w (record { others = moves.Stay; yields = false }) m.thread c.args.phase old new m.stack.frames after c.requires.waits refl
+          (same_lists old.monitors new.monitors c.finish_wait.ensures.monitors)
+          (stay_steps w c.args.phase m.thread old new m.stack.frames after (c.in_ok-finish_wait.ensures.steps c.args.phase))
+          (λ r out is h. off_yields w r m.thread c.args.phase m.stack.frames off h),
+      λ now. off_in_time w now m.thread c.args.phase old m.stack.frames off c.requires.waits,
     )

@@ -31,9 +31,9 @@ returns c =
     let spare = vec_capacity a.history - length a.history.items in
     let room = vec_capacity c.push_reserved.new.self - length c.push_reserved.new.self.items in
     let items = c.push_reserved.ensures.items ∙ ap (λ (k : ℕ). a.history.items ++ entry_of c.args.c (whats.Step k 10001 None) ∷ []) c.thread.ensures in
-    subst (λ (k : Known). HasStepped Goes k (known_of (setting_in a) a.carriers c.push_reserved.new.self.items room a.told) c.args.c m.thread 10000 m.stack.frames) c.self.view_is
+    subst (λ (k : Known). HasStepped Goes k (known_of (setting_in a) a.carriers c.push_reserved.new.self.items room a.told) c.args.c m.thread 10000 m.stack.frames m.stack.frames) c.self.view_is
     (subst (λ (es : List Entry). HasStepped Goes (known_of (setting_in a) a.carriers a.history.items spare a.told) (known_of (setting_in a) a.carriers es room a.told) c.args.c m.thread
-    10000 m.stack.frames) (sym items)
+    10000 m.stack.frames m.stack.frames) (sym items)
     (slice_stepped (setting_in a) a.carriers a.state a.deques a.mounted.items a.history.items a.told spare c.self.invariant
     c.args.c m.thread 10000 m.stack.frames refl (subst GoesOn (sym c.self.view_is) c.requires.going)
     (subst (λ (k : Known). Holds k c.args.c m.thread 10001 m.stack.frames) (sym c.self.view_is) c.requires.hand)

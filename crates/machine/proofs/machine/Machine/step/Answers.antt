@@ -1,10 +1,10 @@
-use Rattle.std.proofs.Common.{◌≡◌, ◌-◌, ◌+◌, ◌<◌, suc, None, ap, arith, length, refl, subst, sym, vec_capacity, ◌∙◌}
+use Rattle.std.proofs.Common.{◌≡◌, ◌-◌, ◌+◌, ◌<◌, suc, ap, arith, length, refl, subst, sym, vec_capacity, ◌∙◌}
 use Rattle.history.specs.declared.entry.What.{What}
 use Rattle.history.specs.declared.entry.What.TheVariants as whats
 use Rattle.machine.specs.Hands.{Holds, MayStep, OwesNothing}
 use Rattle.machine.specs.Insides.{setting_in}
 use Rattle.machine.specs.Machines.{Known}
-use Rattle.machine.specs.Steps.{IsEntered, told_of}
+use Rattle.machine.specs.Steps.{IsEntered, picked_by, told_of}
 use Rattle.machine.specs.Turns.{IsInTime, IsStepReady, Steps}
 use Rattle.machine.proofs.NextLaws.{known_of}
 use Rattle.machine.proofs.StepCallLaws.{few_local, may_be_made, next_at, steps_from, typed_at}
@@ -71,8 +71,9 @@ invariant_of-self c =
     let ready = subst (λ (k : Known). IsStepReady k m.thread c.args.n m.stack.frames c.args.next) (sym c.self.view_is) c.requires.ready in
     let t : c.thread-t.result ≡ m.thread = c.thread-t.ensures in
     let more : c.args.n + 1 ≡ suc c.args.n = omega arith in
-    let step : ◌≡◌ {A = What} (whats.Step c.thread-t.result (c.args.n + 1) None) (whats.Step m.thread (suc c.args.n) None) =
-    ap (λ u. whats.Step u (c.args.n + 1) None) t ∙ ap (λ i. whats.Step m.thread i None) more in
+    let step : ◌≡◌ {A = What} (whats.Step c.thread-t.result (c.args.n + 1) c.pick_of.result) (whats.Step m.thread (suc c.args.n) (picked_by c.make_step-tried.result)) =
+    ap (λ u. whats.Step u (c.args.n + 1) c.pick_of.result) t ∙ ap (λ i. whats.Step m.thread i c.pick_of.result) more
+    ∙ ap (λ p. whats.Step m.thread (suc c.args.n) p) c.pick_of.ensures in
     let made = told_of c.make_step-tried.result in
     let entered = subst (λ (s : What). IsEntered made a.history.items a.told c.args.c s a.limits.threads c.enter_step.new.history.items c.enter_step.new.told c.enter_step.result)
     step c.enter_step.ensures.entered in
@@ -80,7 +81,7 @@ invariant_of-self c =
     c.args.c m.thread c.args.n m.stack.frames c.args.next none holds free may ready) in
     made_kept (setting_in a) a.carriers a.state a.deques a.mounted.items a.history.items a.told (vec_capacity a.history - length a.history.items) c.self.invariant
     c.args.c m.thread c.args.n c.args.now m.stack.frames c.args.next none holds free may ready
-    made c.make_step-tried.new.state c.make_step-tried.new.deques c.make_step-tried.new.mounted.stack.frames c.enter_step.new.history.items c.enter_step.new.told c.enter_step.result
+    made (picked_by c.make_step-tried.result) c.make_step-tried.new.state c.make_step-tried.new.deques c.make_step-tried.new.mounted.stack.frames c.enter_step.new.history.items c.enter_step.new.told c.enter_step.result
     (subst (λ (k : Known). length k.history < k.setting.limits.events) (sym c.self.view_is) c.requires.left) says entered
 
 pub returns-clause-step : goal.returns-clause-step
@@ -94,8 +95,9 @@ returns-clause-step c =
     let ready = subst (λ (k : Known). IsStepReady k m.thread c.args.n m.stack.frames c.args.next) (sym c.self.view_is) c.requires.ready in
     let t : c.thread-t.result ≡ m.thread = c.thread-t.ensures in
     let more : c.args.n + 1 ≡ suc c.args.n = omega arith in
-    let step : ◌≡◌ {A = What} (whats.Step c.thread-t.result (c.args.n + 1) None) (whats.Step m.thread (suc c.args.n) None) =
-    ap (λ u. whats.Step u (c.args.n + 1) None) t ∙ ap (λ i. whats.Step m.thread i None) more in
+    let step : ◌≡◌ {A = What} (whats.Step c.thread-t.result (c.args.n + 1) c.pick_of.result) (whats.Step m.thread (suc c.args.n) (picked_by c.make_step-tried.result)) =
+    ap (λ u. whats.Step u (c.args.n + 1) c.pick_of.result) t ∙ ap (λ i. whats.Step m.thread i c.pick_of.result) more
+    ∙ ap (λ p. whats.Step m.thread (suc c.args.n) p) c.pick_of.ensures in
     let made = told_of c.make_step-tried.result in
     let entered = subst (λ (s : What). IsEntered made a.history.items a.told c.args.c s a.limits.threads c.enter_step.new.history.items c.enter_step.new.told c.enter_step.result)
     step c.enter_step.ensures.entered in
@@ -107,7 +109,7 @@ returns-clause-step c =
     m.stack.frames c.make_step-tried.new.mounted.stack.frames) c.self.view_is
     (made_steps (setting_in a) a.carriers a.state a.deques a.mounted.items a.history.items a.told (vec_capacity a.history - length a.history.items) c.self.invariant
     c.args.c m.thread c.args.n c.args.now m.stack.frames c.args.next none holds free may ready
-    made c.make_step-tried.new.state c.make_step-tried.new.deques c.make_step-tried.new.mounted.stack.frames c.enter_step.new.history.items c.enter_step.new.told c.enter_step.result
+    made (picked_by c.make_step-tried.result) c.make_step-tried.new.state c.make_step-tried.new.deques c.make_step-tried.new.mounted.stack.frames c.enter_step.new.history.items c.enter_step.new.told c.enter_step.result
     room (vec_capacity a.history) says entered (ap (λ i. i - length c.enter_step.new.history.items) capacity) refl)
 
 pub returns-clause-thread : goal.returns-clause-thread
@@ -127,8 +129,9 @@ returns-clause-in_time c =
     let ready = subst (λ (k : Known). IsStepReady k m.thread c.args.n m.stack.frames c.args.next) (sym c.self.view_is) c.requires.ready in
     let t : c.thread-t.result ≡ m.thread = c.thread-t.ensures in
     let more : c.args.n + 1 ≡ suc c.args.n = omega arith in
-    let step : ◌≡◌ {A = What} (whats.Step c.thread-t.result (c.args.n + 1) None) (whats.Step m.thread (suc c.args.n) None) =
-    ap (λ u. whats.Step u (c.args.n + 1) None) t ∙ ap (λ i. whats.Step m.thread i None) more in
+    let step : ◌≡◌ {A = What} (whats.Step c.thread-t.result (c.args.n + 1) c.pick_of.result) (whats.Step m.thread (suc c.args.n) (picked_by c.make_step-tried.result)) =
+    ap (λ u. whats.Step u (c.args.n + 1) c.pick_of.result) t ∙ ap (λ i. whats.Step m.thread i c.pick_of.result) more
+    ∙ ap (λ p. whats.Step m.thread (suc c.args.n) p) c.pick_of.ensures in
     let made = told_of c.make_step-tried.result in
     let entered = subst (λ (s : What). IsEntered made a.history.items a.told c.args.c s a.limits.threads c.enter_step.new.history.items c.enter_step.new.told c.enter_step.result)
     step c.enter_step.ensures.entered in
@@ -137,7 +140,7 @@ returns-clause-in_time c =
     subst (λ (k : Known). IsInTime c.enter_step.result k m.thread c.args.now m.stack.frames) c.self.view_is
     (made_in_time (setting_in a) a.carriers a.state a.deques a.mounted.items a.history.items a.told (vec_capacity a.history - length a.history.items) c.self.invariant
     c.args.c m.thread c.args.n c.args.now m.stack.frames c.args.next none holds free may ready
-    made c.make_step-tried.new.state c.make_step-tried.new.deques c.make_step-tried.new.mounted.stack.frames c.enter_step.new.history.items c.enter_step.new.told c.enter_step.result
+    made (picked_by c.make_step-tried.result) c.make_step-tried.new.state c.make_step-tried.new.deques c.make_step-tried.new.mounted.stack.frames c.enter_step.new.history.items c.enter_step.new.told c.enter_step.result
     says entered)
 
 pub returns-clause-kept : goal.returns-clause-kept
@@ -151,8 +154,9 @@ returns-clause-kept c = λ reads.
     let ready = subst (λ (k : Known). IsStepReady k m.thread c.args.n m.stack.frames c.args.next) (sym c.self.view_is) c.requires.ready in
     let t : c.thread-t.result ≡ m.thread = c.thread-t.ensures in
     let more : c.args.n + 1 ≡ suc c.args.n = omega arith in
-    let step : ◌≡◌ {A = What} (whats.Step c.thread-t.result (c.args.n + 1) None) (whats.Step m.thread (suc c.args.n) None) =
-    ap (λ u. whats.Step u (c.args.n + 1) None) t ∙ ap (λ i. whats.Step m.thread i None) more in
+    let step : ◌≡◌ {A = What} (whats.Step c.thread-t.result (c.args.n + 1) c.pick_of.result) (whats.Step m.thread (suc c.args.n) (picked_by c.make_step-tried.result)) =
+    ap (λ u. whats.Step u (c.args.n + 1) c.pick_of.result) t ∙ ap (λ i. whats.Step m.thread i c.pick_of.result) more
+    ∙ ap (λ p. whats.Step m.thread (suc c.args.n) p) c.pick_of.ensures in
     let made = told_of c.make_step-tried.result in
     let entered = subst (λ (s : What). IsEntered made a.history.items a.told c.args.c s a.limits.threads c.enter_step.new.history.items c.enter_step.new.told c.enter_step.result)
     step c.enter_step.ensures.entered in
@@ -160,5 +164,5 @@ returns-clause-kept c = λ reads.
     c.args.c m.thread c.args.n m.stack.frames c.args.next none holds free may ready) in
     made_stays (setting_in a) a.carriers a.state a.deques a.mounted.items a.history.items a.told (vec_capacity a.history - length a.history.items) c.self.invariant
     c.args.c m.thread c.args.n c.args.now m.stack.frames c.args.next none holds free may ready
-    made c.make_step-tried.new.state c.make_step-tried.new.deques c.make_step-tried.new.mounted.stack.frames c.enter_step.new.history.items c.enter_step.new.told c.enter_step.result
+    made (picked_by c.make_step-tried.result) c.make_step-tried.new.state c.make_step-tried.new.deques c.make_step-tried.new.mounted.stack.frames c.enter_step.new.history.items c.enter_step.new.told c.enter_step.result
     m c.make_step-tried.new.mounted says entered c.make_step-tried.ensures.kept reads
