@@ -1,8 +1,10 @@
 mod AllLaws
 mod AnyLaws
+mod CallLaws
 mod CreateLaws
 mod EntryLaws
 mod GoingOnLaws
+mod LeaveLaws
 mod OperandLaws
 mod PhaseLaws
 mod ReplayLaws

@@ -17,21 +17,23 @@ use Rattle.frame_soundness.specs.TypedStates.{AreOfPhase, AreOfStatus, IsTypedSt
 use Rattle.ref_model.specs.Asking.{Asking, goes, thrown_interrupted, with_run}
 use Rattle.ref_model.specs.LocalRows.{row}
 use Rattle.ref_model.specs.Requesting.{asked, asked_with}
-use Rattle.ref_model.specs.Requests.{request_of, request_result}
+use Rattle.ref_model.specs.Requests.{Request, calls, request_of, request_result}
 use Rattle.ref_model.specs.Resuming.{asking_at, asking_in, entered_monitor, entered_with, finished_asking, finished_without, is_first_entry, park_over, reentered, resumed, waited}
-use Rattle.ref_model.specs.Monitors.{with_entry}
+use Rattle.ref_model.specs.Monitors.{with_entry, with_monitor}
 use Rattle.ref_model.specs.State.{JavaThread, State, frames_at, running_frames, with_owner, with_permit, with_status, with_thread}
 use Rattle.ref_model.specs.Step.{phase_step, picking_step, row_or_event, status_step, thread_step}
 use Rattle.ref_model.specs.declared.request.ThreadRequest.{ThreadRequest}
 use Rattle.ref_model.specs.declared.request.ThreadRequest.TheVariants as requests
 use Rattle.ref_model.proofs.StateLaws.{get_set}
+use Rattle.invocation.specs.declared.synchronized_calls.SynchronizedCall.{SynchronizedCall}
+use Rattle.thread_steps.specs.declared.progress.MonitorReturn.{MonitorReturn}
 use Rattle.thread_steps.specs.declared.progress.PendingRequest.{PendingRequest}
 use Rattle.thread_steps.specs.Asking.{asking_of}
 use Rattle.ref_run.specs.declared.fault.Fault.{Fault}
 use Rattle.ref_run.specs.declared.state.RefState.{RefState}
-use Rattle.ref_run.specs.GoingOn.{Comes, LeadsTo, Makes}
+use Rattle.ref_run.specs.GoingOn.{Comes, LeadsTo, Makes, asking_call}
 use Rattle.ref_run.specs.States.{frames_of}
-use Rattle.ref_run.specs.Steps.{HasStepped, HasTyped, IsPending, is_running_status}
+use Rattle.ref_run.specs.Steps.{HasStepped, HasTyped, IsCallPending, IsPending, IsReturnPending, is_running_status}
 use Rattle.ref_run.proofs.GoingOnLaws.{frames_at as frames_had}
 use Rattle.ref_run.proofs.StageLaws.{thread_is}
 use Rattle.ref_run.proofs.StepLaws.{pending_step}
@@ -82,21 +84,21 @@ without_is : (r : State) (t : ℕ) (a : Asking) (kind : Option ValueKind) → is
 without_is r t a None e = refl
 without_is r t a (Some kind) e = absurd cc
 
-pub finished : (w : World) (r s q : State) (t : ℕ) (k : PendingRequest) (frames : List Frame) → IsPending w r k frames → is_some (request_result (request_of k.request)) ≡ false
-    → s ≡ with_status r t (Live Run) → frames_of r t ≡ Some frames → LeadsTo (λ z a. goes z t a) t k s q → resumed w r t frames ≡ Some q
-finished w r s q t k frames p gives set has leads =
-    let a : Asking = asking_of k p.frame p.below in
-    bind_is (asking_in w r.memory frames) (λ x. finished_asking (with_run r t) t x.1 x.0) (request_of k.request, a) (Some q) p.asks
-    (finished_is (with_run r t) t a k.request ∙ without_is (with_run r t) t a (request_result (request_of k.request)) gives
-    ∙ ap (λ z. goes z t a) (sym set)
-    ∙ leads p.frame p.below (ap (λ z. frames_of z t) set ∙ status_frames r t (Live Run) ∙ has ∙ ap (λ fs. Some fs) p.top))
+pub finishes : (r mid s : State) (t : ℕ) (k : PendingRequest) → is_some (request_result (request_of k.request)) ≡ false → mid ≡ with_status r t (Live Run)
+    → LeadsTo (λ z a. goes z t a) t k mid s → LeadsTo (λ z a. finished_asking (with_run z t) t a (request_of k.request)) t k r s
+finishes r mid s t k gives set leads f below has =
+    let a : Asking = asking_of k f below in
+    finished_is (with_run r t) t a k.request ∙ without_is (with_run r t) t a (request_result (request_of k.request)) gives ∙ ap (λ z. goes z t a) (sym set)
+    ∙ leads f below (ap (λ z. frames_of z t) set ∙ status_frames r t (Live Run) ∙ has)
 
--- the same of a state that the instruction left as it was
-pub finished_after : (w : World) (r mid s q : State) (t : ℕ) (k : PendingRequest) (frames : List Frame) → mid ≡ r → IsPending w r k frames
-    → is_some (request_result (request_of k.request)) ≡ false → s ≡ with_status mid t (Live Run) → frames_of r t ≡ Some frames
-    → LeadsTo (λ z a. goes z t a) t k s q → resumed w r t frames ≡ Some q
-finished_after w r mid s q t k frames same p gives set has leads =
-    finished w r s q t k frames p gives (set ∙ ap (λ z. with_status z t (Live Run)) same) has leads
+-- the instruction, which is looked at again
+pub request_resumes : (w : World) (r mid s : State) (t : ℕ) (k : PendingRequest) (frames : List Frame) → mid ≡ r → frames_of r t ≡ Some frames → IsPending w r k frames
+    → LeadsTo (λ z a. finished_asking (with_run z t) t a (request_of k.request)) t k mid s → resumed w r t frames ≡ Some s
+request_resumes w r mid s t k frames same has p leads =
+    let a : Asking = asking_of k p.frame p.below in
+    bind_is (asking_in w r.memory frames) (λ x. finished_asking (with_run r t) t x.1 x.0) (request_of k.request, a) (Some s) p.asks
+    (ap (λ z. finished_asking (with_run z t) t a (request_of k.request)) (sym same)
+    ∙ leads p.frame p.below (ap (λ z. frames_of z t) same ∙ has ∙ ap (λ fs. Some fs) p.top))
 
 -- a park is over
 pub parked_over : (w : World) (r s q : State) (t : ℕ) (frames : List Frame) → s ≡ with_permit r t false → frames_of r t ≡ Some frames
@@ -201,6 +203,23 @@ pub quiet_picks_none : (w : World) (r s : State) (t u : ℕ) (x : JavaThread) (s
 quiet_picks_none w r s t u x status at is runs stepped =
     ap (λ o. o >>= λ y. asked_with r t y.1 u y.0)
     (bind_is (frames_at r t) (asking_in w r.memory) x.frames None (frames_run r t x status at is runs) (stepped x.frames (has_frames r t x at)).quiet)
+
+-- a call picks none
+pub call_picks_none : (w : World) (r : State) (t u : ℕ) (x : JavaThread) (status : Status) (call : SynchronizedCall) → slice_get r.threads t ≡ Some x → x.thread.status ≡ status
+    → is_running_status status ≡ true → ((frames : List Frame) → frames_of r t ≡ Some frames → IsCallPending w r call frames) → picking_step w r t u ≡ None
+call_picks_none w r t u x status call at is runs pending =
+    let p = pending x.frames (has_frames r t x at) in
+    let asked : Request × Asking = (calls call.monitor (with_monitor p.callee call.monitor), asking_call call p.frame p.below p.next) in
+    ap (λ o. o >>= λ y. asked_with r t y.1 u y.0)
+    (bind_is (frames_at r t) (asking_in w r.memory) x.frames (Some asked) (frames_run r t x status at is runs) p.asks)
+
+-- nor does a return
+pub return_picks_none : (w : World) (r : State) (t u : ℕ) (x : JavaThread) (status : Status) (q : MonitorReturn) → slice_get r.threads t ≡ Some x → x.thread.status ≡ status
+    → is_running_status status ≡ true → ((frames : List Frame) → frames_of r t ≡ Some frames → IsReturnPending w q frames) → picking_step w r t u ≡ None
+return_picks_none w r t u x status q at is runs pending =
+    let p = pending x.frames (has_frames r t x at) in
+    ap (λ o. o >>= λ y. asked_with r t y.1 u y.0)
+    (bind_is (frames_at r t) (asking_in w r.memory) x.frames None (frames_run r t x status at is runs) (ap (asking_in w r.memory) p.top ∙ p.returns.quiet r.memory))
 
 pub picked : (w : World) (r s : State) (t u : ℕ) (x : JavaThread) (status : Status) (q : PendingRequest) (result : Result (Unit {0}) Fault) (a : RefState) → slice_get r.threads t ≡ Some x
     → x.thread.status ≡ status → is_running_status status ≡ true → s ≡ r → ((frames : List Frame) → frames_of r t ≡ Some frames → IsPending w r q frames)

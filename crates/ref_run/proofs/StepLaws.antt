@@ -1,5 +1,5 @@
 -- The instruction at hand of a thread, whose frames were taken and put back.
-use Rattle.std.proofs.Common.{◌≡◌, ◌<◌, ℕ, List, [], ◌∷◌, length, Some, refl, ap, sym, subst, ◌∙◌, arith}
+use Rattle.std.proofs.Common.{◌≡◌, ◌<◌, ℕ, List, [], ◌∷◌, length, Option, Some, refl, ap, sym, subst, ◌∙◌, arith}
 use Rattle.std.specs.Prelude.{slice_get, slice_set}
 use Rattle.std.specs.Option.{option_map}
 use Rattle.std.proofs.lemmas.List.{set-set}
@@ -24,15 +24,15 @@ use Rattle.ref_model.proofs.StateLaws.{get_set}
 use Rattle.thread_steps.specs.declared.parts.Parts.{Parts}
 use Rattle.thread_steps.specs.declared.progress.PendingRequest.{PendingRequest}
 use Rattle.thread_steps.specs.declared.progress.Progress.{Progress}
-use Rattle.thread_steps.specs.declared.progress.Progress.TheVariants.{Stepped, Asks}
+use Rattle.thread_steps.specs.declared.progress.Progress.TheVariants.{Stepped, Asks, Calls, Returns}
 use Rattle.thread_steps.specs.Asking as asking
 use Rattle.thread_steps.specs.Asking.{asking_of}
-use Rattle.thread_steps.specs.Returning.{ThrowingSteps}
+use Rattle.thread_steps.specs.Returning.{IsThread, ThrowingSteps}
 use Rattle.thread_steps.specs.States as stages
 use Rattle.thread_steps.specs.States.{Stage, memory_of, own_thread}
 use Rattle.ref_run.specs.declared.state.RefState.{RefState}
 use Rattle.ref_run.specs.States.{frames_of, state_of}
-use Rattle.ref_run.specs.Steps.{HasStepped, IsPending, IsProgress}
+use Rattle.ref_run.specs.Steps.{HasStepped, IsCallPending, IsPending, IsProgress, IsReturnPending}
 use Rattle.ref_run.specs.Taking.{IsPut, IsTaken}
 use Rattle.ref_run.proofs.StageLaws.{stage_is, stage_of}
 
@@ -64,7 +64,7 @@ pub taken_frames : (a mid : RefState) (t : ℕ) (frames : List Frame) → IsTake
 taken_frames a mid t frames taken =
     ap (λ o. option_map (λ (x : JavaThread). x.frames) o) taken.at ∙ ap (λ fs. Some fs) (sym taken.frames_are)
 
-same_frames : (r : State) (t : ℕ) (frames others : List Frame) → frames_of r t ≡ Some frames → frames_of r t ≡ Some others → others ≡ frames
+pub same_frames : (r : State) (t : ℕ) (frames others : List Frame) → frames_of r t ≡ Some frames → frames_of r t ≡ Some others → others ≡ frames
 same_frames r t frames others e f = cc
 
 pub first_of : (frames : List Frame) → 0 < length frames → (f : Frame) × (below : List Frame) × (frames ≡ f ∷ below)
@@ -93,7 +93,7 @@ row_asks w i act r t f below x e =
     bind_is (row_effect w i act r.memory (length (f ∷ below)) f) (after_effect w r t i.instr.next f below) y.0 (asked w r t x.1 x.0) y.1
     (effect_asks w r t i.instr.next f below y.0 x y.2)
 
-event_asks : (w : World) (r : State) (t : ℕ) (f : Frame) (below : List Frame) (x : Request × Asking) → asking_in w r.memory (f ∷ below) ≡ Some x
+pub event_asks : (w : World) (r : State) (t : ℕ) (f : Frame) (below : List Frame) (x : Request × Asking) → asking_in w r.memory (f ∷ below) ≡ Some x
     → event_step w r t (f ∷ below) ≡ asked w r t x.1 x.0
 event_asks w r t f below x e =
     let i = some_is (fetched w f) (λ i. row_effect w i (row_of i.instr.op) r.memory (length (f ∷ below)) f >>= asking_by f below i.instr.next) x e in
@@ -130,6 +130,47 @@ progress_made w i a mid new t frames after b (Asks q) taken put some at asked =
           (record { frame = top.0; below = top.1; top = top.2; asks = ap (λ m. asking_in w m frames) (sym memory) ∙ asks.asking; event = asks.event }),
       unsettled a mid new t frames after b taken put asked.1 asked.2,
     )
+progress_made w i a mid new t frames after b (Calls call) taken put some at called =
+    let top = first_of frames some in
+    let p = called.0 top.0 top.1 top.2 (at top.0 top.1 top.2) in
+    let memory : memory_of mid.memory ≡ memory_of a.memory = ap memory_of taken.memory in (
+      λ others has. subst (λ (fs : List Frame). IsCallPending w (state_of a) call fs) (sym (same_frames (state_of a) t frames others (taken_frames a mid t frames taken) has))
+          (record {
+            frame = top.0;
+            below = top.1;
+            top = top.2;
+            callee = p.callee;
+            begins = p.begins;
+            next = p.next;
+            asks = ap (λ m. asking_in w m frames) (sym memory) ∙ p.asking;
+            event = p.event;
+          }),
+      unsettled a mid new t frames after b taken put called.1 called.2,
+    )
+progress_made w i a mid new t frames after b (Returns q) taken put some at returned =
+    let top = first_of frames some in (
+      λ others has. subst (λ (fs : List Frame). IsReturnPending w q fs) (sym (same_frames (state_of a) t frames others (taken_frames a mid t frames taken) has))
+          (record { frame = top.0; below = top.1; top = top.2; returns = returned.0 top.0 top.1 top.2 (at top.0 top.1 top.2) }),
+      unsettled a mid new t frames after b taken put returned.1 returned.2,
+    )
+
+-- ---- a step of the thread, as its stage has it
+
+-- what an act makes of the stage it makes of the state
+pub made_on_stage : (act : State → Option State) (a mid new : RefState) (t : ℕ) (frames after : List Frame) (b : Parts) (taken : IsTaken t a frames mid) → IsPut t (record mid { memory = b }) after new
+    → act (stages.state_of (stage_of (state_of a) t taken.thread taken.at) mid.memory frames) ≡ Some (stages.state_of (stage_of (state_of a) t taken.thread taken.at) b after)
+    → act (state_of a) ≡ Some (state_of new)
+made_on_stage act a mid new t frames after b taken put made =
+    let stage : Stage = stage_of (state_of a) t taken.thread taken.at in
+    let is : stages.state_of stage mid.memory frames ≡ state_of a =
+    ap (λ (p : Parts). stages.state_of stage p frames) taken.memory ∙ stage_is a t taken.thread taken.at frames taken.frames_are in
+    ap act (sym is) ∙ made ∙ ap (λ (r : State). Some r) (sym (settled a mid new t frames after b taken put))
+
+-- the thread of the stage has the name of its row
+pub own_name : (a mid : RefState) (t name : ℕ) (frames : List Frame) (x : JavaThread) (taken : IsTaken t a frames mid) → slice_get a.threads.items t ≡ Some x → x.thread.name ≡ name
+    → IsThread (stage_of (state_of a) t taken.thread taken.at) t name
+own_name a mid t name frames x taken at named =
+    let own : taken.thread ≡ x = cc (taken.at, at) in record { number = refl; named = ap (λ (y : JavaThread). y.thread.name) own ∙ named }
 
 -- the step of a thread that throws
 pub throwing_made : (w : World) (a mid new : RefState) (t name o : ℕ) (frames after : List Frame) (b : Parts) (x : JavaThread) (taken : IsTaken t a frames mid)
@@ -137,11 +178,6 @@ pub throwing_made : (w : World) (a mid new : RefState) (t name o : ℕ) (frames 
     → ThrowingSteps w t name o mid.memory frames b after → (others : List Frame) → frames_of (state_of a) t ≡ Some others
     → throwing_step w (state_of a) t o others ≡ Some (state_of new)
 throwing_made w a mid new t name o frames after b x taken at named put steps others has =
-    let stage : Stage = stage_of (state_of a) t taken.thread taken.at in
-    let own : taken.thread ≡ x = cc (taken.at, at) in
-    let is : stages.state_of stage mid.memory frames ≡ state_of a =
-    ap (λ (p : Parts). stages.state_of stage p frames) taken.memory ∙ stage_is a t taken.thread taken.at frames taken.frames_are in
-    let same = same_frames (state_of a) t frames others (taken_frames a mid t frames taken) has in
-    ap (throwing_step w (state_of a) t o) same ∙ ap (λ (r : State). throwing_step w r t o frames) (sym is)
-    ∙ steps stage (record { number = refl; named = ap (λ (y : JavaThread). y.thread.name) own ∙ named })
-    ∙ ap (λ (r : State). Some r) (sym (settled a mid new t frames after b taken put))
+    ap (throwing_step w (state_of a) t o) (same_frames (state_of a) t frames others (taken_frames a mid t frames taken) has)
+    ∙ made_on_stage (λ r. throwing_step w r t o frames) a mid new t frames after b taken put
+    (steps (stage_of (state_of a) t taken.thread taken.at) (own_name a mid t name frames x taken at named))

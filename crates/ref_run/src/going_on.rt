@@ -1,15 +1,16 @@
-//! A thread whose instruction asked something goes on at the next one.
+//! A thread whose instruction asked something goes on at the next one, or in the method that it calls.
 
 ghost use Rattle.std.specs.Prelude.{◌≡◌, ◌≤◌, IsTrue, OnOk, length, ◌&&◌};
 ghost use Rattle.heap_instructions.specs.Operands.{HasTop, operands};
 ghost use Rattle.ref_model.specs.Asking as asking;
-ghost use Rattle.ref_run.specs.GoingOn.{GoesOnWith, GoesOnWithout, LeadsTo};
+ghost use Rattle.ref_run.specs.GoingOn.{CallsTo, GoesOnWith, GoesOnWithout, HasBegun, LeadsTo};
 ghost use Rattle.ref_run.specs.States.{state_of};
 
 use crate::state::RefState;
 use continuation::Mounted;
 use heap_instructions::{Outcome, drop_operands, give};
 use instruction_rows::Value;
+use invocation::{SynchronizedCall, enter_synchronized};
 use items::NoMemory;
 use std::alloc::Global;
 use thread_steps::PendingRequest;
@@ -56,6 +57,16 @@ fn go_on_with(mounted: &mut Mounted, pending: PendingRequest, value: Value) -> R
     }
 }
 
+// A synchronized method begins, whose monitor its thread has. Arguments that aren't there count as memory run out.
+fn begin(mounted: &mut Mounted, call: SynchronizedCall) -> Result<(), NoMemory>
+    ensures { OnOk result (HasBegun call mounted.old.stack.frames mounted.new.stack.frames) }
+{
+    if !has_operands(mounted, call.callee.slots) {
+        return Err(NoMemory);
+    }
+    enter_synchronized(call, mounted)
+}
+
 /// Thread t goes on at its next instruction.
 pub(crate) fn resume(
     alloc: Global,
@@ -93,6 +104,26 @@ pub(crate) fn resume_with(
     let row = &mut state.threads[t as usize];
     let mut mounted = row.take_frames(alloc);
     go_on_with(&mut mounted, pending, value)?;
+    row.put_frames(mounted);
+    Ok(())
+}
+
+/// Thread t goes into the synchronized method that it calls, and has its monitor.
+pub(crate) fn go_into(
+    alloc: Global,
+    state: &mut RefState,
+    t: u32,
+    call: SynchronizedCall,
+) -> Result<(), NoMemory>
+    ensures { OnOk result (CallsTo (λ r a g. asking.goes_into r t a g) t call
+        (state_of state.old) (state_of state.new)) }
+{
+    if t as usize >= state.threads.len() {
+        return Err(NoMemory);
+    }
+    let row = &mut state.threads[t as usize];
+    let mut mounted = row.take_frames(alloc);
+    begin(&mut mounted, call)?;
     row.put_frames(mounted);
     Ok(())
 }

@@ -2,6 +2,7 @@
 #![tactic(auto)]
 
 mod asking;
+mod calling;
 mod changes;
 mod clock;
 mod creating;
@@ -18,6 +19,7 @@ mod replaying;
 mod replies;
 mod reply;
 mod requests;
+mod returning;
 mod starting;
 mod state;
 mod statuses;
@@ -25,6 +27,7 @@ mod stepping;
 mod taking;
 mod tells;
 mod thread_row;
+mod throwing;
 mod waiters;
 mod waits;
 

@@ -1,36 +1,37 @@
 //! The step of a thread, by its phase.
 
-ghost use Rattle.std.specs.Prelude.{◌≡◌, ℕ, List, Some, OnOk, IfOk};
+ghost use Rattle.std.specs.Prelude.{◌≡◌, List, Some, OnOk};
 ghost use Rattle.vthread_state.specs.declared.phase.Phase.TheVariants as phases;
 ghost use Rattle.state_model.specs.Frames.{Frame};
 ghost use Rattle.frame_soundness.specs.TypedStates.{AreOfPhase, IsTypedState};
 ghost use Rattle.invocation.specs.InvocationCache.{AreSelected};
-ghost use Rattle.ref_model.specs.Asking.{thrown_interrupted};
+ghost use Rattle.ref_model.specs.Asking.{thrown_interrupted, with_run};
 ghost use Rattle.ref_model.specs.LocalRows.{row};
+ghost use Rattle.ref_model.specs.Requests.{request_of};
 ghost use Rattle.ref_model.specs.Resuming as resuming;
 ghost use Rattle.ref_model.specs.Step as steps;
-ghost use Rattle.ref_model.specs.Throwing as throwing;
-ghost use Rattle.ref_run.specs.GoingOn.{Comes};
+ghost use Rattle.ref_run.specs.GoingOn.{LeadsTo};
 ghost use Rattle.ref_run.specs.States.{frames_of, state_of};
-ghost use Rattle.ref_run.specs.Steps.{Acts, HasTyped, IsPending, IsReady};
+ghost use Rattle.ref_run.specs.Steps.{Acts, HasTyped, IsReady};
 
 use crate::asking::{gives_back, is_first_entry};
+use crate::calling::{call_method, finish_call};
 use crate::fault::Fault;
 use crate::going_on::resume;
 use crate::instructions::run_instruction;
 use crate::owners::Owner;
 use crate::replies::throw;
 use crate::requests::make_request;
+use crate::returning::return_method;
 use crate::state::{
-    RefState, enter, is_interrupted, row_at, set_interrupted, set_owner, set_permit, set_status,
+    RefState, enter, is_interrupted, set_interrupted, set_owner, set_permit, set_status,
 };
-use crate::taking::{put_frames, take_frames};
+use crate::throwing::throwing_step;
 use invocation::InvocationCache;
 use items::NoMemory;
 use ref_model::Exception;
 use startup::ReadyProgram;
 use std::alloc::Global;
-use thread_steps;
 use thread_steps::{PendingRequest, Progress};
 use vthread_state::{Phase, Status, Wake};
 
@@ -55,57 +56,31 @@ fn running_step(
         Progress::Asks(pending) => {
             make_request(alloc, program, state, t, program.run_method(), pending)
         }
+        Progress::Calls(call) => Ok(call_method(alloc, state, t, call)?),
+        Progress::Returns(back) => Ok(return_method(alloc, program, state, t, back)?),
     }
-}
-
-// The step of a thread that throws an object.
-fn throwing_step(
-    alloc: Global,
-    program: &ReadyProgram,
-    state: &mut RefState,
-    t: u32,
-    o: u32,
-) -> Result<(), NoMemory>
-    ensures { OnOk result ((frames : List Frame) → frames_of (state_of state.old) t ≡ Some frames
-        → throwing.throwing_step program.now (state_of state.old) t o frames
-        ≡ Some (state_of state.new)) }
-{
-    let name = row_at(state, t)?.thread().name;
-    let mut mounted = take_frames(alloc, state, t)?;
-    if mounted.depth() == 0 {
-        return Err(NoMemory);
-    }
-    thread_steps::throwing_step(alloc, program, &mut state.memory, &mut mounted, t, name, o)?;
-    put_frames(state, t, mounted);
-    Ok(())
 }
 
 // ---- waits that are over
 
-// What the instruction of a thread that waits asks: it is looked at again. What asks nothing counts as memory run out.
-fn ask_again(
+// What the instruction of a thread asked is finished. What gives something back never waits, and counts as memory run out.
+fn finish_request(
     alloc: Global,
-    program: &ReadyProgram,
-    cache: &mut InvocationCache,
     state: &mut RefState,
     t: u32,
-) -> Result<PendingRequest, NoMemory>
-    requires ready { IsReady program.now }
-    requires typed { HasTyped program.now (state_of state.old) t }
-    requires selected { AreSelected program.now cache.old }
-    ensures pending { IfOk result (λ q. (frames : List Frame)
-        → frames_of (state_of state.old) t ≡ Some frames
-        → IsPending program.now (state_of state.old) q frames) }
-    ensures same { OnOk result (state_of state.new ≡ state_of state.old) }
-    ensures cache { AreSelected program.now cache.new }
+    pending: PendingRequest,
+) -> Result<(), NoMemory>
+    ensures { OnOk result (LeadsTo (λ r a. resuming.finished_asking (with_run r t) t a
+        (request_of pending.request)) t pending (state_of state.old) (state_of state.new)) }
 {
-    match run_instruction(alloc, program, cache, state, t)? {
-        Progress::Asks(pending) => Ok(pending),
-        Progress::Stepped => Err(NoMemory),
+    if gives_back(pending.request) {
+        return Err(NoMemory);
     }
+    set_status(state, t, Status::Live(Phase::Run));
+    resume(alloc, state, t, pending)
 }
 
-// The instruction of a thread whose wait is over is finished.
+// The instruction of a thread whose wait is over is finished: it is looked at again. What asks nothing counts as memory run out.
 fn finish(
     alloc: Global,
     program: &ReadyProgram,
@@ -121,12 +96,12 @@ fn finish(
         → resuming.resumed program.now (state_of state.old) t frames ≡ Some (state_of state.new)) }
     ensures cache { AreSelected program.now cache.new }
 {
-    let pending = ask_again(alloc, program, cache, state, t)?;
-    if gives_back(pending.request) {
-        return Err(NoMemory);
+    let progress = run_instruction(alloc, program, cache, state, t)?;
+    match progress {
+        Progress::Asks(pending) => finish_request(alloc, state, t, pending),
+        Progress::Calls(call) => finish_call(alloc, state, t, call),
+        _ => Err(NoMemory),
     }
-    set_status(state, t, Status::Live(Phase::Run));
-    resume(alloc, state, t, pending)
 }
 
 // A thread that was interrupted in its wait throws InterruptedException.

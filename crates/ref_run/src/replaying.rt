@@ -1,18 +1,21 @@
 //! A history that is run again, from the state in which its program begins.
 
-ghost use Rattle.std.specs.Prelude.{◌≡◌, Some, IfOk};
+ghost use Rattle.std.specs.Prelude.{◌≡◌, ℕ, Some, IfOk, nat_eq};
+ghost use Rattle.std.specs.HashMap.{get};
 ghost use Rattle.frame_soundness.specs.TypedStates.{IsTypedState};
-ghost use Rattle.ref_model.specs.Opening.{opening, opening_thread};
+ghost use Rattle.ref_model.specs.Opening.{opening, opening_owners, opening_thread};
 ghost use Rattle.ref_model.specs.Setting.{Setting};
 ghost use Rattle.link_soundness.specs.Library.{HasLibrary};
 ghost use Rattle.step_soundness.specs.OpeningLaws.{IsMain};
 ghost use Rattle.startup.specs.Openings.{opened_state, setting};
+ghost use Rattle.ref_run.specs.Owners.{owner_of};
 ghost use Rattle.ref_run.specs.Replays.{IsReplayed, IsRunOf, stopped_at};
 ghost use Rattle.ref_run.specs.States.{state_of};
 ghost use Rattle.ref_run.specs.Steps.{IsReady};
 
 use crate::entries::make_entry;
 use crate::fault::Fault;
+use crate::owners::{Owner, put};
 use crate::state::RefState;
 use crate::thread_row::ThreadRow;
 use continuation::Mounted;
@@ -40,7 +43,7 @@ pub enum ReplayError {
     /// The definitions have no such step after the entries before this one.
     #[error("entry {entry}: no step")]
     NoStep { entry: usize },
-    /// Memory ran out, or a step isn't built. This says nothing of the list.
+    /// Memory ran out, or jvt.Native.hold is called. This says nothing of the list.
     #[error("out of memory")]
     NoMemory,
 }
@@ -80,6 +83,22 @@ fn first_thread(mounted: Mounted) -> ThreadRow
     ThreadRow::new(thread, mounted)
 }
 
+// Who owns a monitor when a program begins: thread 0 the one that main holds, where it is synchronized.
+fn first_owners(alloc: Global, monitor: Option<u32>) -> Result<HashMap<u32, Owner>, NoMemory>
+    ensures { IfOk result (λ owners. (o : ℕ)
+        → owner_of (get nat_eq owners o) ≡ opening_owners monitor o) }
+{
+    let mut owners = HashMap::new(alloc);
+    if let Some(o) = monitor {
+        let main = Owner {
+            thread: 0,
+            count: 1,
+        };
+        put(&mut owners, o, Some(main))?;
+    }
+    Ok(owners)
+}
+
 // The state of a program that begins.
 fn first_state(alloc: Global, opened: Opened, limits: Limits) -> Result<RefState, NoMemory>
     ensures { IfOk result (λ state. state_of state ≡ opened_state limits opened) }
@@ -88,7 +107,9 @@ fn first_state(alloc: Global, opened: Opened, limits: Limits) -> Result<RefState
         heap,
         statics,
         mounted,
+        monitor,
     } = opened;
+    let owners = first_owners(alloc, monitor)?;
     let mut threads = Vec::new(alloc);
     threads.push(first_thread(mounted))?;
     let natives = NativeState {
@@ -105,7 +126,7 @@ fn first_state(alloc: Global, opened: Opened, limits: Limits) -> Result<RefState
             main_threw: false,
         },
         threads,
-        owners: HashMap::new(alloc),
+        owners,
         most_threads: limits.threads,
         unnamed: 0,
         time: 0,

@@ -1,11 +1,10 @@
 //! Threads that are started (java.lang.Thread).
 
-ghost use Rattle.std.specs.Prelude.{◌≡◌, ◌≢◌, ◌∷◌, [], IfOk, OnOk};
-ghost use Rattle.vthread_state.specs.declared.phase.Phase.TheVariants.{Run};
+ghost use Rattle.std.specs.Prelude.{◌≡◌, ◌<◌, ◌∷◌, [], None, Some, IfOk};
 ghost use Rattle.state_model.specs.Frames.{Frame};
 ghost use Rattle.ref_model.specs.Starting as starting;
 ghost use Rattle.ref_run.specs.Replies.{Answers};
-ghost use Rattle.ref_run.specs.Starting.{IsFirst, IsRun, IsStart};
+ghost use Rattle.ref_run.specs.Starting.{IsFirst, IsPushed, IsRun, IsStart, begin_phase, run_monitor};
 ghost use Rattle.ref_run.specs.States.{state_of};
 
 use crate::fault::Fault;
@@ -15,37 +14,54 @@ use continuation::Mounted;
 use heap_instructions::class_number;
 use instruction_rows::{Slot, Value};
 use items::NoMemory;
-use link_model::{MethodCode, is_synchronized};
+use link_model::{MethodCode, MethodInfo, is_synchronized};
 use link_rules::Choice;
 use ref_model::{Exception, ThreadRequest};
 use std::alloc::Global;
 use thread_steps::MachineWorld;
 use vthread_state::{Phase, Status};
 
+/// How a thread begins: its frames, and the monitor that it enters first, where its run is synchronized.
+#[derive(Drop)]
+pub(crate) struct First {
+    pub(crate) mounted: Mounted,
+    pub(crate) monitor: Option<u32>,
+}
+
 /// What a start of a thread comes to.
 #[derive(Drop)]
 pub(crate) enum Start {
-    /// It begins with these frames.
-    Begins(Mounted),
+    /// It begins so.
+    Begins(First),
     /// The thread that starts it throws a new exception.
     Throws(Exception),
 }
 
-// The frames of a thread that begins with a method on an object. A method without local variables counts as memory run out.
-fn first_frames(
+// The monitor that a thread enters first, whose run on an object is this method.
+fn run_monitor(method: &MethodInfo, object: u32) -> Option<u32>
+    ensures { result ≡ run_monitor method.now object }
+{
+    if is_synchronized(method) {
+        Some(object)
+    } else {
+        None
+    }
+}
+
+// The frame of a method with so many local variables, of which the first has an object.
+fn push_first(
     alloc: Global,
     thread: u32,
     method: u32,
     code: &MethodCode,
     object: u32,
+    locals: u32,
 ) -> Result<Mounted, NoMemory>
-    ensures { IfOk result (IsFirst method code.now object) }
+    requires { 0 < locals }
+    ensures { IfOk result (IsPushed method code.now object locals) }
 {
-    if code.max_locals == 0 {
-        return Err(NoMemory);
-    }
     let mut mounted = Mounted::new(alloc, thread);
-    match mounted.push_frame(method, code.max_locals as u32, code.max_stack, 0, false) {
+    match mounted.push_frame(method, locals, code.max_stack, 0, false) {
         Ok(()) => {
             mounted.set_local(0, Slot::One(Value::Ref(object)));
             Ok(mounted)
@@ -54,7 +70,60 @@ fn first_frames(
     }
 }
 
-// A thread begins with the method of a number as its run. A synchronized method isn't begun yet, and counts as memory run out.
+// The frames of a thread that begins with a method on an object. A method without local variables counts as memory run out.
+fn plain_frames(
+    alloc: Global,
+    thread: u32,
+    method: u32,
+    code: &MethodCode,
+    object: u32,
+) -> Result<Mounted, NoMemory>
+    ensures { IfOk result (IsFirst method code.now object None) }
+{
+    if code.max_locals == 0 {
+        return Err(NoMemory);
+    }
+    push_first(alloc, thread, method, code, object, code.max_locals as u32)
+}
+
+// The same of a synchronized method. The monitor's number lies in one more local variable of the frame, the last.
+fn guarded_frames(
+    alloc: Global,
+    thread: u32,
+    method: u32,
+    code: &MethodCode,
+    object: u32,
+    monitor: u32,
+) -> Result<Mounted, NoMemory>
+    ensures { IfOk result (IsFirst method code.now object (Some monitor)) }
+{
+    if code.max_locals == 0 {
+        return Err(NoMemory);
+    }
+    let locals = code.max_locals as u32 + 1;
+    let mut mounted = push_first(alloc, thread, method, code, object, locals)?;
+    mounted.set_local(code.max_locals, Slot::One(Value::Ref(monitor)));
+    Ok(mounted)
+}
+
+// The frames of a thread that begins with a method on an object, and enters this monitor first, or none.
+fn first_frames(
+    alloc: Global,
+    thread: u32,
+    method: u32,
+    code: &MethodCode,
+    object: u32,
+    monitor: Option<u32>,
+) -> Result<Mounted, NoMemory>
+    ensures { IfOk result (IsFirst method code.now object monitor) }
+{
+    match monitor {
+        Some(o) => guarded_frames(alloc, thread, method, code, object, o),
+        None => plain_frames(alloc, thread, method, code, object),
+    }
+}
+
+// A thread begins with the method of a number as its run. It enters the monitor of its object first, where the method is synchronized.
 fn begin_run<W: MachineWorld>(
     alloc: Global,
     world: &W,
@@ -70,11 +139,9 @@ fn begin_run<W: MachineWorld>(
     let Some(info) = world.method(method) else {
         return Err(NoMemory);
     };
-    if is_synchronized(info) {
-        return Err(NoMemory);
-    }
-    let mounted = first_frames(alloc, thread, method, code, object)?;
-    Ok(Start::Begins(mounted))
+    let monitor = run_monitor(info, object);
+    let mounted = first_frames(alloc, thread, method, code, object, monitor)?;
+    Ok(Start::Begins(First { mounted, monitor }))
 }
 
 // What a start of thread u comes to: what is selected for its object as its run begins (JVMS 5.4.6). `run` is the method run of
@@ -112,14 +179,25 @@ fn start_of<W: MachineWorld>(
     }
 }
 
-// A thread is live, and has these frames.
-fn begin_thread(state: &mut RefState, u: u32, mounted: Mounted)
-    ensures { (f : Frame) → mounted.stack.frames ≡ f ∷ []
-        → state_of state.new ≡ starting.with_begun (state_of state.old) u Run f }
+// The phase in which a thread begins, which enters a monitor first or doesn't.
+fn begin_phase(monitor: Option<u32>) -> Phase
+    ensures { result ≡ begin_phase monitor }
+{
+    match monitor {
+        Some(o) => Phase::Entering(o),
+        None => Phase::Run,
+    }
+}
+
+// A thread is live, and begins so.
+fn begin_thread(state: &mut RefState, u: u32, first: First)
+    ensures { (f : Frame) → first.mounted.stack.frames ≡ f ∷ [] → state_of state.new
+        ≡ starting.with_begun (state_of state.old) u (begin_phase first.monitor) f }
 {
     if (u as usize) < state.threads.len() {
+        let First { mounted, monitor } = first;
         let row = &mut state.threads[u as usize];
-        row.set_status(Status::Live(Phase::Run));
+        row.set_status(Status::Live(begin_phase(monitor)));
         row.put_frames(mounted);
     }
 }
@@ -138,11 +216,11 @@ pub(crate) fn start_thread<W: MachineWorld>(
         (state_of state.old) result (state_of state.new) }
 {
     match start_of(alloc, world, state, run, u)? {
-        Start::Begins(mounted) => {
+        Start::Begins(first) => {
             if t == u {
                 return Err(Fault::NoMemory);
             }
-            begin_thread(state, u, mounted);
+            begin_thread(state, u, first);
             Ok(Reply::Goes)
         }
         Start::Throws(exception) => Ok(Reply::Throws(exception)),

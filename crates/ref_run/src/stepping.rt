@@ -78,8 +78,10 @@ fn picking_step(
     }
     let progress = run_instruction(alloc, program, cache, state, t)?;
     match progress {
-        Progress::Stepped => Err(Fault::NoStep),
         Progress::Asks(pending) => notify_picked(alloc, state, t, u, pending),
+        Progress::Stepped => Err(Fault::NoStep),
+        Progress::Calls(_) => Err(Fault::NoStep),
+        Progress::Returns(_) => Err(Fault::NoStep),
     }
 }
 
