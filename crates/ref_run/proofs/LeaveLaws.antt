@@ -1,5 +1,5 @@
 -- Frames that are left with their monitor, by a return or an exception.
-use Rattle.std.proofs.Common.{◌≡◌, ◌<◌, ℕ, true, false, List, ◌∷◌, length, Option, Some, ap, sym, subst, ◌∙◌}
+use Rattle.std.proofs.Common.{◌≡◌, ℕ, true, false, List, ◌∷◌, Option, Some, ap, sym, subst, ◌∙◌}
 use Rattle.std.specs.Prelude.{slice_get, if◌then◌else◌}
 use Rattle.opcodes.specs.declared.op.ValueKind.{ValueKind}
 use Rattle.link_model.specs.World.{World}
@@ -104,11 +104,11 @@ throw_unowned w r s t q unowned throws f below has =
 
 -- what became of the step
 pub thrown_made : (w : World) (a mid new : RefState) (t name o : ℕ) (frames after : List Frame) (b : Parts) (x : JavaThread) (thrown : Thrown) → IsTaken t a frames mid
-    → slice_get a.threads.items t ≡ Some x → x.thread.name ≡ name → IsPut t (record mid { memory = b }) after new → 0 < length frames
+    → slice_get a.threads.items t ≡ Some x → x.thread.name ≡ name → IsPut t (record mid { memory = b }) after new
     → ThrowProceeds w t name o thrown mid.memory frames b after → IsThrown w (state_of a) t o thrown (state_of new)
-thrown_made w a mid new t name o frames after b x Stepped taken at named put some steps = throwing_made w a mid new t name o frames after b x taken at named put steps
-thrown_made w a mid new t name o frames after b x (Holds q) taken at named put some holds =
-    let top = first_of frames some in
+thrown_made w a mid new t name o frames after b x Stepped taken at named put steps = throwing_made w a mid new t name o frames after b x taken at named put steps
+thrown_made w a mid new t name o frames after b x (Holds q) taken at named put holds =
+    let top = first_of frames taken.some in
     let memory : (state_of a).memory ≡ memory_of mid.memory = ap memory_of (sym taken.memory) in (
       λ others has. subst (λ (fs : List Frame). IsHeld w (state_of a) t o q fs) (sym (same_frames (state_of a) t frames others (taken_frames a mid t frames taken) has))
           (record { frame = top.0; below = top.1; top = top.2; throws = holds.0 (state_of a) t top.0 top.1 memory top.2 }),

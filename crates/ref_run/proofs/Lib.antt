@@ -1,3 +1,4 @@
+mod AgreementLaws
 mod AllLaws
 mod AnyLaws
 mod CallLaws

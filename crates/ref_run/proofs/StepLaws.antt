@@ -108,10 +108,10 @@ pending_step w r t q frames p =
 -- ---- what became of the instruction
 
 pub progress_made : (w : World) (i : Instruction) (a mid new : RefState) (t : ℕ) (frames after : List Frame) (b : Parts) (progress : Progress) → IsTaken t a frames mid
-    → IsPut t (record mid { memory = b }) after new → 0 < length frames → ((f : Frame) (below : List Frame) → frames ≡ f ∷ below → fetched w f ≡ Some i)
+    → IsPut t (record mid { memory = b }) after new → ((f : Frame) (below : List Frame) → frames ≡ f ∷ below → fetched w f ≡ Some i)
     → asking.IsProgress w i progress mid.memory frames b after → IsProgress w (state_of a) t progress (state_of new)
-progress_made w i a mid new t frames after b Stepped taken put some at steps = λ others has.
-    let top = first_of frames some in
+progress_made w i a mid new t frames after b Stepped taken put at steps = λ others has.
+    let top = first_of frames taken.some in
     let stage : Stage = stage_of (state_of a) t taken.thread taken.at in
     let is : stages.state_of stage mid.memory frames ≡ state_of a =
     ap (λ (p : Parts). stages.state_of stage p frames) taken.memory ∙ stage_is a t taken.thread taken.at frames taken.frames_are in
@@ -122,16 +122,16 @@ progress_made w i a mid new t frames after b Stepped taken put some at steps = �
       step = ap (λ (r : State). row_or_event w r t frames (row w frames)) (sym is) ∙ made.step ∙ ap (λ (r : State). Some r) (sym (settled a mid new t frames after b taken put));
       quiet = ap (λ (r : State). asking_in w r.memory frames) (sym is) ∙ made.quiet;
     })
-progress_made w i a mid new t frames after b (Asks q) taken put some at asked =
-    let top = first_of frames some in
+progress_made w i a mid new t frames after b (Asks q) taken put at asked =
+    let top = first_of frames taken.some in
     let asks = asked.0 top.0 top.1 top.2 (at top.0 top.1 top.2) in
     let memory : memory_of mid.memory ≡ memory_of a.memory = ap memory_of taken.memory in (
       λ others has. subst (λ (fs : List Frame). IsPending w (state_of a) q fs) (sym (same_frames (state_of a) t frames others (taken_frames a mid t frames taken) has))
           (record { frame = top.0; below = top.1; top = top.2; asks = ap (λ m. asking_in w m frames) (sym memory) ∙ asks.asking; event = asks.event }),
       unsettled a mid new t frames after b taken put asked.1 asked.2,
     )
-progress_made w i a mid new t frames after b (Calls call) taken put some at called =
-    let top = first_of frames some in
+progress_made w i a mid new t frames after b (Calls call) taken put at called =
+    let top = first_of frames taken.some in
     let p = called.0 top.0 top.1 top.2 (at top.0 top.1 top.2) in
     let memory : memory_of mid.memory ≡ memory_of a.memory = ap memory_of taken.memory in (
       λ others has. subst (λ (fs : List Frame). IsCallPending w (state_of a) call fs) (sym (same_frames (state_of a) t frames others (taken_frames a mid t frames taken) has))
@@ -147,8 +147,8 @@ progress_made w i a mid new t frames after b (Calls call) taken put some at call
           }),
       unsettled a mid new t frames after b taken put called.1 called.2,
     )
-progress_made w i a mid new t frames after b (Returns q) taken put some at returned =
-    let top = first_of frames some in (
+progress_made w i a mid new t frames after b (Returns q) taken put at returned =
+    let top = first_of frames taken.some in (
       λ others has. subst (λ (fs : List Frame). IsReturnPending w q fs) (sym (same_frames (state_of a) t frames others (taken_frames a mid t frames taken) has))
           (record { frame = top.0; below = top.1; top = top.2; returns = returned.0 top.0 top.1 top.2 (at top.0 top.1 top.2) }),
       unsettled a mid new t frames after b taken put returned.1 returned.2,

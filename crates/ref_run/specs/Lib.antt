@@ -7,3 +7,4 @@ pub mod Starting
 pub mod Steps
 pub mod Taking
 pub mod Replays
+pub mod Agreement

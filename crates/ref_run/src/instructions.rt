@@ -1,6 +1,6 @@
 //! The instruction at hand of a thread, which makes its step or asks something.
 
-ghost use Rattle.std.specs.Prelude.{◌≡◌, IfOk};
+ghost use Rattle.std.specs.Prelude.{◌≡◌, ◌<◌, IfOk, length};
 ghost use Rattle.frame_soundness.specs.Typed.{Typed};
 ghost use Rattle.interp_local.specs.Fetched.{IsTopAt};
 ghost use Rattle.invocation.specs.InvocationCache.{AreSelected};
@@ -17,16 +17,14 @@ use startup::ReadyProgram;
 use std::alloc::Global;
 use thread_steps::{Progress, instruction_step};
 
-// The instruction of the top frame. A thread without one counts as memory run out.
+// The instruction of the top frame.
 fn top_instruction<'a>(
     program: &'a ReadyProgram,
     mounted: &Mounted,
 ) -> Result<Fetched<'a>, NoMemory>
+    requires { 0 < length mounted.now.stack.frames }
     ensures { IfOk result (λ next. IsTopAt program.now mounted.now.stack.frames next) }
 {
-    if mounted.depth() == 0 {
-        return Err(NoMemory);
-    }
     let top = mounted.top();
     program.instruction(top.method, top.pc).ok_or(NoMemory)
 }

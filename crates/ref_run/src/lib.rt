@@ -11,7 +11,8 @@ mod entries;
 mod fault;
 mod going_on;
 mod instructions;
-mod monitors;
+mod laws;
+mod monitor_requests;
 mod owners;
 mod phases;
 mod picks;
@@ -31,5 +32,6 @@ mod throwing;
 mod waiters;
 mod waits;
 
+pub use laws::replays_agree;
 pub use replaying::{ReplayError, replay};
 pub use state::RefState;

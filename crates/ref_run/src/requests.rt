@@ -13,7 +13,7 @@ ghost use Rattle.ref_run.specs.States.{state_of};
 use crate::changes::{interrupt_thread, make_daemon, name_thread, take_interrupt, unpark_thread};
 use crate::creating::create_thread;
 use crate::fault::Fault;
-use crate::monitors::{enter_monitor, exit_monitor, notify_all, notify_none, wait_on};
+use crate::monitor_requests::{enter_monitor, exit_monitor, notify_all, notify_none, wait_on};
 use crate::replies::conclude;
 use crate::reply::Reply;
 use crate::starting::start_thread;

@@ -29,9 +29,6 @@ fn return_frame<W: MachineWorld>(
         (state_of state.old) (state_of state.new)) }
 {
     let mut mounted = take_frames(alloc, state, t)?;
-    if mounted.depth() == 0 {
-        return Err(NoMemory);
-    }
     return_unlocked(world, &mut state.memory, &mut mounted, kind)?;
     put_frames(state, t, mounted);
     Ok(())

@@ -8,7 +8,7 @@ use continuation::Mounted;
 use items::NoMemory;
 use std::alloc::Global;
 
-/// Takes the frames of a thread, and gives the memory its status.
+/// Takes the frames of a thread, and gives the memory its status. A thread that has none counts as memory run out.
 pub(crate) fn take_frames(alloc: Global, state: &mut RefState, t: u32) -> Result<Mounted, NoMemory>
     ensures { IfOk result (λ mounted. IsTaken t state.old mounted.stack.frames state.new) }
 {
@@ -16,6 +16,9 @@ pub(crate) fn take_frames(alloc: Global, state: &mut RefState, t: u32) -> Result
         return Err(NoMemory);
     }
     let row = &mut state.threads[t as usize];
+    if !row.has_frames() {
+        return Err(NoMemory);
+    }
     state.memory.status = row.thread().status;
     Ok(row.take_frames(alloc))
 }

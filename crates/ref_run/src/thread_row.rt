@@ -1,6 +1,6 @@
 //! One thread, with its whole stack.
 
-ghost use Rattle.std.specs.Prelude.{◌≡◌, [], true, false, if◌then◌else◌};
+ghost use Rattle.std.specs.Prelude.{◌≡◌, [], true, false, if◌then◌else◌, length, nat_lt};
 ghost use Rattle.ref_model.specs.Requesting as requesting;
 ghost use Rattle.ref_model.specs.Resuming as resuming;
 ghost use Rattle.ref_model.specs.Waiting as waiting;
@@ -81,6 +81,13 @@ impl ThreadRow {
         ensures { result ≡ waiting.thread_waits_on o self.now }
     {
         status_waits_on(o, self.thread.status)
+    }
+
+    /// Whether it has frames.
+    pub(crate) fn has_frames(&self) -> bool
+        ensures { result ≡ nat_lt 0 (length self.now.frames) }
+    {
+        self.mounted.depth() > 0
     }
 
     /// Whether it hasn't begun its first frame, and waits for the monitor of an object.

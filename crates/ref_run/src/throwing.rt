@@ -27,9 +27,6 @@ fn throw_object<W: MachineWorld>(
 {
     let name = row_at(state, t)?.thread().name;
     let mut mounted = take_frames(alloc, state, t)?;
-    if mounted.depth() == 0 {
-        return Err(NoMemory);
-    }
     let thrown = thread_steps::throwing_step(
         alloc,
         world,
@@ -57,9 +54,6 @@ fn drop_frame<W: MachineWorld>(
 {
     let name = row_at(state, t)?.thread().name;
     let mut mounted = take_frames(alloc, state, t)?;
-    if mounted.depth() == 0 {
-        return Err(NoMemory);
-    }
     drop_unlocked(
         alloc,
         world,
@@ -86,9 +80,6 @@ fn throw_unowned<W: MachineWorld>(
 {
     let name = row_at(state, t)?.thread().name;
     let mut mounted = take_frames(alloc, state, t)?;
-    if mounted.depth() == 0 {
-        return Err(NoMemory);
-    }
     thread_steps::throw_unowned(alloc, world, &mut state.memory, &mut mounted, t, name)?;
     put_frames(state, t, mounted);
     Ok(())

@@ -22,4 +22,4 @@ returns-clause-progress c =
     let i = instruction_of c.in_ok-next.next in
     let frames = c.in_ok-mounted.mounted.stack.frames in
     progress_made w i c.args.state.now c.take_frames.new.state c.put_frames.new.state c.args.t frames c.instruction_step.new.mounted.stack.frames c.instruction_step.new.parts
-    c.instruction_step.new.progress c.in_ok-mounted.ensures c.put_frames.ensures c.in_ok-next.ensures.frame (fetched_at w frames i c.in_ok-next.ensures.at) c.in_ok-instruction_step.ensures.progress
+    c.instruction_step.new.progress c.in_ok-mounted.ensures c.put_frames.ensures (fetched_at w frames i c.in_ok-next.ensures.at) c.in_ok-instruction_step.ensures.progress

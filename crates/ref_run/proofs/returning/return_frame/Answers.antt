@@ -12,3 +12,6 @@ returns g c =
     let w = g.W.EventWorld.world c.args.world.now in
     frame_returns w c.args.state.now c.take_frames.new.state c.put_frames.new.state c.args.t c.args.kind c.in_ok-mounted.mounted.stack.frames c.return_unlocked.new.mounted.stack.frames
     c.return_unlocked.new.parts c.in_ok-mounted.ensures c.put_frames.ensures c.in_ok-return_unlocked.ensures
+
+pub return_unlocked-requires-clause-frame : goal.return_unlocked-requires-clause-frame
+return_unlocked-requires-clause-frame g c = c.in_ok-mounted.ensures.some

@@ -9,3 +9,6 @@ returns g c =
     frame_unowned w c.args.state.now c.take_frames.new.state c.put_frames.new.state c.args.t c.thread-name.result.name c.in_ok-mounted.mounted.stack.frames
     c.throw_unowned.new.mounted.stack.frames c.throw_unowned.new.parts c.in_ok-row_at.field-0.now c.in_ok-mounted.ensures c.in_ok-row_at.ensures
     (ap (λ (x : Thread). x.name) (sym c.thread-name.ensures)) c.put_frames.ensures c.in_ok-throw_unowned.ensures
+
+pub throw_unowned-requires : goal.throw_unowned-requires
+throw_unowned-requires g c = c.in_ok-mounted.ensures.some
