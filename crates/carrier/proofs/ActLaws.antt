@@ -4,7 +4,7 @@ use Rattle.std.specs.Prelude.{OnOk, is_err, is_none, is_some}
 use Rattle.std.proofs.lemmas.Bool.{and_parts}
 use Rattle.continuation.specs.Continuation.{Continuation}
 use Rattle.invocation.specs.InvocationCache.{AreSelected, Kept}
-use Rattle.history.specs.declared.entry.What.TheVariants.{Mount}
+use Rattle.history.specs.declared.entry.What.TheVariants.{Mount, Step}
 use Rattle.ref_model.specs.declared.ending.Ending.{Ending}
 use Rattle.ref_model.specs.declared.ending.Ending.TheVariants.{Halted, Stalled}
 use Rattle.ref_model.specs.Ending.{ending}
@@ -15,7 +15,7 @@ use Rattle.machine.specs.declared.after.After.TheVariants.{Goes, Runs, Leaves, E
 use Rattle.machine.specs.Hands.{HasEnded, Holds, IsMounted, Lives, MayStep, MayUnmount, OwesNothing, OwesUnmount}
 use Rattle.machine.specs.Legal.{GoesOn, IsLegal}
 use Rattle.machine.specs.Machines.{Known, machine_ending, with_ending, with_entry}
-use Rattle.machine.specs.Turns.{HasStepped, step_of}
+use Rattle.machine.specs.Turns.{HasStepped}
 use Rattle.carrier.specs.declared.ask.Ask.{Ask}
 use Rattle.carrier.specs.declared.ask.Ask.TheVariants.{Nothing, Freeze}
 use Rattle.carrier.specs.declared.ask.Turn.{Turn}
@@ -98,7 +98,7 @@ gone_halts (inl e) gone = gone_at e gone
 gone_halts (inr e) gone = absurd (gone.tried e)
 
 pub goes_may : (old mid : Known) (c t now : ℕ) (h g : Hand) → HasGone Goes old mid c t now h g → IsLegal mid → MayStep mid t
-goes_may old mid c t now h g gone legal = goes_enabled old mid c t (suc gone.local) gone.steps.entry legal gone.steps.outcome
+goes_may old mid c t now h g gone legal = goes_enabled old mid c t (suc gone.local) gone.steps.pick gone.steps.entry legal gone.steps.outcome
 
 pub goes_lives : (old mid : Known) (c t now : ℕ) (h g : Hand) → HasGone Goes old mid c t now h g → IsLegal mid → Lives mid t
 goes_lives old mid c t now h g gone legal = enabled_lives mid t (goes_may old mid c t now h g gone legal)
@@ -106,16 +106,16 @@ goes_lives old mid c t now h g gone legal = enabled_lives mid t (goes_may old mi
 pub retire_may : (old mid : Known) (c t now : ℕ) (h g : Hand) → HasGone Ends old mid c t now h g → MayUnmount mid c t
 retire_may old mid c t now h g gone =
     let s = gone.steps in
-    let entered = with_entry old c (step_of t (suc gone.local)) in
+    let entered = with_entry old c (Step t (suc gone.local) s.pick) in
     subst (λ m. MayUnmount m c t) (sym s.entry)
-    (may_retire old c t (suc gone.local) 0 gone.kept.stack.frames (subst (λ m. Holds m c t 0 gone.kept.stack.frames) s.entry s.hand)
+    (may_retire old c t (suc gone.local) 0 s.pick gone.kept.stack.frames (subst (λ m. Holds m c t 0 gone.kept.stack.frames) s.entry s.hand)
     (subst (λ m. OwesUnmount m t) s.entry s.outcome.0) (subst (λ m. HasEnded m t) s.entry s.outcome.1))
 
-below_after : (old mid : Known) (c t n : ℕ) → mid ≡ with_entry old c (step_of t n) → c < old.carriers → c < mid.carriers
-below_after old mid c t n entry below = subst (λ k. c < k) (sym (carriers_is old mid c (step_of t n) entry)) below
+below_after : (old mid : Known) (c t n : ℕ) (pick : Option ℕ) → mid ≡ with_entry old c (Step t n pick) → c < old.carriers → c < mid.carriers
+below_after old mid c t n pick entry below = subst (λ k. c < k) (sym (carriers_is old mid c (Step t n pick) entry)) below
 
-selected_after : (old mid : Known) (c t n : ℕ) (s : Kept) → mid ≡ with_entry old c (step_of t n) → AreSelected old.setting.world s → AreSelected mid.setting.world s
-selected_after old mid c t n s entry selected = subst (λ (p : Setting). AreSelected p.world s) (sym (setting_is old mid c (step_of t n) entry)) selected
+selected_after : (old mid : Known) (c t n : ℕ) (pick : Option ℕ) (s : Kept) → mid ≡ with_entry old c (Step t n pick) → AreSelected old.setting.world s → AreSelected mid.setting.world s
+selected_after old mid c t n pick s entry selected = subst (λ (p : Setting). AreSelected p.world s) (sym (setting_is old mid c (Step t n pick) entry)) selected
 
 parts_after : (g x : Hand) (k : Continuation) (ask : Ask) → HasParts g (Some k) None None Nothing → HasParts x g.mounted g.frozen g.local ask
     → HasParts x (Some k) None None ask
@@ -131,26 +131,26 @@ pub goes_on_fits : (old mid : Known) (c t now : ℕ) (h g x : Hand) (answer : Tu
     → GoesOnBy mid t answer → HasParts x g.mounted g.frozen g.local (asked_by answer) → x.failed ≡ g.failed → x.cache ≡ g.cache → Fits mid c x
 goes_on_fits old mid c t now h g x answer act gone legal way parts failed cache =
     let s = gone.steps in
-    goes_fits mid c t gone.kept x answer legal (below_after old mid c t (suc gone.local) s.entry act.below) (gone.thread (λ e. cc)) s.hand s.outcome way
+    goes_fits mid c t gone.kept x answer legal (below_after old mid c t (suc gone.local) s.pick s.entry act.below) (gone.thread (λ e. cc)) s.hand s.outcome way
     (parts_after g x gone.kept (asked_by answer) gone.parts parts) (failed ∙ gone.works)
-    (subst (AreSelected mid.setting.world) (sym cache) (selected_after old mid c t (suc gone.local) g.cache s.entry gone.selected))
+    (subst (AreSelected mid.setting.world) (sym cache) (selected_after old mid c t (suc gone.local) s.pick g.cache s.entry gone.selected))
 
 pub leaves_on_fits : (old mid new : Known) (c t now : ℕ) (h g x : Hand) (answer : Turn) → MayGoOn old c h t → HasGone Leaves old mid c t now h g → IsLegal mid
     → AnswersUnlessStalled mid new Freeze answer → HasParts x g.mounted g.frozen g.local (asked_by answer) → x.failed ≡ g.failed → x.cache ≡ g.cache
     → Fits new c x
 leaves_on_fits old mid new c t now h g x answer act gone legal look parts failed cache = by look
   where
-    s : HasStepped Leaves old mid c t gone.local gone.kept.stack.frames
+    s : HasStepped Leaves old mid c t gone.local gone.was.stack.frames gone.kept.stack.frames
     s = gone.steps
 
     below : c < mid.carriers
-    below = below_after old mid c t (suc gone.local) s.entry act.below
+    below = below_after old mid c t (suc gone.local) s.pick s.entry act.below
 
     works : x.failed ≡ false
     works = failed ∙ gone.works
 
     selected : AreSelected mid.setting.world x.cache
-    selected = subst (AreSelected mid.setting.world) (sym cache) (selected_after old mid c t (suc gone.local) g.cache s.entry gone.selected)
+    selected = subst (AreSelected mid.setting.world) (sym cache) (selected_after old mid c t (suc gone.local) s.pick g.cache s.entry gone.selected)
 
     asks : (ask : Ask) → asked_by answer ≡ ask → HasParts x (Some gone.kept) None None ask
     asks ask is = subst (HasParts x (Some gone.kept) None None) is (parts_after g x gone.kept (asked_by answer) gone.parts parts)
@@ -190,7 +190,13 @@ runs_too gone =
       local = gone.local;
       ahead = gone.ahead;
       in_time = gone.in_time;
-      steps = record { entry = gone.steps.entry; hand = gone.steps.hand; outcome = gone.steps.outcome.0 };
+      steps = record {
+        pick = gone.steps.pick;
+        entry = gone.steps.entry;
+        unread = gone.steps.unread;
+        hand = gone.steps.hand;
+        outcome = gone.steps.outcome.0;
+      };
     }
 
 no_ending : (o : Option Ending) → is_none o ≡ true → o ≡ None

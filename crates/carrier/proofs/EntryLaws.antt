@@ -1,5 +1,5 @@
 -- What the last entry of a history did.
-use Rattle.std.proofs.Common.{◌≡◌, ℕ, ◌==◌, Bool, true, false, not, List, [], ◌∷◌, ◌++◌, Some, None, refl, ap, sym, ◌∙◌, cond, ◌&&◌, ◌||◌}
+use Rattle.std.proofs.Common.{◌≡◌, ℕ, ◌==◌, Bool, true, false, not, List, [], ◌∷◌, ◌++◌, Option, Some, refl, ap, sym, ◌∙◌, cond, ◌&&◌, ◌||◌}
 use Rattle.std.proofs.lemmas.Bool.{and_parts, eqb-true, eq-eqb, not-false, or_parts}
 use Rattle.items.proofs.Binds.{some_is, bind_is}
 use Rattle.history.specs.declared.entry.Entry.{Entry}
@@ -79,24 +79,24 @@ unmounted_state p first v w c t e =
 -- ---- steps
 
 -- the carrier is that of the last entry
-pub stepped_last : (p : Setting) (first : State) (v w : Scheduled State) (c t n : ℕ) → scheduled_after (machine_from p first) v c (Step t n None) ≡ Some w
+pub stepped_last : (p : Setting) (first : State) (v w : Scheduled State) (c t n : ℕ) (pick : Option ℕ) → scheduled_after (machine_from p first) v c (Step t n pick) ≡ Some w
     → w.schedule.last ≡ Some c
-stepped_last p first v w c t n e =
+stepped_last p first v w c t n pick e =
     let l = look_of p.world in
-    let given = under_is (may_step (l v.state) v.schedule c t None) _ w e in
-    let q = some_is (grouped_steps p v.state t n None)
+    let given = under_is (may_step (l v.state) v.schedule c t pick) _ w e in
+    let q = some_is (grouped_steps p v.state t n pick)
     (λ q. Some (with_schedule q (after_step (l v.state) (l q) v.schedule c t (yields_after p v.state t n)))) w given.1 in
     let same = inner (with_schedule q.0 (after_step (l v.state) (l q.0) v.schedule c t (yields_after p v.state t n))) w q.2 in
     sym (ap (λ (x : Scheduled State). x.schedule.last) same)
 
 -- whether it owes the Unmount of the thread is seen by the state after the step
-pub stepped_owes : (p : Setting) (first : State) (v w : Scheduled State) (c t n : ℕ) → scheduled_after (machine_from p first) v c (Step t n None) ≡ Some w
+pub stepped_owes : (p : Setting) (first : State) (v w : Scheduled State) (c t n : ℕ) (pick : Option ℕ) → scheduled_after (machine_from p first) v c (Step t n pick) ≡ Some w
     → (yields : Bool) × (w.schedule.owes t ≡ has_to_leave (look_of p.world w.state) t yields)
-stepped_owes p first v w c t n e =
+stepped_owes p first v w c t n pick e =
     let l = look_of p.world in
     let yields = yields_after p v.state t n in
-    let given = under_is (may_step (l v.state) v.schedule c t None) _ w e in
-    let q = some_is (grouped_steps p v.state t n None) (λ q. Some (with_schedule q (after_step (l v.state) (l q) v.schedule c t yields))) w given.1 in
+    let given = under_is (may_step (l v.state) v.schedule c t pick) _ w e in
+    let q = some_is (grouped_steps p v.state t n pick) (λ q. Some (with_schedule q (after_step (l v.state) (l q) v.schedule c t yields))) w given.1 in
     let same = inner (with_schedule q.0 (after_step (l v.state) (l q.0) v.schedule c t yields)) w q.2 in
     let leaves = has_to_leave (l q.0) t yields in
     let here : with_value v.schedule.owes t leaves t ≡ leaves = ap (λ b. cond b leaves (v.schedule.owes t)) (eq-eqb t t refl) in

@@ -54,8 +54,8 @@ acts_of : (c k : ℕ) (es : List Entry) → AreActs c es → c ≢ k → Each (�
 acts_of c k es (turns.none is) ne = subst (Each (λ (e : Entry). e.carrier ≢ k)) (sym is) tt
 acts_of c k es (turns.mount t is) ne = subst (Each (λ (e : Entry). e.carrier ≢ k)) (sym is) (ne, tt)
 acts_of c k es (turns.unmount t is) ne = subst (Each (λ (e : Entry). e.carrier ≢ k)) (sym is) (ne, tt)
-acts_of c k es (turns.step t n is) ne = subst (Each (λ (e : Entry). e.carrier ≢ k)) (sym is) (ne, tt)
-acts_of c k es (turns.last_step t n is) ne = subst (Each (λ (e : Entry). e.carrier ≢ k)) (sym is) (ne, (ne, tt))
+acts_of c k es (turns.step t n pick is) ne = subst (Each (λ (e : Entry). e.carrier ≢ k)) (sym is) (ne, tt)
+acts_of c k es (turns.last_step t n pick is) ne = subst (Each (λ (e : Entry). e.carrier ≢ k)) (sym is) (ne, (ne, tt))
 
 entry_of : (c k now : ℕ) (es : List Entry) → AreOfTurn c now es → c ≢ k → Each (λ (e : Entry). e.carrier ≢ k) es
 entry_of c k now es (turns.acts are) ne = acts_of c k es are ne

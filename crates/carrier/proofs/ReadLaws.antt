@@ -84,6 +84,15 @@ reads_lack w r q now t x y frames tick at later running reads lacks =
     same_some (asking_in w r.memory frames) a.0 b.0 (sym before ∙ a.1) (ap (λ m. asking_in w m frames) (sym (tick_memory r q now tick)) ∙ sym after ∙ b.1) in
     reads_no_create (b.0).0 (subst (λ (z : Request × Asking). reads_clock z.0 ≡ true) same a.2) b.2
 
+-- and reads the clock
+pub reads_still : (w : World) (r q : State) (now t : ℕ) (x y : JavaThread) (frames : List Frame) → at_time r now ≡ Some q → slice_get r.threads t ≡ Some x
+    → slice_get q.threads t ≡ Some y → y.thread.status ≡ Live Run → reads_clock_next w (with_frames r t frames) t ≡ true
+    → reads_clock_next w (with_frames q t frames) t ≡ true
+reads_still w r q now t x y frames tick at later running reads =
+    let before = asks_in w r t x frames at (reads_runs w r t x frames at reads) in
+    let after = asks_in w q t y frames later running in
+    ap (λ o. option_map_or (λ (z : Request × Asking). reads_clock z.0) o false) (after ∙ ap (λ m. asking_in w m frames) (tick_memory r q now tick) ∙ sym before) ∙ reads
+
 -- the entry of the local instructions in a hand and of that step ends with a step that reads the clock
 pub reads_after : (p : Setting) (v : Scheduled State) (c t n : ℕ) (frames : List Frame) → HasHand p v c t n frames → ending v.state ≡ None
     → reads_clock_next p.world (with_frames v.state t frames) t ≡ true → reads_clock_after p v.state t (suc n) ≡ true

@@ -3,6 +3,7 @@ use Rattle.std.proofs.Common.{◌≡◌, ◌+◌, ◌≤◌, ◌==◌, ℕ, Bool
 use Rattle.std.specs.Prelude.{is_none, is_some}
 use Rattle.std.specs.Option.{option_map_or}
 use Rattle.std.proofs.lemmas.Bool.{and_from, and_parts, eq-eqb, or_left}
+use Rattle.history.specs.declared.entry.What.TheVariants.{Step}
 use Rattle.history.specs.declared.entry.Entry.{Entry}
 use Rattle.history.specs.declared.entry.What.{What}
 use Rattle.vthread_state.specs.declared.phase.Phase.{Phase}
@@ -30,7 +31,7 @@ use Rattle.machine.specs.declared.after.After.TheVariants.{Goes, Runs, Leaves, E
 use Rattle.machine.specs.Hands.{HasEnded, HasPhase, Holds, IsLive, IsMounted, Lives, MayStep, MayUnmount, OwesNothing, OwesUnmount}
 use Rattle.machine.specs.Legal.{HasEntryLeft, IsLegal, Works}
 use Rattle.machine.specs.Machines.{Given, Known, machine_ending, scheduled, with_entry}
-use Rattle.machine.specs.Turns.{HasToRead, IsInTime, IsStepReady, IsStepReadyIn, Steps, step_of}
+use Rattle.machine.specs.Turns.{HasToRead, IsInTime, IsStepReady, IsStepReadyIn, Steps}
 use Rattle.carrier.specs.declared.hand.Hand.{Hand}
 use Rattle.carrier.specs.declared.local.LocalRun.{LocalRun}
 use Rattle.carrier.specs.LocalRuns.{AreAhead, HasStopped, steps_of, stop_of}
@@ -92,7 +93,7 @@ ready_waits m t frames not = λ v at x there.
     ready_in w frames (Live (Asleep deadline)) off = (refl, refl)
     ready_in w frames (Live (Joining u deadline)) off = (refl, refl)
 
-same_kept : (x y : Continuation) → ◌≡◌ {A = Option Continuation} (Some x) (Some y) → x ≡ y
+pub same_kept : (x y : Continuation) → ◌≡◌ {A = Option Continuation} (Some x) (Some y) → x ≡ y
 same_kept x y e = cc
 
 -- the local run in a hand, and the frames after it
@@ -198,13 +199,13 @@ either_way : (b x y : Bool) → x ≡ true → y ≡ true → cond b x y ≡ tru
 either_way true x y e f = e
 either_way false x y e f = f
 
-pub may_retire : (old : Known) (c t n k : ℕ) (frames : List Frame) → Holds (with_entry old c (step_of t n)) c t k frames
-    → OwesUnmount (with_entry old c (step_of t n)) t → HasEnded (with_entry old c (step_of t n)) t → MayUnmount (with_entry old c (step_of t n)) c t
-may_retire old c t n k frames holds owes ended = λ v at.
+pub may_retire : (old : Known) (c t n k : ℕ) (pick : Option ℕ) (frames : List Frame) → Holds (with_entry old c (Step t n pick)) c t k frames
+    → OwesUnmount (with_entry old c (Step t n pick)) t → HasEnded (with_entry old c (Step t n pick)) t → MayUnmount (with_entry old c (Step t n pick)) c t
+may_retire old c t n k pick frames holds owes ended = λ v at.
     let l = look_of old.setting.world v.state in
     let s = v.schedule in
-    let entry = last_entry old c (step_of t n) v at in
-    let last = stepped_last old.setting entry.first entry.before v c t n entry.after in
+    let entry = last_entry old c (Step t n pick) v at in
+    let last = stepped_last old.setting entry.first entry.before v c t n pick entry.after in
     and_from (has_mounted s c t) (cond l.ended (is_last_act l s c t) (s.owes t || came_late l s t)) (holds v at).mounted
     (either_way l.ended (is_last_act l s c t) (s.owes t || came_late l s t) (last_act l s c t (ended_spot old.setting.world v.state t (ended v at)) last)
     (or_left (s.owes t) (came_late l s t) (owes v at)))
@@ -216,15 +217,15 @@ left_after old c what room = let e : Entry = record { carrier = c; what = what }
 -- ---- a thread that goes on
 
 -- it may step: it doesn't have to leave, and nobody is pinned
-pub goes_enabled : (old new : Known) (c t n : ℕ) → new ≡ with_entry old c (step_of t n) → IsLegal new → OwesNothing new t → MayStep new t
-goes_enabled old new c t n entry legal owes = λ v at.
-    let last = last_entry old c (step_of t n) v (ap scheduled (sym entry) ∙ at) in
+pub goes_enabled : (old new : Known) (c t n : ℕ) (pick : Option ℕ) → new ≡ with_entry old c (Step t n pick) → IsLegal new → OwesNothing new t → MayStep new t
+goes_enabled old new c t n pick entry legal owes = λ v at.
+    let last = last_entry old c (Step t n pick) v (ap scheduled (sym entry) ∙ at) in
     let setting : new.setting ≡ old.setting = ap (λ (m : Known). m.setting) entry in
     let p = old.setting in
     let after = is_program_after new v legal at in
     let free : (look_of p.world v.state).pinned t ≡ false =
     subst (λ (q : Setting). (look_of q.world v.state).pinned t ≡ false) setting (nobody_is_pinned new.setting legal.first v after legal.accepted.typed legal.accepted.calls t) in
-    let tells = stepped_owes p last.first last.before v c t n last.after in
+    let tells = stepped_owes p last.first last.before v c t n pick last.after in
     stays_enabled (look_of p.world v.state) t tells.0 free (sym tells.1 ∙ owes v at)
 
 -- so it is live

@@ -6,7 +6,7 @@ use Rattle.items.specs.First.{Each}
 use Rattle.items.proofs.Binds.{bind_is}
 use Rattle.history.specs.declared.entry.Entry.{Entry}
 use Rattle.history.specs.declared.entry.What.{What}
-use Rattle.history.specs.declared.entry.What.TheVariants.{Clock, Mount, Unmount}
+use Rattle.history.specs.declared.entry.What.TheVariants.{Clock, Mount, Step, Unmount}
 use Rattle.schedule_model.specs.Run.{Scheduled, schedule_of}
 use Rattle.ref_model.specs.declared.ending.Ending.TheVariants.{Halted}
 use Rattle.ref_model.specs.Setting.{Setting}
@@ -16,7 +16,6 @@ use Rattle.ref_model.specs.Looks.{machine_from}
 use Rattle.schedule_soundness.specs.ClockLaws.{HasReason, awaited, read}
 use Rattle.machine.specs.Legal.{IsLegal, Works}
 use Rattle.machine.specs.Machines.{Known, machine_ending, scheduled}
-use Rattle.machine.specs.Turns.{step_of}
 use Rattle.carrier.specs.declared.hand.Hand.{Hand}
 use Rattle.carrier.specs.declared.ask.Turn.{Turn}
 use Rattle.carrier.specs.Plays.{IsDoneTurn}
@@ -64,8 +63,8 @@ acts_given : (gives : ℕ → Bool) (c : ℕ) (es : List Entry) → AreActs c es
 acts_given gives c es (turns.none is) = subst (AreGivenTimes gives) (sym is) tt
 acts_given gives c es (turns.mount t is) = subst (AreGivenTimes gives) (sym is) (λ now e. absurd cc, tt)
 acts_given gives c es (turns.unmount t is) = subst (AreGivenTimes gives) (sym is) (λ now e. absurd cc, tt)
-acts_given gives c es (turns.step t n is) = subst (AreGivenTimes gives) (sym is) (λ now e. absurd cc, tt)
-acts_given gives c es (turns.last_step t n is) = subst (AreGivenTimes gives) (sym is) (λ now e. absurd cc, (λ now e. absurd cc, tt))
+acts_given gives c es (turns.step t n pick is) = subst (AreGivenTimes gives) (sym is) (λ now e. absurd cc, tt)
+acts_given gives c es (turns.last_step t n pick is) = subst (AreGivenTimes gives) (sym is) (λ now e. absurd cc, (λ now e. absurd cc, tt))
 
 same_time : (a b : ℕ) → ◌≡◌ {A = What} (Clock a) (Clock b) → a ≡ b
 same_time a b e = cc
@@ -104,14 +103,14 @@ acts_none c es k later d now (turns.none is) e = by k (sym is ∙ e)
     by (x ∷ k) e = cc
 acts_none c es k later d now (turns.mount t is) e = none_of_one c d now (Mount t) later (λ f. absurd cc) k (sym is ∙ e)
 acts_none c es k later d now (turns.unmount t is) e = none_of_one c d now (Unmount t) later (λ f. absurd cc) k (sym is ∙ e)
-acts_none c es k later d now (turns.step t n is) e = none_of_one c d now (step_of t (suc n)) later (λ f. absurd cc) k (sym is ∙ e)
-acts_none c es k later d now (turns.last_step t n is) e = by k (sym is ∙ e)
+acts_none c es k later d now (turns.step t n pick is) e = none_of_one c d now (Step t (suc n) pick) later (λ f. absurd cc) k (sym is ∙ e)
+acts_none c es k later d now (turns.last_step t n pick is) e = by k (sym is ∙ e)
   where
-    by : (k : List Entry) → entry_by c (step_of t (suc n)) ∷ entry_by c (Unmount t) ∷ [] ≡ k ++ entry_by d (Clock now) ∷ later → ⊥
-    by [] e = no_tick c d now (step_of t (suc n)) (entry_by c (Unmount t) ∷ []) later (λ f. absurd cc) e
+    by : (k : List Entry) → entry_by c (Step t (suc n) pick) ∷ entry_by c (Unmount t) ∷ [] ≡ k ++ entry_by d (Clock now) ∷ later → ⊥
+    by [] e = no_tick c d now (Step t (suc n) pick) (entry_by c (Unmount t) ∷ []) later (λ f. absurd cc) e
     by (x ∷ k) e =
         none_of_one c d now (Unmount t) later (λ f. absurd cc) k
-        (rest_is (entry_by c (step_of t (suc n))) x (entry_by c (Unmount t) ∷ []) (k ++ entry_by d (Clock now) ∷ later) e)
+        (rest_is (entry_by c (Step t (suc n) pick)) x (entry_by c (Unmount t) ∷ []) (k ++ entry_by d (Clock now) ∷ later) e)
 
 -- an entry of time in a turn is its first, and the turn's own
 record TimeOf (c now d n : ℕ) (es k later : List Entry) : Type 0 where

@@ -6,7 +6,7 @@ use Rattle.std.proofs.lemmas.Bool.{and_from}
 use Rattle.std.proofs.Math.Seq.{append_snoc}
 use Rattle.history.specs.declared.entry.Entry.{Entry}
 use Rattle.history.specs.declared.entry.What.{What}
-use Rattle.history.specs.declared.entry.What.TheVariants.{Clock, Mount, Unmount}
+use Rattle.history.specs.declared.entry.What.TheVariants.{Clock, Mount, Step, Unmount}
 use Rattle.vthread_state.specs.declared.phase.Phase.TheVariants as phases
 use Rattle.continuation.specs.Continuation.{Continuation}
 use Rattle.schedule_model.specs.Run.{Scheduled}
@@ -14,14 +14,13 @@ use Rattle.ref_model.specs.declared.ending.Ending.TheVariants.{Halted, Stalled}
 use Rattle.ref_model.specs.State.{JavaThread, State, with_frames}
 use Rattle.ref_model.specs.Ending.{ending}
 use Rattle.ref_model.specs.Step.{enabled, is_ready}
-use Rattle.ref_model.specs.Looks.{is_stalled, lacks_threads_next}
+use Rattle.ref_model.specs.Looks.{is_stalled, lacks_threads_next, reads_clock_next}
 use Rattle.schedule_soundness.specs.ClockLaws.{HasReason, awaited, read, reads_clock_after}
 use Rattle.machine.specs.Clocks.{Awaits, AwaitsNothing, IsBefore}
 use Rattle.vthread_state.specs.declared.thread.Status.TheVariants.{Live}
 use Rattle.machine.specs.Hands.{HasHand, HasPhase, IsLiveIn, MayStep}
 use Rattle.machine.specs.Legal.{GoesOn, IsLegal}
 use Rattle.machine.specs.Machines.{Given, Known, machine_ending, scheduled, with_ending, with_entry}
-use Rattle.machine.specs.Turns.{step_of}
 use Rattle.carrier.specs.Acts.{IsAct, StepLacks}
 use Rattle.carrier.specs.declared.ask.Turn.{Turn}
 use Rattle.carrier.specs.declared.ask.Turn.TheVariants.{Over}
@@ -38,8 +37,8 @@ use Rattle.carrier.proofs.EndingLaws.{is_scheduled, not_both, room_for, told_end
 use Rattle.carrier.proofs.FitLaws.{fits_told, mounted_by}
 use Rattle.carrier.proofs.EntryLaws.{first_entry, last_entry}
 use Rattle.carrier.proofs.OutlastLaws.{fits_ticked, mounted_ticked, phase_ticked}
-use Rattle.carrier.proofs.ReadLaws.{reads_after, reads_lack, reads_runs}
-use Rattle.carrier.proofs.StepLaws.{held_steps}
+use Rattle.carrier.proofs.ReadLaws.{reads_after, reads_lack, reads_runs, reads_still}
+use Rattle.carrier.proofs.StepLaws.{held_steps, same_kept}
 use Rattle.carrier.proofs.TickLaws as TickLaws
 use Rattle.carrier.proofs.TurnLaws.{Kept, looked_keeps, nearer_by_entry, one_longer, over_looked, stopped_turn, told_enabled, told_looked}
 
@@ -55,8 +54,8 @@ no_time : (c now : ℕ) (es later : List Entry) → AreActs c es → es ≡ entr
 no_time c now es later (turns.none is) e = let bad = sym is ∙ e in cc
 no_time c now es later (turns.mount t is) e = no_tick c now (Mount t) [] (λ f. absurd cc) later (sym is ∙ e)
 no_time c now es later (turns.unmount t is) e = no_tick c now (Unmount t) [] (λ f. absurd cc) later (sym is ∙ e)
-no_time c now es later (turns.step t n is) e = no_tick c now (step_of t (suc n)) [] (λ f. absurd cc) later (sym is ∙ e)
-no_time c now es later (turns.last_step t n is) e = no_tick c now (step_of t (suc n)) (entry_by c (Unmount t) ∷ []) (λ f. absurd cc) later (sym is ∙ e)
+no_time c now es later (turns.step t n pick is) e = no_tick c now (Step t (suc n) pick) [] (λ f. absurd cc) later (sym is ∙ e)
+no_time c now es later (turns.last_step t n pick is) e = no_tick c now (Step t (suc n) pick) (entry_by c (Unmount t) ∷ []) (λ f. absurd cc) later (sym is ∙ e)
 
 pub act_turn : (old new : Known) (c now : ℕ) (h g : Hand) (answer : Turn) → AwaitsNothing old now
     → (wants_nothing new.told ≡ true → ReadsInTime old h now) → IsAct old new c now h g answer → IsTurn old new c now h g answer
@@ -191,9 +190,6 @@ rest_is (x ∷ xs) ys zs e = rest_is xs ys zs (tail e)
     tail : (x ∷ xs) ++ ys ≡ (x ∷ xs) ++ zs → xs ++ ys ≡ xs ++ zs
     tail e = cc
 
-pub same_kept : (x y : Continuation) → ◌≡◌ {A = Option Continuation} (Some x) (Some y) → x ≡ y
-same_kept x y e = cc
-
 no_true : (b : Bool) → b ≡ true → b ≡ false → ⊥
 no_true b e f = absurd cc
 
@@ -236,6 +232,22 @@ module _ (old mid : Known) (c now : ℕ) (h : Hand) (act : MayAct old c h) (spar
     enabled = may_step;
   }
 
+  -- its step reads the clock after that, too
+  reads_then : StepReads mid h
+  reads_then = record {
+    kept = r.kept;
+    mounted = r.mounted;
+    few = r.few;
+    reads = λ w there.
+        let last = last_entry old c (Clock now) w (ap scheduled (sym entry) ∙ there) in
+        let tick = TickLaws.ticked old.setting last.first last.before w c now last.after in
+        let z = run_phase w there in
+        let before = held_steps old c h r.kept was last.before last.at in
+        subst (λ (m : Known). reads_clock_next m.setting.world (with_frames w.state r.kept.thread r.kept.stack.frames) r.kept.thread ≡ true) (sym entry)
+        (reads_still old.setting.world last.before.state w.state now r.kept.thread before.thread z.thread r.kept.stack.frames tick.tick before.at z.at z.status
+        (r.reads last.before last.at));
+  }
+
   module _ (new : Known) (g : Hand) (answer : Turn) where
     -- why time went on
     reason : (x : IsAct mid new c now h g answer) → (new.told ≡ Some Halted → ⊥) → Given old (λ v. HasReason old.setting v.state c now x.entries)
@@ -254,8 +266,9 @@ module _ (old mid : Known) (c now : ℕ) (h : Hand) (act : MayAct old c h) (spar
             let there = is_scheduled mid legal in
             absurd (no_true (enabled w.state r.kept.thread) (may_step w there)
             (subst (λ (z : Continuation). enabled w.state z.thread ≡ false) (same_kept k r.kept (sym mounted ∙ r.mounted)) (may w there)))
-        is_step v at (turns.steps k n rest mounted ahead may history owes) =
-            let entries : x.entries ≡ entry_by c (step_of k.thread (suc n)) ∷ rest = rest_is mid.history x.entries (entry_by c (step_of k.thread (suc n)) ∷ rest) (sym x.history ∙ history) in
+        is_step v at (turns.steps k n pick rest mounted ahead may unread history owes) =
+            let after = rest_is mid.history x.entries (entry_by c (Step k.thread (suc n) pick) ∷ rest) (sym x.history ∙ history) in
+            let entries : x.entries ≡ entry_by c (Step k.thread (suc n) None) ∷ rest = after ∙ ap (λ u. entry_by c (Step k.thread (suc n) u) ∷ rest) (unread reads_then) in
             let here : k ≡ r.kept = same_kept k r.kept (sym mounted ∙ r.mounted) in
             read k.thread (suc n) rest entries
             (subst (λ (z : Continuation). reads_clock_after old.setting v.state z.thread (suc n) ≡ true) (sym here)
@@ -295,7 +308,7 @@ pub looked_on : (mid new : Known) (answer : Turn) → AnswersUnlessStalled mid n
     → (new ≡ mid) × (machine_ending mid ≡ None) × StallsAreTold mid
 looked_on mid new answer (looks_over ended same is) on = absurd (on is)
 looked_on mid new answer (looks_stalled none same is) on = absurd (on is)
-looked_on mid new answer (looks_on none goes same is) on = (same, none, λ v at stalls. absurd (no_true (is_stalled mid.setting.world v.state) stalls (goes v at)))
+looked_on mid new answer (looks_on none goes same _) on = (same, none, λ v at stalls. absurd (no_true (is_stalled mid.setting.world v.state) stalls (goes v at)))
 
 -- ---- a run that is given up
 
@@ -318,7 +331,7 @@ tick_ends_fits old mid new c now h answer act entry legal look = by look
     fits = subst (λ m. Fits m c h) (sym entry) (fits_ticked old c now c h act.legal act.going act.fits)
 
     by : AnswersUnlessStalled mid new Nothing answer → Fits new c h
-    by (looks_over ended same is) = subst (λ m. Fits m c h) (sym same) fits
+    by (looks_over ended same _) = subst (λ m. Fits m c h) (sym same) fits
     by (looks_stalled none same is) =
         subst (λ m. Fits m c h) (sym same) (fits_told mid mid.spare (Some Stalled) c h (λ ended. told_ends mid Stalled legal) fits)
     by (looks_on none not same is) = subst (λ m. Fits m c h) (sym same) fits

@@ -6,7 +6,7 @@ use Rattle.std.proofs.lemmas.List.{append-nil}
 use Rattle.std.proofs.Math.Seq.{append_snoc}
 use Rattle.history.specs.declared.entry.Entry.{Entry}
 use Rattle.history.specs.declared.entry.What.{What}
-use Rattle.history.specs.declared.entry.What.TheVariants.{Mount, Unmount, Clock}
+use Rattle.history.specs.declared.entry.What.TheVariants.{Mount, Step, Unmount, Clock}
 use Rattle.continuation.specs.Continuation.{Continuation}
 use Rattle.schedule_model.specs.Run.{Scheduled}
 use Rattle.ref_model.specs.declared.ending.Ending.{Ending}
@@ -14,12 +14,12 @@ use Rattle.ref_model.specs.declared.ending.Ending.TheVariants.{Halted, Limit, St
 use Rattle.ref_model.specs.declared.ending.Which.TheVariants.{Threads}
 use Rattle.ref_model.specs.Setting.{Setting}
 use Rattle.ref_model.specs.State.{State, with_frames}
-use Rattle.ref_model.specs.Looks.{is_stalled, lacks_threads_next}
+use Rattle.ref_model.specs.Looks.{is_stalled, lacks_threads_next, reads_clock_next}
 use Rattle.machine.specs.declared.after.After.TheVariants.{Goes, Leaves, Ends, Halts}
 use Rattle.machine.specs.Hands.{AreDequesEmpty, MayStep, OwesUnmount}
 use Rattle.machine.specs.Legal.{IsLegal}
 use Rattle.machine.specs.Machines.{Given, Known, machine_ending, with_ending, with_entry}
-use Rattle.machine.specs.Turns.{HasHalted, HasStepped, given_up, lacks_threads, step_of}
+use Rattle.machine.specs.Turns.{HasHalted, HasStepped, given_up, lacks_threads}
 use Rattle.carrier.specs.declared.ask.Ask.{Ask}
 use Rattle.carrier.specs.declared.ask.Ask.TheVariants.{Nothing, Local, Freeze}
 use Rattle.carrier.specs.declared.hand.Hand.{Hand}
@@ -28,12 +28,12 @@ use Rattle.carrier.specs.declared.ask.Turn.TheVariants.{Run, Nap, Over}
 use Rattle.carrier.specs.Hands.{HasDone}
 use Rattle.carrier.specs.Turns as turns
 use Rattle.carrier.specs.Acts.{IsAct, StepLacks}
-use Rattle.carrier.specs.Turns.{Appends, AreActs, AreOfTurn, HoldsFrozen, HoldsNothing, IsActDue, IsDue, IsNap, IsTurn, MayNotStep, MayTick, StallsAreTold, asked_by, entry_by, goes_on, is_freeze, is_over, is_pressing, turns_left, wants_nothing}
+use Rattle.carrier.specs.Turns.{Appends, AreActs, AreOfTurn, HoldsFrozen, HoldsNothing, IsActDue, IsDue, IsNap, IsTurn, MayNotStep, MayTick, StallsAreTold, StepReads, asked_by, entry_by, goes_on, is_freeze, is_over, is_pressing, turns_left, wants_nothing}
 use Rattle.carrier.specs.Steps.{AnswersUnlessOver, AnswersUnlessStalled, GoesOnBy, HasGone, IsGivenUp, MayAct, MayGoOn, MountedBy, ran, waits, was_over, gives_up, goes_over, goes_to_run, goes_to_wait, answers_over, answers, looks_over, looks_stalled, looks_on}
 use Rattle.carrier.proofs.EndingLaws.{going, is_scheduled, none_is_no, not_both, room_for, told_ends, told_over}
 use Rattle.carrier.proofs.EntryLaws.{LastEntry, last_entry, mounted_is, unmounted_state}
 use Rattle.carrier.proofs.FitLaws.{mounted_by}
-use Rattle.carrier.proofs.StepLaws.{thread_kept}
+use Rattle.carrier.proofs.StepLaws.{same_kept, thread_kept}
 use Rattle.carrier.proofs.StallLaws.{enabled_goes}
 
 -- ---- how far the end is
@@ -200,7 +200,8 @@ room_turn old new spare c now h g answer x =
     by_act (turns.puts_down k holds history) = turns.puts_down k holds history
     by_act (turns.takes_up t none history) = turns.takes_up t none history
     by_act (turns.naps nanos none empty history is nap) = turns.naps nanos none empty history is nap
-    by_act (turns.steps k n rest mounted ahead may history owes) = turns.steps k n rest mounted ahead may history owes
+    by_act (turns.steps k n pick rest mounted ahead may unread history owes) =
+        turns.steps k n pick rest mounted ahead may (λ r. unread (record { kept = r.kept; mounted = r.mounted; few = r.few; reads = r.reads })) history owes
     by_act (turns.freezes k mounted may history is) = turns.freezes k mounted may history is
 
     by_tick : MayTick before now h → MayTick old now h
@@ -214,7 +215,8 @@ room_turn old new spare c now h g answer x =
         by (turns.puts_down k holds history) = turns.puts_down k holds history
         by (turns.takes_up t none history) = turns.takes_up t none history
         by (turns.naps nanos none empty history is nap) = turns.naps nanos none empty history is nap
-        by (turns.steps k n rest mounted ahead may history owes) = turns.steps k n rest mounted ahead may history owes
+        by (turns.steps k n pick rest mounted ahead may unread history owes) =
+            turns.steps k n pick rest mounted ahead may (λ r. unread (record { kept = r.kept; mounted = r.mounted; few = r.few; reads = r.reads })) history owes
         by (turns.freezes k mounted may history is) = turns.freezes k mounted may history is
 
     by : IsDue before new c now h answer → IsDue old new c now h answer
@@ -403,17 +405,29 @@ looked_lacks old new ask answer (looks_on going on same is) none lacks = nothing
 left_one : (n k : ℕ) → n + 2 ≤ k → n + 1 ≤ k
 left_one n k few = omega arith
 
+-- a step that reads the clock picks nobody
+unread_by : (old : Known) (h : Hand) (t : ℕ) {c : ℕ} (was : Continuation) (pick : Option ℕ) → MayGoOn old c h t → h.mounted ≡ Some was
+    → Given old (λ v. reads_clock_next old.setting.world (with_frames v.state t was.stack.frames) t ≡ true → pick ≡ None) → StepReads old h → pick ≡ None
+unread_by old h t was pick may had none r =
+    let v = may.legal.after in
+    let there = is_scheduled old may.legal in
+    let thread : was.thread ≡ t = ap (λ (k : Continuation). k.thread) (same_kept was may.mounted.kept (sym had ∙ may.mounted.mounted)) ∙ may.mounted.thread in
+    none v there
+    (subst (λ (u : ℕ). reads_clock_next old.setting.world (with_frames v.state u was.stack.frames) u ≡ true) thread
+    (subst (λ (k : Continuation). reads_clock_next old.setting.world (with_frames v.state k.thread k.stack.frames) k.thread ≡ true) (same_kept r.kept was (sym r.mounted ∙ had))
+    (r.reads v there)))
+
 -- the thread goes on
 pub goes_act : (old mid : Known) (c t now least : ℕ) (h g x : Hand) (answer : Turn) → MayGoOn old c h t → HasGone Goes old mid c t least h g
     → MayStep mid t → GoesOnBy mid t answer → x.asked ≡ asked_by answer → x.failed ≡ false → IsAct old mid c now h x answer
 goes_act old mid c t now least h g x answer may gone still way asks works =
     let s = gone.steps in
-    let what = step_of t (suc gone.local) in
+    let what = Step t (suc gone.local) s.pick in
     let has = may.mounted in
     one_entry old mid c now what h x answer (left_one (length old.history) old.setting.limits.events may.left) (history_is old mid c what s.entry) (setting_is old mid c what s.entry)
-    (carriers_is old mid c what s.entry) (turns.step t gone.local refl) (over_by mid t answer way) asks (λ goes. works)
-    (turns.steps has.kept gone.local [] has.mounted gone.ahead (subst (MayStep old) (sym has.thread) may.enabled)
-    (history_is old mid c what s.entry ∙ ap (λ u. old.history ++ entry_by c (step_of u (suc gone.local)) ∷ []) (sym has.thread)) (λ is. absurd (no_freeze is way)))
+    (carriers_is old mid c what s.entry) (turns.step t gone.local s.pick refl) (over_by mid t answer way) asks (λ goes. works)
+    (turns.steps has.kept gone.local s.pick [] has.mounted gone.ahead (subst (MayStep old) (sym has.thread) may.enabled) (unread_by old h t gone.was s.pick may gone.had s.unread)
+    (history_is old mid c what s.entry ∙ ap (λ u. old.history ++ entry_by c (Step u (suc gone.local) s.pick) ∷ []) (sym has.thread)) (λ is. absurd (no_freeze is way)))
     (λ lacks. absurd (nothing_lacks mid.told (told_is old mid c what s.entry ∙ may.going.told) lacks))
     (λ told. told_enabled mid t still)
   where
@@ -427,14 +441,14 @@ pub leaves_act : (old mid new : Known) (c t now least : ℕ) (h g x : Hand) (ans
     → IsLegal mid → AnswersUnlessStalled mid new Freeze answer → x.asked ≡ asked_by answer → x.failed ≡ false → IsAct old new c now h x answer
 leaves_act old mid new c t now least h g x answer may gone legal look asks works =
     let s = gone.steps in
-    let what = step_of t (suc gone.local) in
+    let what = Step t (suc gone.local) s.pick in
     let keeps = looked_keeps mid new Freeze answer look in
     let history = keeps.history ∙ history_is old mid c what s.entry in
     let has = may.mounted in
     one_entry old new c now what h x answer (left_one (length old.history) old.setting.limits.events may.left) history (keeps.setting ∙ setting_is old mid c what s.entry)
-    (keeps.carriers ∙ carriers_is old mid c what s.entry) (turns.step t gone.local refl) (over_looked mid new Freeze answer legal look) asks (λ goes. works)
-    (turns.steps has.kept gone.local [] has.mounted gone.ahead (subst (MayStep old) (sym has.thread) may.enabled)
-    (history ∙ ap (λ u. old.history ++ entry_by c (step_of u (suc gone.local)) ∷ []) (sym has.thread))
+    (keeps.carriers ∙ carriers_is old mid c what s.entry) (turns.step t gone.local s.pick refl) (over_looked mid new Freeze answer legal look) asks (λ goes. works)
+    (turns.steps has.kept gone.local s.pick [] has.mounted gone.ahead (subst (MayStep old) (sym has.thread) may.enabled) (unread_by old h t gone.was s.pick may gone.had s.unread)
+    (history ∙ ap (λ u. old.history ++ entry_by c (Step u (suc gone.local) s.pick) ∷ []) (sym has.thread))
     (λ is. subst (OwesUnmount new) (sym has.thread) (owed is look)))
     (λ lacks. absurd (looked_lacks mid new Freeze answer look (told_is old mid c what s.entry ∙ may.going.told) lacks))
     (λ told. told_looked mid new Freeze answer legal look)
@@ -451,15 +465,16 @@ pub ends_act : (old mid put new : Known) (c t now least : ℕ) (h g x : Hand) (a
 ends_act old mid put new c t now least h g x answer may gone entry legal look asks works =
     record {
       entries = entry_by c what ∷ entry_by c (Unmount t) ∷ [];
-      are_acts = turns.last_step t gone.local refl;
+      are_acts = turns.last_step t gone.local s.pick refl;
       history = history;
       setting = setting;
       carriers = keeps.carriers ∙ carriers_is mid put c (Unmount t) entry ∙ carriers_is old mid c what s.entry;
       over = over_looked put new Nothing answer legal look;
       asks = asks ∙ asked look;
       works = λ goes. works;
-      due = λ wants. turns.steps may.mounted.kept gone.local (entry_by c (Unmount t) ∷ []) may.mounted.mounted gone.ahead (subst (MayStep old) (sym may.mounted.thread) may.enabled)
-          (history ∙ ap (λ u. old.history ++ entry_by c (step_of u (suc gone.local)) ∷ entry_by c (Unmount t) ∷ []) (sym may.mounted.thread)) (λ is. absurd (no_freeze is look));
+      due = λ wants. turns.steps may.mounted.kept gone.local s.pick (entry_by c (Unmount t) ∷ []) may.mounted.mounted gone.ahead (subst (MayStep old) (sym may.mounted.thread) may.enabled)
+          (unread_by old h t gone.was s.pick may gone.had s.unread)
+          (history ∙ ap (λ u. old.history ++ entry_by c (Step u (suc gone.local) s.pick) ∷ entry_by c (Unmount t) ∷ []) (sym may.mounted.thread)) (λ is. absurd (no_freeze is look));
       stops = λ lacks.
           absurd (looked_lacks put new Nothing answer look (told_is mid put c (Unmount t) entry ∙ told_is old mid c what s.entry ∙ may.going.told) lacks);
       told = λ told. told_looked put new Nothing answer legal look;
@@ -467,11 +482,11 @@ ends_act old mid put new c t now least h g x answer may gone entry legal look as
           (subst (λ (es : List Entry). length old.history < length es) (sym history) (one_longer old.history (entry_by c what) (entry_by c (Unmount t) ∷ []))) setting;
     }
   where
-    s : HasStepped Ends old mid c t gone.local gone.kept.stack.frames
+    s : HasStepped Ends old mid c t gone.local gone.was.stack.frames gone.kept.stack.frames
     s = gone.steps
 
     what : What
-    what = step_of t (suc gone.local)
+    what = Step t (suc gone.local) s.pick
 
     keeps : Kept put new
     keeps = looked_keeps put new Nothing answer look
@@ -479,11 +494,11 @@ ends_act old mid put new c t now least h g x answer may gone entry legal look as
     setting : new.setting ≡ old.setting
     setting = keeps.setting ∙ setting_is mid put c (Unmount t) entry ∙ setting_is old mid c what s.entry
 
-    history : new.history ≡ old.history ++ entry_by c (step_of t (suc gone.local)) ∷ entry_by c (Unmount t) ∷ []
+    history : new.history ≡ old.history ++ entry_by c (Step t (suc gone.local) s.pick) ∷ entry_by c (Unmount t) ∷ []
     history =
         keeps.history ∙ history_is mid put c (Unmount t) entry
-        ∙ ap (λ (es : List Entry). es ++ entry_by c (Unmount t) ∷ []) (history_is old mid c (step_of t (suc gone.local)) s.entry)
-        ∙ append_snoc old.history (entry_by c (step_of t (suc gone.local))) (entry_by c (Unmount t) ∷ [])
+        ∙ ap (λ (es : List Entry). es ++ entry_by c (Unmount t) ∷ []) (history_is old mid c (Step t (suc gone.local) s.pick) s.entry)
+        ∙ append_snoc old.history (entry_by c (Step t (suc gone.local) s.pick)) (entry_by c (Unmount t) ∷ [])
 
     asked : AnswersUnlessStalled put new Nothing answer → Nothing ≡ asked_by answer
     asked (looks_over ended same is) = sym (ap asked_by is)

@@ -2,7 +2,7 @@
 use Rattle.std.specs.Prelude.{◌≡◌, ◌<◌, ◌+◌, ◌-◌, ◌*◌, ◌||◌, ℕ, suc, Bool, true, false, List, [], ◌∷◌, ◌++◌, Option, Some, None, is_some, length, if◌then◌else◌}
 use Rattle.history.specs.declared.entry.Entry.{Entry}
 use Rattle.history.specs.declared.entry.What.{What}
-use Rattle.history.specs.declared.entry.What.TheVariants.{Mount, Unmount, Clock}
+use Rattle.history.specs.declared.entry.What.TheVariants.{Mount, Step, Unmount, Clock}
 use Rattle.continuation.specs.Continuation.{Continuation}
 use Rattle.ref_model.specs.declared.ending.Ending.{Ending}
 use Rattle.ref_model.specs.declared.ending.Ending.TheVariants.{Halted, Stalled}
@@ -13,7 +13,6 @@ use Rattle.schedule_soundness.specs.ClockLaws.{HasReason}
 use Rattle.machine.specs.Clocks.{Awaits, AwaitsNothing, IsBefore, IsEarliestIn, IsNotBefore}
 use Rattle.machine.specs.Machines.{Given, Known, machine_ending, with_entry}
 use Rattle.machine.specs.Hands.{AreDequesEmpty, MayStep, OwesUnmount}
-use Rattle.machine.specs.Turns.{step_of}
 use Rattle.carrier.specs.declared.ask.Ask.{Ask}
 use Rattle.carrier.specs.declared.ask.Ask.TheVariants.{Nothing, Local, Freeze}
 use Rattle.carrier.specs.declared.hand.Hand.{Hand}
@@ -50,8 +49,8 @@ pub data AreActs (c : ℕ) (entries : List Entry) : Type 0 where
   none : entries ≡ [] → AreActs c entries
   mount : (t : ℕ) → entries ≡ entry_by c (Mount t) ∷ [] → AreActs c entries
   unmount : (t : ℕ) → entries ≡ entry_by c (Unmount t) ∷ [] → AreActs c entries
-  step : (t n : ℕ) → entries ≡ entry_by c (step_of t (suc n)) ∷ [] → AreActs c entries
-  last_step : (t n : ℕ) → entries ≡ entry_by c (step_of t (suc n)) ∷ entry_by c (Unmount t) ∷ [] → AreActs c entries
+  step : (t n : ℕ) (pick : Option ℕ) → entries ≡ entry_by c (Step t (suc n) pick) ∷ [] → AreActs c entries
+  last_step : (t n : ℕ) (pick : Option ℕ) → entries ≡ entry_by c (Step t (suc n) pick) ∷ entry_by c (Unmount t) ∷ [] → AreActs c entries
 
 -- The entries that a turn appends: those, or before them that time goes on to the turn's time.
 pub data AreOfTurn (c now : ℕ) (entries : List Entry) : Type 0 where
@@ -93,6 +92,13 @@ NapsFor r now (Some nanos) = (deadline : ℕ) × IsEarliestIn r (Some deadline) 
 abbrev pub IsNap : Known → ℕ → Option ℕ → Type 0
 IsNap m now nanos = Given m (λ v. NapsFor v.state now nanos)
 
+-- the step of the mounted thread, after the local instructions in the hand, reads the clock
+pub record StepReads (m : Known) (h : Hand) : Type 0 where
+  pub kept : Continuation
+  pub mounted : h.mounted ≡ Some kept
+  pub few : steps_of h.local ≡ 10001 → ⊥
+  pub reads : Given m (λ v. reads_clock_next m.setting.world (with_frames v.state kept.thread kept.stack.frames) kept.thread ≡ true)
+
 -- What a turn of carrier c does with its thread, by what its hand holds.
 pub data IsActDue (old new : Known) (c now : ℕ) (h : Hand) (answer : Turn) : Type 0 where
   -- a frozen continuation is put down
@@ -102,20 +108,15 @@ pub data IsActDue (old new : Known) (c now : ℕ) (h : Hand) (answer : Turn) : T
   takes_up : (t : ℕ) → HoldsNothing h → new.history ≡ old.history ++ entry_by c (Mount t) ∷ [] → IsActDue old new c now h answer
   naps : (nanos : Option ℕ) → HoldsNothing h → AreDequesEmpty old → new.history ≡ old.history → answer ≡ Nap nanos → IsNap old now nanos →
       IsActDue old new c now h answer
-  -- a mounted thread that is enabled makes a step, after which it is to be frozen only where its unmount is owed
-  steps : (k : Continuation) (n : ℕ) (rest : List Entry) → h.mounted ≡ Some k → AreAhead h.local n → MayStep old k.thread →
-      new.history ≡ old.history ++ entry_by c (step_of k.thread (suc n)) ∷ rest → (answer ≡ Run Freeze → OwesUnmount new k.thread) →
+  -- a mounted thread that is enabled makes a step, which picks no thread if it reads the clock, and after which the thread is to be frozen only
+  -- where its unmount is owed
+  steps : (k : Continuation) (n : ℕ) (pick : Option ℕ) (rest : List Entry) → h.mounted ≡ Some k → AreAhead h.local n → MayStep old k.thread →
+      (StepReads old h → pick ≡ None) →
+      new.history ≡ old.history ++ entry_by c (Step k.thread (suc n) pick) ∷ rest → (answer ≡ Run Freeze → OwesUnmount new k.thread) →
       IsActDue old new c now h answer
   -- one that isn't is to be frozen
   freezes : (k : Continuation) → h.mounted ≡ Some k → MayNotStep old k.thread → new.history ≡ old.history → answer ≡ Run Freeze →
       IsActDue old new c now h answer
-
--- the step of the mounted thread, after the local instructions in the hand, reads the clock
-pub record StepReads (m : Known) (h : Hand) : Type 0 where
-  pub kept : Continuation
-  pub mounted : h.mounted ≡ Some kept
-  pub few : steps_of h.local ≡ 10001 → ⊥
-  pub reads : Given m (λ v. reads_clock_next m.setting.world (with_frames v.state kept.thread kept.stack.frames) kept.thread ≡ true)
 
 -- it is made only where the time isn't less than this
 abbrev pub ReadsInTime : Known → Hand → ℕ → Type 0

@@ -47,8 +47,8 @@ fn run_top<'a>(program: &'a ReadyProgram, mounted: &mut Mounted, most: u32) -> T
     run_and_fetch(program.prepared(), mounted, most)
 }
 
-// Returns to the caller if the top frame is at a return that isn't from a root frame; false if it isn't. A return that the definitions
-// don't have counts as memory run out.
+// Returns to the caller if the top frame is at a return that is neither from a root frame nor from one that holds a monitor; false if it isn't.
+// A return that the definitions don't have counts as memory run out.
 #[inline(always)]
 fn go_back(
     program: &ReadyProgram,
@@ -68,7 +68,7 @@ fn go_back(
     };
     match leave(program, returns.kind, mounted) {
         Left::Returned => Ok(true),
-        Left::Root => Ok(false),
+        Left::Root | Left::Holds(_) => Ok(false),
         Left::Undefined => Err(NoMemory),
     }
 }

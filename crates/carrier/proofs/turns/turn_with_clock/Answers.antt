@@ -1,7 +1,8 @@
 use Rattle.std.proofs.Common.{ap, subst, sym, ◌∙◌}
 use Rattle.continuation.specs.Continuation.{Continuation}
 use Rattle.carrier.specs.Steps.{MayGoOn}
-use Rattle.carrier.proofs.TimedTurnLaws.{clock_failed, clock_made, read_goes, read_turn, same_kept, tick_fails, tick_fails_fits}
+use Rattle.carrier.proofs.StepLaws.{same_kept}
+use Rattle.carrier.proofs.TimedTurnLaws.{clock_failed, clock_made, read_goes, read_turn, tick_fails, tick_fails_fits}
 use Rattle.carrier.proofs.turns.turn_with_clock.Goals as goal
 
 pub returns-then-is_err-clause-fits : goal.returns-then-is_err-clause-fits
