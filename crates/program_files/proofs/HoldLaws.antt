@@ -1,8 +1,7 @@
 -- A program that is supported names jvt.Native.hold nowhere.
 use Rattle.std.proofs.Common.{◌≡◌, ◌⊎◌, inl, inr, ℕ, zero, suc, ◌+◌, ◌<◌, ◌≤◌, Bool, true, false, not, List, [], ◌∷◌, length, refl, sym, ap, subst, ◌∙◌, ◌||◌, arith, length-append}
-use Rattle.std.specs.Prelude.{get_or, slice_get}
+use Rattle.std.specs.Prelude.{get_or}
 use Rattle.std.specs.List.{flat_map, enumerate_from, list_any, range_with_len}
-use Rattle.std.specs.Option.{option_map_or}
 use Rattle.std.proofs.lemmas.Bool.{cases_lt}
 use Rattle.std.proofs.lemmas.List.{get_or_past, length-map}
 use Rattle.class_model.specs.declared.class_file.ClassFile.{ClassFile}
@@ -13,7 +12,7 @@ use Rattle.link_model.specs.World.{World}
 use Rattle.link_model.specs.Worlds.{linking_of, world_of}
 use Rattle.schedule_soundness.specs.PinLaws.{NamesNoHold, names_hold}
 use Rattle.schedule_soundness.proofs.HoldNames.{tests_tell_names}
-use Rattle.program_files.specs.Supported.{is_supported, is_unsupported, unsupported_at}
+use Rattle.program_files.specs.Supported.{is_supported, unsupported_at}
 
 -- ---- a test of each number that passes none
 
@@ -61,6 +60,5 @@ names_no_hold p b is holds = tests_tell_names (world_of p) (λ n. by n (cases_lt
     by : (n : ℕ) → (n < length w.methods) ⊎ (length w.methods ≤ n) → list_any (names_hold w) (get_or w.resolutions n []) ≡ false
     by n (inl lt) =
         let none = off_is (list_any (unsupported_at w) (range_with_len 0 (length w.methods))) (sym is ∙ holds) in
-        (either_off (list_any (names_hold w) (get_or w.resolutions n [])) (option_map_or (is_unsupported w n) (slice_get w.methods n) false)
-        (none_passes (unsupported_at w) (length w.methods) 0 n none (omega arith) (omega (arith, lt)))).0
+        none_passes (unsupported_at w) (length w.methods) 0 n none (omega arith) (omega (arith, lt))
     by n (inr ge) = past_all p n ge
