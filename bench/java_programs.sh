@@ -10,10 +10,8 @@
 # bench/own/sketches.txt what stands there. usage: [NEW_JDK=COMMAND] bench/java_programs.sh
 set -eu
 export LC_ALL=C
-# What has no step yet: monitors.
-left_out='Monitors Queue WaitNotify'
 # A thread of it parks for ever.
-left_out="$left_out Parking"
+left_out='Parking'
 # Programs in which rules of jvt show: initializers run before main, and an exception's toString is that of Object.
 left_out="$left_out Main2 Exceptions ErrorKinds"
 

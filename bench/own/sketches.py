@@ -4,7 +4,8 @@
 usage: sketches.py SKETCHES OUT STDOUT
 
 A line of SKETCHES is a program: what jvt has to answer to it, a colon, and its classes with a bar between them. The answers are
-`prints TEXT`, `accepted` (well typed, but with no main), `link CLASS: WHY` and `verify CLASS.METHOD at PC: WHY`. The class files go to the
+`prints TEXT`, which may be empty, `throws CLASS`, `accepted` (well typed, but with no main), `link CLASS: WHY` and
+`verify CLASS.METHOD at PC: WHY`. The class files go to the
 folder OUT, one for each class, under the number of the program and a letter; what jvt has to print goes to the end of STDOUT.
 
 A class is written a word at a time: its flags, its name and its superclass, `-` for none; then `implements NAME`, `field FLAGS NAME
@@ -183,6 +184,8 @@ def outcome(wanted, main):
     kind, _, rest = wanted.partition(" ")
     if kind == "prints":
         return rest.replace(" ", "\n"), 0
+    if kind == "throws":
+        return f'Exception in thread "main" {rest}', 1
     if kind == "accepted":
         return f"jvt: no main in {main}", 70
     return f"jvt: {wanted}", {"link": 68, "verify": 69}[kind]
@@ -201,7 +204,7 @@ def main():
                 (out / name).write_bytes(Sketch(text).data)
             text, status = outcome(wanted, main)
             words = " ".join(["run", main, *(f"{out.name}/{name}" for name in names)])
-            expected.write(f"== {words}\n{text}\n== status {status}\n")
+            expected.write("\n".join(filter(None, [f"== {words}", text, f"== status {status}"])) + "\n")
 
 
 main()
