@@ -1,6 +1,7 @@
 #!/bin/sh
 # Runs the programs of bench/sleepers with a built jvt and with java: how late the last of 10,000 threads wakes that sleep for a second, five
-# times each, in milliseconds; and how much of a processor a program takes that sleeps for ten seconds. NEW_JDK is as in java_programs.sh.
+# times each, in milliseconds; how much of a processor a program takes that sleeps for ten seconds; and the processor time of 10,000 threads
+# that each sleep and then add under one monitor. NEW_JDK is as in java_programs.sh.
 # usage: [NEW_JDK=COMMAND] bench/sleepers.sh [PROGRAM], where PROGRAM is a built jvt
 set -eu
 . "$(dirname -- "$0")/work.sh"
@@ -17,9 +18,17 @@ import subprocess
 import sys
 import time
 
-began = time.monotonic()
-subprocess.run([sys.argv[1], "run", "Asleep", "Asleep.class"], check=True, stdout=subprocess.DEVNULL)
-took = time.monotonic() - began
-used = resource.getrusage(resource.RUSAGE_CHILDREN)
-print(f"jvt asleep for {took:.2f} s: {100 * (used.ru_utime + used.ru_stime) / took:.2f} % of a processor")
+
+def processor_time(main):
+    """The seconds of a processor that a program takes, and the seconds of its run."""
+    before, began = resource.getrusage(resource.RUSAGE_CHILDREN), time.monotonic()
+    subprocess.run([sys.argv[1], "run", main, f"{main}.class"], check=True, stdout=subprocess.DEVNULL)
+    after, took = resource.getrusage(resource.RUSAGE_CHILDREN), time.monotonic() - began
+    return after.ru_utime + after.ru_stime - before.ru_utime - before.ru_stime, took
+
+
+used, took = processor_time("Asleep")
+print(f"jvt asleep for {took:.2f} s: {100 * used / took:.2f} % of a processor")
+used, took = processor_time("Adds")
+print(f"jvt with 10,000 that sleep and add: {used:.2f} s of a processor in {took:.2f} s")
 PYTHON

@@ -19,6 +19,7 @@ EVENTS = {
     "InterfaceCalls": Turns("two calls and returns", 1_000_000),
     "Lines": Turns("a line of a joined String", 100_000),
     "Throws": Turns("three calls, an exception, and its way over three frames", 100_000),
+    "Locks": Turns("an enter and an exit of a monitor", 1_000_000),
 }
 
 THREADS = {
@@ -29,5 +30,8 @@ THREADS = {
     "OwnPermits": Turns("a permit that a thread gives itself, and takes", 500_000),
     "OwnInterrupts": Turns("a thread interrupts itself, and clears the status", 500_000),
     "Handovers": Turns("a permit for another thread, which waits for it", 200_000),
+    "WaitHandovers": Turns("a notification of another thread, which waits for it", 200_000),
+    "NotifyAmongFew": Turns("a notification of one of 10 threads that wait, which waits again", 100_000, "WaitFew"),
+    "NotifyAmongMany": Turns("a notification of one of 90,000 threads that wait, which waits again", 100_000, "WaitMany"),
     "ClockReadings": Turns("a reading of the clock", 500_000),
 }

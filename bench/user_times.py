@@ -7,7 +7,11 @@ import subprocess
 
 # The other classes that a program needs.
 CROWD = ["Crowd", "Yielder"]
-SHARED = {"Few": CROWD, "Many": CROWD, "AmongFew": CROWD, "AmongMany": CROWD}
+WAITING = ["Waiting"]
+SHARED = {
+    **dict.fromkeys(["Few", "Many", "AmongFew", "AmongMany"], CROWD),
+    **dict.fromkeys(["WaitFew", "WaitMany", "NotifyAmongFew", "NotifyAmongMany"], WAITING),
+}
 
 
 def files(name):

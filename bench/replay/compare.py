@@ -31,19 +31,21 @@ class Told(NamedTuple):
     err: bytes
     ending: str
     live: tuple
+    replay: str
 
 
 def told_in(text):
     """What `plays` printed of a case."""
-    trace, behind = [], {"live": ""}
+    trace, behind = [], {"live": "", "replay": "missing"}
     for line in text.splitlines():
         word, _, rest = line.partition(" ")
-        if word in ("out", "err", "ending", "live"):
+        if word in ("out", "err", "ending", "live", "replay"):
             behind[word] = rest
         else:
             trace.append(line + "\n")
     live = tuple(map(int, behind["live"].split()))
-    return Told("".join(trace), bytes.fromhex(behind["out"]), bytes.fromhex(behind["err"]), behind["ending"], live)
+    out, err = (bytes.fromhex(behind[stream]) for stream in ("out", "err"))
+    return Told("".join(trace), out, err, behind["ending"], live, behind["replay"])
 
 
 def played(path):
@@ -73,6 +75,8 @@ def differences(case, told, verdict):
         found.append(f"error output {told.err!r}, judged {verdict.err!r}")
     if not is_ending_right(told, verdict, case):
         found.append(f"ending {told.ending}, judged {verdict.ending}")
+    if told.replay != "same":
+        found.append(f"run again: {told.replay}")
     if told.ending == "Stalled" and told.live != verdict.live:
         found.append(f"live threads {told.live}, judged {verdict.live}")
     return found

@@ -18,7 +18,7 @@ ALONE = """Accounts BalancedTree Codes ConstructorOrder Corners DeepRecursion De
 Initializers Jagged MachineExceptions MergeSort NegativeExit OutAndErr SwitchForms UncaughtMemory UncaughtMine UnicodeTexts
 Limits FirstObjects OtherInitializers SynchronizedInitializer Main 267a 277a 278a 279a""".split()
 # Programs with threads whose outcome is a matter of the machine's own rules: stalls, abstract methods, numbers.
-OWN_THREADS = ["JoinsItself", "JoinsInARing", "ThreadNumbers", "AbstractRun", "FramesOfThreads", "ParkedForEver"]
+OWN_THREADS = """JoinsItself JoinsInARing ThreadNumbers AbstractRun FramesOfThreads ParkedForEver PhilosophersStall WaitsForEver""".split()
 # How many cases of a program are played in one run.
 GROUP = 12
 # One case in so many is of a program with one thread.
