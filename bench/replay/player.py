@@ -2,8 +2,9 @@
 
 In a turn a carrier that has a thread mounted makes a step of it, and with a step that ends the thread puts it down; a thread that has to leave is
 put down in its next turn. A thread that isn't enabled is made ready to be put down in one turn, and put down in the next. An idle carrier takes
-up a thread. Before its step a thread has executed its local instructions, at most 10,000. A turn is at a time; time goes on to it first where a
-live thread waits for that, after which the run may have ended, or where the step reads the clock, and the time is less.
+up a thread. Before its step a thread has executed its local instructions, at most 10,000; a notify picks the thread that has waited longest. A
+turn is at a time; time goes on to it first where a live thread waits for that, after which the run may have ended, or where the step reads the
+clock, and the time is less.
 """
 
 from judge import ENTRIES_OF_A_TURN, make_entry
@@ -57,13 +58,14 @@ class Player:
         ahead = run_ahead(thread)
         if self.state.now < now and thread.is_in(Run) and reads_clock(self.state, thread):
             self.enter(Clock(carrier, now))
+        pick = self.schedule.notified_next(thread)
         try:
-            self.schedule.step(carrier, number, ahead + 1, None, ahead)
+            self.schedule.step(carrier, number, ahead + 1, pick, ahead)
         except LacksThreads:
             self.told = f"Limit Threads {self.state.most_threads}"
             return
         self.schedule.last_carrier = carrier
-        self.history.append(Step(carrier, number, ahead + 1, None))
+        self.history.append(Step(carrier, number, ahead + 1, pick))
         if thread.status == DONE:
             self.put_down(carrier, number)
             self.tell_stall()

@@ -2,7 +2,7 @@
 with a state, entry by entry, and refuses an entry that may not stand where it stands."""
 
 from state import DONE, LIVE, Entering, Reenter, Waiting
-from steps import make_steps, pass_time
+from steps import make_steps, notified_monitor, pass_time
 from values import Undefined
 
 
@@ -79,6 +79,10 @@ class Schedule:
         self.was_off.discard(number)
         if number not in self.look.enabled:
             self.was_off.add(number)
+
+    def notified_next(self, thread):
+        """The thread that the next step of a thread notifies: the one that has waited longest, or None."""
+        return next(iter(self.waits.get(notified_monitor(self.state, thread), [])), None)
 
     def step(self, carrier, number, count, pick, ahead=0):
         require(self.mounted[carrier] == number, f"carrier {carrier} hasn't mounted thread {number}")
