@@ -6,6 +6,7 @@ mod begin;
 mod carriers;
 mod endings;
 mod entries;
+mod kept;
 mod laws;
 mod live;
 mod machine;
