@@ -23,3 +23,4 @@ pub mod AloneLaws
 pub mod RunLaws
 pub mod PlayLaws
 pub mod NewHandLaws
+pub mod PostLaws

@@ -5,3 +5,4 @@ pub mod Acts
 pub mod Steps
 pub mod Plays
 pub mod Runs
+pub mod Posts

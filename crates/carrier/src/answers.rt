@@ -5,6 +5,7 @@ ghost use Rattle.vthread_state.specs.declared.phase.Phase.TheVariants.{Run};
 ghost use Rattle.machine.specs.Hands.{HasPhase, Lives};
 ghost use Rattle.machine.specs.Legal.{GoesOn, IsLegal, Works};
 ghost use Rattle.carrier.specs.Steps.{AnswersUnlessOver, AnswersUnlessStalled, GoesOnBy, IsGivenUp};
+ghost use Rattle.carrier.specs.Turns as answers;
 ghost use Rattle.carrier.specs.Turns.{IsNap, asked_by};
 ghost use Rattle.carrier.specs.declared.ask.Ask.TheVariants.{Nothing};
 ghost use Rattle.carrier.specs.declared.ask.Turn.TheVariants.{Over};
@@ -22,6 +23,14 @@ pub(crate) fn asked(answer: Turn) -> Ask
         Turn::Run(ask) => ask,
         Turn::Nap(_) | Turn::Over => Ask::Nothing,
     }
+}
+
+/// Whether it is that the run has ended.
+#[inline(always)]
+pub(crate) fn is_over(answer: Turn) -> bool
+    ensures { result ≡ answers.is_over answer }
+{
+    matches!(answer, Turn::Over)
 }
 
 /// This answer, unless the run has ended.

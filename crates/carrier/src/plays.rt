@@ -22,9 +22,9 @@ pub struct TurnOf {
     pub now: u64,
 }
 
-// Does what a turn asked for. The gate is passed before local instructions.
+/// Does what a turn asked for. The gate is passed before local instructions.
 #[inline(always)]
-fn do_asked<'p, G: Gate>(
+pub(crate) fn do_asked<'p, G: Gate>(
     program: &'p ReadyProgram,
     hand: &mut Hand<'p>,
     carrier: u32,
