@@ -28,7 +28,8 @@ use Rattle.program_state.proofs.StateLaws.{thread_is}
 use Rattle.monitor_steps.specs.declared.line.AfterEntry.TheVariants as entries
 use Rattle.monitor_steps.specs.declared.line.Line.{Line}
 use Rattle.monitor_steps.specs.Entries.{EntersTo, TakesTo, after_wake, line_in}
-use Rattle.monitor_steps.proofs.MonitorMoves.{Moves, count_last, count_left, count_more, holds_moved, holds_owner, lists_same, other_number, owner_at, owner_elsewhere, same_number}
+use Rattle.program_state.proofs.SeatLaws.{eqb_other, eqb_same}
+use Rattle.monitor_steps.proofs.MonitorMoves.{Moves, count_last, count_left, count_more, holds_moved, holds_owner, lists_same, owner_at, owner_elsewhere}
 use Rattle.monitor_steps.proofs.StateMoves.{out_moved, owners_put, with_status_as}
 
 -- ---- room was made before
@@ -106,11 +107,11 @@ line_moves a t o r out x is at runs =
     let spot = spot_had r t x (Live Run) at runs in
     record {
       waits = is.monitors.waits t o ∙ ap (λ s. once_if (is_waiting o s)) spot;
-      enters = count_last t (monitor_of a.monitors o).entry_list (is.monitors.enters t o ∙ ap (λ s. once_if (is_entering o s)) spot) ∙ ap once_if (sym (same_number o));
+      enters = count_last t (monitor_of a.monitors o).entry_list (is.monitors.enters t o ∙ ap (λ s. once_if (is_entering o s)) spot) ∙ ap once_if (sym (eqb_same o));
       others_wait = λ u ne. refl;
       others_enter = λ u ne. count_more u t (monitor_of a.monitors o).entry_list ne;
       waits_elsewhere = λ p ne. ap (λ s. is_waiting p (spot_of s)) (sym runs);
-      enters_elsewhere = λ p ne. other_number o p (λ e. ne (sym e)) ∙ ap (λ s. is_entering p (spot_of s)) (sym runs);
+      enters_elsewhere = λ p ne. eqb_other o p (λ e. ne (sym e)) ∙ ap (λ s. is_entering p (spot_of s)) (sym runs);
     }
 
 pub monitor_lined_up : (a : ProgramState) (m : Monitors) (table : Threads) (t o : ℕ) → is_taken (monitor_of a.monitors o).owner t ≡ true
@@ -150,7 +151,7 @@ in_line_by all table t o phase seated None at e spot = absurd cc
 in_line_by all table t o phase seated (Some x) at e spot =
     let same : x.status ≡ Live phase = cc in
     let here : spot_in table t ≡ in_entry_list o = ap (λ k. option_map_or (λ (z : Thread). spot_of z.status) k absent) at ∙ ap spot_of same ∙ spot in
-    let one : count t (monitor_of all o).entry_list ≡ 1 = seated.enters t o ∙ ap (λ s. once_if (is_entering o s)) here ∙ ap once_if (same_number o) in
+    let one : count t (monitor_of all o).entry_list ≡ 1 = seated.enters t o ∙ ap (λ s. once_if (is_entering o s)) here ∙ ap once_if (eqb_same o) in
     omega (arith, one)
 
 pub in_line : (all : Monitors) (table : Threads) (t : ℕ) (phase : Phase) (frames : List Frame) (line : Line) → AreSeated all table → status_at table t ≡ Some (Live phase) → line_in phase frames ≡ Some line
@@ -167,7 +168,7 @@ retake_moves a t o n r out x is at there =
       others_wait = λ u ne. refl;
       others_enter = λ u ne. count_left u t (monitor_of a.monitors o).entry_list ne;
       waits_elsewhere = λ p ne. ap (is_waiting p) (sym there);
-      enters_elsewhere = λ p ne. sym (ap (is_entering p) there ∙ other_number o p (λ e. ne (sym e)));
+      enters_elsewhere = λ p ne. sym (ap (is_entering p) there ∙ eqb_other o p (λ e. ne (sym e)));
     }
 
 nobody : (owner : Option ℕ) → is_none owner ≡ true → owner ≡ None

@@ -17,7 +17,8 @@ use Rattle.monitor_steps.specs.declared.outcome.MonitorOutcome.TheVariants as ou
 use Rattle.monitor_steps.specs.Outcomes.{Frees, StaysOrKeeps, others_stay, owner_stays}
 use Rattle.monitor_steps.specs.Owners.{HasLeft, IsLeft, IsLeftAs, owns_in}
 use Rattle.monitor_steps.specs.Replies.{LeavesOthers, TellsFirst}
-use Rattle.monitor_steps.proofs.MonitorMoves.{enters_of, holds_owner, lists_same, other_number, owner_at, owner_elsewhere, same_number, waits_of}
+use Rattle.program_state.proofs.SeatLaws.{eqb_other, eqb_same}
+use Rattle.monitor_steps.proofs.MonitorMoves.{enters_of, holds_owner, lists_same, owner_at, owner_elsewhere, waits_of}
 use Rattle.monitor_steps.proofs.StateMoves.{owners_put}
 
 -- ---- the monitor
@@ -29,7 +30,7 @@ pub owner_is : (t : ℕ) (m : Monitor) → m.owner ≡ Some t → owner_in m ≡
 owner_is t m owner = ap (option_map (λ u. owner_with u m.count)) owner
 
 not_one : (c : ℕ) → ltb 1 c ≡ true → (c == 1) ≡ false
-not_one c e = other_number c 1 (λ same. let more = ltb-true 1 c e in omega arith)
+not_one c e = eqb_other c 1 (λ same. let more = ltb-true 1 c e in omega arith)
 
 is_one : (c : ℕ) → ltb 1 c ≡ false → (c == 0) ≡ false → c ≡ 1
 is_one c e some = let few = ltb-false 1 c e in let more = not_zero c some in omega arith
@@ -91,7 +92,7 @@ owner_had : (a : ProgramState) (m : Monitors) (t o : ℕ) (r : State) (out : ℕ
 owner_had a m t o r out is left = sym (is.monitors.owners_are o) ∙ owner_is t (monitor_of a.monitors o) left.owner
 
 pub left_owned : (a : ProgramState) (m : Monitors) (t o : ℕ) (r : State) (out : ℕ → Bool) → IsState a r out → HasLeft t o a.monitors m → owns r t o ≡ true
-left_owned a m t o r out is left = ap (is_owner t) (owner_had a m t o r out is left) ∙ same_number t
+left_owned a m t o r out is left = ap (is_owner t) (owner_had a m t o r out is left) ∙ eqb_same t
 
 pub not_owned : (a : ProgramState) (t o : ℕ) (b : Bool) (r : State) (out : ℕ → Bool) → IsState a r out → owns_in a.monitors t o ≡ b → owns r t o ≡ b
 not_owned a t o b r out is e = ap (is_owner t) (sym (is.monitors.owners_are o)) ∙ e

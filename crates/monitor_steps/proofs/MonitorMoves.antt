@@ -3,7 +3,6 @@ use Rattle.std.proofs.Common.{cond, not, ◌==◌, ◌≡◌, ◌≢◌, ◌+◌
 use Rattle.std.specs.Prelude.{slice_get, slice_set, if◌then◌else◌}
 use Rattle.std.specs.Option.{option_map_or}
 use Rattle.std.proofs.Math.ListN.{length-set}
-use Rattle.std.proofs.lemmas.Bool.Decides.{eqb_tells}
 use Rattle.thread_lists.specs.Lists.{count, without}
 use Rattle.thread_lists.proofs.CountLaws.{count-append, count-cons, count-other, count-same}
 use Rattle.schedule_model.specs.Look.{Spot, absent, is_entering, is_waiting}
@@ -13,30 +12,17 @@ use Rattle.ref_model.specs.Looks.{spot_of}
 use Rattle.ref_model.specs.State.{JavaThread, Owner}
 use Rattle.ref_model.proofs.StateLaws.{get_set}
 use Rattle.schedule_soundness.proofs.ThreadLists.{set_other}
+use Rattle.program_state.proofs.SeatLaws.{eqb_other, eqb_same}
 use Rattle.program_state.specs.Monitors.{HaveSameLists, HoldsMonitors, owner_in, spot_at}
 
--- ---- tests on numbers
-
-pub same_number : (o : ℕ) → eqb o o ≡ true
-same_number o = by (eqb_tells o o)
-  where
-    by : ((eqb o o ≡ true) × (o ≡ o)) ⊎ ((eqb o o ≡ false) × (o ≢ o)) → eqb o o ≡ true
-    by (inl me) = me.0
-    by (inr other) = absurd (other.1 refl)
-
-pub other_number : (p o : ℕ) → p ≢ o → eqb p o ≡ false
-other_number p o ne = by (eqb_tells p o)
-  where
-    by : ((eqb p o ≡ true) × (p ≡ o)) ⊎ ((eqb p o ≡ false) × (p ≢ o)) → eqb p o ≡ false
-    by (inl me) = absurd (ne me.1)
-    by (inr other) = other.0
+-- ---- owners
 
 -- the owner of a monitor that was given one, and of another
 pub owner_at : (owners : ℕ → Option Owner) (o : ℕ) (owner : Option Owner) → (if eqb o o then owner else owners o) ≡ owner
-owner_at owners o owner = ap (λ b. if b then owner else owners o) (same_number o)
+owner_at owners o owner = ap (λ b. if b then owner else owners o) (eqb_same o)
 
 pub owner_elsewhere : (owners : ℕ → Option Owner) (p o : ℕ) (owner : Option Owner) → p ≢ o → (if eqb p o then owner else owners p) ≡ owners p
-owner_elsewhere owners p o owner ne = ap (λ b. if b then owner else owners p) (other_number p o ne)
+owner_elsewhere owners p o owner ne = ap (λ b. if b then owner else owners p) (eqb_other p o ne)
 
 -- ---- the lists are the same
 

@@ -46,7 +46,8 @@ use Rattle.monitor_steps.specs.Owners.{owns_in}
 use Rattle.monitor_steps.specs.Replies.{AnswersSo, GoesFrom}
 use Rattle.monitor_steps.specs.Waits.{IsNotifiedThere, NotifiesFirst, WaitEnds}
 use Rattle.monitor_steps.proofs.ExitLaws.{not_owned}
-use Rattle.monitor_steps.proofs.MonitorMoves.{Moves, count_last, count_more, holds_moved, lists_same, other_number, same_number}
+use Rattle.program_state.proofs.SeatLaws.{eqb_other, eqb_same}
+use Rattle.monitor_steps.proofs.MonitorMoves.{Moves, count_last, count_more, holds_moved, lists_same}
 use Rattle.monitor_steps.proofs.StateMoves.{owners_put, thread_moved, with_status_as}
 use Rattle.monitor_steps.proofs.WaitLaws.{owned_not_free, throws_same}
 
@@ -156,15 +157,15 @@ notify_moves a u o n r out x is at there first =
     let es : List ℕ = (monitor_of a.monitors o).entry_list in
     let split = first_of ws u first in
     let spot : spot_at r.threads u ≡ in_wait_list o = ap (λ k. option_map_or (λ (z : JavaThread). spot_of z.thread.status) k absent) at ∙ there in
-    let once : count u ws ≡ 1 = is.monitors.waits u o ∙ ap (λ s. once_if (is_waiting o s)) spot ∙ ap once_if (same_number o) in
+    let once : count u ws ≡ 1 = is.monitors.waits u o ∙ ap (λ s. once_if (is_waiting o s)) spot ∙ ap once_if (eqb_same o) in
     let none : count u es ≡ 0 = is.monitors.enters u o ∙ ap (λ s. once_if (is_entering o s)) spot in
     record {
       waits = dropped_none u ws split.0 split.1 once;
-      enters = ap (λ ys. count u (es ++ ys)) (taken_first u ws split.0 split.1) ∙ count_last u es none ∙ ap once_if (sym (same_number o));
+      enters = ap (λ ys. count u (es ++ ys)) (taken_first u ws split.0 split.1) ∙ count_last u es none ∙ ap once_if (sym (eqb_same o));
       others_wait = λ v ne. dropped_other v u ws split.0 split.1 ne;
       others_enter = λ v ne. ap (λ ys. count v (es ++ ys)) (taken_first u ws split.0 split.1) ∙ count_more v u es ne;
-      waits_elsewhere = λ p ne. sym (ap (is_waiting p) there ∙ other_number o p (λ e. ne (sym e)));
-      enters_elsewhere = λ p ne. other_number o p (λ e. ne (sym e)) ∙ ap (is_entering p) (sym there);
+      waits_elsewhere = λ p ne. sym (ap (is_waiting p) there ∙ eqb_other o p (λ e. ne (sym e)));
+      enters_elsewhere = λ p ne. eqb_other o p (λ e. ne (sym e)) ∙ ap (is_entering p) (sym there);
     }
 
 row_phase : (a : ProgramState) (r : State) (u : ℕ) (status : Status) (row : Option Thread) → a.threads.threads ≡ map (λ x. x.thread) r.threads → thread_at a.threads u ≡ row

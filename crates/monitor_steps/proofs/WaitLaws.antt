@@ -43,7 +43,8 @@ use Rattle.monitor_steps.specs.Waits.{IsRefusal, MayWait, WaitsIn, WaitsTo}
 use Rattle.monitor_steps.proofs.AnswerLaws.{same_phase, status_frames, status_others}
 use Rattle.monitor_steps.proofs.EntryLaws.{spot_had}
 use Rattle.monitor_steps.proofs.ExitLaws.{monitor_step, not_owned, owner_is, owner_now, owner_with, same_all}
-use Rattle.monitor_steps.proofs.MonitorMoves.{Moves, count_last, count_more, holds_moved, other_number, owner_at, owner_elsewhere, same_number}
+use Rattle.program_state.proofs.SeatLaws.{eqb_other, eqb_same}
+use Rattle.monitor_steps.proofs.MonitorMoves.{Moves, count_last, count_more, holds_moved, owner_at, owner_elsewhere}
 use Rattle.monitor_steps.proofs.StateMoves.{thread_moved, with_status_as}
 
 -- ---- why it isn't done
@@ -130,11 +131,11 @@ wait_moves : (a : ProgramState) (t o n : ℕ) (deadline : Option ℕ) (r : State
 wait_moves a t o n deadline r out x is at runs =
     let spot = spot_had r t x (Live Run) at runs in
     record {
-      waits = count_last t (monitor_of a.monitors o).wait_list (is.monitors.waits t o ∙ ap (λ s. once_if (is_waiting o s)) spot) ∙ ap once_if (sym (same_number o));
+      waits = count_last t (monitor_of a.monitors o).wait_list (is.monitors.waits t o ∙ ap (λ s. once_if (is_waiting o s)) spot) ∙ ap once_if (sym (eqb_same o));
       enters = is.monitors.enters t o ∙ ap (λ s. once_if (is_entering o s)) spot;
       others_wait = λ u ne. count_more u t (monitor_of a.monitors o).wait_list ne;
       others_enter = λ u ne. refl;
-      waits_elsewhere = λ p ne. other_number o p (λ e. ne (sym e)) ∙ ap (λ s. is_waiting p (spot_of s)) (sym runs);
+      waits_elsewhere = λ p ne. eqb_other o p (λ e. ne (sym e)) ∙ ap (λ s. is_waiting p (spot_of s)) (sym runs);
       enters_elsewhere = λ p ne. ap (λ s. is_entering p (spot_of s)) (sym runs);
     }
 
@@ -175,7 +176,7 @@ waits_begun a m table wheel keys t o n deadline first owner times line becomes t
         (timer.holds (deadlines_of r.now r.threads) is.wheel none))
         (still_out t (out t) x y (slice_get a.frozen.items t) here refl) in
         record {
-          owned = ap (is_owner t) had ∙ same_number t;
+          owned = ap (is_owner t) had ∙ eqb_same t;
           is = subst (λ k. IsState new (with_status left t (Live (Waiting o k deadline))) out) (times ∙ ap times_entered (sym had))
               (subst (λ q. IsState new q out) (sym (thread_is left t (with_status_as status) x at.at)) put);
         }

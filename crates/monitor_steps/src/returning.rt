@@ -51,8 +51,9 @@ pub fn make_return<W: ThreadWorld>(
     q: MonitorReturn,
 ) -> Result<MonitorOutcome, NoMemory>
     requires { IsReturnPending (W.world world.now) q mounted.old.stack.frames }
-    ensures made { IfOk result (λ outcome. IsLeaving (W.world world.now) outcome Run mounted.old.thread
-        state.old mounted.old.stack.frames state.new mounted.new.stack.frames) }
+    ensures made { IfOk result (λ outcome. IsLeaving (W.world world.now) outcome Run
+        mounted.old.thread state.old mounted.old.stack.frames
+        state.new mounted.new.stack.frames) }
     ensures lists { OnOk result (ListsMove state.old.monitors state.new.monitors) }
     ensures thread { OnOk result (mounted.new.thread ≡ mounted.old.thread) }
 {
