@@ -3,6 +3,7 @@ use Rattle.std.proofs.Common.{cond, not, ◌==◌, ◌≡◌, ◌≢◌, ◌+◌
 use Rattle.std.specs.Prelude.{slice_get, slice_set, if◌then◌else◌}
 use Rattle.std.specs.Option.{option_map_or}
 use Rattle.std.proofs.Math.ListN.{length-set}
+use Rattle.std.proofs.lemmas.Bool.Decides.{eqb_tells}
 use Rattle.thread_lists.specs.Lists.{count, without}
 use Rattle.thread_lists.proofs.CountLaws.{count-append, count-cons, count-other, count-same}
 use Rattle.schedule_model.specs.Look.{Spot, absent, is_entering, is_waiting}
