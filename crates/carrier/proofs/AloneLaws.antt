@@ -41,7 +41,8 @@ use Rattle.schedule_soundness.proofs.MainGoes.{main_goes_on}
 use Rattle.machine.specs.Hands.{HasHand}
 use Rattle.machine.specs.Legal.{IsAccepted, IsCause, LacksThreads}
 use Rattle.carrier.specs.Runs.{IsComplete, IsEndingOf, own, caused, limited}
-use Rattle.carrier.proofs.StallLaws.{enabled_goes}
+use Rattle.carrier_turns.proofs.AheadLaws.{ahead_steps, runs_with, same_thread}
+use Rattle.carrier_turns.proofs.StallLaws.{enabled_goes}
 
 -- ---- steps of the main thread alone
 
@@ -152,18 +153,6 @@ lacks_runs w r t e =
     let at = some_is (frames_at r t) (asking_in w r.memory) asks.0 asks.1 in
     (at.0, at.1)
 
-same_thread : (x y : JavaThread) → ◌≡◌ {A = Option JavaThread} (Some x) (Some y) → x ≡ y
-same_thread x y e = cc
-
--- with other frames it runs where it did
-pub runs_with : (r : State) (t : ℕ) (x : JavaThread) (frames mine : List Frame) → slice_get r.threads t ≡ Some x → frames_at (with_frames r t frames) t ≡ Some mine
-    → x.thread.status ≡ Live Run
-runs_with r t x frames mine at e =
-    let h = runs (with_frames r t frames) t mine e in
-    let there : slice_get (with_frames r t frames).threads t ≡ Some (record x { frames = frames }) =
-    ap (λ (s : State). slice_get s.threads t) (frames_is r t x frames at) ∙ get_set r.threads t x (record x { frames = frames }) at in
-    ap (λ (y : JavaThread). y.thread.status) (same_thread (record x { frames = frames }) h.thread (sym there ∙ h.at)) ∙ h.running
-
 -- a thread that runs, where only main was started, is main
 runs_main : (w : World) (r : State) (t : ℕ) (x : JavaThread) → OnlyMain (look_of w r) → slice_get r.threads t ≡ Some x → x.thread.status ≡ Live Run → t ≡ 0
 runs_main w r t x only at runs =
@@ -181,9 +170,6 @@ runs_main w r t x only at runs =
 abbrev HasNoTicks : List Entry → Type 0
 HasNoTicks history = Each (λ (e : Entry). is_tick e.what ≡ false) history
 
-frames_own : (r : State) (t : ℕ) (x : JavaThread) → slice_get r.threads t ≡ Some x → with_frames r t x.frames ≡ r
-frames_own r t x at = frames_is r t x x.frames at ∙ ap (λ (ts : List JavaThread). record r { threads = ts }) (set_same r.threads t x at)
-
 each_java : (es : List Entry) → Each (λ (e : Entry). is_tick e.what ≡ false) es → Each (λ (e : Entry). is_tick e.what ≡ false) (java es)
 each_java [] all = tt
 each_java (e ∷ es) all = by (is_java e.what) (each_java es all.1)
@@ -191,18 +177,6 @@ each_java (e ∷ es) all = by (is_java e.what) (each_java es all.1)
     by : (b : Bool) → Each (λ (e : Entry). is_tick e.what ≡ false) (java es) → Each (λ (e : Entry). is_tick e.what ≡ false) (cond b (e ∷ java es) (java es))
     by true rest = (all.0, rest)
     by false rest = rest
-
--- the state after local instructions that were made ahead
-pub ahead_steps : (p : Setting) (v : Scheduled State) (c t n : ℕ) (frames : List Frame) → HasHand p v c t n frames → ending v.state ≡ None
-    → steps p n v.state t ≡ Some (with_frames v.state t frames)
-ahead_steps p v c t zero frames h goes =
-    let same : h.thread.frames ≡ frames = let e = h.ahead in cc in
-    ap Some (sym (frames_own v.state t h.thread h.at) ∙ ap (λ (fs : List Frame). with_frames v.state t fs) same)
-ahead_steps p v c t (suc n) frames h goes =
-    let running : frames_at v.state t ≡ Some h.thread.frames =
-    bind_is (slice_get v.state.threads t) (λ (x : JavaThread). running_frames x.frames x.thread.status) h.thread (Some h.thread.frames) h.at
-    (ap (running_frames h.thread.frames) (h.running (omega arith))) in
-    local_steps p v.state t (suc n) h.thread.frames frames running goes h.ahead
 
 lacks_not : (p : Setting) (first : State) (carriers : ℕ) (history : List Entry) (v : Scheduled State) (n : ℕ) (q : State) (e : Ending) → opening p ≡ Some first
     → schedule_of (machine_from p first) carriers history ≡ Some v → HasNoTicks history → alone p n ≡ Some q → ending q ≡ Some e → OnlyMain (look_of p.world v.state)

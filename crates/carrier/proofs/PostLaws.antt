@@ -1,47 +1,50 @@
 -- From one turn of a carrier to its next.
-use Rattle.std.proofs.Common.{◌≡◌, ◌≢◌, ◌==◌, ℕ, suc, Bool, true, false, cond, List, [], ◌∷◌, ◌++◌, length, refl, sym, ap, ◌∙◌, subst, arith, length-append, eq-eqb}
-use Rattle.std.specs.Prelude.{All}
+use Rattle.std.proofs.Common.{◌≡◌, ◌≢◌, ◌==◌, ◌<◌, ℕ, suc, Bool, true, false, cond, List, [], ◌∷◌, ◌++◌, Option, Some, None, length, refl, sym, ap, ◌∙◌, subst, arith, length-append, eq-eqb}
+use Rattle.std.specs.Prelude.{All, is_some}
 use Rattle.std.proofs.lemmas.List.Elements.{filter-append, All-cons, All-nil}
 use Rattle.items.specs.First.{Each}
 use Rattle.history.specs.declared.entry.Entry.{Entry}
 use Rattle.history.specs.declared.entry.What.TheVariants.{Step, Unmount}
 use Rattle.history.specs.Carriers.{made_by}
-use Rattle.turn_lock.specs.Seats.{Continues, HasSeenAll, LockState, SeatState}
+use Rattle.turn_lock.specs.Seats.{Continues, HasSeenAll, SeatState}
 use Rattle.link_model.specs.World.{World}
+use Rattle.ref_model.specs.declared.ending.Ending.{Ending}
 use Rattle.ref_model.specs.declared.limits.Limits.{Limits}
 use Rattle.ref_model.specs.Setting.{Setting}
-use Rattle.machine.specs.Legal.{IsLegal}
+use Rattle.machine.specs.Hands.{Idle}
+use Rattle.machine.specs.Legal.{IsLegal, Works}
 use Rattle.machine.specs.Machines.{Known, machine_ending}
 use Rattle.machine.specs.Ready.{IsReady}
-use Rattle.carrier.specs.declared.ask.Turn.{Turn}
-use Rattle.carrier.specs.declared.hand.Hand.{Hand}
+use Rattle.carrier_turns.specs.declared.ask.Turn.{Turn}
+use Rattle.carrier_turns.specs.declared.hand.Hand.{Hand}
+use Rattle.carrier_turns.specs.Hands.{Fits, FitsAsBefore, HasDone}
+use Rattle.carrier_turns.specs.Plays.{MayDo}
+use Rattle.carrier_turns.specs.Turns as turns
+use Rattle.carrier_turns.specs.Turns.{Appends, AreActs, AreOfTurn, IsTurn, is_over}
+use Rattle.carrier_turns.proofs.EndingLaws.{none_by}
+use Rattle.carrier_turns.proofs.FitLaws.{may_do}
+use Rattle.carrier_turns.proofs.OutlastLaws.{fits_outlasts}
+use Rattle.carrier_turns.proofs.PlayLaws.{is_ready}
 use Rattle.carrier.specs.declared.post.Post.{Post}
-use Rattle.carrier.specs.Hands.{Fits, FitsAsBefore, HasDone}
-use Rattle.carrier.specs.Plays.{MayDo}
-use Rattle.carrier.specs.Turns as turns
-use Rattle.carrier.specs.Turns.{Appends, AreActs, AreOfTurn, IsTurn, is_over}
-use Rattle.carrier.proofs.EndingLaws.{none_by}
-use Rattle.carrier.proofs.FitLaws.{may_do}
-use Rattle.carrier.proofs.OutlastLaws.{fits_outlasts}
-use Rattle.carrier.proofs.PlayLaws.{is_ready}
-use Rattle.carrier.proofs.RunLaws.{setting_is}
-use Rattle.carrier.specs.Posts.{HasMetEnding, HasTurned, IsPost, Knows}
+use Rattle.carrier.specs.Posts.{HasLeft, HasMetEnding, HasTurned, IsBeginning, IsLater, IsNewSeat, IsPost, Knows}
+use Rattle.carrier.specs.Runs.{IsTimed}
+use Rattle.carrier.specs.Shared.{MachineAndClock, SharedRun, machine_parts}
+use Rattle.carrier.proofs.RunLaws.{same_carriers, same_parts, same_setting}
 
--- ---- the setting of the lock's machine
+-- ---- the setting of a machine with its clock
 
-abbrev pub parts : Known → World × ℕ × Limits × ℕ
-parts m = (m.setting.world, m.setting.main, m.setting.limits, m.carriers)
+module _ {C : Type 0} (t u : MachineAndClock C) where
+  abbrev pub Same : Type 0
+  Same = ◌≡◌ {A = (World × ℕ × Limits × ℕ) × C} (machine_parts t.machine, t.clock) (machine_parts u.machine, u.clock)
 
-same_setting : (m n : Known) → parts m ≡ parts n → m.setting ≡ n.setting
-same_setting m n e =
-    sym (setting_is m.setting n.setting.world n.setting.main n.setting.limits (ap (λ (x : World × ℕ × Limits × ℕ). x.0) e) (ap (λ (x : World × ℕ × Limits × ℕ). x.1) e)
-    (ap (λ (x : World × ℕ × Limits × ℕ). x.2) e))
+  pub parts_of : Same → machine_parts t.machine ≡ machine_parts u.machine
+  parts_of e = ap (λ (x : (World × ℕ × Limits × ℕ) × C). x.0) e
 
-same_carriers : (m n : Known) → parts m ≡ parts n → m.carriers ≡ n.carriers
-same_carriers m n e = ap (λ (x : World × ℕ × Limits × ℕ). x.3) e
+  pub clock_of : Same → t.clock ≡ u.clock
+  clock_of e = ap (λ (x : (World × ℕ × Limits × ℕ) × C). x.1) e
 
-pub same_parts : (m n : Known) → m.setting ≡ n.setting → m.carriers ≡ n.carriers → parts m ≡ parts n
-same_parts m n setting carriers = λ i. ((setting i).world, (setting i).main, (setting i).limits, carriers i)
+  pub both_parts : machine_parts t.machine ≡ machine_parts u.machine → t.clock ≡ u.clock → Same
+  both_parts parts clock = λ i. (parts i, clock i)
 
 -- ---- from give to take: entries of others
 
@@ -64,7 +67,7 @@ others_since c seen es log is exact =
     (sym (filter-append (λ (e : Entry). e.carrier == c) seen es) ∙ ap (made_by c) is ∙ exact))
 
 -- the hand fits the machine that is taken
-pub fits_taken : (first new : Known) (s : SeatState) (h : Hand) → Knows first s.number s.seen h → parts new ≡ parts first → HasSeenAll new.history s → Fits new s.number h
+pub fits_taken : (first new : Known) (s : SeatState) (h : Hand) → Knows first s.number s.seen h → machine_parts new ≡ machine_parts first → HasSeenAll new.history s → Fits new s.number h
 fits_taken first new s h knows same all =
     let m = knows.machine in
     let es = all.begins.0 in
@@ -93,36 +96,38 @@ pub continues_by : (old new : Known) (c now : ℕ) (seen : List Entry) → Appen
 continues_by old new c now seen a same =
     record { new = a.entries; all = a.history ∙ ap (λ (es : List Entry). es ++ a.entries) (sym same); own = own_entries c now a.entries a.of_turn }
 
+-- what the machine was given stays in a turn
+pub parts_stay : (old new : Known) (c now : ℕ) → Appends old new c now → machine_parts new ≡ machine_parts old
+parts_stay old new c now a = same_parts new old a.setting a.carriers
+
 -- ---- after a turn
 
-turned : (first old new : Known) (c now : ℕ) (h g : Hand) (answer : Turn) → parts old ≡ parts first → IsLegal new → Fits new c g → IsTurn old new c now h g answer
-    → HasTurned first c new.history g answer
-turned first old new c now h g answer same legal fits turn =
-    let setting = turn.appends.setting ∙ same_setting old first same in
-    record {
-      machine = new;
-      later = record { setting = setting; carriers = turn.appends.carriers ∙ same_carriers old first same; history = refl; legal = legal };
-      fits = fits;
-      may = subst (λ (p : Setting). MayDo p.world g answer) setting (may_do new c g answer fits turn.asks);
-      over = turn.over;
-    }
+module _ (run : SharedRun) (new : Known) (s : SeatState) (same : machine_parts new ≡ machine_parts run.first) (legal : IsLegal new) (seen : s.seen ≡ new.history) where
+  later : IsLater run.first s.seen new
+  later = record { setting = same_setting new run.first same; carriers = same_carriers new run.first same; history = sym seen; legal = legal }
 
--- of the seat, once the machine is given back
-pub turned_on : (first old new : Known) (c now : ℕ) (h g : Hand) (answer : Turn) (s : SeatState) → parts old ≡ parts first → IsLegal new → Fits new c g
-    → IsTurn old new c now h g answer → s.number ≡ c → s.seen ≡ new.history → HasTurned first s.number s.seen g answer
-turned_on first old new c now h g answer s same legal fits turn number seen =
-    subst (λ k. HasTurned first k s.seen g answer) (sym number)
-    (subst (λ (es : List Entry). HasTurned first c es g answer) (sym seen) (turned first old new c now h g answer same legal fits turn))
+  -- of the seat, once the machine is given back
+  pub turned_on : (old : Known) (c now : ℕ) (h g : Hand) (answer : Turn) → Fits new c g → IsTurn old new c now h g answer → s.number ≡ c → HasTurned run s.number s.seen g answer
+  turned_on old c now h g answer fits turn number = record {
+    machine = new;
+    later = later;
+    fits = subst (λ k. Fits new k g) (sym number) fits;
+    may = subst (λ (p : Setting). MayDo p.world g answer) (same_setting new run.first same) (may_do new c g answer fits turn.asks);
+    over = turn.over;
+  }
+
+  pub met_on : (o : Option Ending) → o ≡ machine_ending new → (Works new → IsTimed run.gives new) → (told : Ending) → o ≡ Some told → HasMetEnding run s.seen told
+  met_on o is timed told some = record { machine = new; later = later; ended = sym is ∙ some; timed = timed }
 
 -- the program of the machine is such as its steps ask
-pub ready_program : (first : Known) (w : World) (c : ℕ) (seen : List Entry) (h : Hand) (answer : Turn) → HasTurned first c seen h answer → w ≡ first.setting.world → IsReady w
-ready_program first w c seen h answer t same =
+pub ready_program : (run : SharedRun) (w : World) (c : ℕ) (seen : List Entry) (h : Hand) (answer : Turn) → HasTurned run c seen h answer → w ≡ run.first.setting.world → IsReady w
+ready_program run w c seen h answer t same =
     is_ready t.machine w t.later.legal (same ∙ sym (ap (λ (p : Setting). p.world) t.later.setting))
 
 -- once the hand has done what it was asked for
-pub knows_again : (first : Known) (w : World) (c : ℕ) (seen : List Entry) (h g : Hand) (answer : Turn) → HasTurned first c seen h answer → w ≡ first.setting.world
-    → is_over answer ≡ false → FitsAsBefore w h g → HasDone g → Knows first c seen g
-knows_again first w c seen h g answer t same goes fits done =
+knows_again : (run : SharedRun) (w : World) (c : ℕ) (seen : List Entry) (h g : Hand) (answer : Turn) → HasTurned run c seen h answer → w ≡ run.first.setting.world
+    → is_over answer ≡ false → FitsAsBefore w h g → HasDone g → Knows run.first c seen g
+knows_again run w c seen h g answer t same goes fits done =
     record {
       machine = t.machine;
       later = t.later;
@@ -130,19 +135,39 @@ knows_again first w c seen h g answer t same goes fits done =
       ready = record { fits = fits t.machine c (ap (λ (p : Setting). p.world) t.later.setting ∙ sym same) t.fits; done = done };
     }
 
-pub has_met : (first : Known) (c : ℕ) (seen : List Entry) (h : Hand) (answer : Turn) → HasTurned first c seen h answer → is_over answer ≡ true → HasMetEnding first seen
-has_met first c seen h answer t over =
-    record { machine = t.machine; later = t.later; ended = sym t.over ∙ over }
-
 -- ---- a post
 
-pub is_post : (lock : LockState Known) (w : World) (p : Post) (h : Hand) (answer : Turn) → p.seat.lock ≡ lock.id → p.seat.holds ≡ false
-    → HasTurned lock.initial p.seat.number p.seat.seen h answer → w ≡ lock.initial.setting.world → FitsAsBefore w h p.hand → HasDone p.hand → p.over ≡ is_over answer
-    → IsPost lock p
-is_post lock w p h answer this idle t same fits done over =
+pub is_post : (run : SharedRun) (w : World) (p : Post) (h : Hand) (answer : Turn) → p.seat.lock ≡ run.lock → p.seat.holds ≡ false → HasTurned run p.seat.number p.seat.seen h answer
+    → ((told : Ending) → p.met ≡ Some told → HasMetEnding run p.seat.seen told) → w ≡ run.first.setting.world → FitsAsBefore w h p.hand → HasDone p.hand → is_over answer ≡ is_some p.met
+    → IsPost run p
+is_post run w p h answer this idle t met same fits done over =
     record {
-      this = this;
-      idle = idle;
-      knows = λ goes. knows_again lock.initial w p.seat.number p.seat.seen h p.hand answer t same (sym over ∙ goes) fits done;
-      met = λ ended. has_met lock.initial p.seat.number p.seat.seen h answer t (sym over ∙ ended);
+      idle = record { this = this; idle = idle };
+      knows = λ none. knows_again run w p.seat.number p.seat.seen h p.hand answer t same (over ∙ ap is_some none) fits done;
+      met = met;
     }
+
+-- when the run begins
+pub first_post : (run : SharedRun) (p : Post) → IsBeginning run.first → IsNewSeat run.lock run.first.carriers p.seat → p.met ≡ None
+    → ((k : Known) (i : ℕ) → i < k.carriers → Idle k i → Fits k i p.hand) → HasDone p.hand → IsPost run p
+first_post run p begins seat none fits done =
+    let m = run.first in
+    let c = p.seat.number in
+    record {
+      idle = seat.idle;
+      knows = λ same. record {
+        machine = m;
+        later = record { setting = refl; carriers = refl; history = begins.history ∙ sym seat.unseen; legal = begins.legal };
+        going = begins.going;
+        ready = record { fits = fits m c seat.below (begins.carriers_idle c seat.below); done = done };
+      };
+      met = λ told some. absurd (let e = sym none ∙ some in cc);
+    }
+
+-- the seat of a post that met the end of the run
+pub has_left : (run : SharedRun) (p : Post) → IsPost run p → is_some p.met ≡ true → HasLeft run p.seat
+has_left run p post over = by p.met refl over
+  where
+    by : (o : Option Ending) → p.met ≡ o → is_some o ≡ true → HasLeft run p.seat
+    by (Some told) is some = record { idle = post.idle; told = told; met = post.met told is }
+    by None is some = absurd cc

@@ -18,9 +18,10 @@ use Rattle.machine.specs.Insides as insides
 use Rattle.machine.specs.Legal.{IsCause, IsLegal, Works}
 use Rattle.machine.specs.Live.{ListsLive}
 use Rattle.machine.specs.Machines.{Known, at_first, entries_left, errors, limit_reached, machine_ending, output}
+use Rattle.carrier.specs.Shared.{machine_parts}
 use Rattle.carrier.specs.Runs.{IsEndingOf, IsRun, IsTimed, own, caused, limited}
 use Rattle.carrier.proofs.AloneLaws.{complete}
-use Rattle.carrier.proofs.EndingLaws.{ending_at, is_scheduled}
+use Rattle.carrier_turns.proofs.EndingLaws.{ending_at, is_scheduled}
 
 same_ending : (x y : Ending) → ◌≡◌ {A = Option Ending} (Some x) (Some y) → x ≡ y
 same_ending x y e = cc
@@ -79,14 +80,27 @@ pub setting_is : (p : Setting) (w : World) (main : ℕ) (limits : Limits) → p.
 setting_is p w main limits a b c =
     ap (λ (v : World). insides.setting v main limits) (sym a) ∙ ap (λ (n : ℕ). insides.setting p.world n limits) (sym b) ∙ ap (λ (l : Limits). insides.setting p.world p.main l) (sym c)
 
--- of a machine that began so
-pub of_setting : (m first : Known) (p : Setting) (gives : ℕ → Bool) (w : World) (main : ℕ) (limits : Limits) (history : List Entry) (out err live : List ℕ) (told : Ending)
-    → m.setting ≡ first.setting → m.carriers ≡ first.carriers → first ≡ at_first (insides.setting w main limits) 1 → p.world ≡ w → p.main ≡ main
-    → p.limits ≡ limits → IsRun m.setting gives m.carriers history out err live told → IsRun p gives 1 history out err live told
-of_setting m first p gives w main limits history out err live told setting carriers began a b c run =
-    let mine : m.setting ≡ p = setting ∙ ap (λ (k : Known). k.setting) began ∙ setting_is p w main limits a b c in
-    let one : m.carriers ≡ 1 = carriers ∙ ap (λ (k : Known). k.carriers) began in
-    subst (λ n. IsRun p gives n history out err live told) one (subst (λ q. IsRun q gives m.carriers history out err live told) mine run)
+-- ---- what a machine was given
+
+pub same_setting : (m n : Known) → machine_parts m ≡ machine_parts n → m.setting ≡ n.setting
+same_setting m n e =
+    sym (setting_is m.setting n.setting.world n.setting.main n.setting.limits (ap (λ (x : World × ℕ × Limits × ℕ). x.0) e) (ap (λ (x : World × ℕ × Limits × ℕ). x.1) e)
+    (ap (λ (x : World × ℕ × Limits × ℕ). x.2) e))
+
+pub same_carriers : (m n : Known) → machine_parts m ≡ machine_parts n → m.carriers ≡ n.carriers
+same_carriers m n e = ap (λ (x : World × ℕ × Limits × ℕ). x.3) e
+
+pub same_parts : (m n : Known) → m.setting ≡ n.setting → m.carriers ≡ n.carriers → machine_parts m ≡ machine_parts n
+same_parts m n setting carriers = λ i. ((setting i).world, (setting i).main, (setting i).limits, carriers i)
+
+-- of a machine that goes back to one that began so
+pub of_setting : (m first : Known) (p : Setting) (gives : ℕ → Bool) (w : World) (main : ℕ) (limits : Limits) (carriers : ℕ) (history : List Entry) (out err live : List ℕ) (told : Ending)
+    → machine_parts m ≡ machine_parts first → first ≡ at_first (insides.setting w main limits) carriers → p.world ≡ w → p.main ≡ main → p.limits ≡ limits
+    → IsRun m.setting gives m.carriers history out err live told → IsRun p gives carriers history out err live told
+of_setting m first p gives w main limits carriers history out err live told parts began a b c run =
+    let mine : m.setting ≡ p = same_setting m first parts ∙ ap (λ (k : Known). k.setting) began ∙ setting_is p w main limits a b c in
+    let all : m.carriers ≡ carriers = same_carriers m first parts ∙ ap (λ (k : Known). k.carriers) began in
+    subst (λ n. IsRun p gives n history out err live told) all (subst (λ q. IsRun q gives m.carriers history out err live told) mine run)
 
 pub if_ok : {A E : Type 0} (r : Result A E) (P Q : A → Type 0) → ((x : A) → P x → Q x) → IfOk r P → IfOk r Q
 if_ok (Ok x) P Q f p = f x p

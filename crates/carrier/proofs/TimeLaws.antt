@@ -16,14 +16,14 @@ use Rattle.ref_model.specs.Looks.{machine_from}
 use Rattle.schedule_soundness.specs.ClockLaws.{HasReason, awaited, read}
 use Rattle.machine.specs.Legal.{IsLegal, Works}
 use Rattle.machine.specs.Machines.{Known, machine_ending, scheduled}
-use Rattle.carrier.specs.declared.hand.Hand.{Hand}
-use Rattle.carrier.specs.declared.ask.Turn.{Turn}
-use Rattle.carrier.specs.Plays.{IsDoneTurn}
+use Rattle.carrier_turns.specs.declared.hand.Hand.{Hand}
+use Rattle.carrier_turns.specs.declared.ask.Turn.{Turn}
+use Rattle.carrier.specs.Shared.{MachineAndClock}
 use Rattle.carrier.specs.Runs.{AreGivenTimes, IsGivenTime, IsTimed}
-use Rattle.carrier.specs.Turns as turns
-use Rattle.carrier.specs.Turns.{AreActs, AreOfTurn, entry_by}
-use Rattle.carrier.proofs.EndingLaws.{halted_ends}
-use Rattle.carrier.proofs.EntryLaws.{first_entry}
+use Rattle.carrier_turns.specs.Turns as turns
+use Rattle.carrier_turns.specs.Turns.{AreActs, AreOfTurn, IsTurn, entry_by}
+use Rattle.carrier_turns.proofs.EndingLaws.{halted_ends}
+use Rattle.carrier_turns.proofs.EntryLaws.{first_entry}
 
 -- ---- where an entry lies in two lists
 
@@ -134,7 +134,7 @@ timed_first c now d n es k later (turns.timed rest are is) e = by k (sym is ∙ 
 
 -- ---- a turn
 
-pub timed_after : (gives : ℕ → Bool) (old new : Known) (c now : ℕ) (h g : Hand) (answer : Turn) → gives now ≡ true → IsDoneTurn old new c now h g answer
+pub timed_after : (gives : ℕ → Bool) (old new : Known) (c now : ℕ) (h g : Hand) (answer : Turn) → gives now ≡ true → IsTurn old new c now h g answer
     → (new.told ≡ Some Halted → ⊥) → IsTimed gives old → IsTimed gives new
 timed_after gives old new c now h g answer given turn works timed = record {
   times = subst (AreGivenTimes gives) (sym turn.appends.history)
@@ -169,13 +169,17 @@ timed_after gives old new c now h g answer given turn works timed = record {
         subst (λ i. HasReason old.setting v.state i n later) (sym at.carrier) (subst (λ i. HasReason old.setting v.state c i later) (sym at.time) (turn.reason works later own v there))
 
 -- so it is while the run wasn't given up
-pub timed_on : (gives : ℕ → Bool) (old new : Known) (c now : ℕ) (h g : Hand) (answer : Turn) → IsLegal old → gives now ≡ true
-    → IsDoneTurn old new c now h g answer → (Works old → IsTimed gives old) → Works new → IsTimed gives new
-timed_on gives old new c now h g answer legal given turn timed works =
-    timed_after gives old new c now h g answer given turn works (timed (λ halted. works (ap (λ (m : Known). m.told) (turn.ended (halts halted)) ∙ halted)))
+pub timed_on : (gives : ℕ → Bool) (old new : Known) (c now : ℕ) (h g : Hand) (answer : Turn) → IsLegal old → gives now ≡ true → IsTurn old new c now h g answer
+    → (is_some (machine_ending old) ≡ true → new ≡ old) → (Works old → IsTimed gives old) → Works new → IsTimed gives new
+timed_on gives old new c now h g answer legal given turn ended timed works =
+    timed_after gives old new c now h g answer given turn works (timed (λ halted. works (ap (λ (m : Known). m.told) (ended (halts halted)) ∙ halted)))
   where
     halts : old.told ≡ Some Halted → is_some (machine_ending old) ≡ true
     halts halted = halted_ends old legal halted
+
+-- the clock of a machine, which is seen as its parts
+pub given_at : {C : Type 0} (gives : C → ℕ → Bool) (t u : MachineAndClock C) (now : ℕ) → t ≡ u → gives u.clock now ≡ true → gives t.clock now ≡ true
+given_at gives t u now same given = ap (λ k. gives k.clock now) same ∙ given
 
 pub timed_at_first : (gives : ℕ → Bool) (m : Known) → m.history ≡ [] → IsTimed gives m
 timed_at_first gives m none = record {

@@ -1,8 +1,3 @@
-pub mod LocalRuns
-pub mod Hands
-pub mod Turns
-pub mod Acts
-pub mod Steps
-pub mod Plays
 pub mod Runs
+pub mod Shared
 pub mod Posts

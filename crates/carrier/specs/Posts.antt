@@ -1,15 +1,19 @@
 -- What a carrier knows of the machine while others have it.
-use Rattle.std.specs.Prelude.{◌≡◌, ℕ, true, false, List, None, is_some}
+use Rattle.std.specs.Prelude.{◌≡◌, ◌<◌, ℕ, false, List, [], Option, Some, None, is_some}
+use Rattle.atomic_table.specs.Seated.{TableId}
 use Rattle.history.specs.declared.entry.Entry.{Entry}
-use Rattle.turn_lock.specs.Seats.{LockState}
-use Rattle.machine.specs.Legal.{IsLegal}
+use Rattle.ref_model.specs.declared.ending.Ending.{Ending}
+use Rattle.turn_lock.specs.Seats.{IsIdle, SeatState}
+use Rattle.machine.specs.Legal.{IsLegal, Works}
 use Rattle.machine.specs.Machines.{Known, machine_ending}
-use Rattle.carrier.specs.declared.ask.Turn.{Turn}
-use Rattle.carrier.specs.declared.hand.Hand.{Hand}
-use Rattle.carrier.specs.Hands.{Fits}
-use Rattle.carrier.specs.Plays.{IsReadyHand, MayDo}
-use Rattle.carrier.specs.Turns.{is_over}
+use Rattle.carrier_turns.specs.declared.ask.Turn.{Turn}
+use Rattle.carrier_turns.specs.declared.hand.Hand.{Hand}
+use Rattle.carrier_turns.specs.Hands.{Fits}
+use Rattle.carrier_turns.specs.Plays.{AreCarriersIdle, IsReadyHand, MayDo}
+use Rattle.carrier_turns.specs.Turns.{is_over}
 use Rattle.carrier.specs.declared.post.Post.{Post}
+use Rattle.carrier.specs.Runs.{IsTimed}
+use Rattle.carrier.specs.Shared.{SharedRun}
 
 -- A machine with this history goes back to the first one: it was given the same, and has as many carriers.
 pub record IsLater (first : Known) (seen : List Entry) (m : Known) : Type 0 where
@@ -28,22 +32,44 @@ pub record Knows (first : Known) (c : ℕ) (seen : List Entry) (h : Hand) : Type
 
 -- Directly after a turn of carrier c, which answered this: the hand fits the machine that was given back, and can do what it is asked for.
 -- The run has ended where the answer says it.
-pub record HasTurned (first : Known) (c : ℕ) (seen : List Entry) (h : Hand) (answer : Turn) : Type 0 where
+pub record HasTurned (run : SharedRun) (c : ℕ) (seen : List Entry) (h : Hand) (answer : Turn) : Type 0 where
   pub machine : Known
-  pub later : IsLater first seen machine
+  pub later : IsLater run.first seen machine
   pub fits : Fits machine c h
-  pub may : MayDo first.setting.world h answer
+  pub may : MayDo run.first.setting.world h answer
   pub over : is_over answer ≡ is_some (machine_ending machine)
 
--- What a carrier met at its last turn: the end of the run.
-pub record HasMetEnding (first : Known) (seen : List Entry) : Type 0 where
+-- What a carrier met at its last turn: this ending of the run. Unless the run was given up, each entry of time before it has a number that
+-- the clock gives, and a reason.
+pub record HasMetEnding (run : SharedRun) (seen : List Entry) (told : Ending) : Type 0 where
   pub machine : Known
-  pub later : IsLater first seen machine
-  pub ended : is_some (machine_ending machine) ≡ true
+  pub later : IsLater run.first seen machine
+  pub ended : machine_ending machine ≡ Some told
+  pub timed : Works machine → IsTimed run.gives machine
 
 -- The seat of a post doesn't have the turn of this lock; and its hand is that of its carrier, or the run has ended.
-pub record IsPost (lock : LockState Known) (p : Post) : Type 0 where
-  pub this : p.seat.lock ≡ lock.id
-  pub idle : p.seat.holds ≡ false
-  pub knows : p.over ≡ false → Knows lock.initial p.seat.number p.seat.seen p.hand
-  pub met : p.over ≡ true → HasMetEnding lock.initial p.seat.seen
+pub record IsPost (run : SharedRun) (p : Post) : Type 0 where
+  pub idle : IsIdle run.lock p.seat
+  pub knows : p.met ≡ None → Knows run.first p.seat.number p.seat.seen p.hand
+  pub met : (told : Ending) → p.met ≡ Some told → HasMetEnding run p.seat.seen told
+
+-- The seat of a carrier that met the end of the run: it doesn't have the turn of this lock.
+pub record HasLeft (run : SharedRun) (s : SeatState) : Type 0 where
+  pub idle : IsIdle run.lock s
+  pub told : Ending
+  pub met : HasMetEnding run s.seen told
+
+-- ---- when a run begins
+
+-- a machine that begins, and has no ending yet
+pub record IsBeginning (m : Known) : Type 0 where
+  pub history : m.history ≡ []
+  pub legal : IsLegal m
+  pub going : machine_ending m ≡ None
+  pub carriers_idle : AreCarriersIdle m
+
+-- a seat of this lock for one of so many carriers, which has seen nothing
+pub record IsNewSeat (lock : TableId) (carriers : ℕ) (s : SeatState) : Type 0 where
+  pub idle : IsIdle lock s
+  pub unseen : s.seen ≡ []
+  pub below : s.number < carriers

@@ -1,24 +1,16 @@
-//! Carriers: what each holds outside the machine, its turns, and runs of turns.
+//! The carriers of a run in operating-system threads, with one machine in a turn lock.
 #![tactic(auto)]
 
-mod acts;
-mod answers;
-mod ask;
 mod execution;
-mod hand;
-mod local;
-mod locked;
-mod mounted_steps;
-mod plays;
 mod post;
 mod program_run;
 mod readings;
-mod turns;
+mod threads;
+mod timed_machine;
 
-pub use ask::{Ask, Turn};
+pub use carrier_turns::{Ask, Hand, Turn, TurnOf, new_hands, play, turn};
 pub use execution::Execution;
-pub use hand::Hand;
-pub use plays::{TurnOf, new_hands, play};
 pub use post::{Post, run_carrier};
 pub use program_run::run;
-pub use turns::turn;
+pub use threads::run_carriers;
+pub use timed_machine::{MachineLock, TimedMachine};

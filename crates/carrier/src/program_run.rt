@@ -1,22 +1,23 @@
-//! Runs a program to its end, on one carrier.
+//! Runs a program to its end.
 
-ghost use Rattle.std.specs.Prelude.{◌≡◌, ◌≢◌, ℕ, Bool, IfOk, IsTrue, Some};
+ghost use Rattle.std.specs.Prelude.{◌≡◌, ◌≢◌, ◌<◌, ℕ, Bool, All, IfOk, IsTrue, Some, length};
 ghost use Rattle.ref_model.specs.declared.ending.Ending.TheVariants.{Halted, Stalled};
 ghost use Rattle.ref_model.specs.Setting.{Setting};
 ghost use Rattle.step_soundness.specs.OpeningLaws.{IsMain};
 ghost use Rattle.link_soundness.specs.Library.{HasLibrary};
 ghost use Rattle.schedule_soundness.specs.PinLaws.{NamesNoHold};
-ghost use Rattle.machine.specs.Legal.{Works};
+ghost use Rattle.machine.specs.Legal.{IsLegal, Works};
 ghost use Rattle.machine.specs.Live.{ListsLive};
 ghost use Rattle.machine.specs.Machines.{machine_ending};
-ghost use Rattle.carrier.specs.Plays.{IsReadyHand};
+ghost use Rattle.carrier.specs.Posts.{HasLeft, IsBeginning, IsNewSeat, IsPost};
 ghost use Rattle.carrier.specs.Runs.{IsRun, IsTimed};
+ghost use Rattle.carrier.specs.Shared.{machine_parts, shared_run};
 
-use crate::answers::is_over;
 use crate::execution::Execution;
-use crate::hand::Hand;
-use crate::plays::{TurnOf, turn_on_and_do};
-use crate::readings::{next_reading, read};
+use crate::post::Post;
+use crate::readings::longest_nap;
+use crate::threads::run_carriers;
+use crate::timed_machine::{MachineLock, TimedMachine};
 use class_world::World;
 use items::NoMemory;
 use jvm_edges::{Clock, Gate};
@@ -24,41 +25,50 @@ use machine::{Machine, ReadyProgram, Written};
 use ref_model::{Ending, Limits};
 use std::alloc::Global;
 use std::sync::Wait;
+use std::thread::Threads;
+use turn_lock::{Seat, TurnLock};
 use verify_code::Checked;
 
-// Makes turns of the one carrier until the run has ended. Where there is nothing to run it naps.
-fn run_on<'p, R: Wait, C: Clock, G: Gate>(
+// What the carriers have when a run begins, each with its seat.
+fn new_posts<'p, C: Clock>(
+    alloc: Global,
+    lock: &MachineLock<'p, '_, C>,
+    mut seats: Vec<Seat>,
+) -> Result<Vec<Post<'p>>, NoMemory>
+    requires begins { IsBeginning lock.now.initial.machine }
+    requires seats { All (IsNewSeat lock.now.id lock.now.initial.machine.carriers) seats.items }
+    ensures posts { IfOk result (λ v. All (IsPost (shared_run C.gives lock.now)) v.items) }
+    ensures count { IfOk result (λ v. length v.items ≡ length seats.items) }
+{
+    let longest = longest_nap(seats.len());
+    let mut posts = Vec::with_capacity(alloc, seats.len())?;
+    while let Some(seat) = seats.pop() {
+        posts.push(Post::new(alloc, lock, seat, longest)?)?;
+    }
+    Ok(posts)
+}
+
+// Runs a machine that begins on its carriers, until the run has ended: what it is then.
+fn run_machine<'p, R: Threads + Wait + Sync, C: Clock + Sync, G: Gate + Sync>(
     rt: &R,
     alloc: Global,
     program: &'p ReadyProgram,
-    machine: &mut Machine<'p>,
-    hand: &mut Hand<'p>,
+    machine: Machine<'p>,
     clock: &C,
     gate: &G,
-)
-    requires program { program.now ≡ machine.old.setting.world }
-    requires hand { IsReadyHand machine.old 0 hand.old }
-    requires timed { IsTimed (C.gives clock.now) machine.old }
-    ensures setting { machine.new.setting ≡ machine.old.setting }
-    ensures carriers { machine.new.carriers ≡ machine.old.carriers }
-    ensures timed { Works machine.new → IsTimed (C.gives clock.now) machine.new }
+) -> Result<Machine<'p>, NoMemory>
+    requires begins { IsBeginning machine }
+    requires some { 0 < machine.carriers }
+    requires program { program.now ≡ machine.setting.world }
+    ensures parts { IfOk result (λ m. machine_parts m ≡ machine_parts machine.entry) }
+    ensures timed { IfOk result (λ m. Works m → IsTimed (C.gives clock.now) m) }
 {
-    if machine.ending().is_some() {
-        return;
-    }
-    let mut reading = read(clock);
-    for _ in rt.forever() {
-        machine.is_legal();
-        let at = TurnOf {
-            carrier: 0,
-            now: reading.now,
-        };
-        let answer = turn_on_and_do(alloc, program, machine, hand, at, gate);
-        if is_over(answer) {
-            break;
-        }
-        reading = next_reading(clock, program, hand, reading, answer);
-    }
+    let carriers = machine.carriers();
+    let timed = TimedMachine::new(alloc, machine, clock)?;
+    let (lock, seats) = TurnLock::new(alloc, timed, carriers)?;
+    let posts = new_posts(alloc, &lock, seats)?;
+    let seats = run_carriers(rt, alloc, program, &lock, posts, clock, gate)?;
+    Ok(lock.close(seats).into_machine())
 }
 
 // The live threads, where no thread can go on.
@@ -107,48 +117,55 @@ fn leave(alloc: Global, machine: Machine<'_>) -> Result<Execution, NoMemory>
 }
 
 // The same as `run`, of a program that is ready.
-fn run_ready<R: Wait, C: Clock, G: Gate>(
+fn run_ready<R: Threads + Wait + Sync, C: Clock + Sync, G: Gate + Sync>(
     rt: &R,
     alloc: Global,
     program: &ReadyProgram,
     main: u32,
     limits: Limits,
+    carriers: u32,
     clock: &C,
     gate: &G,
 ) -> Result<Execution, NoMemory>
     requires library { HasLibrary program.now.program }
     requires main { IsMain program.now main }
     requires names { NamesNoHold program.now }
+    requires some { 0 < carriers }
     ensures { IfOk result (λ x. (p : Setting) → p.world ≡ program.now → p.main ≡ main
-        → p.limits ≡ limits → IsRun p (C.gives clock.now) 1 x.history.items
+        → p.limits ≡ limits → IsRun p (C.gives clock.now) carriers x.history.items
         x.out.items x.err.items x.live.items x.ending) }
 {
-    let mut machine = Machine::begin(alloc, program, main, limits, 1)?;
-    let mut hand = Hand::new(alloc)?;
+    let machine = Machine::begin(alloc, program, main, limits, carriers)?;
     machine.is_legal();
-    run_on(rt, alloc, program, &mut machine, &mut hand, clock, gate);
+    if machine.ending().is_some() {
+        return leave(alloc, machine);
+    }
+    let machine = run_machine(rt, alloc, program, machine, clock, gate)?;
     leave(alloc, machine)
 }
 
-/// Runs the main method with this number, on one carrier, until the run has ended: the program has, or no thread can go on, or it came to a
-/// limit. Where there is nothing to run it naps by the clock, so a run may wait. The gate is passed before local instructions. The program has
-/// the built-in classes, and no instruction of it names jvt.Native.hold.
-pub fn run<R: Wait, C: Clock, G: Gate>(
+/// Runs the main method with this number, on so many carriers, until the run has ended: the program has, or no thread can go on, or it came
+/// to a limit. Each carrier has a thread of its own, as far as threads can be started. Where it finds nothing to do it naps by the clock, so a
+/// run may wait. The gate is passed before local instructions. The program has the built-in classes, and no instruction of it names
+/// jvt.Native.hold.
+pub fn run<R: Threads + Wait + Sync, C: Clock + Sync, G: Gate + Sync>(
     rt: &R,
     alloc: Global,
     checked: Checked<World>,
     main: u32,
     limits: Limits,
+    carriers: u32,
     clock: &C,
     gate: &G,
 ) -> Result<Execution, NoMemory>
     requires library { HasLibrary checked.program }
     requires main { IsMain checked main }
     requires names { NamesNoHold checked }
+    requires some { 0 < carriers }
     ensures { IfOk result (λ x. (p : Setting) → p.world ≡ checked → p.main ≡ main
-        → p.limits ≡ limits → IsRun p (C.gives clock.now) 1 x.history.items
+        → p.limits ≡ limits → IsRun p (C.gives clock.now) carriers x.history.items
         x.out.items x.err.items x.live.items x.ending) }
 {
     let program = ReadyProgram::new(alloc, checked)?;
-    run_ready(rt, alloc, &program, main, limits, clock, gate)
+    run_ready(rt, alloc, &program, main, limits, carriers, clock, gate)
 }

@@ -1,0 +1,111 @@
+//! A machine with the clock of its run.
+
+ghost use Rattle.std.specs.Prelude.{◌≡◌, [], IfOk, IsTrue};
+ghost use Rattle.machine.specs.Legal.{IsLegal, Works};
+ghost use Rattle.machine.specs.Machines.{machine_ending};
+ghost use Rattle.carrier_turns.specs.Hands.{Fits, HasDone};
+ghost use Rattle.carrier_turns.specs.Turns.{IsTurn};
+ghost use Rattle.carrier.specs.Runs.{IsTimed};
+
+use carrier_turns::{Hand, Turn, turn};
+use history::{Entry, Kept};
+use items::NoMemory;
+use jvm_edges::Clock;
+use machine::{Machine, ReadyProgram};
+use ref_model::{Ending, Limits};
+use std::alloc::Global;
+use std::marker::Model;
+use turn_lock::TurnLock;
+
+/// A machine, and the clock of its run. Unless the run was given up, each entry of time in the history has a number that the clock gives, and
+/// a reason.
+#[derive(Drop)]
+pub struct TimedMachine<'p, 'c, C: Clock> {
+    machine: Box<Machine<'p>>,
+    clock: &'c C,
+}
+
+impl<'p, 'c, C: Clock> Model for TimedMachine<'p, 'c, C> {
+    ghost use Rattle.machine.specs.Legal.{Works};
+    ghost use Rattle.carrier.specs.Runs.{IsTimed};
+    ghost use Rattle.carrier.specs.Shared.{MachineAndClock};
+
+    ghost Value = { MachineAndClock C };
+
+    ghost view = { λ t. record { machine = t.machine.value; clock = t.clock.now } };
+
+    ghost invariant = { λ t. Works t.machine.value → IsTimed (C.gives t.clock.now) t.machine.value };
+}
+
+/// A lock that keeps a machine, for the carriers of a run.
+pub type MachineLock<'p, 'c, C> = TurnLock<TimedMachine<'p, 'c, C>>;
+
+/// A machine with its clock keeps the entries of its history. The clock stays, and all that the machine was given.
+impl<'p, 'c, C: Clock> Kept for TimedMachine<'p, 'c, C> {
+    ghost use Rattle.carrier.specs.Shared.{machine_parts};
+
+    type Setting = ((ReadyProgram, u32, Limits, u32), C);
+
+    ghost history = { λ t. t.machine.history };
+
+    ghost setting = { λ t. (machine_parts t.machine, t.clock) };
+
+    fn entries(&self) -> &[Entry] {
+        self.machine.entries()
+    }
+}
+
+impl<'p, 'c, C: Clock> TimedMachine<'p, 'c, C> {
+    /// A machine that begins, with the clock of its run.
+    pub fn new(alloc: Global, machine: Machine<'p>, clock: &'c C) -> Result<Self, NoMemory>
+        requires { machine.history ≡ [] }
+        ensures { IfOk result (λ timed. timed
+            ≡ record { machine = machine.entry; clock = clock.now }) }
+    {
+        Ok(TimedMachine {
+            machine: Box::new(alloc, machine)?,
+            clock,
+        })
+    }
+
+    /// A turn of a carrier with the machine (`carrier_turns::turn`), at a time that the clock gives.
+    #[inline(always)]
+    pub fn turn(&mut self, alloc: Global, hand: &mut Hand<'p>, carrier: u32, now: u64) -> Turn
+        requires fits { Fits self.old.machine carrier hand.old }
+        requires done { HasDone hand.old }
+        requires given { IsTrue (C.gives self.old.clock now) }
+        ensures fits { Fits self.new.machine carrier hand.new }
+        ensures turn { IsTurn self.old.machine self.new.machine carrier now
+            hand.old hand.new result }
+        ensures clock { self.new.clock ≡ self.old.clock }
+    {
+        self.machine.is_legal();
+        turn(alloc, &mut *self.machine, hand, carrier, now)
+    }
+
+    /// How the run has ended, if it has.
+    #[inline(always)]
+    pub fn ending(&self) -> Option<Ending>
+        ensures { result ≡ machine_ending self.now.machine }
+    {
+        self.machine.ending()
+    }
+
+    /// That the history is that of a run of the program (`Machine::is_legal`).
+    #[inline(always)]
+    pub fn is_legal(&self)
+        ensures legal { IsLegal self.now.machine }
+        ensures timed { Works self.now.machine → IsTimed (C.gives self.now.clock) self.now.machine }
+    {
+        self.machine.is_legal();
+    }
+
+    /// Takes the machine out.
+    pub fn into_machine(self) -> Machine<'p>
+        ensures machine { result ≡ self.entry.machine }
+        ensures timed { Works result → IsTimed (C.gives self.entry.clock) result }
+    {
+        let TimedMachine { machine, .. } = self;
+        Box::into_inner(machine)
+    }
+}
