@@ -28,7 +28,7 @@ use Rattle.program_files.specs.Limits.{run_limits}
 use Rattle.java_cli.specs.Causes.{HasRun, IsOfRun, Due, runs, IsDueOrFault, IsCaused, IsExact}
 use Rattle.program_files.specs.StoreFaults.{StoreFaults}
 use Rattle.java_cli.specs.Runs.{HasRead, IsRunDue}
-use Rattle.java_cli.specs.Headline.{IsEndingAnswer, IsRunAnswer, IsOutTaken, IsErrTaken, TakesLine, RanProgram, Ran, IsIdle, IsRunOrNoMemory, OnRun, OnNoRun, OutFaults, Takes, answer_with, line_after, no_command, taken_of, ending_answer, Wrote, Unwritten}
+use Rattle.java_cli.specs.Headline.{IsEndingAnswer, IsRunAnswer, IsOutTaken, IsErrTaken, TakesLine, RanProgram, Ran, IsIdle, IsRunOrNoMemory, OnRun, OnNoRun, OutFaults, Takes, answer_with, line_after, no_command, run_carriers, taken_of, ending_answer, Wrote, Unwritten}
 use Rattle.java_cli.proofs.AnswerLaws.{has_run, memory_exact}
 use Rattle.java_cli.proofs.LineLaws.{answer_told}
 
@@ -235,14 +235,13 @@ module _ {O E : Type 0} (bytes : O → Option (List ℕ)) (counts : O → ℕ) (
         (subst (λ (n : ℕ). TakesLine contents faults old new memory_line [] n) (sym none.err_written) none.line);
   }
 
-  pub delivered_is : (gives : ℕ → Bool) (w : World) (main : ℕ) (most : Limits) (carriers : ℕ) (history : List Entry) (text errors live : List ℕ) (told : Ending) (r : Report) → carriers ≡ 1
-      → ((p : Setting) → p.world ≡ w → p.main ≡ main → p.limits ≡ most → IsRun p gives 1 history text errors live told) → Delivered history text errors (ending_answer live told) r
+  pub delivered_is : (gives : ℕ → Bool) (w : World) (main : ℕ) (most : Limits) (carriers : ℕ) (history : List Entry) (text errors live : List ℕ) (told : Ending) (r : Report)
+      → ((p : Setting) → p.world ≡ w → p.main ≡ main → p.limits ≡ most → IsRun p gives carriers history text errors live told) → Delivered history text errors (ending_answer live told) r
       → IsDelivered gives w main most carriers r
-  delivered_is gives w main most carriers history text errors live told r one run_is (inl none) = unwritten_is gives w main most carriers r none
-  delivered_is gives w main most carriers history text errors live told r one run_is (inr wrote) =
+  delivered_is gives w main most carriers history text errors live told r run_is (inl none) = unwritten_is gives w main most carriers r none
+  delivered_is gives w main most carriers history text errors live told r run_is (inr wrote) =
       let ran : (p : Setting) → p.world ≡ w → p.main ≡ main → p.limits ≡ most → RanProgram p gives carriers (bytes old_out) (bytes new_out) (Told no_command r) r =
-      λ p in_world has_main has_limits.
-      subst (λ (k : ℕ). RanProgram p gives k (bytes old_out) (bytes new_out) (Told no_command r) r) (sym one) (ran_is p gives 1 history text errors live told r (run_is p in_world has_main has_limits) wrote) in
+      λ p in_world has_main has_limits. ran_is p gives carriers history text errors live told r (run_is p in_world has_main has_limits) wrote in
       let p : Setting = record { world = w; main = main; limits = most } in
       let first = ran p refl refl refl in
       let of = answer_of_run p (length r.history.items) first.last r.why first.answer in
@@ -280,7 +279,7 @@ module _ {E : Type 0} (contents : E → Option (List ℕ)) (faults : E → ℕ) 
   line_is line idle = subst (λ (o : Option Command). TakesLine contents faults old new (line_for o r.why) [] r.err_written) is (of_line [] r.err_written (line idle))
 
   ran_for : (known : Option store.Files) (gives : ℕ → Bool) (before after : Option (List ℕ)) (x : Runnable) → HasRead known c x
-      → RanProgram (record { world = x.checked; main = x.main; limits = run_limits }) gives 1 before after (λ text. TakesLine contents faults old new (line_of no_command r.why) text r.err_written) r
+      → RanProgram (record { world = x.checked; main = x.main; limits = run_limits }) gives run_carriers before after (λ text. TakesLine contents faults old new (line_of no_command r.why) text r.err_written) r
       → Ran c known gives before after (λ text. TakesLine contents faults old new (line_of c r.why) text r.err_written) r
   ran_for known gives before after x read ran = record {
     program = record { world = x.checked; main = x.main; limits = run_limits };
@@ -304,7 +303,7 @@ module _ {E : Type 0} (contents : E → Option (List ℕ)) (faults : E → ℕ) 
   }
 
   pub headline_is : (known : Option store.Files) (gives : ℕ → Bool) (before after : Option (List ℕ)) (x : Runnable) → HasRead known c x
-      → OnRun r.why ((p : Setting) → p.world ≡ x.checked → p.main ≡ x.main → p.limits ≡ run_limits → RanProgram p gives 1 before after (λ text. TakesLine contents faults old new (line_of no_command r.why) text r.err_written) r)
+      → OnRun r.why ((p : Setting) → p.world ≡ x.checked → p.main ≡ x.main → p.limits ≡ run_limits → RanProgram p gives run_carriers before after (λ text. TakesLine contents faults old new (line_of no_command r.why) text r.err_written) r)
       → OnRun r.why (IsSomeAnd command (λ d. Ran d known gives before after (λ text. TakesLine contents faults old new (line_of d r.why) text r.err_written) r))
   headline_is known gives before after x read ran of = rw (← is) (ran_for known gives before after x read (ran of (record { world = x.checked; main = x.main; limits = run_limits }) refl refl refl))
 

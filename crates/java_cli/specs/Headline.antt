@@ -89,11 +89,15 @@ pub record RanProgram (p : Setting) (gives : ℕ → Bool) (carriers : ℕ) (bef
   pub err : Errs last.state.memory.err
   pub err_taken : IsErrTaken r.why r.err_written (length last.state.memory.err)
 
--- so it is for the program that the command's files are, on one carrier
+-- on how many carriers a command runs its program
+abbrev pub run_carriers : ℕ
+run_carriers = 4
+
+-- so it is for the program that the command's files are, on these carriers
 pub record Ran (c : Command) (known : Option Files) (gives : ℕ → Bool) (before after : Option (List ℕ)) (Errs : List ℕ → Type 0) (r : Report) : Type 0 where
   pub program : Setting
   pub given : IsGiven known c program
-  pub ran : RanProgram program gives 1 before after Errs r
+  pub ran : RanProgram program gives run_carriers before after Errs r
 
 -- a command without arguments, for the lines that name none
 abbrev pub no_command : Command

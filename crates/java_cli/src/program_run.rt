@@ -21,12 +21,13 @@ use jvm_edges::{Clock, Gate, Sink, put_all};
 use ref_model::{Ending, Limits, Which as Limited};
 use std::alloc::Global;
 use std::sync::Wait;
+use std::thread::Threads;
 use verify_code::Checked;
 
-/// Runs the main method with this number of a checked program, with these limits. Writes the program's output to `out`, and its error
-/// output and then the answer's line to `err`. Where no thread can go on before a time, it naps by the clock. For now there is one carrier, and
-/// `trace` has no effect.
-pub fn run_checked<R: Wait, O: Sink, E: Sink, C: Clock + Sync, G: Gate + Sync>(
+/// Runs the main method with this number of a checked program, with these limits, on so many carriers, each in a thread of its own as far as
+/// threads can be started. Writes the program's output to `out`, and its error output and then the answer's line to `err`. A carrier that finds
+/// nothing to do naps by the clock. For now `trace` has no effect.
+pub fn run_checked<R: Threads + Wait + Sync, O: Sink, E: Sink, C: Clock + Sync, G: Gate + Sync>(
     rt: &R,
     alloc: Global,
     checked: Checked<World>,
@@ -42,7 +43,7 @@ pub fn run_checked<R: Wait, O: Sink, E: Sink, C: Clock + Sync, G: Gate + Sync>(
     requires library { HasLibrary checked.program }
     requires main { IsMain checked main }
     requires unpinned { NamesNoHold checked }
-    requires carriers { carriers ≡ 1 }
+    requires carriers { 0 < carriers }
     requires threads { 0 < limits.threads }
     // Where the program ran, its history is legal, the answer is how it ends, and what is written is its output.
     ensures headline { OnRun result.why ((p : Setting) → p.world ≡ checked → p.main ≡ main
@@ -58,7 +59,7 @@ pub fn run_checked<R: Wait, O: Sink, E: Sink, C: Clock + Sync, G: Gate + Sync>(
     ensures line { OnNoRun result.why (TakesLine E.contents E.faults err.old err.new
         (line_of no_command result.why) [] result.err_written) }
 {
-    match run(rt, alloc, checked, main, limits, clock, gate) {
+    match run(rt, alloc, checked, main, limits, carriers, clock, gate) {
         Ok(execution) => deliver(alloc, execution, out, err),
         Err(_) => no_memory(alloc, err),
     }

@@ -16,6 +16,7 @@ use jvm_edges::{Clock, Gate, Sink, Store, put_all};
 use ref_model::Limits;
 use std::alloc::Global;
 use std::sync::Wait;
+use std::thread::Threads;
 
 /// The limits of a run.
 const RUN_LIMITS: Limits = Limits {
@@ -24,10 +25,13 @@ const RUN_LIMITS: Limits = Limits {
     events: 4_194_304,
 };
 
+/// On how many carriers a program runs.
+const RUN_CARRIERS: u32 = 4;
+
 /// Does all that the program does. Reads the command that the arguments spell, of which the first is the program's name, and runs it. Writes
-/// the program's output to `out`, and its error output and then the answer's line to `err`. A program whose threads all wait for a time waits
-/// for it by the clock.
-pub fn jvt<R: Wait, S: Store, O: Sink, E: Sink, C: Clock + Sync, G: Gate + Sync>(
+/// the program's output to `out`, and its error output and then the answer's line to `err`. Its threads run on carriers in operating-system
+/// threads of their own. A program whose threads all wait for a time waits for it by the clock.
+pub fn jvt<R: Threads + Wait + Sync, S: Store, O: Sink, E: Sink, C: Clock + Sync, G: Gate + Sync>(
     rt: &R,
     alloc: Global,
     args: &[String],
@@ -61,7 +65,7 @@ pub fn jvt<R: Wait, S: Store, O: Sink, E: Sink, C: Clock + Sync, G: Gate + Sync>
                 runnable.checked,
                 runnable.main,
                 RUN_LIMITS,
-                1,
+                RUN_CARRIERS,
                 false,
                 out,
                 err,

@@ -3,14 +3,13 @@
 #![tactic(auto)]
 
 use java_cli::jvt;
-use jvm_edges::{FileStore, OpenGate, Sink, StdSink, StepClock, Store};
+use jvm_edges::{FileStore, OpenGate, RealClock, Sink, StdSink, Store};
 use std::alloc::{AllocError, Global};
 use std::process::ExitCode;
+use std::rt::Clock;
 use std::sync::Wait;
+use std::thread::Threads;
 use std::{fs, io};
-
-// What the clock of each run first gives, in nanoseconds.
-const FIRST_TIME: u64 = 1_000_000_000;
 
 fn main(rt: HostRuntime) -> io::Result<ExitCode> {
     let alloc = rt.alloc();
@@ -37,7 +36,7 @@ fn arguments_of(alloc: Global, line: &str) -> Result<Vec<String>, AllocError> {
 }
 
 // Calls `jvt` with the arguments in a line, and gives the status.
-fn run_program<R: Wait, S: Store, O: Sink, E: Sink>(
+fn run_program<R: Threads + Wait + Clock + Sync, S: Store, O: Sink, E: Sink>(
     rt: &R,
     alloc: Global,
     line: &str,
@@ -46,10 +45,12 @@ fn run_program<R: Wait, S: Store, O: Sink, E: Sink>(
     err: &mut E,
 ) -> Result<u8, AllocError> {
     let args = arguments_of(alloc, line)?;
-    let (clock, gate) = (StepClock::new(FIRST_TIME), OpenGate::new());
+    let (clock, gate) = (RealClock::new(rt), OpenGate::new());
     let report = jvt(rt, alloc, &args, store, out, err, &clock, &gate);
     Ok(report.why.status())
 }
 
+#[cfg(test)]
+mod meeting;
 #[cfg(test)]
 mod tests;

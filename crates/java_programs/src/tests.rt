@@ -1,6 +1,6 @@
 //! What no program can show of itself: its history, the gate, and sinks and memory that fail.
 
-ghost use Rattle.std.specs.Prelude.{◌<◌, IfOk};
+ghost use Rattle.std.specs.Prelude.{◌≡◌, ◌<◌, IfOk};
 ghost use Rattle.link_soundness.specs.Library.{HasLibrary};
 ghost use Rattle.schedule_soundness.specs.PinLaws.{NamesNoHold};
 ghost use Rattle.step_soundness.specs.OpeningLaws.{IsMain};
@@ -16,6 +16,7 @@ use std::alloc::{AllocError, Global};
 use std::sync::Wait;
 use std::sync::atomic::{AtomicU64, Ordering};
 use std::test::Fail;
+use std::thread::Threads;
 use verify_code::Checked;
 
 // `class A`, whose main prints 42: `own/A.class`.
@@ -113,7 +114,7 @@ fn store_of(alloc: Global, bytes: &[u8]) -> Result<MapStore, AllocError> {
 }
 
 // The call of `run A A.class`, where `A.class` has these bytes.
-fn run_a<R: Wait + AllocGlobal, G: Gate + Sync>(
+fn run_a<R: Threads + Wait + Sync + AllocGlobal, G: Gate + Sync>(
     rt: &R,
     bytes: &[u8],
     out: &mut MemSink,
@@ -142,33 +143,60 @@ fn load(alloc: Global, bytes: &[u8]) -> Result<(Checked<World>, u32), Fail>
     Ok((checked, main))
 }
 
-// The run of the class A of these bytes, with room for so many threads and entries.
-fn run_with<R: Wait + AllocGlobal>(
+// On how many carriers a program runs, and what it may have.
+#[derive(Clone, Copy)]
+pub(crate) struct Room {
+    pub carriers: u32,
+    pub limits: Limits,
+}
+
+// One carrier, and room for so many threads and entries.
+fn room_for(threads: u32, events: u32) -> Room
+    ensures carriers { 0 < result.carriers }
+    ensures threads { result.limits.threads ≡ threads }
+{
+    Room {
+        carriers: 1,
+        limits: Limits {
+            heap_cells: 1000,
+            threads,
+            events,
+        },
+    }
+}
+
+// The run of the class A of these bytes.
+pub(crate) fn run_with<R: Threads + Wait + Sync + AllocGlobal, G: Gate + Sync>(
     rt: &R,
     bytes: &[u8],
-    threads: u32,
-    events: u32,
+    room: Room,
+    out: &mut MemSink,
     err: &mut MemSink,
+    gate: &G,
 ) -> Result<Report, Fail>
-    requires { 0 < threads }
+    requires carriers { 0 < room.carriers }
+    requires threads { 0 < room.limits.threads }
 {
     let alloc = rt.alloc();
     let (checked, main) = load(alloc, bytes)?;
-    let limits = Limits {
-        heap_cells: 1000,
-        threads,
-        events,
-    };
-    let out = &mut sink(alloc, &[])?;
     let clock = ListClock::new(vec![in alloc; 0]?);
-    let gate = OpenGate::new();
     Ok(run_checked(
-        rt, alloc, checked, main, limits, 1, false, out, err, &clock, &gate,
+        rt,
+        alloc,
+        checked,
+        main,
+        room.limits,
+        room.carriers,
+        false,
+        out,
+        err,
+        &clock,
+        gate,
     ))
 }
 
 // A sink that takes two bytes a put, and whose puts of these numbers fail.
-fn sink(alloc: Global, fail_at: &[u64]) -> Result<MemSink, AllocError> {
+pub(crate) fn sink(alloc: Global, fail_at: &[u64]) -> Result<MemSink, AllocError> {
     MemSink::new(alloc, 2, 4096, Vec::from_slice(alloc, fail_at)?)
 }
 
@@ -185,7 +213,7 @@ fn the_smallest_program_has_five_entries_and_passes_the_gate_before_each_step(
         main: AtomicU64::new(0),
         others: AtomicU64::new(0),
     };
-    let report = run_a(&rt, &A_CLASS, out, err, &gate)?;
+    let report = run_with(&rt, &A_CLASS, room_for(1, 1000), out, err, &gate)?;
     let text = print(rt.alloc(), 1, &report.history)?;
     assert_eq!(rt; text.as_slice(), A_HISTORY);
     assert_eq!(rt; gate.main.load(Ordering::SeqCst), 3);
@@ -203,8 +231,8 @@ fn a_thread_past_the_limit_is_told(rt: HostRuntime) -> Result<(), Fail> {
         if let Some(byte) = bytes.get_mut(COUNT_AT) {
             *byte = count;
         }
-        let err = &mut sink(rt.alloc(), &[])?;
-        let report = run_with(&rt, &bytes, 3, 1000, err)?;
+        let (out, err) = (&mut sink(rt.alloc(), &[])?, &mut sink(rt.alloc(), &[])?);
+        let report = run_with(&rt, &bytes, room_for(3, 1000), out, err, &OpenGate::new())?;
         assert_eq!(rt; report.why.status(), status);
         if status == 71 {
             assert_eq!(rt; err.bytes(), b"jvt: limit Threads 3\n".as_slice());
@@ -217,8 +245,15 @@ fn a_thread_past_the_limit_is_told(rt: HostRuntime) -> Result<(), Fail> {
 fn a_program_that_yields_for_ever_comes_to_the_limit_of_events(
     rt: HostRuntime,
 ) -> Result<(), Fail> {
-    let err = &mut sink(rt.alloc(), &[])?;
-    let report = run_with(&rt, &YIELDS_FOR_EVER, 1, 1000, err)?;
+    let (out, err) = (&mut sink(rt.alloc(), &[])?, &mut sink(rt.alloc(), &[])?);
+    let report = run_with(
+        &rt,
+        &YIELDS_FOR_EVER,
+        room_for(1, 1000),
+        out,
+        err,
+        &OpenGate::new(),
+    )?;
     assert_eq!(rt; report.why.status(), 71);
     assert_eq!(rt; report.history.len(), 998);
     assert_eq!(rt; err.bytes(), b"jvt: limit Events 1000\n".as_slice());
