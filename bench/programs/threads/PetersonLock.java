@@ -1,5 +1,9 @@
 // links
+import java.util.concurrent.locks.LockSupport;
+
 class PetersonLock extends Thread {
+    /** How long a thread is parked before it looks again, in nanoseconds: who only yields fills a history. */
+    static final long PAUSE = 20_000;
     static volatile boolean firstWants, secondWants;
     static volatile int turn;
     static int count, inside, most;
@@ -8,8 +12,8 @@ class PetersonLock extends Thread {
     PetersonLock(boolean first) { this.first = first; }
 
     private void lock() {
-        if (first) { firstWants = true; turn = 2; while (secondWants && turn == 2) Thread.yield(); }
-        else { secondWants = true; turn = 1; while (firstWants && turn == 1) Thread.yield(); }
+        if (first) { firstWants = true; turn = 2; while (secondWants && turn == 2) LockSupport.parkNanos(PAUSE); }
+        else { secondWants = true; turn = 1; while (firstWants && turn == 1) LockSupport.parkNanos(PAUSE); }
     }
 
     private void unlock() { if (first) firstWants = false; else secondWants = false; }
