@@ -1,0 +1,12 @@
+pub mod Tests
+pub mod CutLaws
+pub mod TableLaws
+pub mod ManyLaws
+pub mod NumberLaws
+pub mod ReaderLaws
+pub mod PartLaws
+pub mod OperandLaws
+pub mod LineLaws
+pub mod WordLaws
+pub mod SpellingLaws
+pub mod ReadLaws
