@@ -37,7 +37,9 @@ place_of key (c ∷ cs) = if pointwise nat_eq (key_of c) key then Some 0 else op
 abbrev pub mentioned_at : Option ℕ → Const → List Const → Mention
 mentioned_at (Some index) constant pool = Some (index, pool)
 mentioned_at None constant pool =
-    if nat_lt 65535 (length pool + length (slots_of constant)) then None else Some (length pool, pool ++ slots_of constant)
+    if nat_lt 65535 (length pool + length (slots_of constant))
+    then None
+    else Some (length pool, pool ++ slots_of constant)
 
 -- Where the pool has the constant it stays as it is; else the constant goes after the others.
 unfoldable pub mentioned : Const → List Const → Mention
@@ -66,11 +68,13 @@ name_and_type name descriptor pool =
 -- a member by its class, its name and its descriptor
 unfoldable pub field : List ℕ → List ℕ → List ℕ → List Const → Mention
 field owner name descriptor pool =
-    class owner pool then λ owner pool. name_and_type name descriptor pool then λ member. mentioned (Fieldref owner member)
+    class owner pool then λ owner pool.
+    name_and_type name descriptor pool then λ member. mentioned (Fieldref owner member)
 
 unfoldable pub method : List ℕ → List ℕ → List ℕ → List Const → Mention
 method owner name descriptor pool =
-    class owner pool then λ owner pool. name_and_type name descriptor pool then λ member. mentioned (Methodref owner member)
+    class owner pool then λ owner pool.
+    name_and_type name descriptor pool then λ member. mentioned (Methodref owner member)
 
 unfoldable pub interface_method : List ℕ → List ℕ → List ℕ → List Const → Mention
 interface_method owner name descriptor pool =

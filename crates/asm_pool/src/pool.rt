@@ -17,8 +17,8 @@ use std::collections::BTreeMap;
 /// The most entries of a pool, with the one at index 0 (JVMS 4.1).
 const MOST_ENTRIES: usize = 65_535;
 
-/// A constant pool that grows. Each call gives the index of a constant: that of its first mention, or the next after the
-/// others. After an error the pool is of no use.
+/// A constant pool that grows. Each call gives the index of a constant: that of its first mention, or the next after
+/// the others. After an error the pool is of no use.
 #[derive(Drop)]
 pub struct Pool {
     pub alloc: Global,
