@@ -1,5 +1,6 @@
 -- An instruction appends as many bytes as its size says.
 use Rattle.std.proofs.Common.{◌≡◌, ℕ, ◌+◌, ◌*◌, ◌-◌, ◌%◌, ℤ, pos, Bool, true, false, cond, List, [], ◌∷◌, ◌++◌, length, Option, Some, None, refl, sym, ap, ◌∙◌, length-append, arith, eqb, ltb}
+use Rattle.std.specs.Prelude.{◌&&◌}
 use Rattle.std.specs.Int.{w16, cast_unsigned}
 use Rattle.std.proofs.lemmas.List.{length-replicate}
 use Rattle.items.proofs.Binds.{some_is}
@@ -82,7 +83,7 @@ module _ (target : Targets) (pc : ℕ) where
 
   lookup_adds : (cs : List Case) (default code new : List ℕ) → lookup target pc cs default code ≡ Some new → Adds (8 + padding_size pc + 8 * length cs) code new
   lookup_adds cs default code new e =
-      let f = if_some (are_rising cs) _ new e in
+      let f = if_some (ltb (length cs) 65536 && are_rising cs) _ new e in
       let t = some_is (far target pc default (code ++ padding pc)) (λ next. cases target pc cs (next ++ s4 (pos (length cs)))) new f in
       omega (
         arith,

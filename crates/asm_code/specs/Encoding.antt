@@ -83,8 +83,9 @@ highest low count = low +ℤ (pos count -ℤ pos 1)
 abbrev pub most32 : ℤ
 most32 = pos 2147483647
 
+-- no code has room for more than 65,535 labels
 abbrev pub is_table : ℤ → ℕ → Bool
-is_table low count = nat_lt 0 count && int_le (highest low count) most32
+is_table low count = nat_lt 0 count && nat_lt count 65536 && int_le (highest low count) most32
 
 -- the highest value of a table, where there is one
 abbrev pub IsHighest : Result ℤ LineError → ℤ → ℕ → Type 0
@@ -123,7 +124,7 @@ cases target pc (c ∷ cs) code = do
 
 abbrev pub lookup : Targets → ℕ → List Case → List ℕ → Step
 lookup target pc cs default code =
-    if are_rising cs
+    if nat_lt (length cs) 65536 && are_rising cs
     then (far target pc default (code ++ padding pc) >>= λ next. cases target pc cs (next ++ s4 (pos (length cs))))
     else None
 

@@ -1,14 +1,8 @@
 -- How many bytes an instruction has at a pc; for this no label needs a place.
-use Rattle.std.specs.Prelude.{ℕ, ◌+◌, ◌*◌, ◌-◌, ◌%◌, ◌^◌, ◌<◌, length, ◌==◌, nat_lt, if◌then◌else◌}
+use Rattle.std.specs.Prelude.{ℕ, ◌+◌, ◌*◌, ◌-◌, ◌%◌, length, ◌==◌, nat_lt, nat_le, Option, Some, None, if◌then◌else◌}
 use Rattle.asm_text.specs.declared.instruction.Operands.{Operands}
 use Rattle.asm_text.specs.declared.instruction.Operands.TheVariants as operands
 use Rattle.asm_code.specs.Encoding.{is_small}
-
--- the words of a line are fewer than the numbers of 31 bits
-abbrev pub HasRoom : Operands → Type 0
-HasRoom (operands.Table low labels default) = length labels < 2 ^ 31
-HasRoom (operands.Lookup cs default) = length cs < 2 ^ 31
-HasRoom other = Unit {0}
 
 abbrev pub padding_size : ℕ → ℕ
 padding_size pc = 3 - pc % 4
@@ -27,3 +21,7 @@ size_of pc opcode (operands.Member class name descriptor) = if opcode == 185 the
 size_of pc opcode (operands.Class name) = 3
 size_of pc opcode (operands.Element e) = 2
 size_of pc opcode (operands.Dimensions name n) = 4
+
+-- whether it is short enough for a code
+abbrev pub fitting : ℕ → Option ℕ
+fitting size = if nat_le size 65535 then Some size else None

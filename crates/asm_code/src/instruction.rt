@@ -4,7 +4,6 @@ ghost use Rattle.std.specs.Prelude.{◌≡◌, ◌++◌, ◌<◌, ◌^◌, lengt
 ghost use Rattle.asm_code.specs.Encoding as spec;
 ghost use Rattle.asm_code.specs.Encoding.{Puts};
 ghost use Rattle.asm_code.specs.Places.{place_of};
-ghost use Rattle.asm_code.specs.Sizes.{HasRoom};
 
 use crate::labels::Labels;
 use crate::offset::{put_far, put_near, put_s2, put_u2};
@@ -41,7 +40,6 @@ pub fn put_instruction(
     mentioned: Mentioned,
     operands: &Operands,
 ) -> Result<(), LineError>
-    requires { HasRoom operands.now }
     ensures { Puts result code.new.items
         (spec.with_instruction (place_of labels.now) pc opcode mentioned operands.now
         code.old.items) }

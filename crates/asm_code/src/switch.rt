@@ -25,10 +25,9 @@ fn put_padding(code: &mut Vec<u8>, pc: u16) -> Result<(), AllocError>
 
 // The highest value of a table of so many labels.
 fn highest(low: i32, count: usize) -> Result<i32, LineError>
-    requires { count < 2 ^ 31 }
     ensures { spec.IsHighest result low count }
 {
-    if count == 0 {
+    if count == 0 || count > 65_535 {
         return Err(LineError::Bad);
     }
     low.checked_add(count as i32 - 1).ok_or(LineError::Bad)
@@ -43,7 +42,6 @@ pub fn put_table(
     names: &[Name],
     default: &[u8],
 ) -> Result<(), LineError>
-    requires { length names.now < 2 ^ 31 }
     ensures { Puts result code.new.items
         (spec.table (place_of labels.now) pc low names.now default.now code.old.items) }
 {
@@ -104,11 +102,10 @@ pub fn put_lookup(
     cases: &[Case],
     default: &[u8],
 ) -> Result<(), LineError>
-    requires { length cases.now < 2 ^ 31 }
     ensures { Puts result code.new.items
         (spec.lookup (place_of labels.now) pc cases.now default.now code.old.items) }
 {
-    if !are_rising(cases) {
+    if cases.len() > 65_535 || !are_rising(cases) {
         return Err(LineError::Bad);
     }
     put_padding(code, pc)?;
