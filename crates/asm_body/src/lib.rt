@@ -1,0 +1,14 @@
+//! The body of a method that is assembled, made of what its lines say.
+#![tactic(auto)]
+
+mod code;
+mod error;
+mod frames;
+mod placed;
+mod rows;
+
+pub use code::code_of;
+pub use error::BodyError;
+pub use frames::stack_map_of;
+pub use placed::{Placed, PlacedFrame, PlacedRow, PlacedType};
+pub use rows::rows_of;
