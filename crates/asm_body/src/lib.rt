@@ -4,11 +4,13 @@
 mod code;
 mod error;
 mod frames;
+mod mention;
 mod placed;
 mod rows;
 
 pub use code::code_of;
 pub use error::BodyError;
 pub use frames::stack_map_of;
+pub use mention::mention_of;
 pub use placed::{Placed, PlacedFrame, PlacedRow, PlacedType};
 pub use rows::rows_of;
