@@ -70,7 +70,8 @@ fn field(
     descriptor: &[u8],
 ) -> Result<Mentioned, LineError>
     requires { IsPool pool.old }
-    ensures { MentionsAt result pool.new (spec.plain (pools.field class.now name.now descriptor.now pool.old.entries)) }
+    ensures { MentionsAt result pool.new
+        (spec.plain (pools.field class.now name.now descriptor.now pool.old.entries)) }
 {
     match pool.field(class, name, descriptor) {
         Ok(index) => Ok(Mentioned { index, slots: 0 }),
@@ -85,7 +86,8 @@ fn method(
     descriptor: &[u8],
 ) -> Result<Mentioned, LineError>
     requires { IsPool pool.old }
-    ensures { MentionsAt result pool.new (spec.plain (pools.method class.now name.now descriptor.now pool.old.entries)) }
+    ensures { MentionsAt result pool.new
+        (spec.plain (pools.method class.now name.now descriptor.now pool.old.entries)) }
 {
     match pool.method(class, name, descriptor) {
         Ok(index) => Ok(Mentioned { index, slots: 0 }),

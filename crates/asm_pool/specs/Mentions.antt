@@ -1,6 +1,6 @@
 -- The constant pool of a class file that is assembled (JVMS 4.4): a constant is in it once, at the place where it is
 -- mentioned first, after the constants that it names.
-use Rattle.std.specs.Prelude.{ℕ, suc, ℤ, ◌+◌, Bool, true, false, List, [], ◌∷◌, ◌++◌, length, Option, Some, None, nat_lt, nat_eq, if◌then◌else◌}
+use Rattle.std.specs.Prelude.{ℕ, suc, ℤ, ◌+◌, Bool, true, false, List, [], ◌∷◌, ◌++◌, length, Option, Some, None, ◌&&◌, ◌==◌, count_by, nat_lt, nat_le, nat_eq, if◌then◌else◌}
 use Rattle.std.specs.Option.{option_map}
 use Rattle.std.specs.Cmp.Lexicographic.{pointwise}
 use Rattle.class_model.specs.declared.constant.Const.{Const}
@@ -45,9 +45,14 @@ mentioned_at None constant pool =
 unfoldable pub mentioned : Const → List Const → Mention
 mentioned constant pool = mentioned_at (place_of (key_of constant) pool) constant pool
 
+-- whether a text in ASCII has at most 65,535 bytes as modified UTF-8 (JVMS 4.4.7), where a zero takes two
+abbrev pub is_short : List ℕ → Bool
+is_short units =
+    nat_le (length units) 65535 && nat_le (length units + count_by (λ u. u == 0) units) 65535
+
 -- a text in ASCII
 abbrev pub text : List ℕ → List Const → Mention
-text units pool = mentioned (Utf8 units) pool
+text units pool = if is_short units then mentioned (Utf8 units) pool else None
 
 abbrev pub int : ℤ → List Const → Mention
 int n pool = mentioned (Integer n) pool

@@ -9,7 +9,7 @@ use thiserror::Error;
 /// Why a constant has no place in the pool.
 #[derive(Clone, Copy, Debug, PartialEq, Eq, Error)]
 pub enum PoolError {
-    /// The pool would have more than 65,535 entries, with the one at index 0.
+    /// The pool would have more than 65,535 entries, with the one at index 0, or a text more than 65,535 bytes.
     #[error("the pool is full")]
     Full,
     /// Memory ran out.

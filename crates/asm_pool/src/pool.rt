@@ -1,6 +1,6 @@
 //! The constant pool.
 
-ghost use Rattle.std.specs.Prelude.{◌≡◌, ◌∷◌, ◌++◌, ◌<◌, [], None, length, IfOk, OnOk};
+ghost use Rattle.std.specs.Prelude.{◌≡◌, ◌==◌, ◌∷◌, ◌++◌, ◌<◌, ◌≤◌, [], None, length, count_by, IfOk, OnOk};
 ghost use Rattle.class_model.specs.declared.constant.Const.TheVariants.{Unused};
 ghost use Rattle.asm_pool.specs.Keys.{key_of};
 ghost use Rattle.asm_pool.specs.Mentions as spec;
@@ -16,6 +16,9 @@ use std::collections::BTreeMap;
 
 /// The most entries of a pool, with the one at index 0 (JVMS 4.1).
 const MOST_ENTRIES: usize = 65_535;
+
+/// The most bytes of a text (JVMS 4.4.7).
+const MOST_BYTES: usize = 65_535;
 
 /// A constant pool that grows. Each call gives the index of a constant: that of its first mention, or the next after
 /// the others. After an error the pool is of no use.
@@ -34,6 +37,20 @@ fn units_of(alloc: Global, text: &[u8]) -> Result<SharedSlice<u16>, AllocError>
     let mut units = Vec::with_capacity(alloc, text.len())?;
     append(&mut units, text)?;
     SharedSlice::new(alloc, units)
+}
+
+fn zeros_in(text: &[u8]) -> usize
+    ensures value { result ≡ count_by (λ u. u == 0) text.now }
+    ensures bound { result ≤ length text.now }
+{
+    text.iter().filter(|byte| **byte == 0).count()
+}
+
+// Whether the text has at most 65,535 bytes as modified UTF-8, where a zero takes two (JVMS 4.4.7).
+fn is_short(text: &[u8]) -> bool
+    ensures { result ≡ spec.is_short text.now }
+{
+    text.len() <= MOST_BYTES && text.len() + zeros_in(text) <= MOST_BYTES
 }
 
 // How many entries the constant has.
@@ -106,6 +123,9 @@ impl Pool {
         requires { IsPool self.old }
         ensures { Mentions result self.new (spec.text text.now self.old.entries) }
     {
+        if !is_short(text) {
+            return Err(PoolError::Full);
+        }
         let units = units_of(self.alloc, text)?;
         self.mention(Const::Utf8(units))
     }
