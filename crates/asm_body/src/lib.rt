@@ -4,6 +4,7 @@
 mod code;
 mod error;
 mod frames;
+mod growing;
 mod mention;
 mod placed;
 mod rows;
@@ -11,6 +12,7 @@ mod rows;
 pub use code::code_of;
 pub use error::BodyError;
 pub use frames::stack_map_of;
+pub use growing::Instructions;
 pub use mention::mention_of;
 pub use placed::{Placed, PlacedFrame, PlacedRow, PlacedType};
 pub use rows::rows_of;
