@@ -1,3 +1,4 @@
 pub mod Bodies
 pub mod Mentions
 pub mod Growing
+pub mod FrameTypes

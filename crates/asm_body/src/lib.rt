@@ -3,6 +3,7 @@
 
 mod code;
 mod error;
+mod frame_types;
 mod frames;
 mod growing;
 mod mention;
@@ -11,6 +12,7 @@ mod rows;
 
 pub use code::code_of;
 pub use error::BodyError;
+pub use frame_types::types_of;
 pub use frames::stack_map_of;
 pub use growing::Instructions;
 pub use mention::mention_of;

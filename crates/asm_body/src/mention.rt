@@ -13,8 +13,8 @@ use asm_text::{Constant, LineError, Operands};
 use descriptors::{DescriptorError, ElementType, Kind, is_method_descriptor, method_kind};
 use std::alloc::{AllocError, Global};
 
-// The error of the line: it has no place for its constant.
-fn line_error(error: PoolError) -> LineError
+/// The error of the line: it has no place for its constant.
+pub fn line_error(error: PoolError) -> LineError
     ensures { result ≡ spec.line_error error }
 {
     match error {
