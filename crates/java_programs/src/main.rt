@@ -3,10 +3,9 @@
 #![tactic(auto)]
 
 use java_cli::jvt;
-use jvm_edges::{FileStore, OpenGate, RealClock, Sink, StdSink, Store};
+use jvm_edges::{Clock, FileStore, OpenGate, RealClock, Sink, StdSink, Store};
 use std::alloc::{AllocError, Global};
 use std::process::ExitCode;
-use std::rt::Clock;
 use std::sync::Wait;
 use std::thread::Threads;
 use std::{fs, io};
@@ -16,10 +15,11 @@ fn main(rt: HostRuntime) -> io::Result<ExitCode> {
     let store = &mut FileStore::new(&rt);
     let out = &mut StdSink::new(rt.stdout());
     let err = &mut StdSink::new(rt.stdout());
+    let clock = RealClock::new(&rt);
     let table = fs::read_to_string(&rt, "programs.txt")?;
     for line in table.lines() {
         println!(rt; "== {line}")?;
-        let status = run_program(&rt, alloc, line, store, out, err)?;
+        let status = run_program(&rt, alloc, line, &clock, store, out, err)?;
         println!(rt; "== status {status}")?;
     }
     Ok(ExitCode::SUCCESS)
@@ -36,17 +36,17 @@ fn arguments_of(alloc: Global, line: &str) -> Result<Vec<String>, AllocError> {
 }
 
 // Calls `jvt` with the arguments in a line, and gives the status.
-fn run_program<R: Threads + Wait + Clock + Sync, S: Store, O: Sink, E: Sink>(
+fn run_program<R: Threads + Wait + Sync, C: Clock + Sync, S: Store, O: Sink, E: Sink>(
     rt: &R,
     alloc: Global,
     line: &str,
+    clock: &C,
     store: &mut S,
     out: &mut O,
     err: &mut E,
 ) -> Result<u8, AllocError> {
     let args = arguments_of(alloc, line)?;
-    let (clock, gate) = (RealClock::new(rt), OpenGate::new());
-    let report = jvt(rt, alloc, &args, store, out, err, &clock, &gate);
+    let report = jvt(rt, alloc, &args, store, out, err, clock, &OpenGate::new());
     Ok(report.why.status())
 }
 
