@@ -4,10 +4,12 @@
 class SynchronizedRuns {
     static int order;
 
+    static synchronized int next() { return ++order; }
+
     static final class Counts extends Thread {
         int mine;
         public synchronized void run() {
-            mine = ++order;
+            mine = next();
             notifyAll();
         }
     }
