@@ -68,7 +68,7 @@ fn go_back(
     };
     match leave(program, returns.kind, mounted) {
         Left::Returned => Ok(true),
-        Left::Root | Left::Holds(_) => Ok(false),
+        Left::Root | Left::Holds(_) | Left::Native => Ok(false),
         Left::Undefined => Err(NoMemory),
     }
 }

@@ -39,7 +39,7 @@ fn a_long_goes_to_a_callee_and_back(rt: HostRuntime) -> Result<(), Fail> {
 // How many frames of a thread can be pushed one over the other, and why no more.
 fn deepest(mounted: &mut Mounted) -> Option<StackError> {
     for _ in 0..3000u32 {
-        if let Err(why) = mounted.push_frame(1, 1, 1, 0, false) {
+        if let Err(why) = mounted.push_frame(1, 1, 1, 0) {
             return Some(why);
         }
     }
@@ -55,41 +55,24 @@ fn a_stack_has_2048_frames(rt: HostRuntime) -> Result<(), Fail> {
     Ok(())
 }
 
-// The pins with a pinned frame under another, and without both.
-fn pins(alloc: Global) -> Result<(u32, u32), StackError> {
-    let mut mounted = Mounted::new(alloc, 0);
-    mounted.push_frame(1, 0, 0, 0, true)?;
-    mounted.push_frame(2, 0, 0, 0, false)?;
-    let two = mounted.pins();
-    mounted.pop_frame();
-    mounted.pop_frame();
-    Ok((two, mounted.pins()))
-}
-
-#[test]
-fn a_pin_goes_with_its_frame(rt: HostRuntime) -> Result<(), Fail> {
-    let (two, none) = pins(rt.alloc())?;
-    assert_eq!(rt; two, 1);
-    assert_eq!(rt; none, 0);
-    Ok(())
-}
-
-// A thread with a pinned frame that has an operand.
-fn pinned_thread(alloc: Global) -> Result<Mounted, StackError> {
+// A thread with a frame that has an operand, under another.
+fn thread_of_two_frames(alloc: Global) -> Result<Mounted, StackError> {
     let mut mounted = Mounted::new(alloc, 5);
-    mounted.push_frame(7, 1, 1, 0, true)?;
+    mounted.push_frame(7, 1, 1, 0)?;
     mounted.set_pc(3);
     mounted.push(Slot::One(Value::Int(42)));
+    mounted.push_frame(8, 0, 0, 0)?;
     Ok(mounted)
 }
 
 #[test]
 fn a_thread_is_frozen_and_mounted_again(rt: HostRuntime) -> Result<(), Fail> {
-    let mounted = pinned_thread(rt.alloc())?;
+    let mounted = thread_of_two_frames(rt.alloc())?;
     let frozen = mounted.freeze().ok().ok_or("memory")?;
     assert_eq!(rt; frozen.thread(), 5);
     let again = frozen.mount().ok().ok_or("memory")?;
-    assert_eq!(rt; (again.thread(), again.pins(), again.depth()), (5, 1, 1));
+    assert_eq!(rt; (again.thread(), again.depth()), (5, 2));
+    assert_eq!(rt; (again.method_at(0), again.method_at(1)), (8, 7));
     Ok(())
 }
 

@@ -1,12 +1,10 @@
 //! A continuation, mounted or frozen, and the calls that change its frames (JVMS 2.6, JEP 444).
 
-ghost use Rattle.std.specs.Prelude.{◌≡◌, ◌↔◌, ◌+◌, ◌-◌, ◌<◌, ◌≤◌, Err, IfErr, IfOk, IsOk, IsTrue, OnErr, OnOk, Some, [], drop, length, slice_get, reverse, vec_len};
-ghost use Rattle.std.specs.Vec.{vec_capacity};
+ghost use Rattle.std.specs.Prelude.{◌≡◌, ◌↔◌, ◌+◌, ◌<◌, ◌≤◌, Err, IfErr, IfOk, IsOk, IsTrue, OnErr, OnOk, Some, [], drop, length, slice_get};
 ghost use Rattle.std.specs.Borrow.{sem};
 ghost use Rattle.frames.specs.Frames.{HasRoom, at_pc, called, cleared, dropped, entered, left, popped, pushed, returned, room_left, all_slots, with_pc_and_operands, size_of, top_locals, top_method, top_pc, top_room, top_stack, with_frames, with_local};
-ghost use Rattle.continuation.specs.Continuation.{with_pin, without_pin};
 
-use frames::{FrameView, MOST_FRAMES, Stack, StackError};
+use frames::{FrameView, Stack, StackError};
 use instruction_rows::Slot;
 use items::NoMemory;
 use slot_block::StoredSlot;
@@ -18,22 +16,14 @@ use std::marker::Model;
 pub struct Mounted {
     thread: u32,
     stack: Stack,
-    pinned: Vec<u32>,
 }
 
 impl Model for Mounted {
-    ghost use Rattle.std.specs.Prelude.{length, reverse};
-    ghost use Rattle.continuation.specs.Continuation.{ArePinned, Continuation};
+    ghost use Rattle.continuation.specs.Continuation.{Continuation};
 
     ghost Value = { Continuation };
 
-    ghost view = { λ a. record {
-      thread = a.thread;
-      stack = a.stack;
-      pinned = reverse a.pinned.items;
-    } };
-
-    ghost invariant = { λ a. ArePinned (length a.stack.frames) (reverse a.pinned.items) };
+    ghost view = { λ a. record { thread = a.thread; stack = a.stack } };
 }
 
 /// The continuation of a thread that no carrier runs.
@@ -75,12 +65,10 @@ impl Mounted {
     pub fn new(alloc: Global, thread: u32) -> Self
         ensures thread { result.thread ≡ thread }
         ensures frames { result.stack.frames ≡ [] }
-        ensures pinned { result.pinned ≡ [] }
     {
         Mounted {
             thread,
             stack: Stack::new(alloc),
-            pinned: Vec::new(alloc),
         }
     }
 
@@ -107,15 +95,6 @@ impl Mounted {
         self.thread
     }
 
-    /// How many of its frames were pushed with a pin.
-    pub fn pins(&self) -> u32
-        ensures pins { result ≡ length self.now.pinned }
-        ensures most { result ≤ length self.now.stack.frames }
-    {
-        self.stack.frame_count();
-        self.pinned.len() as u32
-    }
-
     /// How many frames it has, at most 2,048.
     #[inline(always)]
     pub fn depth(&self) -> u32
@@ -135,6 +114,14 @@ impl Mounted {
         ensures operands { result.operands ≡ length (top_stack self.now.stack.frames) }
     {
         self.stack.top()
+    }
+
+    /// The number of the method of the frame with this many frames above it.
+    pub fn method_at(&self, above: u32) -> u32
+        requires { above < length self.now.stack.frames }
+        ensures { result ≡ top_method (drop above self.now.stack.frames) }
+    {
+        self.stack.method_at(above)
     }
 
     /// The top frame's local variable with this index.
@@ -235,15 +222,14 @@ impl Mounted {
         self.stack.clear();
     }
 
-    /// Pushes the frame of a method, with a pin or without: the top frame's last `args` operands are its first local variables, the others
-    /// are unset, and its pc is 0. `Deep` comes exactly where there are 2,048 frames. After an error there is no less room than before.
+    /// Pushes the frame of a method: the top frame's last `args` operands are its first local variables, the others are unset, and its pc
+    /// is 0. `Deep` comes exactly where there are 2,048 frames. After an error there is no less room than before.
     pub fn push_frame(
         &mut self,
         method: u32,
         locals: u32,
         operands: u16,
         args: u16,
-        pin: bool,
     ) -> Result<(), StackError>
         requires given { args ≤ length (top_stack self.old.stack.frames) }
         requires taken { args ≤ locals }
@@ -251,23 +237,13 @@ impl Mounted {
         ensures deep { (result ≡ Err StackError.Deep) ↔ (2048 ≤ length self.old.stack.frames) }
         ensures ok { OnOk result (self.new.stack.frames
             ≡ entered method locals operands args self.old.stack.frames) }
-        ensures pinned { OnOk result (self.new.pinned
-            ≡ with_pin pin (length self.old.stack.frames) self.old.pinned) }
         ensures err { OnErr result (self.new.stack.frames ≡ self.old.stack.frames) }
         ensures spare { OnErr result (self.new.stack.spare ≡ self.old.stack.spare) }
-        ensures unpinned { OnErr result (self.new.pinned ≡ self.old.pinned) }
     {
-        let depth = self.stack.frame_count();
-        if depth >= MOST_FRAMES {
-            return Err(StackError::Deep);
-        }
-        self.pinned.reserve(1)?;
-        self.stack.push_frame(method, locals, operands, args)?;
-        mark(&mut self.pinned, pin, depth);
-        Ok(())
+        self.stack.push_frame(method, locals, operands, args)
     }
 
-    /// Pushes the frame of a method without a pin, where there is room for it.
+    /// Pushes the frame of a method, where there is room for it.
     #[inline(always)]
     pub fn enter(&mut self, method: u32, locals: u32, operands: u16, args: u16)
         requires room { HasRoom self.old.stack locals operands }
@@ -285,13 +261,9 @@ impl Mounted {
     #[inline(always)]
     pub fn pop_frame(&mut self)
         requires { 0 < length self.old.stack.frames }
-        ensures { self.new ≡ record self.old {
-          stack = left self.old.stack;
-          pinned = without_pin (length self.old.stack.frames - 1) self.old.pinned;
-        } }
+        ensures { self.new ≡ record self.old { stack = left self.old.stack } }
     {
         self.stack.pop_frame();
-        unmark(&mut self.pinned, self.stack.frame_count());
     }
 
     /// Drops the top frame, and pushes its top operands on the frame below: none, or the one or two of a value.
@@ -303,11 +275,8 @@ impl Mounted {
         requires room { slots ≤ room_left (drop 1 self.old.stack.frames) }
         ensures thread { self.new.thread ≡ self.old.thread }
         ensures frames { self.new.stack.frames ≡ returned slots self.old.stack.frames }
-        ensures pinned { self.new.pinned
-            ≡ without_pin (length self.old.stack.frames - 1) self.old.pinned }
     {
         self.stack.return_top(slots);
-        unmark(&mut self.pinned, self.stack.frame_count());
     }
 
     /// Lends the slots of all frames, the lowest frame first, and the spare ones after them.
@@ -338,26 +307,5 @@ impl Mounted {
         } }
     {
         self.stack.set_pc_and_operands(pc, operands);
-    }
-}
-
-// Marks the frame with this many frames below it as pinned, if it is.
-#[inline(always)]
-fn mark(pinned: &mut Vec<u32>, pin: bool, depth: u32)
-    requires { vec_len pinned.old < vec_capacity pinned.old }
-    ensures { reverse pinned.new.items ≡ with_pin pin depth (reverse pinned.old.items) }
-{
-    if pin {
-        pinned.push_reserved(depth);
-    }
-}
-
-// Takes the mark off the frame with this many frames below it, if it has one.
-#[inline(always)]
-fn unmark(pinned: &mut Vec<u32>, depth: u32)
-    ensures { reverse pinned.new.items ≡ without_pin depth (reverse pinned.old.items) }
-{
-    if pinned.last().copied() == Some(depth) {
-        let _ = pinned.pop();
     }
 }

@@ -1,7 +1,7 @@
 -- The frames of a stack after a change of its top frame's record or of its slots.
 use Rattle.std.proofs.Common.{ℕ, suc, ◌≡◌, ◌+◌, ◌-◌, ◌<◌, ◌≤◌, List, [], ◌∷◌, ◌++◌, length, take, drop, reverse, replicate, Some, refl, ap, sym, ◌∙◌, arith, drop-drop, append_assoc}
-use Rattle.std.proofs.lemmas.List.{get_or-set_same, drop-set-lt, take_all}
-use Rattle.std.specs.Prelude.{slice_get, slice_set}
+use Rattle.std.proofs.lemmas.List.{get_or-reverse, get_or-set_same, drop-set-lt, length-reverse, take_all}
+use Rattle.std.specs.Prelude.{get_or, slice_get, slice_set, zero}
 use Rattle.instruction_rows.specs.declared.value.Slot.{Slot}
 use Rattle.instruction_rows.specs.declared.value.Slot.TheVariants.{Second}
 use Rattle.state_model.specs.Frames.{Frame}
@@ -69,6 +69,22 @@ room_is (q ∷ qs) len slots r placed = let l = length-descending r.used (r.base
 pub method_is : (qs : List Record) (slots : List Slot) (r : Record) → 0 < length (frames_of slots r qs) → r.method ≡ top_method (frames_of slots r qs)
 method_is [] slots r h = absurd (omega arith)
 method_is (q ∷ qs) slots r h = refl
+
+-- a frame further down is that of a record further down
+pub below_method : (qs : List Record) (slots : List Slot) (r d : Record) (k : ℕ) → suc k < length qs → top_method (drop (suc k) (frames_of slots r qs)) ≡ (get_or qs k d).method
+below_method [] slots r d k h = absurd (omega arith)
+below_method (q ∷ []) slots r d k h = absurd (omega arith)
+below_method (q ∷ (p ∷ qs)) slots r d zero h = refl
+below_method (q ∷ (p ∷ qs)) slots r d (suc k) h = below_method (p ∷ qs) slots q d k (omega arith)
+
+pub saved_method : (saved : List Record) (slots : List Slot) (r d : Record) (above : ℕ) → (above ≡ 0 → ⊥) → above < length saved →
+    (get_or saved (length saved - above) d).method ≡ top_method (drop above (frames_of slots r (reverse saved)))
+saved_method saved slots r d zero some h = absurd (some refl)
+saved_method saved slots r d (suc k) some h =
+    let long = length-reverse saved in
+    let index : length saved - suc k ≡ length saved - 1 - k = omega arith in
+    ap (λ n. (get_or saved n d).method) index ∙ ap (λ (q : Record). q.method) (sym (get_or-reverse saved k d (omega arith)))
+    ∙ sym (below_method (reverse saved) slots r d k (omega arith))
 
 pub pc_is : (qs : List Record) (slots : List Slot) (r : Record) → 0 < length (frames_of slots r qs) → r.pc ≡ top_pc (frames_of slots r qs)
 pc_is [] slots r h = absurd (omega arith)

@@ -88,6 +88,18 @@ impl Stack {
         }
     }
 
+    /// The number of the method of the frame with this many frames above it.
+    pub fn method_at(&self, above: u32) -> u32
+        requires { above < length self.now.frames }
+        ensures { result ≡ top_method (drop above self.now.frames) }
+    {
+        if above == 0 {
+            return self.top.method;
+        }
+        let at = self.saved.len() - above as usize;
+        self.saved[at].method
+    }
+
     /// The top frame's local variable with this index.
     #[inline(always)]
     pub fn local(&self, i: u16) -> Slot

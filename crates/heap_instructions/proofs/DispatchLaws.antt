@@ -98,7 +98,7 @@ frames_same [] = refl
 frames_same (f ∷ below) = refl
 
 pub operands_same : (m : Continuation) → ChangesOperands m m
-operands_same m = record { thread = refl; pinned = refl; calls = refl; frames = frames_same m.stack.frames }
+operands_same m = record { thread = refl; calls = refl; frames = frames_same m.stack.frames }
 
 -- ---- a division looks at the operand stack alone
 

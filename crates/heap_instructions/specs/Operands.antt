@@ -42,6 +42,5 @@ IsStored f v stack = stored f stack ≡ Some (v, drop (width (value_kind f.kind)
 -- nothing of a thread has changed but the operands of its top frame
 pub record ChangesOperands (old new : Continuation) : Type 0 where
   pub thread : new.thread ≡ old.thread
-  pub pinned : new.pinned ≡ old.pinned
   pub calls : new.stack.calls ≡ old.stack.calls
   pub frames : new.stack.frames ≡ with_stack (operands new) old.stack.frames

@@ -68,7 +68,6 @@ fn run_top<'a, L: Lookups>(p: &'a Prepared<L>, m: &mut Mounted, most: u32) -> St
     ensures few { result.steps ≤ most }
     ensures slice { IsTrue result.stays → result.steps ≡ most }
     ensures thread { m.new.thread ≡ m.old.thread }
-    ensures pinned { m.new.pinned ≡ m.old.pinned }
 {
     let top = top_frame(p, m);
     let slots = m.slots();
@@ -88,7 +87,6 @@ pub fn run_and_fetch<'a, L: Lookups>(p: &'a Prepared<L>, m: &mut Mounted, most: 
     ensures slice { IsTrue result.stays → result.steps ≡ most }
     ensures next { IsTopAt p.now m.new.stack.frames result.next }
     ensures thread { m.new.thread ≡ m.old.thread }
-    ensures pinned { m.new.pinned ≡ m.old.pinned }
 {
     let stop = run_top(p, m, most);
     TopRun {
@@ -108,7 +106,6 @@ pub fn run_local<L: Lookups>(p: &Prepared<L>, m: &mut Mounted, most: u32) -> Loc
     ensures stopped { is_slice result ≡ stays_on p.now m.new.stack.frames }
     ensures slice { IsTrue (is_slice result) → steps_of result ≡ most }
     ensures thread { m.new.thread ≡ m.old.thread }
-    ensures pinned { m.new.pinned ≡ m.old.pinned }
 {
     let stop = run_top(p, m, most);
     if stop.stays {

@@ -1,7 +1,6 @@
 -- What an invocation does, where the method that it names is known.
 use Rattle.std.proofs.Common.{ℕ, ◌≡◌, ◌-◌, ◌++◌, Bool, true, false, List, [], Option, Some, None, drop, length, reverse, refl, sym, subst, ap, ◌∙◌}
 use Rattle.std.specs.Prelude.{Result, Ok, Err, IfOk, nat_le, nat_lt, replicate, slice_get, take, if◌then◌else◌}
-use Rattle.std.specs.Option.{option_map_or}
 use Rattle.items.specs.Options.{◌>>=◌}
 use Rattle.items.proofs.Binds.{bind_is}
 use Rattle.instruction_rows.specs.declared.value.Slot.{Slot}
@@ -20,12 +19,11 @@ use Rattle.ref_model.specs.Kinds.{argument_slots}
 use Rattle.ref_model.specs.Calls.{called, code_entered, entered, invoked, method_entered, native_entered, receiver_of}
 use Rattle.ref_model.specs.Classes.{is_sub}
 use Rattle.ref_model.specs.Frames.{callee, first_frame}
-use Rattle.ref_model.specs.Looks.{is_pin}
 use Rattle.ref_model.specs.Monitors.{method_monitor, with_monitor}
 use Rattle.ref_model.specs.Requests.{calls}
 use Rattle.state_model.specs.Frames.{Frame}
 use Rattle.ref_model.specs.LocalRows.{most_frames}
-use Rattle.ref_model.specs.Members.{is_hold, is_synchronized, native_at}
+use Rattle.ref_model.specs.Members.{is_synchronized, native_at}
 use Rattle.ref_model.specs.declared.exception.Exception.TheVariants as exceptions
 use Rattle.invocation.specs.declared.target.Target.{Target}
 use Rattle.invocation.specs.declared.receivers.Receiver.{Receiver}
@@ -35,7 +33,7 @@ use Rattle.invocation.specs.declared.target.Target.TheVariants as targets
 use Rattle.invocation.specs.Arguments.{takes_double}
 use Rattle.invocation.specs.Receivers.{tested}
 use Rattle.invocation.specs.InvocationCache.{FitsReceiver, IsNamed}
-use Rattle.invocation.specs.Targets.{Gives, IsLocalCallee, IsLocalCode, IsReceived, IsStaticCallee, LacksCall, asks_to_begin, begins, begins_synchronized, unpinned, numbered_effect, received_effect, selected_effect, special_effect, virtual_effect}
+use Rattle.invocation.specs.Targets.{Gives, IsLocalCallee, IsLocalCode, IsReceived, IsStaticCallee, asks_to_begin, begins, begins_synchronized, numbered_effect, received_effect, selected_effect, special_effect, virtual_effect}
 
 pub named_is : (w : World) (resolution : Resolution) (n : ℕ) (m : MethodInfo) → Some n ≡ method_of resolution.site → Some m ≡ slice_get w.methods n →
     named_method w resolution ≡ Some (record { number = n; method = m })
@@ -99,7 +97,7 @@ coded_is w r depth stack n slots m code method native has plain =
     entered_is w r depth stack n slots m code method native has
     ∙ ap (λ (b : Bool). if nat_lt depth most_frames then (callee n code slots stack >>= frame_effect m (drop slots stack) b) else Some (throws exceptions.StackOverflowError)) plain
 
--- ---- a synchronized method, and jvt.Native.hold
+-- ---- a synchronized method
 
 abbrev sized_frame : ℕ → MethodCode → List Slot → Frame
 sized_frame n code slots = record {
@@ -143,36 +141,6 @@ synchronized_is w r depth stack n slots m code method native has synchronized =
     ∙ ap (λ (b : Bool). if nat_lt depth most_frames then (found >>= frame_effect m rest b) else full) synchronized
     ∙ ap (λ (x : Option Effect). if nat_lt depth most_frames then x else full)
     (begun_asks w n m rest found method (λ g e. callee_numbered n code slots stack g e))
-
--- its frame pins its thread
-pins_at : (w : World) (n : ℕ) (m : MethodInfo) (g : Frame) → slice_get w.methods n ≡ Some m → is_hold w m ≡ true → g.method ≡ n → is_pin w g ≡ true
-pins_at w n m g method holds at =
-    ap (λ (k : ℕ). option_map_or (is_hold w) (slice_get w.methods k) false) at ∙ ap (λ (x : Option MethodInfo). option_map_or (is_hold w) x false) method ∙ holds
-
-asks_lack : (w : World) (rest : List Slot) (g : Frame) (o : Option ℕ) → is_pin w g ≡ true →
-    unpinned w (o >>= λ o. Some (asks (calls o (with_monitor g o)) rest)) ≡ None
-asks_lack w rest g None is = refl
-asks_lack w rest g (Some o) is = ap (λ (b : Bool). if b then None else Some (asks (calls o (with_monitor g o)) rest)) is
-
-frame_lacks : (w : World) (m : MethodInfo) (rest : List Slot) (g : Frame) (b : Bool) → is_pin w g ≡ true → unpinned w (frame_effect m rest b g) ≡ None
-frame_lacks w m rest g true is = asks_lack w rest g (method_monitor m (receiver_of g)) is
-frame_lacks w m rest g false is = ap (λ (b : Bool). if b then None else Some (invokes g rest)) is
-
-begun_lacks : (w : World) (m : MethodInfo) (rest : List Slot) (found : Option Frame) → ((g : Frame) → found ≡ Some g → is_pin w g ≡ true) →
-    unpinned w (found >>= frame_effect m rest (is_synchronized m)) ≡ None
-begun_lacks w m rest None is = refl
-begun_lacks w m rest (Some g) is = frame_lacks w m rest g (is_synchronized m) (is g refl)
-
-pub pinned_lacks : (w : World) (r : Memory) (depth : ℕ) (stack : List Slot) (n slots : ℕ) (m : MethodInfo) (code : MethodCode) →
-    slice_get w.methods n ≡ Some m → native_at w n ≡ None → code_at w n ≡ Some code → is_hold w m ≡ true →
-    LacksCall w depth (numbered_effect w r depth n slots stack)
-pinned_lacks w r depth stack n slots m code method native has holds = λ few.
-    let found = callee n code slots stack in
-    let rest = drop slots stack in
-    let full : Option Effect = Some (throws exceptions.StackOverflowError) in
-    ap (unpinned w) (entered_is w r depth stack n slots m code method native has)
-    ∙ ap (λ (b : Bool). unpinned w (if b then (found >>= frame_effect m rest (is_synchronized m)) else full)) few
-    ∙ begun_lacks w m rest found (λ g e. pins_at w n m g method holds (callee_numbered n code slots stack g e))
 
 -- ---- the test of the receiver's class
 

@@ -127,6 +127,7 @@ callee_given w resolution r index c stack row x there =
 pub code_given : (target : Target) (slots : ℕ) (stack : List Slot) → IfCode target (λ callee. callee.slots ≡ slots) → slots ≤ length stack →
     IfCode target (λ callee. callee.slots ≤ length stack)
 code_given (targets.Code callee) slots stack is given = omega arith
+code_given (targets.Pins callee) slots stack is given = omega arith
 code_given (targets.Synchronized callee) slots stack is given = omega arith
 code_given (targets.Native native) slots stack is given = tt
 code_given (targets.Throws e) slots stack is given = tt

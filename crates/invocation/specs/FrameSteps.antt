@@ -1,5 +1,5 @@
 -- What calls, returns and exceptions on their way make of the frames of a thread.
-use Rattle.std.specs.Prelude.{ℕ, ◌≡◌, ◌-◌, ◌<◌, ◌≤◌, Bool, true, false, List, [], ◌∷◌, Option, Some, None, drop, length, if◌then◌else◌}
+use Rattle.std.specs.Prelude.{ℕ, ◌≡◌, ◌<◌, ◌≤◌, Bool, true, false, List, [], ◌∷◌, Option, Some, None, drop, length, if◌then◌else◌}
 use Rattle.std.specs.Option.{option_map}
 use Rattle.items.specs.Options.{◌>>=◌}
 use Rattle.opcodes.specs.declared.op.ValueKind.{ValueKind}
@@ -11,9 +11,9 @@ use Rattle.link_model.specs.World.{World}
 use Rattle.verify_types.specs.Environment.{Handler}
 use Rattle.state_model.specs.Frames.{Frame}
 use Rattle.frames.specs.Frames.{top_room, with_stack}
-use Rattle.continuation.specs.Continuation.{Continuation, without_pin}
+use Rattle.continuation.specs.Continuation.{Continuation}
 use Rattle.ref_model.specs.Effects.{invokes, throws}
-use Rattle.ref_model.specs.Frames.{is_guarded_frame, is_left_openly, is_root, returned, returned_to, stack_returned}
+use Rattle.ref_model.specs.Frames.{is_left_openly, is_root, returned, returned_to, stack_returned}
 use Rattle.ref_model.specs.Monitors.{frame_monitor, is_synchronized_frame}
 use Rattle.ref_model.specs.Throwing.{at_handler, handler_of}
 use Rattle.heap_instructions.specs.Operands.{operands}
@@ -51,11 +51,6 @@ abbrev pub top_is_root : World → List Frame → Bool
 top_is_root w [] = false
 top_is_root w (f ∷ below) = is_root w f below
 
--- whether others see that it is left
-abbrev pub top_is_guarded : World → List Frame → Bool
-top_is_guarded w [] = false
-top_is_guarded w (f ∷ below) = is_guarded_frame w f
-
 -- whether a return from it is no local instruction
 abbrev pub top_is_left_openly : World → List Frame → Bool
 top_is_left_openly w [] = false
@@ -80,11 +75,16 @@ pub record HoldsMonitor (w : World) (frames : List Frame) (o : ℕ) : Type 0 whe
   pub synchronized : top_is_synchronized w frames ≡ true
   pub monitor : top_monitor w frames ≡ Some o
 
--- what others see of it when it is left
+-- it is that of a synchronized method, and holds none, as no frame does
+pub record LacksMonitor (w : World) (frames : List Frame) : Type 0 where
+  pub synchronized : top_is_synchronized w frames ≡ true
+  pub none : top_monitor w frames ≡ None
+
+-- what it holds
 abbrev pub IsGuard : World → List Frame → Guard → Type 0
-IsGuard w frames guards.Open = top_is_guarded w frames ≡ false
-IsGuard w frames (guards.Holds o) = HoldsMonitor w frames o
-IsGuard w frames guards.Other = top_is_guarded w frames ≡ true
+IsGuard w frames guards.Nothing = top_is_synchronized w frames ≡ false
+IsGuard w frames (guards.Monitor o) = HoldsMonitor w frames o
+IsGuard w frames guards.Undefined = LacksMonitor w frames
 
 -- the frames after a return from it to the one below it
 abbrev pub top_to_caller : World → Option ValueKind → List Frame → Option (List Frame)
@@ -92,21 +92,27 @@ top_to_caller w kind [] = None
 top_to_caller w kind (f ∷ below) = returned w kind f below
 
 abbrev pub IsReturned : World → Option ValueKind → Continuation → Continuation → Bool → Type 0
-IsReturned w kind old new true =
-    (top_to_caller w kind old.stack.frames ≡ Some new.stack.frames) × (new.pinned ≡ without_pin (length old.stack.frames - 1) old.pinned)
+IsReturned w kind old new true = top_to_caller w kind old.stack.frames ≡ Some new.stack.frames
 IsReturned w kind old new false = top_to_caller w kind old.stack.frames ≡ None
 
--- it is a root frame, and no others see that it is left
+-- it is a root frame, and holds no monitor
 pub record IsLeftRoot (w : World) (old new : Continuation) : Type 0 where
   pub root : top_is_root w old.stack.frames ≡ true
-  pub plain : top_is_guarded w old.stack.frames ≡ false
+  pub plain : top_is_synchronized w old.stack.frames ≡ false
+  pub same : new ≡ old
+
+-- It is no root frame, and holds no monitor; others see that it is left all the same, since it is native.
+pub record IsLeftNative (w : World) (old new : Continuation) : Type 0 where
+  pub inner : top_is_root w old.stack.frames ≡ false
+  pub plain : top_is_synchronized w old.stack.frames ≡ false
+  pub openly : top_is_left_openly w old.stack.frames ≡ true
   pub same : new ≡ old
 
 abbrev pub IsLeft : World → Option ValueKind → Continuation → Continuation → Left → Type 0
-IsLeft w kind old new leaving.Returned =
-    (top_returned w kind old.stack.frames ≡ Some new.stack.frames) × (new.pinned ≡ without_pin (length old.stack.frames - 1) old.pinned)
+IsLeft w kind old new leaving.Returned = top_returned w kind old.stack.frames ≡ Some new.stack.frames
 IsLeft w kind old new leaving.Root = IsLeftRoot w old new
 IsLeft w kind old new (leaving.Holds o) = HoldsMonitor w old.stack.frames o × (new ≡ old)
+IsLeft w kind old new leaving.Native = IsLeftNative w old new
 IsLeft w kind old new leaving.Undefined = top_returned w kind old.stack.frames ≡ None
 
 -- the same where its thread has left the monitor that the frame holds
@@ -115,6 +121,7 @@ IsLeftUnlocked w kind old new leaving.Returned =
     (top_is_root w old.stack.frames ≡ false) × (top_to_caller w kind old.stack.frames ≡ Some new.stack.frames)
 IsLeftUnlocked w kind old new leaving.Root = (top_is_root w old.stack.frames ≡ true) × (new ≡ old)
 IsLeftUnlocked w kind old new (leaving.Holds o) = ⊥
+IsLeftUnlocked w kind old new leaving.Native = ⊥
 IsLeftUnlocked w kind old new leaving.Undefined =
     (top_is_root w old.stack.frames ≡ false) × (top_to_caller w kind old.stack.frames ≡ None)
 
@@ -168,27 +175,20 @@ pub record IsHandled (w : World) (class o : ℕ) (old new : Continuation) : Type
   pub handler : ℕ
   pub is : top_handler w class old.stack.frames ≡ Some handler
   pub frames : top_at_handler handler o old.stack.frames ≡ Some new.stack.frames
-  pub pinned : new.pinned ≡ old.pinned
 
--- it has none, and is left
-pub record IsUnhandled (w : World) (class : ℕ) (old new : Continuation) : Type 0 where
-  pub none : top_handler w class old.stack.frames ≡ None
-  pub inner : top_is_left_openly w old.stack.frames ≡ false
+-- it is no root frame, holds no monitor, and is left
+pub record IsLeftBehind (w : World) (old new : Continuation) : Type 0 where
+  pub inner : top_is_root w old.stack.frames ≡ false
+  pub plain : top_is_synchronized w old.stack.frames ≡ false
   pub frames : new.stack.frames ≡ drop 1 old.stack.frames
-  pub pinned : new.pinned ≡ without_pin (length old.stack.frames - 1) old.pinned
 
--- it has none, and is a root frame
-pub record IsUncaught (w : World) (class : ℕ) (old new : Continuation) : Type 0 where
-  pub none : top_handler w class old.stack.frames ≡ None
-  pub root : top_is_root w old.stack.frames ≡ true
-  pub plain : top_is_guarded w old.stack.frames ≡ false
-  pub same : new ≡ old
-
--- it has none, and holds this monitor, which its thread leaves first
-pub record IsUnhandledWith (w : World) (class o : ℕ) (old new : Continuation) : Type 0 where
-  pub none : top_handler w class old.stack.frames ≡ None
-  pub holds : HoldsMonitor w old.stack.frames o
-  pub same : new ≡ old
+-- what becomes of a top frame in which nothing catches what is thrown
+abbrev pub IsLeftByThrow : World → Continuation → Continuation → Caught → Type 0
+IsLeftByThrow w old new catching.Handled = ⊥
+IsLeftByThrow w old new catching.Left = IsLeftBehind w old new
+IsLeftByThrow w old new catching.Uncaught = IsLeftRoot w old new
+IsLeftByThrow w old new (catching.Holds monitor) = HoldsMonitor w old.stack.frames monitor × (new ≡ old)
+IsLeftByThrow w old new catching.Undefined = LacksMonitor w old.stack.frames
 
 -- it has a handler, and can't go on there, since the object has no room on its operand stack
 pub record IsStuck (w : World) (class o : ℕ) (old : Continuation) : Type 0 where
@@ -198,10 +198,8 @@ pub record IsStuck (w : World) (class o : ℕ) (old : Continuation) : Type 0 whe
 
 abbrev pub IsCaught : World → ℕ → ℕ → Continuation → Continuation → Caught → Type 0
 IsCaught w class o old new catching.Handled = IsHandled w class o old new
-IsCaught w class o old new catching.Left = IsUnhandled w class old new
-IsCaught w class o old new catching.Uncaught = IsUncaught w class old new
-IsCaught w class o old new (catching.Holds monitor) = IsUnhandledWith w class monitor old new
-IsCaught w class o old new catching.Undefined = top_is_guarded w old.stack.frames ≡ false → IsStuck w class o old
+IsCaught w class o old new catching.Undefined = top_is_synchronized w old.stack.frames ≡ false → IsStuck w class o old
+IsCaught w class o old new caught = (top_handler w class old.stack.frames ≡ None) × IsLeftByThrow w old new caught
 
 -- It is left, unless it is a root frame.
 abbrev pub IsDropped : World → Continuation → Continuation → Bool → Type 0

@@ -18,7 +18,6 @@ use Rattle.state_model.specs.Frames.{Frame}
 use Rattle.ref_model.specs.declared.exception.Exception.TheVariants as exceptions
 use Rattle.ref_model.specs.Effects.{Effect, asks, invokes, throws}
 use Rattle.ref_model.specs.Fetch.{method_of}
-use Rattle.ref_model.specs.Looks.{is_pin}
 use Rattle.ref_model.specs.Monitors.{method_monitor, with_monitor}
 use Rattle.ref_model.specs.Requests.{calls}
 use Rattle.ref_model.specs.Kinds.{argument_slots}
@@ -81,26 +80,18 @@ begins_synchronized w depth c stack =
 -- what holds of the method with code that a target is, where it is one
 abbrev pub IfCode : Target → (Callee → Type 0) → Type 0
 IfCode (targets.Code callee) holds = holds callee
+IfCode (targets.Pins callee) holds = holds callee
 IfCode (targets.Synchronized callee) holds = holds callee
 IfCode target holds = Unit {0}
 
--- an effect, unless the frame of the method that it begins pins its thread
-abbrev pub unpinned : World → Option Effect → Option Effect
-unpinned w (Some (asks (calls o g) rest)) = if is_pin w g then None else Some (asks (calls o g) rest)
-unpinned w (Some (invokes g rest)) = if is_pin w g then None else Some (invokes g rest)
-unpinned w effect = effect
-
--- In a thread that may have one more frame the definitions have no effect here, or one that begins jvt.Native.hold.
-abbrev pub LacksCall : World → ℕ → Option Effect → Type 0
-LacksCall w depth effect = nat_lt depth most_frames ≡ true → unpinned w effect ≡ None
-
--- A target is that of this effect; it is undefined only where the effect is none, or begins jvt.Native.hold.
+-- A target is that of this effect.
 abbrev pub Gives : World → Memory → ℕ → List Slot → Option Effect → Target → Type 0
 Gives w r depth stack effect (targets.Native native) = effect ≡ native_effect w r native stack
 Gives w r depth stack effect (targets.Code callee) = effect ≡ begins depth callee stack
+Gives w r depth stack effect (targets.Pins callee) = effect ≡ begins depth callee stack
 Gives w r depth stack effect (targets.Synchronized callee) = effect ≡ begins_synchronized w depth callee stack
 Gives w r depth stack effect (targets.Throws e) = effect ≡ Some (throws e)
-Gives w r depth stack effect targets.Undefined = LacksCall w depth effect
+Gives w r depth stack effect targets.Undefined = effect ≡ None
 
 -- the method with a number runs, and takes so many slots
 abbrev pub numbered_effect : World → Memory → ℕ → ℕ → ℕ → List Slot → Option Effect

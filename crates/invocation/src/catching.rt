@@ -1,7 +1,7 @@
 //! Exceptions on their way (JVMS 2.10, 6.5: athrow).
 
 ghost use Rattle.std.specs.Prelude.{◌≡◌, ◌<◌, length};
-ghost use Rattle.invocation.specs.FrameSteps.{IsAtHandler, IsCaught, IsDropped};
+ghost use Rattle.invocation.specs.FrameSteps.{IsAtHandler, IsCaught, IsDropped, IsLeftByThrow};
 
 use crate::returning::{Guard, is_left_openly, is_root, top_guard};
 use crate::world::CallWorld;
@@ -19,8 +19,8 @@ pub enum Caught {
     Uncaught,
     /// No handler catches it in a frame that holds this monitor, which its thread leaves first, and nothing has changed.
     Holds(u32),
-    /// The definitions have no such step: the object has no room on the operand stack. Or the frame is that of jvt.Native.hold, and nothing has
-    /// changed.
+    /// The definitions have no such step: the object has no room on the operand stack, or the method of the frame is synchronized, and the
+    /// frame holds no monitor, as no frame does.
     Undefined,
 }
 
@@ -29,7 +29,6 @@ fn go_to_handler(mounted: &mut Mounted, handler: u16, o: u32) -> bool
     requires { 0 < length mounted.old.stack.frames }
     ensures at { IsAtHandler handler o mounted.old mounted.new result }
     ensures thread { mounted.new.thread ≡ mounted.old.thread }
-    ensures pinned { mounted.new.pinned ≡ mounted.old.pinned }
 {
     mounted.clear();
     if mounted.operand_room() == 0 {
@@ -38,6 +37,26 @@ fn go_to_handler(mounted: &mut Mounted, handler: u16, o: u32) -> bool
     mounted.push(Slot::One(Value::Ref(o)));
     mounted.set_pc(u32::from(handler));
     true
+}
+
+// What becomes of the top frame where no handler catches what is thrown, and others may see that it is left.
+#[inline(never)]
+fn leave_openly<W: CallWorld>(world: &W, mounted: &mut Mounted) -> Caught
+    requires { 0 < length mounted.old.stack.frames }
+    ensures left { IsLeftByThrow (W.world world.now) mounted.old mounted.new result }
+    ensures thread { mounted.new.thread ≡ mounted.old.thread }
+{
+    match top_guard(world, mounted) {
+        Guard::Nothing => {
+            if drop_frame(world, mounted) {
+                Caught::Left
+            } else {
+                Caught::Uncaught
+            }
+        }
+        Guard::Monitor(o) => Caught::Holds(o),
+        Guard::Undefined => Caught::Undefined,
+    }
 }
 
 /// What an object of a class that is thrown makes of the top frame: the first row of its exception table that catches the object leads to a
@@ -55,11 +74,7 @@ pub fn catch_object<W: CallWorld>(world: &W, class: u32, o: u32, mounted: &mut M
         return Caught::Handled;
     }
     if is_left_openly(world, mounted) {
-        return match top_guard(world, mounted) {
-            Guard::Open => Caught::Uncaught,
-            Guard::Holds(o) => Caught::Holds(o),
-            Guard::Other => Caught::Undefined,
-        };
+        return leave_openly(world, mounted);
     }
     mounted.pop_frame();
     Caught::Left

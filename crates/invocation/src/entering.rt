@@ -35,7 +35,6 @@ pub(crate) fn push_callee(
     requires given { slots ≤ length (top_stack mounted.old.stack.frames) }
     requires taken { slots ≤ locals }
     ensures thread { mounted.new.thread ≡ mounted.old.thread }
-    ensures pinned { mounted.new.pinned ≡ mounted.old.pinned }
     ensures deep { (result ≡ Err errors.Deep) ↔ (2048 ≤ length mounted.old.stack.frames) }
     ensures ok { OnOk result (mounted.new.stack.frames
         ≡ entered n locals operands slots mounted.old.stack.frames) }
@@ -45,7 +44,7 @@ pub(crate) fn push_callee(
         mounted.enter(n, locals, operands, slots);
         return Ok(());
     }
-    mounted.push_frame(n, locals, operands, slots, false)
+    mounted.push_frame(n, locals, operands, slots)
 }
 
 /// Begins a method. The slots that it takes lie on the operand stack.
@@ -55,7 +54,6 @@ pub fn enter(callee: Callee, mounted: &mut Mounted) -> Result<Entered, NoMemory>
     requires given { callee.slots ≤ length (operands mounted.old) }
     ensures entered { IfOk result (IsEntered callee mounted.old mounted.new) }
     ensures thread { mounted.new.thread ≡ mounted.old.thread }
-    ensures pinned { mounted.new.pinned ≡ mounted.old.pinned }
 {
     let Callee {
         method,

@@ -56,9 +56,6 @@ fn coded<W: CallWorld>(
     ensures takes { IfCode result (λ callee. callee.slots ≡ slots) }
     ensures native { IfNative result (IsNative (W.world world.now) n) }
 {
-    if world.is_hold(method) {
-        return Target::Undefined;
-    }
     let callee = Callee {
         method: n,
         slots,
@@ -67,6 +64,9 @@ fn coded<W: CallWorld>(
     };
     if is_synchronized(method) {
         return Target::Synchronized(callee);
+    }
+    if world.is_hold(method) {
+        return Target::Pins(callee);
     }
     Target::Code(callee)
 }

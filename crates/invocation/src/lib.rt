@@ -6,6 +6,7 @@ mod catching;
 mod entering;
 mod invocation_cache;
 mod invocations;
+mod pins;
 mod receivers;
 mod returning;
 mod synchronized_calls;
@@ -17,6 +18,7 @@ pub use catching::{Caught, catch_object, drop_frame};
 pub use entering::{Entered, enter};
 pub use invocation_cache::InvocationCache;
 pub use invocations::{invoke, static_callee};
+pub use pins::is_pinned;
 pub use returning::{Left, leave, return_unlocked};
 pub use synchronized_calls::{
     Asked, SynchronizedCall, ask_for_monitor, class_monitor, enter_synchronized,

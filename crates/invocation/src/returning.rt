@@ -24,8 +24,9 @@ pub enum Left {
     Root,
     /// It is from a frame that holds this monitor, which its thread leaves first, and nothing has changed.
     Holds(u32),
-    /// The definitions have no such return: a look-up has nothing, or what comes back has no room. Or it is from jvt.Native.hold, and nothing has
-    /// changed.
+    /// It is from a native frame, and nothing has changed.
+    Native,
+    /// The definitions have no such return: a look-up has nothing, or what comes back has no room.
     Undefined,
 }
 
@@ -38,15 +39,15 @@ pub(crate) fn is_left_openly<W: CallWorld>(world: &W, mounted: &Mounted) -> bool
     mounted.depth() == 1 || world.is_open(mounted.top().method)
 }
 
-/// What others see of a frame that is left (own).
+/// What a frame holds that its thread leaves with it (JVMS 2.11.10).
 #[derive(Clone, Copy)]
 pub(crate) enum Guard {
     /// Nothing.
-    Open,
-    /// Its method is synchronized, and it holds this monitor.
-    Holds(u32),
-    /// Its method is jvt.Native.hold; or it is synchronized, and the frame holds no monitor, as no frame does.
-    Other,
+    Nothing,
+    /// This monitor: its method is synchronized.
+    Monitor(u32),
+    /// Its method is synchronized, and the frame holds no monitor, as no frame does.
+    Undefined,
 }
 
 // The monitor whose number lies in the last local variable of the frame of a synchronized method. `None`: there is none.
@@ -62,7 +63,7 @@ fn held_monitor<W: CallWorld>(world: &W, mounted: &Mounted) -> Option<u32>
     reference(mounted.local(code.max_locals))
 }
 
-// What others see when the top frame is left, of this method.
+// What the top frame holds, of this method.
 fn guard_of<W: CallWorld>(world: &W, method: &MethodInfo, mounted: &Mounted) -> Guard
     requires frame { 0 < length mounted.now.stack.frames }
     requires method { slice_get (W.world world.now).methods (top_method mounted.now.stack.frames)
@@ -71,17 +72,14 @@ fn guard_of<W: CallWorld>(world: &W, method: &MethodInfo, mounted: &Mounted) -> 
 {
     if is_synchronized(method) {
         return match held_monitor(world, mounted) {
-            Some(o) => Guard::Holds(o),
-            None => Guard::Other,
+            Some(o) => Guard::Monitor(o),
+            None => Guard::Undefined,
         };
     }
-    if world.is_hold(method) {
-        return Guard::Other;
-    }
-    Guard::Open
+    Guard::Nothing
 }
 
-/// What others see when the top frame is left.
+/// What the top frame holds.
 #[inline(never)]
 pub(crate) fn top_guard<W: CallWorld>(world: &W, mounted: &Mounted) -> Guard
     requires { 0 < length mounted.now.stack.frames }
@@ -89,7 +87,7 @@ pub(crate) fn top_guard<W: CallWorld>(world: &W, mounted: &Mounted) -> Guard
 {
     match world.method(mounted.top().method) {
         Some(method) => guard_of(world, method, mounted),
-        None => Guard::Open,
+        None => Guard::Nothing,
     }
 }
 
@@ -131,7 +129,6 @@ fn push_back(mounted: &mut Mounted, back: Option<Value>) -> bool
     requires { 0 < length mounted.old.stack.frames }
     ensures pushed { HasPushed back mounted.old mounted.new result }
     ensures thread { mounted.new.thread ≡ mounted.old.thread }
-    ensures pinned { mounted.new.pinned ≡ mounted.old.pinned }
 {
     mounted.operands_fit();
     let Some(value) = back else {
@@ -150,7 +147,6 @@ fn go_on<W: CallWorld>(world: &W, back: Option<Value>, mounted: &mut Mounted) ->
     requires { 0 < length mounted.old.stack.frames }
     ensures behind { IsBehind (W.world world.now) back mounted.old mounted.new result }
     ensures thread { mounted.new.thread ≡ mounted.old.thread }
-    ensures pinned { mounted.new.pinned ≡ mounted.old.pinned }
 {
     let view = mounted.top();
     let Some(next) = world.next(view.method, view.pc) else {
@@ -190,9 +186,15 @@ fn leave_openly<W: CallWorld>(world: &W, mounted: &Mounted) -> Left
         → IsLeft (W.world world.now) kind mounted.now mounted.now result }
 {
     match top_guard(world, mounted) {
-        Guard::Open => Left::Root,
-        Guard::Holds(o) => Left::Holds(o),
-        Guard::Other => Left::Undefined,
+        Guard::Nothing => {
+            if is_root(world, mounted) {
+                Left::Root
+            } else {
+                Left::Native
+            }
+        }
+        Guard::Monitor(o) => Left::Holds(o),
+        Guard::Undefined => Left::Undefined,
     }
 }
 
@@ -230,7 +232,7 @@ pub fn leave<W: CallWorld>(world: &W, kind: Option<ValueKind>, mounted: &mut Mou
     }
 }
 
-/// Leaves the top frame, as `leave` does, where its thread has left the monitor that the frame holds.
+/// Leaves the top frame, as `leave` does, where it holds no monitor, or its thread has left that; it may be a native frame.
 pub fn return_unlocked<W: CallWorld>(
     world: &W,
     kind: Option<ValueKind>,

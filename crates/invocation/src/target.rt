@@ -20,11 +20,12 @@ pub enum Target {
     Native(Native),
     /// This method begins.
     Code(Callee),
+    /// This method begins, which is jvt.Native.hold: its frame is native, and pins its thread (JEP 444).
+    Pins(Callee),
     /// This synchronized method begins once the thread has its monitor (JVMS 2.11.10).
     Synchronized(Callee),
     /// It throws a new exception.
     Throws(Exception),
-    /// The definitions have no effect: a look-up has nothing. Or it is jvt.Native.hold, which isn't begun. Frames that keep to the typing never
-    /// get there.
+    /// The definitions have no effect: a look-up has nothing. Frames that keep to the typing never get there.
     Undefined,
 }

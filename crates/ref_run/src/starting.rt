@@ -61,7 +61,7 @@ fn push_first(
     ensures { IfOk result (IsPushed method code.now object locals) }
 {
     let mut mounted = Mounted::new(alloc, thread);
-    match mounted.push_frame(method, locals, code.max_stack, 0, false) {
+    match mounted.push_frame(method, locals, code.max_stack, 0) {
         Ok(()) => {
             mounted.set_local(0, Slot::One(Value::Ref(object)));
             Ok(mounted)

@@ -1,6 +1,6 @@
 //! The state in which a program begins.
 
-ghost use Rattle.std.specs.Prelude.{◌≡◌, ◌+◌, [], length, IfOk};
+ghost use Rattle.std.specs.Prelude.{◌≡◌, ◌+◌, length, IfOk};
 ghost use Rattle.ref_model.specs.declared.limits.Limits.{Limits};
 ghost use Rattle.ref_model.specs.Opening.{opening, opening_monitor, opening_statics};
 ghost use Rattle.step_soundness.specs.OpeningLaws.{IsMain};
@@ -84,7 +84,6 @@ pub fn open(
     ensures cells { IfOk result (λ o. o.heap.cells ≡ limits.heap_cells) }
     ensures used { IfOk result (λ o. o.heap.used ≡ 0) }
     ensures thread { IfOk result (λ o. o.mounted.thread ≡ 0) }
-    ensures pinned { IfOk result (λ o. o.mounted.pinned ≡ []) }
 {
     let library = library_in(alloc, program.tables())?;
     let strings = program.tables().strings();

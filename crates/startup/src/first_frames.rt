@@ -21,12 +21,11 @@ fn push_frame(program: &ReadyProgram, mounted: &mut Mounted, method: u32) -> Res
     ensures frames { OnOk result (HasFrame program.now method mounted.old.stack.frames
         mounted.new.stack.frames) }
     ensures thread { mounted.new.thread ≡ mounted.old.thread }
-    ensures pinned { OnOk result (mounted.new.pinned ≡ mounted.old.pinned) }
 {
     let Some(code) = program.code(method) else {
         unreachable!()
     };
-    match mounted.push_frame(method, code.max_locals as u32, code.max_stack, 0, false) {
+    match mounted.push_frame(method, code.max_locals as u32, code.max_stack, 0) {
         Ok(()) => Ok(()),
         Err(_) => Err(NoMemory),
     }
@@ -38,7 +37,6 @@ fn hold_monitor(mounted: &mut Mounted, last: u16, monitor: Option<u32>)
     ensures frames { mounted.new.stack.frames
         ≡ holding last monitor mounted.old.stack.frames }
     ensures thread { mounted.new.thread ≡ mounted.old.thread }
-    ensures pinned { mounted.new.pinned ≡ mounted.old.pinned }
 {
     if let Some(o) = monitor {
         mounted.set_local(last, Slot::One(Value::Ref(o)));
@@ -68,13 +66,12 @@ fn push_main(
     ensures frames { OnOk result (IsFirst program.now main words monitor
         mounted.new.stack.frames) }
     ensures thread { mounted.new.thread ≡ mounted.old.thread }
-    ensures pinned { OnOk result (mounted.new.pinned ≡ mounted.old.pinned) }
 {
     let Some(code) = program.code(main) else {
         unreachable!()
     };
     let locals = local_count(code.max_locals, monitor);
-    match mounted.push_frame(main, locals, code.max_stack, 0, false) {
+    match mounted.push_frame(main, locals, code.max_stack, 0) {
         Ok(()) => {
             mounted.set_local(0, Slot::One(Value::Ref(words)));
             hold_monitor(mounted, code.max_locals, monitor);
@@ -94,7 +91,6 @@ fn push_frames(
     ensures frames { OnOk result (spec.frames_of program.now methods.now mounted.old.stack.frames
         ≡ Some mounted.new.stack.frames) }
     ensures thread { mounted.new.thread ≡ mounted.old.thread }
-    ensures pinned { OnOk result (mounted.new.pinned ≡ mounted.old.pinned) }
 {
     let mut i = methods.len();
     while i > 0 {
@@ -117,7 +113,6 @@ pub(crate) fn first_frames(
     ensures frames { IfOk result (λ m. frames_with program.now main words monitor
         ≡ Some m.stack.frames) }
     ensures thread { IfOk result (λ m. m.thread ≡ 0) }
-    ensures pinned { IfOk result (λ m. m.pinned ≡ []) }
 {
     let mut mounted = Mounted::new(alloc, 0);
     push_main(program, &mut mounted, main, words, monitor)?;

@@ -1,6 +1,6 @@
 //! That the state in which a program begins keeps to the typing (JVMS 2.11.1, 4.10).
 
-ghost use Rattle.std.specs.Prelude.{◌≡◌, [], Some, IfOk};
+ghost use Rattle.std.specs.Prelude.{◌≡◌, Some, IfOk};
 ghost use Rattle.ref_model.specs.Opening.{opening};
 ghost use Rattle.frame_soundness.specs.TypedStates.{IsTypedState};
 ghost use Rattle.step_soundness.specs.OpeningLaws.{IsMain};
@@ -48,7 +48,6 @@ pub fn open_typed(
     ensures cells { IfOk result (λ o. o.heap.cells ≡ limits.heap_cells) }
     ensures used { IfOk result (λ o. o.heap.used ≡ 0) }
     ensures thread { IfOk result (λ o. o.mounted.thread ≡ 0) }
-    ensures pinned { IfOk result (λ o. o.mounted.pinned ≡ []) }
 {
     program.is_linked();
     linked_worlds_open();

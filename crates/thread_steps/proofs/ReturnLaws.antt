@@ -36,7 +36,7 @@ use Rattle.ref_model.specs.Throwing.{at_handler, finished, frame_dropped, frame_
 use Rattle.continuation.specs.Continuation.{Continuation}
 use Rattle.heap_instructions.specs.HeapReads.{class_number}
 use Rattle.invocation.specs.declared.returning.Left.TheVariants.{Returned}
-use Rattle.invocation.specs.FrameSteps.{HoldsMonitor, IsDropped, IsHandled, IsLeftUnlocked, IsUnhandled, IsUnhandledWith, returned_kinds, top_at_handler, top_to_caller, top_handler, top_is_guarded, top_is_left_openly, top_is_root, top_returned}
+use Rattle.invocation.specs.FrameSteps.{HoldsMonitor, IsDropped, IsHandled, IsLeftBehind, IsLeftNative, IsLeftUnlocked, returned_kinds, top_at_handler, top_to_caller, top_handler, top_is_left_openly, top_is_root, top_is_synchronized, top_returned}
 use Rattle.thread_steps.specs.declared.parts.Parts.{Parts}
 use Rattle.thread_steps.specs.States.{Stage, IsRunStep, memory_of, own_thread, state_of}
 use Rattle.thread_steps.specs.declared.progress.MonitorReturn.{MonitorReturn}
@@ -66,24 +66,6 @@ value_taken w resolution r kind stack is x = by kind (subst (λ (s : Row). Finds
     by None y = tt
     by (Some k) y = y
 
--- ---- frames whose end no others see
-
-or_left : (a b : Bool) → (a || b) ≡ false → a ≡ false
-or_left true b e = cc
-or_left false b e = refl
-
-or_right : (a b : Bool) → (a || b) ≡ false → b ≡ false
-or_right true b e = cc
-or_right false b e = e
-
--- they hold no monitor
-holds_none : (w : World) (f : Frame) → is_guarded_frame w f ≡ false → is_synchronized_frame w f ≡ false
-holds_none w f = by (slice_get w.methods f.method)
-  where
-    by : (found : Option MethodInfo) → option_map_or (is_guarded w) found false ≡ false → option_map_or is_synchronized found false ≡ false
-    by None e = refl
-    by (Some m) e = or_left (is_synchronized m) (is_hold w m) e
-
 -- ---- a return to the caller
 
 pub returned_steps : (w : World) (a : Parts) (kind : Option ValueKind) (frames after : List Frame) → top_returned w kind frames ≡ Some after → ReturnSteps w kind a frames a after
@@ -96,6 +78,40 @@ returned_steps w a kind frames after left stage f below i top at is =
 
     step : IsRunStep w stage.number (state_of stage a (f ∷ below)) (f ∷ below) (state_of stage a after)
     step = ap (row_or_event w (state_of stage a (f ∷ below)) stage.number (f ∷ below)) made ∙ ap (λ (q : State). Some q) (own_frames stage a (f ∷ below) after)
+
+-- one from a frame that others see leave, and that holds no monitor
+openly_steps : (w : World) (a : Parts) (q : Stage → State) (kind : Option ValueKind) (frames : List Frame) → top_is_left_openly w frames ≡ true → top_is_synchronized w frames ≡ false
+    → ((stage : Stage) (f : Frame) (below : List Frame) → frames ≡ f ∷ below → frame_returned w (state_of stage a frames) stage.number kind f below ≡ Some (q stage))
+    → (stage : Stage) (f : Frame) (below : List Frame) (i : Instruction) → frames ≡ f ∷ below → fetched w f ≡ Some i → row_of i.instr.op ≡ returns kind
+    → IsRunStep w stage.number (state_of stage a frames) frames (q stage)
+openly_steps w a q kind frames openly plain left stage f below i top at is =
+    subst (λ (fs : List Frame). IsRunStep w stage.number r fs (q stage)) (sym top)
+    (event_is_run w r (q stage) stage.number (f ∷ below) (no_row w i (returns kind) f below at is (ap (λ (x : Bool). if x then None else returned w kind f below) here)) step)
+  where
+    r : State
+    r = state_of stage a frames
+
+    here : is_left_openly w f below ≡ true
+    here = subst (λ (fs : List Frame). top_is_left_openly w fs ≡ true) top openly
+
+    free : is_synchronized_frame w f ≡ false
+    free = subst (λ (fs : List Frame). top_is_synchronized w fs ≡ false) top plain
+
+    held : Option State
+    held = frame_monitor w f >>= monitor_returned w r stage.number kind f below
+
+    step : event_step w r stage.number (f ∷ below) ≡ Some (q stage)
+    step = bind_is (fetched w f) (λ j. row_event w j (row_of j.instr.op) r stage.number f below) i (Some (q stage)) at
+        (ap (λ (act : Row). row_event w i act r stage.number f below) is ∙ ap (λ (x : Bool). if x then held else frame_returned w r stage.number kind f below) free
+        ∙ left stage f below top)
+
+-- ---- a return from a native frame
+
+pub native_steps : (w : World) (a b : Parts) (kind : Option ValueKind) (m n : Continuation) (after : List Frame) → IsLeftNative w m n → UnlockedReturns w kind a n.stack.frames b after
+    → ReturnSteps w kind a m.stack.frames b after
+native_steps w a b kind m n after native left =
+    openly_steps w a (λ stage. state_of stage b after) kind m.stack.frames native.openly native.plain
+    (subst (λ (x : Continuation). UnlockedReturns w kind a x.stack.frames b after) native.same left)
 
 -- ---- a return from a root frame
 
@@ -110,34 +126,23 @@ root_is_left a frames after status left is stage f below top =
     by [] rest done = own_finished stage a (f ∷ below) ∙ λ i. state_of stage (record a { status = sym done i }) (sym rest i)
     by (g ∷ others) rest goes = own_frames stage a (f ∷ below) (g ∷ others) ∙ λ i. state_of stage (record a { status = sym goes i }) (sym rest i)
 
-pub root_steps : (w : World) (a b : Parts) (kind : Option ValueKind) (frames after : List Frame) → top_is_root w frames ≡ true → top_is_guarded w frames ≡ false → LeavesRoot a frames b after → ReturnSteps w kind a frames b after
-root_steps w a b kind frames after root plain left stage f below i top at is =
-    subst (λ (fs : List Frame). IsRunStep w stage.number (state_of stage a fs) fs (state_of stage b after)) (sym top)
-    (event_is_run w r q stage.number (f ∷ below) (no_row w i (returns kind) f below at is (ap (λ (x : Bool). if x || is_guarded_frame w f then None else returned w kind f below) here)) step)
-  where
-    r : State
-    r = state_of stage a (f ∷ below)
+pub unlocked_root : (w : World) (a b : Parts) (kind : Option ValueKind) (frames after : List Frame) → top_is_root w frames ≡ true → LeavesRoot a frames b after
+    → UnlockedReturns w kind a frames b after
+unlocked_root w a b kind frames after root left stage f below top =
+    let r : State = state_of stage a frames in
+    let is : is_root w f below ≡ true = subst (λ (fs : List Frame). top_is_root w fs ≡ true) top root in
+    let s : State → Option State = λ q. Some q in
+    ap (λ (b : Bool). if b then Some (root_left r stage.number below) else (returned w kind f below >>= λ frames. Some (with_frames r stage.number frames))) is
+    ∙ ap (λ (fs : List Frame). Some (root_left (state_of stage a fs) stage.number below)) top
+    ∙ ap s (left stage f below top)
 
-    q : State
-    q = state_of stage b after
+root_openly : (w : World) (frames : List Frame) → top_is_root w frames ≡ true → top_is_left_openly w frames ≡ true
+root_openly w [] root = root
+root_openly w (f ∷ below) root = ap (λ (b : Bool). b || is_guarded_frame w f) root
 
-    here : top_is_root w (f ∷ below) ≡ true
-    here = subst (λ (fs : List Frame). top_is_root w fs ≡ true) top root
-
-    free : is_synchronized_frame w f ≡ false
-    free = holds_none w f (subst (λ (fs : List Frame). top_is_guarded w fs ≡ false) top plain)
-
-    held : Option State
-    held = frame_monitor w f >>= monitor_returned w r stage.number kind f below
-
-    further : Option State
-    further = returned w kind f below >>= λ fs. Some (with_frames r stage.number fs)
-
-    step : event_step w r stage.number (f ∷ below) ≡ Some q
-    step = bind_is (fetched w f) (λ j. row_event w j (row_of j.instr.op) r stage.number f below) i (Some q) at
-        (ap (λ (act : Row). row_event w i act r stage.number f below) is ∙ ap (λ (x : Bool). if x then held else frame_returned w r stage.number kind f below) free
-        ∙ ap (λ (x : Bool). if x then Some (root_left r stage.number below) else further) here
-        ∙ ap (λ (s : State). Some s) (left stage f below top))
+pub root_steps : (w : World) (a b : Parts) (kind : Option ValueKind) (frames after : List Frame) → top_is_root w frames ≡ true → top_is_synchronized w frames ≡ false → LeavesRoot a frames b after → ReturnSteps w kind a frames b after
+root_steps w a b kind frames after root plain left =
+    openly_steps w a (λ stage. state_of stage b after) kind frames (root_openly w frames root) plain (unlocked_root w a b kind frames after root left)
 
 -- ---- a return that leaves a monitor
 
@@ -187,16 +192,6 @@ unlocked_returned w a kind m n left stage f below top =
     ∙ ap (λ (x : Option (List Frame)). x >>= λ frames. Some (with_frames r stage.number frames)) back
     ∙ ap (λ (s : State). Some s) (own_frames stage a m.stack.frames n.stack.frames)
 
-pub unlocked_root : (w : World) (a b : Parts) (kind : Option ValueKind) (frames after : List Frame) → top_is_root w frames ≡ true → LeavesRoot a frames b after
-    → UnlockedReturns w kind a frames b after
-unlocked_root w a b kind frames after root left stage f below top =
-    let r : State = state_of stage a frames in
-    let is : is_root w f below ≡ true = subst (λ (fs : List Frame). top_is_root w fs ≡ true) top root in
-    let s : State → Option State = λ q. Some q in
-    ap (λ (b : Bool). if b then Some (root_left r stage.number below) else (returned w kind f below >>= λ frames. Some (with_frames r stage.number frames))) is
-    ∙ ap (λ (fs : List Frame). Some (root_left (state_of stage a fs) stage.number below)) top
-    ∙ ap s (left stage f below top)
-
 -- ---- an exception on its way
 
 -- what the phase makes of the top frame, by the class of the object
@@ -240,39 +235,39 @@ handled_steps w a t name o class m n named x stage is = by m.stack.frames x.is x
     by (f ∷ below) found goes = at f below (handler_of w class f) refl found goes
 
 -- It has none, and is left.
-pub left_steps : (w : World) (a : Parts) (t name o class : ℕ) (m n : Continuation) → Some class ≡ class_number w a.natives.heap.objects o → 0 < length m.stack.frames → IsUnhandled w class m n
-    → ThrowingSteps w t name o a m.stack.frames a n.stack.frames
-left_steps w a t name o class m n named some x stage is = by m.stack.frames some x.none x.inner x.frames
+pub left_steps : (w : World) (a : Parts) (t name o class : ℕ) (m n : Continuation) → Some class ≡ class_number w a.natives.heap.objects o → 0 < length m.stack.frames
+    → top_handler w class m.stack.frames ≡ None → IsLeftBehind w m n → ThrowingSteps w t name o a m.stack.frames a n.stack.frames
+left_steps w a t name o class m n named some none x stage is = by m.stack.frames some none x.inner x.plain x.frames
   where
-    by : (frames : List Frame) → 0 < length frames → top_handler w class frames ≡ None → top_is_left_openly w frames ≡ false → n.stack.frames ≡ drop 1 frames
+    by : (frames : List Frame) → 0 < length frames → top_handler w class frames ≡ None → top_is_root w frames ≡ false → top_is_synchronized w frames ≡ false → n.stack.frames ≡ drop 1 frames
         → throwing_step w (state_of stage a frames) stage.number o frames ≡ Some (state_of stage a n.stack.frames)
-    by [] some none inner left = absurd (omega arith)
-    by (f ∷ below) some none inner left =
+    by [] some none inner plain left = absurd (omega arith)
+    by (f ∷ below) some none inner plain left =
         let r : State = state_of stage a (f ∷ below) in
         handled_so w stage a o class f below None (state_of stage a n.stack.frames) named (mapped_none (handler_of w class f) none)
         (ap (λ (b : Bool). if b then (frame_monitor w f >>= frame_with_monitor_left w r stage.number class f below) else frame_dropped w r stage.number class f below)
-        (holds_none w f (or_right (is_root w f below) (is_guarded_frame w f) inner))
-        ∙ ap (λ (b : Bool). if b then uncaught w r stage.number class else Some (with_frames r stage.number below)) (or_left (is_root w f below) (is_guarded_frame w f) inner)
+        plain
+        ∙ ap (λ (b : Bool). if b then uncaught w r stage.number class else Some (with_frames r stage.number below)) inner
         ∙ ap (λ (s : State). Some s) (own_frames stage a (f ∷ below) below ∙ ap (state_of stage a) (sym left)))
 
 -- A root frame whose method doesn't catch an object of this class ends the thread.
 pub uncaught_steps : (w : World) (a b : Parts) (t name o class : ℕ) (frames after : List Frame)
     → Some class ≡ class_number w a.natives.heap.objects o
-    → top_handler w class frames ≡ None → top_is_root w frames ≡ true → top_is_guarded w frames ≡ false → EndsUncaught w t name class a b after → ThrowingSteps w t name o a frames b after
+    → top_handler w class frames ≡ None → top_is_root w frames ≡ true → top_is_synchronized w frames ≡ false → EndsUncaught w t name class a b after → ThrowingSteps w t name o a frames b after
 uncaught_steps w a b t name o class [] after named none root plain ends stage is = absurd cc
 uncaught_steps w a b t name o class (f ∷ below) after named none root plain ends stage is =
     let r : State = state_of stage a (f ∷ below) in
     handled_so w stage a o class f below None (state_of stage b after) named (mapped_none (handler_of w class f) none)
     (ap (λ (b : Bool). if b then (frame_monitor w f >>= frame_with_monitor_left w r stage.number class f below) else frame_dropped w r stage.number class f below)
-    (holds_none w f plain)
+    plain
     ∙ ap (λ (x : Bool). if x then uncaught w r stage.number class else Some (with_frames r stage.number below)) root ∙ ends stage (f ∷ below) is)
 
 -- It has none, and holds a monitor.
-pub holding_steps : (w : World) (a : Parts) (o class monitor : ℕ) (m n : Continuation) → Some class ≡ class_number w a.natives.heap.objects o → IsUnhandledWith w class monitor m n
-    → ThrowsFrom w (record { class = class; monitor = monitor }) o (memory_of a) m.stack.frames
-holding_steps w a o class monitor m n named x r t f below same top =
-    let none : handler_of w class f ≡ None = mapped_none (handler_of w class f) (subst (λ (fs : List Frame). top_handler w class fs ≡ None) top x.none) in
-    let holds : HoldsMonitor w (f ∷ below) monitor = subst (λ (fs : List Frame). HoldsMonitor w fs monitor) top x.holds in
+pub holding_steps : (w : World) (a : Parts) (o class monitor : ℕ) (m : Continuation) → Some class ≡ class_number w a.natives.heap.objects o
+    → top_handler w class m.stack.frames ≡ None → HoldsMonitor w m.stack.frames monitor → ThrowsFrom w (record { class = class; monitor = monitor }) o (memory_of a) m.stack.frames
+holding_steps w a o class monitor m named caught held r t f below same top =
+    let none : handler_of w class f ≡ None = mapped_none (handler_of w class f) (subst (λ (fs : List Frame). top_handler w class fs ≡ None) top caught) in
+    let holds : HoldsMonitor w (f ∷ below) monitor = subst (λ (fs : List Frame). HoldsMonitor w fs monitor) top held in
     let here : class_at w r.memory o ≡ Some class = ap (λ (memory : Memory). class_at w memory o) same ∙ sym named in
     ap (throwing_step w r t o) top
     ∙ ap (λ (c : Option ℕ). c >>= λ c. handled w r t o c f below (handler_of w c f)) here

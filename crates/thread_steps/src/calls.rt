@@ -134,6 +134,7 @@ pub(crate) fn invocation_step<W: MachineWorld>(
             native_step(alloc, world, parts, mounted, progress, instr.next, native)
         }
         Target::Code(callee) => code_step(world, parts, mounted, callee),
+        Target::Pins(callee) => code_step(world, parts, mounted, callee),
         Target::Synchronized(callee) => synchronized_step(world, parts, mounted, progress, callee),
         Target::Throws(exception) => raise(world, parts, exception),
         Target::Undefined => Err(NoMemory),

@@ -90,11 +90,12 @@ pub(crate) fn return_step<W: MachineWorld>(
             *progress = Progress::Returns(MonitorReturn { kind, monitor });
             Ok(())
         }
+        Left::Native => return_unlocked(world, parts, mounted, kind),
         Left::Undefined => Err(NoMemory),
     }
 }
 
-/// The rest of a return whose thread has left the monitor that its frame held.
+/// The rest of a return from a frame that holds no monitor, or whose thread has left that.
 pub fn return_unlocked<W: MachineWorld>(
     world: &W,
     parts: &mut Parts,
@@ -112,6 +113,6 @@ pub fn return_unlocked<W: MachineWorld>(
             leave_root(parts, mounted);
             Ok(())
         }
-        Left::Holds(_) | Left::Undefined => Err(NoMemory),
+        Left::Holds(_) | Left::Native | Left::Undefined => Err(NoMemory),
     }
 }

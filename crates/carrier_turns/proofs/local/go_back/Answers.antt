@@ -10,7 +10,7 @@ use Rattle.carrier_turns.proofs.local.go_back.Goals as goal
 pub returns-in-Returned-clause-over : goal.returns-in-Returned-clause-over
 returns-in-Returned-clause-over c =
     back_made c.args.program.now c.args.mounted.now.stack.frames c.leave.new.mounted.stack.frames c.args.fetched.now c.in-Some.returns.kind
-    c.requires.ready.linked.typed c.requires.typed c.requires.next (sym c.in-Some.ensures) c.in-Returned.ensures.left.0
+    c.requires.ready.linked.typed c.requires.typed c.requires.next (sym c.in-Some.ensures) c.in-Returned.ensures.left
 
 pub leave-requires-clause-operands : goal.leave-requires-clause-operands
 leave-requires-clause-operands c =

@@ -11,5 +11,4 @@ loop-i-preserved c =
       frames_more c.args.program.now methods c.loop-i.i j (get_or methods j 0) c.args.mounted.now.stack.frames c.loop-i.mounted.stack.frames
           c.push_frame.new.mounted.stack.frames (omega arith) (omega arith) refl c.loop-i.invariant.1 pushed.frames,
       pushed.thread ∙ c.loop-i.invariant.2,
-      pushed.pinned ∙ c.loop-i.invariant.3,
     )

@@ -37,6 +37,21 @@ pub returns-in-Code-clause-stays : goal.returns-in-Code-clause-stays
 returns-in-Code-clause-stays g c =
     on_ok c.code_step.result c.code_step.ensures (λ begins. quiet_stays c.args.progress.now c.args.mounted.now c.code_step.new.mounted c.requires.nothing)
 
+pub returns-in-Pins-clause-progress : goal.returns-in-Pins-clause-progress
+returns-in-Pins-clause-progress g c =
+    let w = g.W.EventWorld.world c.args.world.now in
+    let i : Instruction = record { instr = c.args.instr.now; resolution = c.args.resolution.now } in
+    let a = c.args.parts.now in
+    let m = c.args.mounted.now in
+    let b = c.code_step-in-Pins.new.parts in
+    let after = c.code_step-in-Pins.new.mounted.stack.frames in
+    on_ok c.code_step-in-Pins.result c.code_step-in-Pins.ensures (λ begins. quiet_progress w i c.args.progress.now a b m.stack.frames after c.requires.nothing
+    (code_stepped w i a b m after c.in-Pins.callee (subst (ComesTo w i a m) c.in-Pins.is c.in_ok-target.ensures.target) begins))
+
+pub returns-in-Pins-clause-stays : goal.returns-in-Pins-clause-stays
+returns-in-Pins-clause-stays g c =
+    on_ok c.code_step-in-Pins.result c.code_step-in-Pins.ensures (λ begins. quiet_stays c.args.progress.now c.args.mounted.now c.code_step-in-Pins.new.mounted c.requires.nothing)
+
 pub returns-in-Throws-clause-progress : goal.returns-in-Throws-clause-progress
 returns-in-Throws-clause-progress g c =
     let w = g.W.EventWorld.world c.args.world.now in

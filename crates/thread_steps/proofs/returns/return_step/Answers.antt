@@ -12,7 +12,7 @@ returns-in-Returned-clause-progress g c =
     let frames = c.args.mounted.now.stack.frames in
     let after = c.leave.new.mounted.stack.frames in
     stepped_return w c.args.kind c.args.progress.now a a frames after c.requires.nothing
-    (returned_steps w a c.args.kind frames after c.in-Returned.ensures.left.0)
+    (returned_steps w a c.args.kind frames after c.in-Returned.ensures.left)
 
 pub returns-in-Returned-clause-stays : goal.returns-in-Returned-clause-stays
 returns-in-Returned-clause-stays g c = quiet_stays c.args.progress.now c.args.mounted.now c.leave.new.mounted c.requires.nothing
