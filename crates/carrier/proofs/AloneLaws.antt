@@ -18,7 +18,7 @@ use Rattle.ref_model.specs.declared.ending.Ending.{Ending}
 use Rattle.ref_model.specs.declared.ending.Ending.TheVariants.{Ended, MainThrew, Exited, Stalled, Starved, Limit, Halted}
 use Rattle.ref_model.specs.declared.ending.Which.TheVariants.{Files, FileSize, Threads, Events}
 use Rattle.ref_model.specs.Setting.{Setting}
-use Rattle.ref_model.specs.State.{JavaThread, State, frames_at, running_frames, with_frames}
+use Rattle.ref_model.specs.State.{JavaThread, State, frames_at, with_frames}
 use Rattle.ref_model.specs.Ending.{ending}
 use Rattle.ref_model.specs.Opening.{opening}
 use Rattle.ref_model.specs.Alone.{alone, needs_others, stepped_alone}
@@ -29,8 +29,7 @@ use Rattle.ref_model.specs.Run.{steps}
 use Rattle.ref_model.specs.Step.{enabled, step, thread_step}
 use Rattle.ref_model.specs.Starting.{may_create}
 use Rattle.ref_model.specs.Looks.{is_create, is_stalled, lacks_threads_next, look_of, machine_from, spot_of}
-use Rattle.ref_model.proofs.StateLaws.{frames_ending, frames_is, get_set, runs, set_same}
-use Rattle.ref_model.proofs.StepLaws.{local_steps}
+use Rattle.ref_model.proofs.StateLaws.{frames_ending, runs}
 use Rattle.schedule_soundness.specs.AloneLaws.{MainGoes, is_tick, steps_in}
 use Rattle.schedule_soundness.specs.ClockLaws.{HaveReasons}
 use Rattle.schedule_soundness.proofs.ClockAlone.{nothing_ticks_alone}
@@ -38,10 +37,9 @@ use Rattle.schedule_soundness.specs.Started.{OnlyMain, was_started}
 use Rattle.schedule_soundness.proofs.AloneLaws.{main_runs_alone}
 use Rattle.schedule_soundness.proofs.Creations.{has_room}
 use Rattle.schedule_soundness.proofs.MainGoes.{main_goes_on}
-use Rattle.machine.specs.Hands.{HasHand}
 use Rattle.machine.specs.Legal.{IsAccepted, IsCause, LacksThreads}
 use Rattle.carrier.specs.Runs.{IsComplete, IsEndingOf, own, caused, limited}
-use Rattle.carrier_turns.proofs.AheadLaws.{ahead_steps, runs_with, same_thread}
+use Rattle.carrier_turns.proofs.AheadLaws.{ahead_steps, runs_with}
 use Rattle.carrier_turns.proofs.StallLaws.{enabled_goes}
 
 -- ---- steps of the main thread alone

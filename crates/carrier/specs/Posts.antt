@@ -1,5 +1,5 @@
 -- What a carrier knows of the machine while others have it.
-use Rattle.std.specs.Prelude.{◌≡◌, ◌<◌, ℕ, false, List, [], Option, Some, None, is_some}
+use Rattle.std.specs.Prelude.{◌≡◌, ◌<◌, ℕ, List, [], Some, None, is_some}
 use Rattle.atomic_table.specs.Seated.{TableId}
 use Rattle.history.specs.declared.entry.Entry.{Entry}
 use Rattle.ref_model.specs.declared.ending.Ending.{Ending}

@@ -1,15 +1,15 @@
 //! Runs a program to its end.
 
-ghost use Rattle.std.specs.Prelude.{◌≡◌, ◌≢◌, ◌<◌, ℕ, Bool, All, IfOk, IsTrue, Some, length};
+ghost use Rattle.std.specs.Prelude.{◌≡◌, ◌≢◌, ◌<◌, ℕ, Bool, All, IfOk, Some, length};
 ghost use Rattle.ref_model.specs.declared.ending.Ending.TheVariants.{Halted, Stalled};
 ghost use Rattle.ref_model.specs.Setting.{Setting};
 ghost use Rattle.step_soundness.specs.OpeningLaws.{IsMain};
 ghost use Rattle.link_soundness.specs.Library.{HasLibrary};
 ghost use Rattle.schedule_soundness.specs.PinLaws.{NamesNoHold};
-ghost use Rattle.machine.specs.Legal.{IsLegal, Works};
+ghost use Rattle.machine.specs.Legal.{Works};
 ghost use Rattle.machine.specs.Live.{ListsLive};
 ghost use Rattle.machine.specs.Machines.{machine_ending};
-ghost use Rattle.carrier.specs.Posts.{HasLeft, IsBeginning, IsNewSeat, IsPost};
+ghost use Rattle.carrier.specs.Posts.{IsBeginning, IsNewSeat, IsPost};
 ghost use Rattle.carrier.specs.Runs.{IsRun, IsTimed};
 ghost use Rattle.carrier.specs.Shared.{machine_parts, shared_run};
 

@@ -34,8 +34,8 @@ fn run_to_end<'p, 'c, R: Wait, C: Clock, G: Gate>(
     seat
 }
 
-/// Runs the carriers of these posts side by side until the run has ended: their seats. The last has this thread, and each other one of its
-/// own. Where no thread can be started, carriers run one after another.
+/// Runs the carriers of these posts side by side until the run has ended: their seats. One has this thread, and each other one of its own.
+/// Where no thread can be started, carriers run one after another.
 pub fn run_carriers<'p, 'c, R: Threads + Wait + Sync, C: Clock + Sync, G: Gate + Sync>(
     rt: &R,
     alloc: Global,

@@ -34,7 +34,8 @@ impl<'p, 'c, C: Clock> Model for TimedMachine<'p, 'c, C> {
 
     ghost view = { λ t. record { machine = t.machine.value; clock = t.clock.now } };
 
-    ghost invariant = { λ t. Works t.machine.value → IsTimed (C.gives t.clock.now) t.machine.value };
+    ghost invariant = { λ t. Works t.machine.value
+        → IsTimed (C.gives t.clock.now) t.machine.value };
 }
 
 /// A lock that keeps a machine, for the carriers of a run.

@@ -9,7 +9,7 @@ pub(crate) enum Fault {
     /// The definitions have no step here.
     #[error("no step")]
     NoStep,
-    /// Memory ran out, jvt.Native.hold is called, or a typed program has no such step.
+    /// Memory ran out, or a typed program has no such step.
     #[error("out of memory")]
     NoMemory,
 }

@@ -43,7 +43,7 @@ pub enum ReplayError {
     /// The definitions have no such step after the entries before this one.
     #[error("entry {entry}: no step")]
     NoStep { entry: usize },
-    /// Memory ran out, or jvt.Native.hold is called. This says nothing of the list.
+    /// Memory ran out. This says nothing of the list.
     #[error("out of memory")]
     NoMemory,
 }

@@ -1,5 +1,4 @@
 use Rattle.std.proofs.Common.{sym, ◌∙◌, subst}
-use Rattle.std.specs.Prelude.{IsTrue}
 use Rattle.machine.specs.Legal.{IsLegal, Works}
 use Rattle.carrier.specs.Runs.{IsTimed}
 use Rattle.carrier.proofs.TimeLaws.{given_at, timed_on}
