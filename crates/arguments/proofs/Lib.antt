@@ -1,0 +1,4 @@
+pub mod BuilderLaws
+pub mod FaultLaws
+pub mod MatchLaws
+pub mod ReadingLaws

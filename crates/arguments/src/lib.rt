@@ -1,0 +1,10 @@
+//! The command that the arguments of `jvt` spell, as clap reads them.
+#![tactic(auto)]
+
+mod clap_command;
+mod command;
+mod help_texts;
+mod reading;
+
+pub use command::{Command, CommandError, Run};
+pub use reading::read_command;
