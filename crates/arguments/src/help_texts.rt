@@ -34,30 +34,30 @@ Example:
   jvt run --carriers 8 Hello out/*.class";
 
 /// What `--carriers` is.
-pub const CARRIERS: &str =
-    "Operating-system threads that carry the program's threads, from 1 to 64";
+pub const CARRIERS: &str = "Operating-system threads to run on, from 1 to 64";
 
 /// The same with more words.
 pub const CARRIERS_LONG: &str = "\
-Operating-system threads that carry the program's threads, virtual and platform ones, from 1 to
-64. The JDK sets it for virtual threads by jdk.virtualThreadScheduler.parallelism.";
+Operating-system threads to run on, from 1 to 64: they carry all threads of the
+program, virtual ones and platform ones. The JDK sets their number, for virtual
+threads, by jdk.virtualThreadScheduler.parallelism.";
 
 /// What `--events` is.
-pub const EVENTS: &str = "Entries that the history may have, from 1000 to 33554432";
+pub const EVENTS: &str = "The most entries of the history, from 1000 to 33554432";
 
 /// The same with more words.
 pub const EVENTS_LONG: &str = "\
-Entries that the history may have, from 1000 to 33554432. An access of a field or an element, a
-new object and a line of output are one entry each, of at most 40 bytes. A run for which there is
-no room for three more ends with status 71.";
+The most entries of the history, from 1000 to 33554432. An access of a field or
+an element, a new object and a line of output are one entry each, of 40 bytes at
+most. A run that has no room for three more ends with status 71.";
 
 /// What `--trace` is.
 pub const TRACE: &str = "Print the history on standard error when the program has ended";
 
 /// The same with more words.
 pub const TRACE_LONG: &str = "\
-Print the history on standard error when the program has ended: a line for each entry, with what
-which carrier did.";
+Print the history on standard error when the program has ended: a line for each
+entry, which says what a carrier did.";
 
 /// What MAIN is.
 pub const MAIN: &str = "The main class, with dots or slashes, as in com.example.Hello";
@@ -67,5 +67,6 @@ pub const FILE: &str = "The class files of the program, MAIN's among them: at mo
 
 /// The same with more words.
 pub const FILE_LONG: &str = "\
-The class files of the program, MAIN's among them: at most 256, of 4194304 bytes each. There is no
-class path and no JAR file: a class that isn't the JDK's has its file here.";
+The class files of the program, MAIN's among them: at most 256, of 4194304 bytes
+each. There is no class path and no JAR file: a class that isn't the JDK's has
+its file here.";

@@ -1,5 +1,5 @@
 -- The exit status of each answer, as sysexits has it from 64 on, and its line on the error output.
-use Rattle.std.specs.Prelude.{ℕ, List, [], ◌∷◌, ◌++◌, Option, Some, None, codes, map, unwrap_or, slice_get}
+use Rattle.std.specs.Prelude.{ℕ, List, [], ◌∷◌, ◌++◌, codes, map, unwrap_or, slice_get}
 use Rattle.std.specs.Fmt.{decimal}
 use Rattle.std.specs.List.{flat_map}
 use Rattle.std.specs.Str.{encode_utf8_all}
@@ -15,7 +15,7 @@ use Rattle.command_line.specs.declared.answer.Which.{Which}
 use Rattle.command_line.specs.declared.answer.Which.TheVariants.{Files, FileSize, Threads, Events}
 use Rattle.command_line.specs.declared.answer.Why.{Why}
 use Rattle.command_line.specs.declared.answer.Why.TheVariants.{Ended, MainThrew, Exited, Stalled, Usage, Limit, Missing, SourceFault, BadClass, NoMain, LinkFault, VerifyFault, SinkFault, NoMemory}
-use Rattle.command_line.specs.Commands.{Command}
+use Rattle.command_line.specs.Commands.{Names}
 
 -- This table and those of names and lines list every case, so that a new answer is refused until it has a row.
 abbrev pub status_of : Why → ℕ
@@ -88,7 +88,7 @@ abbrev pub utf8_of : List ℕ → List ℕ
 utf8_of units = encode_utf8_all (map (λ c. unwrap_or c 63) (utf16_chars units))
 
 -- the argument that names the file of index n
-abbrev pub file_name : Command → ℕ → List ℕ
+abbrev pub file_name : Names → ℕ → List ℕ
 file_name c n = unwrap_or (slice_get c.files n) []
 
 -- a text, a name and a line's end
@@ -124,8 +124,8 @@ memory_line = codes "jvt: no memory\n"
 abbrev pub fault_line : List ℕ
 fault_line = codes "jvt: cannot write\n"
 
--- the line of an answer to this command
-abbrev pub line_of : Command → Why → List ℕ
+-- the line of an answer to a command with these names
+abbrev pub line_of : Names → Why → List ℕ
 line_of c Ended = []
 line_of c MainThrew = []
 line_of c (Exited n) = []
@@ -140,11 +140,6 @@ line_of c (LinkFault class why) = link_line class why
 line_of c (VerifyFault class method pc why) = verify_line class method pc why
 line_of c (SinkFault which written) = fault_line
 line_of c NoMemory = memory_line
-
--- the line of an answer to arguments, which may spell no command
-abbrev pub line_for : Option Command → Why → List ℕ
-line_for None why = usage_line
-line_for (Some c) why = line_of c why
 
 -- the line of this answer names something, so memory is taken for it; that of no other answer may want memory
 abbrev pub NamesSomething : Why → Type 0

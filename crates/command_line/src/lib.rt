@@ -2,10 +2,11 @@
 #![tactic(auto)]
 
 mod answer;
-mod command;
 mod line;
+mod names;
 mod utf8;
 
 pub use answer::{SinkName, Which, Why};
-pub use command::{Command, read_command};
+pub use arguments::{Command, CommandError, Run, read_command};
 pub use line::{CANNOT_WRITE, Line, NO_MEMORY, USAGE, make_line};
+pub use names::{Names, names_of, no_names};

@@ -3,11 +3,11 @@
 ghost use Rattle.std.specs.Prelude.{◌≡◌, ◌++◌, IfOk, OnErr, OnOk};
 ghost use Rattle.std.specs.List.{flat_map};
 ghost use Rattle.command_line.specs.Answers.{line_of, line_with, limit_line, stalled_line, after_space, bad_class_line, link_line, verify_line, NamesSomething, class_why_name as class_why_name_of, link_why_name as link_why_name_of, verify_why_name as verify_why_name_of, which_name as which_name_of, file_name as file_name_of};
-ghost use Rattle.command_line.specs.Commands.{command_texts};
+ghost use Rattle.command_line.specs.Commands.{names_meaning};
 ghost use Rattle.command_line.specs.Lines.{bytes_of};
 
 use crate::answer::{Which, Why};
-use crate::command::Command;
+use crate::names::Names;
 use crate::utf8::utf8;
 use class_grammar::ClassWhy;
 use itoa::Buffer;
@@ -45,10 +45,10 @@ impl Line {
     }
 }
 
-/// The line that an answer to this command writes, with LF. Every case is listed, so that a new answer gets a line of its own.
-pub fn make_line(alloc: Global, why: &Why, command: &Command) -> Result<Line, AllocError>
+/// The line that an answer to a command with these names writes, with LF. Every case is listed, so that a new answer gets a line of its own.
+pub fn make_line(alloc: Global, why: &Why, names: Names) -> Result<Line, AllocError>
     ensures line { IfOk result (λ line.
-        bytes_of line ≡ line_of (command_texts command.now) why.now) }
+        bytes_of line ≡ line_of (names_meaning names.entry) why.now) }
     ensures memory { OnErr result (NamesSomething why.now) }
 {
     let bytes = match why {
@@ -58,18 +58,14 @@ pub fn make_line(alloc: Global, why: &Why, command: &Command) -> Result<Line, Al
         Why::NoMemory => return Ok(Line::Fixed(NO_MEMORY)),
         Why::Limit { which, number } => limit(alloc, *which, *number)?,
         Why::Stalled { threads } => stalled(alloc, threads.as_slice())?,
-        Why::Missing { file } => line_with_name(
-            alloc,
-            b"jvt: missing ",
-            file_name(command, *file),
-        )?,
+        Why::Missing { file } => line_with_name(alloc, b"jvt: missing ", file_name(names, *file))?,
         Why::SourceFault { file } => line_with_name(
             alloc,
             b"jvt: cannot read ",
-            file_name(command, *file),
+            file_name(names, *file),
         )?,
-        Why::BadClass { file, at, why } => bad_class(alloc, file_name(command, *file), *at, *why)?,
-        Why::NoMain => line_with_name(alloc, b"jvt: no main in ", command.main)?,
+        Why::BadClass { file, at, why } => bad_class(alloc, file_name(names, *file), *at, *why)?,
+        Why::NoMain => line_with_name(alloc, b"jvt: no main in ", names.main)?,
         Why::LinkFault { class, why } => link(alloc, class.as_slice(), *why)?,
         Why::VerifyFault {
             class,
@@ -82,10 +78,10 @@ pub fn make_line(alloc: Global, why: &Why, command: &Command) -> Result<Line, Al
 }
 
 // The argument that names the file of this index.
-fn file_name<'a>(command: &Command<'a>, file: u32) -> &'a str
-    ensures { result.now ≡ file_name_of (command_texts command.now) file }
+fn file_name<'a>(names: Names<'a>, file: u32) -> &'a str
+    ensures { result.now ≡ file_name_of (names_meaning names.entry) file }
 {
-    match command.files.get(file as usize) {
+    match names.files.get(file as usize) {
         Some(name) => name.as_str(),
         None => "",
     }

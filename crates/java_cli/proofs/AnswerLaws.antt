@@ -1,6 +1,6 @@
 -- From what each part of the call did to what the call answers.
 use Rattle.std.proofs.Common.{◌≡◌, ℕ, suc, ◌+◌, ◌<◌, ◌≤◌, inl, inr, true, false, List, [], ◌∷◌, ◌++◌, map, length, take, Option, Some, None, Result, Ok, Err, refl, sym, ap, subst, ◌∙◌, arith, add-zero}
-use Rattle.std.specs.Prelude.{IfErr, IfSome, IsErrAnd, is_some}
+use Rattle.std.specs.Prelude.{IfErr, IsErrAnd, is_some}
 use Rattle.std.specs.List.{AllZip}
 use Rattle.std.proofs.lemmas.Option.{same_Some}
 use Rattle.std.proofs.lemmas.Slice.Zip.{AllZip-long, AllZip-map}
@@ -25,9 +25,10 @@ use Rattle.command_line.specs.declared.answer.Which.TheVariants.{Files, FileSize
 use Rattle.command_line.specs.declared.answer.Why.{Why}
 use Rattle.command_line.specs.declared.answer.Why.TheVariants.{Usage, Limit, Missing, SourceFault, BadClass, NoMain, LinkFault, VerifyFault, SinkFault, NoMemory}
 use Rattle.program_files.specs.Limits.{most_files, run_limits}
+use Rattle.ref_model.specs.declared.limits.Limits.{Limits}
 use Rattle.program_files.specs.Programs.{has_main, world_of_files, IsStarted, IsProgram}
 use Rattle.program_files.specs.Errors.{load_answer, accept_answer, start_answer}
-use Rattle.command_line.specs.Commands.{Command}
+use Rattle.arguments.specs.Commands.{Run}
 use Rattle.program_files.specs.MainClass.{class_named}
 use Rattle.program_files.specs.Linking.{program_of, class_text, method_text, IsLinkFault, IsVerifyFault, AreAccepted}
 use Rattle.program_files.specs.Contents.{Contents, HasContents, HaveContents, IsClass, AreClasses, IsBad, IsWrong, FirstWrong}
@@ -162,29 +163,29 @@ one_refusal name classes (VerifyFault class method pc reason) b x y = absurd y
 one_refusal name classes a b x y = absurd x
 
 -- a program that runs isn't refused
-run_or_refusal : (name : List ℕ) (classes : List ClassFile) (p : Setting) (a : Why) → IsProgram name classes p → IsProgramRefusal name classes a → ⊥
-run_or_refusal name classes p NoMain x y = main_or_none name classes y.1 (ap is_some x.main.number)
-run_or_refusal name classes p (LinkFault class reason) x (inl y) = linked_or_fault classes class reason x.accepted.links y
-run_or_refusal name classes p (LinkFault class reason) x (inr y) = started_or_not name classes class p.main x.main y.2
-run_or_refusal name classes p (VerifyFault class method pc reason) x y = typed_or_fault classes class method pc reason x.accepted y
-run_or_refusal name classes p a x y = y
+run_or_refusal : (most : Limits) (name : List ℕ) (classes : List ClassFile) (p : Setting) (a : Why) → IsProgram most name classes p → IsProgramRefusal name classes a → ⊥
+run_or_refusal most name classes p NoMain x y = main_or_none name classes y.1 (ap is_some x.main.number)
+run_or_refusal most name classes p (LinkFault class reason) x (inl y) = linked_or_fault classes class reason x.accepted.links y
+run_or_refusal most name classes p (LinkFault class reason) x (inr y) = started_or_not name classes class p.main x.main y.2
+run_or_refusal most name classes p (VerifyFault class method pc reason) x y = typed_or_fault classes class method pc reason x.accepted y
+run_or_refusal most name classes p a x y = y
 
-one_program : (name : List ℕ) (classes : List ClassFile) (p q : Setting) → IsProgram name classes p → IsProgram name classes q → p ≡ q
-one_program name classes p q x y =
+one_program : (most : Limits) (name : List ℕ) (classes : List ClassFile) (p q : Setting) → IsProgram most name classes p → IsProgram most name classes q → p ≡ q
+one_program most name classes p q x y =
     let worlds : p.world ≡ q.world = x.world ∙ sym y.world in
     let mains : p.main ≡ q.main = same_Some p.main q.main (sym x.main.number ∙ y.main.number) in
     let limits : p.limits ≡ q.limits = x.limits ∙ sym y.limits in
     λ i. record { world = worlds i; main = mains i; limits = limits i }
 
-pub one_program_due : (name : List ℕ) (classes : List ClassFile) (a b : Due) → IsProgramDue name classes a → IsProgramDue name classes b → a ≡ b
-one_program_due name classes (answered a) (answered b) x y = ap answered (one_refusal name classes a b x y)
-one_program_due name classes (answered a) (runs p) x y = absurd (run_or_refusal name classes p a y x)
-one_program_due name classes (runs p) (answered a) x y = absurd (run_or_refusal name classes p a x y)
-one_program_due name classes (runs p) (runs q) x y = ap runs (one_program name classes p q x y)
+pub one_program_due : (most : Limits) (name : List ℕ) (classes : List ClassFile) (a b : Due) → IsProgramDue most name classes a → IsProgramDue most name classes b → a ≡ b
+one_program_due most name classes (answered a) (answered b) x y = ap answered (one_refusal name classes a b x y)
+one_program_due most name classes (answered a) (runs p) x y = absurd (run_or_refusal most name classes p a y x)
+one_program_due most name classes (runs p) (answered a) x y = absurd (run_or_refusal most name classes p a x y)
+one_program_due most name classes (runs p) (runs q) x y = ap runs (one_program most name classes p q x y)
 
 -- ---- too many files
 
-pub too_many_exact : (known : Option store.Files) (faulty : Type 0) (c : Command) → most_files < length c.files → IsExact known faulty c (Limit Files most_files)
+pub too_many_exact : (known : Option store.Files) (faulty : Type 0) (c : Run) → most_files < length c.files → IsExact known faulty c (Limit Files most_files)
 too_many_exact known faulty c many = record {
   cause = record { contents = map (known_file known) c.files; holds = all_held known c.files; due = too_many many refl };
   due = λ files due is it. subst (λ (d : Due). IsDueOrFault d (Limit Files most_files)) (sym (by it)) refl;
@@ -242,12 +243,12 @@ held_with known (n ∷ front) [] name x back are here = absurd are
 held_with known (n ∷ front) (h ∷ contents) name x back are here = (are.0, held_with known front contents name x back are.1 here)
 
 -- the first wrong file of a command
-record FindsWrong (known : Option store.Files) (c : Command) (error : LoadError) : Type 0 where
+record FindsWrong (known : Option store.Files) (c : Run) (error : LoadError) : Type 0 where
   contents : List Contents
   holds : HaveContents known c.files contents
   first : FirstWrong 0 contents error
 
-finds_wrong : (known : Option store.Files) (faulty : Type 0) (c : Command) (error : LoadError) (s : IsStopped known faulty c.files error) → IsWrongFile known (length s.front) s.name error → FindsWrong known c error
+finds_wrong : (known : Option store.Files) (faulty : Type 0) (c : Run) (error : LoadError) (s : IsStopped known faulty c.files error) → IsWrongFile known (length s.front) s.name error → FindsWrong known c error
 finds_wrong known faulty c error s here =
     let read = all_read known s.front s.classes s.read in
     let long : length read.contents ≡ length s.front = AllZip-long (HasContents known) s.front read.contents read.holds in
@@ -258,7 +259,7 @@ finds_wrong known faulty c error s here =
       first = wrong_behind 0 read.contents s.classes here.contents (map (known_file known) s.back) error read.read (subst (λ (n : ℕ). IsWrong n here.contents error) place here.wrong);
     }
 
-wrong_due : (known : Option store.Files) (c : Command) (error : LoadError) → length c.files ≤ most_files → FindsWrong known c error → (files : store.Files) (due : Due) → known ≡ Some files → IsDue c (contents_of files c.files) due
+wrong_due : (known : Option store.Files) (c : Run) (error : LoadError) → length c.files ≤ most_files → FindsWrong known c error → (files : store.Files) (due : Due) → known ≡ Some files → IsDue c (contents_of files c.files) due
     → due ≡ answered (load_answer error)
 wrong_due known c error few x files due is it = by it
   where
@@ -273,10 +274,10 @@ wrong_due known c error few x files due is it = by it
     by (wrong f other y is) = is ∙ ap (λ (e : LoadError). answered (load_answer e)) (one_wrong 0 (contents_of files c.files) other error y first)
     by (by_linking f classes are y) = absurd (wrong_or_classes 0 (contents_of files c.files) error classes first are)
 
-wrong_cause : (known : Option store.Files) (c : Command) (error : LoadError) → length c.files ≤ most_files → FindsWrong known c error → HasCause known c (answered (load_answer error))
+wrong_cause : (known : Option store.Files) (c : Run) (error : LoadError) → length c.files ≤ most_files → FindsWrong known c error → HasCause known c (answered (load_answer error))
 wrong_cause known c error few x = record { contents = x.contents; holds = x.holds; due = wrong few error x.first refl }
 
-wrong_exact : (known : Option store.Files) (faulty : Type 0) (c : Command) (error : LoadError) → length c.files ≤ most_files → (s : IsStopped known faulty c.files error) → IsWrongFile known (length s.front) s.name error
+wrong_exact : (known : Option store.Files) (faulty : Type 0) (c : Run) (error : LoadError) → length c.files ≤ most_files → (s : IsStopped known faulty c.files error) → IsWrongFile known (length s.front) s.name error
     → HasCause known c (answered (load_answer error)) × ((files : store.Files) (due : Due) → known ≡ Some files → IsDue c (contents_of files c.files) due → due ≡ answered (load_answer error))
 wrong_exact known faulty c error few s here = let x = finds_wrong known faulty c error s here in (wrong_cause known c error few x, wrong_due known c error few x)
 
@@ -288,7 +289,7 @@ front_within : (front back : List (List ℕ)) (name : List ℕ) → length front
 front_within [] back name = omega arith
 front_within (x ∷ front) back name = let more = front_within front back name in omega (arith, more)
 
-reached : (known : Option store.Files) (faulty : Type 0) (c : Command) (error : LoadError) → length c.files ≤ most_files → (s : IsStopped known faulty c.files error) → IsReached known c (length s.front)
+reached : (known : Option store.Files) (faulty : Type 0) (c : Run) (error : LoadError) → length c.files ≤ most_files → (s : IsStopped known faulty c.files error) → IsReached known c (length s.front)
 reached known faulty c error few s =
     let read = all_read known s.front s.classes s.read in
     record {
@@ -309,7 +310,7 @@ is_due due why e = subst (λ (d : Due). IsDueOrFault d why) (sym e) (same why)
     same (SourceFault file) = tt
     same why = refl
 
-pub stopped_exact : (known : Option store.Files) (faulty : Type 0) (c : Command) (error : LoadError) → length c.files ≤ most_files → IsStopped known faulty c.files error → IsExact known faulty c (load_answer error)
+pub stopped_exact : (known : Option store.Files) (faulty : Type 0) (c : Run) (error : LoadError) → length c.files ≤ most_files → IsStopped known faulty c.files error → IsExact known faulty c (load_answer error)
 stopped_exact known faulty c error few s = by error s s.cause
   where
     by : (error : LoadError) (s : IsStopped known faulty c.files error) → NotRead known faulty (length s.front) s.name error → IsExact known faulty c (load_answer error)
@@ -328,7 +329,7 @@ load_refusal load.NoMemory = tt
 
 -- ---- classes that were accepted and ran, or not
 
-program_due : (known : Option store.Files) (c : Command) (classes : List ClassFile) (what : Due) → length c.files ≤ most_files → AreRead known c.files classes → IsProgramDue (class_named c.main) classes what
+program_due : (known : Option store.Files) (c : Run) (classes : List ClassFile) (what : Due) → length c.files ≤ most_files → AreRead known c.files classes → IsProgramDue (run_limits c.events) (class_named c.main) classes what
     → (files : store.Files) (due : Due) → known ≡ Some files → IsDue c (contents_of files c.files) due → due ≡ what
 program_due known c classes what few read program_due_is files due is it = by it
   where
@@ -343,13 +344,13 @@ program_due known c classes what few read program_due_is files due is it = by it
     by (wrong f error y is) = absurd (wrong_or_classes 0 (contents_of files c.files) error classes y are)
     by (by_linking f others others_are y) =
         let one : others ≡ classes = read.only others (subst (λ (contents : List Contents). AreClasses contents others) (sym same) others_are) in
-        one_program_due (class_named c.main) classes due what (subst (λ (cs : List ClassFile). IsProgramDue (class_named c.main) cs due) one y) program_due_is
+        one_program_due (run_limits c.events) (class_named c.main) classes due what (subst (λ (cs : List ClassFile). IsProgramDue (run_limits c.events) (class_named c.main) cs due) one y) program_due_is
 
-program_cause : (known : Option store.Files) (c : Command) (classes : List ClassFile) (due : Due) → length c.files ≤ most_files → AreRead known c.files classes → IsProgramDue (class_named c.main) classes due → HasCause known c due
+program_cause : (known : Option store.Files) (c : Run) (classes : List ClassFile) (due : Due) → length c.files ≤ most_files → AreRead known c.files classes → IsProgramDue (run_limits c.events) (class_named c.main) classes due → HasCause known c due
 program_cause known c classes due few read is = record { contents = read.contents; holds = read.holds; due = by_linking few classes read.read is }
 
 -- an answer to classes that aren't run is exact
-program_exact : (known : Option store.Files) (faulty : Type 0) (c : Command) (classes : List ClassFile) (why : Why) → length c.files ≤ most_files → AllZip (IsRead known) c.files classes
+program_exact : (known : Option store.Files) (faulty : Type 0) (c : Run) (classes : List ClassFile) (why : Why) → length c.files ≤ most_files → AllZip (IsRead known) c.files classes
     → IsProgramRefusal (class_named c.main) classes why → IsExact known faulty c why
 program_exact known faulty c classes why few all is = by why is
   where
@@ -366,18 +367,18 @@ program_exact known faulty c classes why few all is = by why is
         record { cause = program_cause known c classes (answered (VerifyFault class method pc reason)) few read is; due = due_is (VerifyFault class method pc reason) is }
     by why is = absurd is
 
-pub memory_exact : (known : Option store.Files) (faulty : Type 0) (c : Command) → IsExact known faulty c NoMemory
+pub memory_exact : (known : Option store.Files) (faulty : Type 0) (c : Run) → IsExact known faulty c NoMemory
 memory_exact known faulty c = record { cause = tt; due = λ files due is it. tt }
 
 -- classes that are not accepted
-pub unaccepted_exact : (known : Option store.Files) (faulty : Type 0) (c : Command) (classes : List ClassFile) (error : AcceptError) → length c.files ≤ most_files → AllZip (IsRead known) c.files classes
+pub unaccepted_exact : (known : Option store.Files) (faulty : Type 0) (c : Run) (classes : List ClassFile) (error : AcceptError) → length c.files ≤ most_files → AllZip (IsRead known) c.files classes
     → NotAccepted classes error → IsExact known faulty c (accept_answer error)
 unaccepted_exact known faulty c classes accept.NoMemory few all is = memory_exact known faulty c
 unaccepted_exact known faulty c classes (accept.LinkFault class reason) few all is = program_exact known faulty c classes (LinkFault class reason) few all (inl is)
 unaccepted_exact known faulty c classes (accept.VerifyFault class method pc reason) few all is = program_exact known faulty c classes (VerifyFault class method pc reason) few all is
 
 -- classes that are accepted, and don't start
-pub unstarted_exact : (known : Option store.Files) (faulty : Type 0) (c : Command) (classes : List ClassFile) (error : StartError) → length c.files ≤ most_files → AllZip (IsRead known) c.files classes
+pub unstarted_exact : (known : Option store.Files) (faulty : Type 0) (c : Run) (classes : List ClassFile) (error : StartError) → length c.files ≤ most_files → AllZip (IsRead known) c.files classes
     → AreAccepted classes → NotStarted (class_named c.main) classes error → IsExact known faulty c (start_answer error)
 unstarted_exact known faulty c classes start.NoMemory few all accepted is = memory_exact known faulty c
 unstarted_exact known faulty c classes start.NoMain few all accepted is = program_exact known faulty c classes NoMain few all (accepted, is)
@@ -405,17 +406,17 @@ start_faults (start.Unsupported class) before now kept = kept
 start_faults start.NoMemory before now kept = tt
 
 -- a run is due to classes that are accepted, and of which main is started
-pub run_due : (known : Option store.Files) (c : Command) (classes : List ClassFile) (p : Setting) → length c.files ≤ most_files → AllZip (IsRead known) c.files classes → IsProgram (class_named c.main) classes p
+pub run_due : (known : Option store.Files) (c : Run) (classes : List ClassFile) (p : Setting) → length c.files ≤ most_files → AllZip (IsRead known) c.files classes → IsProgram (run_limits c.events) (class_named c.main) classes p
     → IsRunDue known c
 run_due known c classes p few all is files due told it = (p, program_due known c classes (runs p) few (all_read known c.files classes all) is files due told it)
 
 -- and these are what was read
-pub has_read : (known : Option store.Files) (c : Command) (classes : List ClassFile) (x : Runnable) → length c.files ≤ most_files → AllZip (IsRead known) c.files classes → AreAccepted classes → IsStarted (class_named c.main) classes x.main
+pub has_read : (known : Option store.Files) (c : Run) (classes : List ClassFile) (x : Runnable) → length c.files ≤ most_files → AllZip (IsRead known) c.files classes → AreAccepted classes → IsStarted (class_named c.main) classes x.main
     → x.checked ≡ world_of_files classes → HasLibrary x.checked.program → IsMain x.checked x.main → NamesNoHold x.checked → HasRead known c x
 has_read known c classes x few all accepted started world library main unpinned =
     let read = all_read known c.files classes all in
-    let p : Setting = record { world = x.checked; main = x.main; limits = run_limits } in
-    let is : IsProgram (class_named c.main) classes p = record { accepted = accepted; main = started; world = world; limits = refl } in
+    let p : Setting = record { world = x.checked; main = x.main; limits = run_limits c.events } in
+    let is : IsProgram (run_limits c.events) (class_named c.main) classes p = record { accepted = accepted; main = started; world = world; limits = refl } in
     record {
       given = record { contents = read.contents; classes = classes; few = few; holds = read.holds; read = read.read; accepted = is };
       library = library;
@@ -423,11 +424,11 @@ has_read known c classes x few all accepted started world library main unpinned 
       unpinned = unpinned;
     }
 
-pub has_run : (known : Option store.Files) (c : Command) (x : Runnable) → HasRead known c x → HasRun known c
+pub has_run : (known : Option store.Files) (c : Run) (x : Runnable) → HasRead known c x → HasRun known c
 has_run known c x read =
     let given = read.given in
     record {
-      program = record { world = x.checked; main = x.main; limits = run_limits };
+      program = record { world = x.checked; main = x.main; limits = run_limits c.events };
       cause = record { contents = given.contents; holds = given.holds; due = by_linking given.few given.classes given.read given.accepted };
     }
 
@@ -442,7 +443,7 @@ pub refusal_is : {A : Type 0} (r : Result A Why) (why : Why) → IsErrAnd r (λ 
 refusal_is r why is p = answer_is r why IsRefusal is p
 
 -- an answer that stays, or that found no memory for its line
-pub kept_exact : (known : Option store.Files) (faulty : Type 0) (c : Command) (before after : Why) → IsSameOrNoMemory before after → IsExact known faulty c before → IsExact known faulty c after
+pub kept_exact : (known : Option store.Files) (faulty : Type 0) (c : Run) (before after : Why) → IsSameOrNoMemory before after → IsExact known faulty c before → IsExact known faulty c after
 kept_exact known faulty c before after (inl e) exact = subst (λ (w : Why). IsExact known faulty c w) (sym e) exact
 kept_exact known faulty c before after (inr e) exact = subst (λ (w : Why). IsExact known faulty c w) (sym e.1) (memory_exact known faulty c)
 
@@ -483,7 +484,3 @@ refused_store before after m n (inr e) faults = subst (λ (w : Why). StoreFaults
 -- a refusal is no Usage
 pub not_usage : (before after : Why) → IsSameOrNoMemory before after → IsRefusal before → after ≡ Usage → ⊥
 not_usage before after kept is e = subst IsRefusal e (kept_refusal before after kept is)
-
--- what holds of the command that the words spell
-pub of_command : (command : Option Command) (c : Command) (P : Command → Type 0) → Some c ≡ command → P c → IfSome command P
-of_command command c P is p = rw (← is) p

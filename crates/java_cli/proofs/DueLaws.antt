@@ -15,6 +15,7 @@ use Rattle.link_model.specs.Worlds.{world_of}
 use Rattle.verify_types.specs.declared.fault.VerifyFault as typing
 use Rattle.verify_types.specs.Faults.{first_fault}
 use Rattle.program_files.specs.Limits.{run_limits, most_files, most_bytes}
+use Rattle.ref_model.specs.declared.limits.Limits.{Limits}
 use Rattle.program_files.specs.Programs.{world_of_files}
 use Rattle.program_files.specs.Supported.{is_supported}
 use Rattle.program_files.specs.declared.errors.LoadError.{LoadError}
@@ -22,7 +23,7 @@ use Rattle.program_files.specs.declared.errors.LoadError.TheVariants as load
 use Rattle.command_line.specs.declared.answer.Which.TheVariants.{Files}
 use Rattle.command_line.specs.declared.answer.Why.TheVariants.{Limit, NoMain, LinkFault, VerifyFault}
 use Rattle.program_files.specs.Errors.{load_answer}
-use Rattle.command_line.specs.Commands.{Command}
+use Rattle.arguments.specs.Commands.{Run}
 use Rattle.program_files.specs.MainClass.{class_named}
 use Rattle.program_files.specs.Linking.{program_of, class_text, method_text, IsTypingFault, AreAccepted}
 use Rattle.program_files.specs.Contents.{Contents, IsClass, AreClasses, IsWrong, FirstWrong}
@@ -47,11 +48,11 @@ one_list (h ∷ contents) (f ∷ a) (g ∷ b) x y =
     let others : a ≡ b = one_list contents a b x.1 y.1 in
     cc
 
-one_program : (name : List ℕ) (contents : List Contents) (cs ds : List ClassFile) (a b : Due) → AreClasses contents cs → AreClasses contents ds → IsProgramDue name cs a → IsProgramDue name ds b → a ≡ b
-one_program name contents cs ds a b are are_too x y =
-    one_program_due name ds a b (subst (λ (es : List ClassFile). IsProgramDue name es a) (one_list contents cs ds are are_too) x) y
+one_program : (most : Limits) (name : List ℕ) (contents : List Contents) (cs ds : List ClassFile) (a b : Due) → AreClasses contents cs → AreClasses contents ds → IsProgramDue most name cs a → IsProgramDue most name ds b → a ≡ b
+one_program most name contents cs ds a b are are_too x y =
+    one_program_due most name ds a b (subst (λ (es : List ClassFile). IsProgramDue most name es a) (one_list contents cs ds are are_too) x) y
 
-one_due : (c : Command) (contents : List Contents) (a b : Due) → IsDue c contents a → IsDue c contents b → a ≡ b
+one_due : (c : Run) (contents : List Contents) (a b : Due) → IsDue c contents a → IsDue c contents b → a ≡ b
 one_due c contents a b (too_many m e) (too_many n f) = e ∙ sym f
 one_due c contents a b (too_many m e) (wrong few error x f) = absurd (omega (arith, m, few))
 one_due c contents a b (too_many m e) (by_linking few classes are x) = absurd (omega (arith, m, few))
@@ -60,7 +61,7 @@ one_due c contents a b (wrong few error x e) (wrong few_too other y f) = e ∙ a
 one_due c contents a b (wrong few error x e) (by_linking few_too classes are y) = absurd (wrong_or_classes 0 contents error classes x are)
 one_due c contents a b (by_linking few classes are x) (too_many n f) = absurd (omega (arith, n, few))
 one_due c contents a b (by_linking few classes are x) (wrong few_too error y f) = absurd (wrong_or_classes 0 contents error classes y are)
-one_due c contents a b (by_linking few classes are x) (by_linking few_too others are_too y) = one_program (class_named c.main) contents classes others a b are are_too x y
+one_due c contents a b (by_linking few classes are x) (by_linking few_too others are_too y) = one_program (run_limits c.events) (class_named c.main) contents classes others a b are are_too x y
 
 -- ---- at least one
 
@@ -90,43 +91,43 @@ first_wrong_or_read : (n : ℕ) (contents : List Contents) → AllByRecursion Ar
 first_wrong_or_read n [] fits = inr ([], tt)
 first_wrong_or_read n (h ∷ contents) fits = joined n h contents (wrong_or_read n h fits.0) (first_wrong_or_read (n + 1) contents fits.1)
 
-by_support : (name : List ℕ) (classes : List ClassFile) → AreAccepted classes → (n : ℕ) → main_of (world_of_files classes) name ≡ Some n → (b : Bool) → is_supported (world_of_files classes) ≡ b
-    → (a : Due) × IsProgramDue name classes a
-by_support name classes accepted n main true e =
-    (runs (record { world = world_of_files classes; main = n; limits = run_limits }), record { accepted = accepted; main = record { number = main; supported = e }; world = refl; limits = refl })
-by_support name classes accepted n main false e =
+by_support : (most : Limits) (name : List ℕ) (classes : List ClassFile) → AreAccepted classes → (n : ℕ) → main_of (world_of_files classes) name ≡ Some n → (b : Bool) → is_supported (world_of_files classes) ≡ b
+    → (a : Due) × IsProgramDue most name classes a
+by_support most name classes accepted n main true e =
+    (runs (record { world = world_of_files classes; main = n; limits = most }), record { accepted = accepted; main = record { number = main; supported = e }; world = refl; limits = refl })
+by_support most name classes accepted n main false e =
     (answered (LinkFault (first_name classes) Unsupported), inr (refl, accepted, record { main = ap is_some main; cannot = e; first = refl }))
 
-by_main : (name : List ℕ) (classes : List ClassFile) → AreAccepted classes → (n : Option ℕ) → main_of (world_of_files classes) name ≡ n → (a : Due) × IsProgramDue name classes a
-by_main name classes accepted None e = (answered NoMain, (accepted, ap is_some e))
-by_main name classes accepted (Some n) e = by_support name classes accepted n e (is_supported (world_of_files classes)) refl
+by_main : (most : Limits) (name : List ℕ) (classes : List ClassFile) → AreAccepted classes → (n : Option ℕ) → main_of (world_of_files classes) name ≡ n → (a : Due) × IsProgramDue most name classes a
+by_main most name classes accepted None e = (answered NoMain, (accepted, ap is_some e))
+by_main most name classes accepted (Some n) e = by_support most name classes accepted n e (is_supported (world_of_files classes)) refl
 
-by_typing : (name : List ℕ) (classes : List ClassFile) → Links (program_of classes) → (o : Option typing.VerifyFault) → first_fault (world_of (program_of classes)) ≡ o
-    → (a : Due) × IsProgramDue name classes a
-by_typing name classes links None e = by_main name classes (record { links = links; typed = e }) (main_of (world_of_files classes) name) refl
-by_typing name classes links (Some f) e =
+by_typing : (most : Limits) (name : List ℕ) (classes : List ClassFile) → Links (program_of classes) → (o : Option typing.VerifyFault) → first_fault (world_of (program_of classes)) ≡ o
+    → (a : Due) × IsProgramDue most name classes a
+by_typing most name classes links None e = by_main most name classes (record { links = links; typed = e }) (main_of (world_of_files classes) name) refl
+by_typing most name classes links (Some f) e =
     let p = program_of classes in
     let named : IsTypingFault p (class_text p f.class) (method_text p.classes f.method) f.pc f.why = record { fault = f; first = e; class_is = refl; method_is = refl; pc_is = refl; reason_is = refl } in
     (answered (VerifyFault (class_text p f.class) (method_text p.classes f.method) f.pc f.why), (links, named))
 
-by_fault : (name : List ℕ) (classes : List ClassFile) → (o : Option faults.LinkFault) → link_fault (program_of classes) ≡ o → (a : Due) × IsProgramDue name classes a
-by_fault name classes None e = by_typing name classes e (first_fault (world_of (program_of classes))) refl
-by_fault name classes (Some f) e = (answered (LinkFault f.class f.why), inl e)
+by_fault : (most : Limits) (name : List ℕ) (classes : List ClassFile) → (o : Option faults.LinkFault) → link_fault (program_of classes) ≡ o → (a : Due) × IsProgramDue most name classes a
+by_fault most name classes None e = by_typing most name classes e (first_fault (world_of (program_of classes))) refl
+by_fault most name classes (Some f) e = (answered (LinkFault f.class f.why), inl e)
 
-by_files : (c : Command) (contents : List Contents) → length c.files ≤ most_files → ((error : LoadError) × FirstWrong 0 contents error) ⊎ ((classes : List ClassFile) × AreClasses contents classes) → (a : Due) × IsDue c contents a
+by_files : (c : Run) (contents : List Contents) → length c.files ≤ most_files → ((error : LoadError) × FirstWrong 0 contents error) ⊎ ((classes : List ClassFile) × AreClasses contents classes) → (a : Due) × IsDue c contents a
 by_files c contents few (inl x) = (answered (load_answer x.0), wrong few x.0 x.1 refl)
 by_files c contents few (inr x) =
-    let a = by_fault (class_named c.main) x.0 (link_fault (program_of x.0)) refl in
+    let a = by_fault (run_limits c.events) (class_named c.main) x.0 (link_fault (program_of x.0)) refl in
     (a.0, by_linking few x.0 x.1 a.1)
 
-some_due : (c : Command) (contents : List Contents) → AllByRecursion AreBytes contents → (a : Due) × IsDue c contents a
+some_due : (c : Run) (contents : List Contents) → AllByRecursion AreBytes contents → (a : Due) × IsDue c contents a
 some_due c contents fits = by_count (cases_lt most_files (length c.files))
   where
     by_count : (most_files < length c.files) ⊎ (length c.files ≤ most_files) → (a : Due) × IsDue c contents a
     by_count (inl many) = (answered (Limit Files most_files), too_many many refl)
     by_count (inr few) = by_files c contents few (first_wrong_or_read 0 contents fits)
 
-pub one_is_due : (c : Command) (contents : List Contents) → AllByRecursion AreBytes contents → OneIsDue c contents
+pub one_is_due : (c : Run) (contents : List Contents) → AllByRecursion AreBytes contents → OneIsDue c contents
 one_is_due c contents fits =
     let some = some_due c contents fits in
     record { what = some.0; due = some.1; only = λ other due. one_due c contents other some.0 due some.1 }

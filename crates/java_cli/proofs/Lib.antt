@@ -1,4 +1,5 @@
 pub mod AnswerLaws
+pub mod CommandLaws
 pub mod DueLaws
 pub mod LineLaws
 pub mod RunLaws

@@ -1,16 +1,17 @@
 -- What the sinks took.
-use Rattle.std.proofs.Common.{◌≡◌, ℕ, ◌<◌, List, [], ◌++◌, length, take, Option, Some, None, Result, Ok, Err, refl, sym, ap, subst, ◌∙◌, arith}
-use Rattle.std.specs.Prelude.{IfErr, OnOk, OnErr}
+use Rattle.std.proofs.Common.{◌≡◌, ℕ, ◌+◌, ◌<◌, List, [], ◌++◌, length, take, Option, Some, None, Result, Ok, Err, true, false, refl, sym, ap, subst, ◌∙◌, arith}
+use Rattle.std.specs.Prelude.{Bool, IfErr, OnOk, OnErr, is_some, not}
 use Rattle.std.specs.Option.{option_map}
-use Rattle.std.proofs.lemmas.List.{append-nil, append_assoc, take_all}
+use Rattle.std.proofs.lemmas.List.{append-nil, append_assoc, length-append, take_all, take-append-le}
+use Rattle.std.proofs.Math.Seq.{take-append-add}
 use Rattle.jvm_edges.specs.Bytes.{Appends}
 use Rattle.jvm_edges.specs.Causes.{Rose}
 use Rattle.jvm_edges.specs.declared.output.PartWritten.{PartWritten}
 use Rattle.command_line.specs.declared.answer.SinkName.TheVariants.{Err as ErrSink}
 use Rattle.command_line.specs.declared.answer.Why.{Why}
 use Rattle.command_line.specs.declared.answer.Why.TheVariants.{SinkFault}
-use Rattle.command_line.specs.Commands.{Command}
-use Rattle.command_line.specs.Answers.{line_of, line_for, usage_line}
+use Rattle.command_line.specs.Commands.{Names}
+use Rattle.command_line.specs.Answers.{line_of}
 use Rattle.java_cli.specs.Headline.{Takes, TakesLine, answer_with, line_after, taken_of}
 
 -- a line that was put, or its front, where there is no fault output
@@ -56,22 +57,64 @@ front_told contents faults old new line text n part = record {
   kept = λ all le. absurd (omega (arith, all, part.1));
 }
 
--- the sink took all the fault output, and then the line, or its front
-pub all_told : {E : Type 0} (contents : E → Option (List ℕ)) (faults : E → ℕ) (old mid new : E) (line text : List ℕ) (r : Option ℕ) → Takes contents faults old mid text None → Takes contents faults mid new line r
+-- the sink took all the fault output, and then what follows it, or its front
+pub all_told : {E : Type 0} (contents : E → Option (List ℕ)) (faults : E → ℕ) (old mid new : E) (line text : List ℕ) → Takes contents faults old mid text None → TakesLine contents faults mid new line [] 0
     → TakesLine contents faults old new line text (length text)
-all_told contents faults old mid new line text None first second = record {
+all_told contents faults old mid new line text first second = record {
+  taken = second.taken;
+  takes = rw (take_all (length text) text (omega arith)) (appends_both (contents old) (contents mid) (contents new) text (take second.taken line) first.0 second.takes);
+  part = λ lt. absurd (omega (arith, lt));
+  whole = λ all lt. subst (λ (m : ℕ). Rose m (faults new)) first.1 (second.whole (omega arith) lt);
+  kept = λ all le. second.kept (omega arith) le ∙ first.1;
+}
+
+-- one piece, or its front
+pub line_told : {E : Type 0} (contents : E → Option (List ℕ)) (faults : E → ℕ) (old new : E) (line : List ℕ) (r : Option ℕ) → Takes contents faults old new line r → TakesLine contents faults old new line [] 0
+line_told contents faults old new line None takes = record {
   taken = length line;
-  takes = rw (take_all (length text) text (omega arith), take_all (length line) line (omega arith)) (appends_both (contents old) (contents mid) (contents new) text line first.0 second.0);
+  takes = rw (take_all (length line) line (omega arith)) takes.0;
+  part = λ lt. absurd (omega (arith, lt));
+  whole = λ all lt. absurd (omega (arith, lt));
+  kept = λ all le. takes.1;
+}
+line_told contents faults old new line (Some n) takes = record {
+  taken = n;
+  takes = takes.0;
+  part = λ lt. absurd (omega (arith, lt));
+  whole = λ all lt. takes.2;
+  kept = λ all le. absurd (omega (arith, takes.1, le));
+}
+
+-- ---- two pieces, one after the other
+
+-- the sink failed in the first of them
+pub first_told : {E : Type 0} (contents : E → Option (List ℕ)) (faults : E → ℕ) (old new : E) (line others : List ℕ) (n : ℕ) → Takes contents faults old new line (Some n) → TakesLine contents faults old new (line ++ others) [] 0
+first_told contents faults old new line others n first = record {
+  taken = n;
+  takes = subst (λ (piece : List ℕ). Appends (contents old) piece (contents new)) (sym (take-append-le n line others (omega (arith, first.1)))) first.0;
+  part = λ lt. absurd (omega (arith, lt));
+  whole = λ all lt. first.2;
+  kept = λ all le. absurd (omega (arith, first.1, le, length-append line others));
+}
+
+-- the sink took all of the first, and then the others, or their front
+pub both_told : {E : Type 0} (contents : E → Option (List ℕ)) (faults : E → ℕ) (old mid new : E) (line others : List ℕ) (r : Option ℕ) → Takes contents faults old mid line None → Takes contents faults mid new others r
+    → TakesLine contents faults old new (line ++ others) [] 0
+both_told contents faults old mid new line others None first second = record {
+  taken = length (line ++ others);
+  takes = subst (λ (piece : List ℕ). Appends (contents old) piece (contents new)) (sym (take_all (length (line ++ others)) (line ++ others) (omega arith)))
+      (appends_both (contents old) (contents mid) (contents new) line others first.0 second.0);
   part = λ lt. absurd (omega (arith, lt));
   whole = λ all lt. absurd (omega (arith, lt));
   kept = λ all le. second.1 ∙ first.1;
 }
-all_told contents faults old mid new line text (Some n) first second = record {
-  taken = n;
-  takes = rw (take_all (length text) text (omega arith)) (appends_both (contents old) (contents mid) (contents new) text (take n line) first.0 second.0);
+both_told contents faults old mid new line others (Some n) first second = record {
+  taken = length line + n;
+  takes = subst (λ (piece : List ℕ). Appends (contents old) piece (contents new)) (sym (take-append-add line others n))
+      (appends_both (contents old) (contents mid) (contents new) line (take n others) first.0 second.0);
   part = λ lt. absurd (omega (arith, lt));
   whole = λ all lt. subst (λ (m : ℕ). Rose m (faults new)) first.1 second.2;
-  kept = λ all le. absurd (omega (arith, second.1, le));
+  kept = λ all le. absurd (omega (arith, second.1, le, length-append line others));
 }
 
 -- of a line that comes after a fault nothing was taken, so it is as any other
@@ -89,26 +132,28 @@ any_line contents faults old new line other text n short told =
     taken_line : ℕ → List ℕ
     taken_line m = take m line
 
--- the line is that of the answer
-pub answer_told : {E : Type 0} (contents : E → Option (List ℕ)) (faults : E → ℕ) (old new : E) (c : Command) (why : Why) (line text : List ℕ) (out_fault err_fault : Option ℕ) → line ≡ line_of c why
-    → ((n : ℕ) → err_fault ≡ Some n → n < length text) → TakesLine contents faults old new (line_after out_fault line) text (taken_of err_fault (length text))
-    → TakesLine contents faults old new (line_of c (answer_with why out_fault err_fault)) text (taken_of err_fault (length text))
-answer_told contents faults old new c why line text (Some n) err_fault is short told = told
-answer_told contents faults old new c why line text None None is short told = subst (λ (l : List ℕ). TakesLine contents faults old new l text (length text)) is told
-answer_told contents faults old new c why line text None (Some n) is short told = any_line contents faults old new line (line_of c (SinkFault ErrSink n)) text n (short n refl) told
+-- the line is that of the answer, and others follow it
+pub answer_told : {E : Type 0} (contents : E → Option (List ℕ)) (faults : E → ℕ) (old new : E) (names : Names) (why : Why) (line others text : List ℕ) (out_fault err_fault : Option ℕ) → line ≡ line_of names why
+    → ((n : ℕ) → err_fault ≡ Some n → n < length text) → TakesLine contents faults old new (line_after out_fault line ++ others) text (taken_of err_fault (length text))
+    → TakesLine contents faults old new (line_of names (answer_with why out_fault err_fault) ++ others) text (taken_of err_fault (length text))
+answer_told contents faults old new names why line others text (Some n) err_fault is short told = told
+answer_told contents faults old new names why line others text None None is short told = subst (λ (l : List ℕ). TakesLine contents faults old new (l ++ others) text (length text)) is told
+answer_told contents faults old new names why line others text None (Some n) is short told =
+    any_line contents faults old new (line ++ others) (line_of names (SinkFault ErrSink n) ++ others) text n (short n refl) told
 
--- ---- the lines of the call
+-- the sink failed in the first of two pieces, or took all of it
+pub some_is : (r : Option ℕ) (b : Bool) → is_some r ≡ not b → b ≡ false → is_some r ≡ true
+some_is r b is e = is ∙ ap not e
 
--- the line names the words of that command
-pub line_named : {E : Type 0} (contents : E → Option (List ℕ)) (faults : E → ℕ) (old new : E) (command : Option Command) (c : Command) (why : Why) (written : ℕ) → Some c ≡ command → written ≡ 0
-    → TakesLine contents faults old new (line_of c why) [] 0 → TakesLine contents faults old new (line_for command why) [] written
-line_named contents faults old new command c why written is none line =
-    subst (λ (n : ℕ). TakesLine contents faults old new (line_for command why) [] n) (sym none)
-    (subst (λ (o : Option Command). TakesLine contents faults old new (line_for o why) [] 0) is line)
+pub none_is : (r : Option ℕ) (b : Bool) → is_some r ≡ not b → b ≡ true → is_some r ≡ false
+none_is r b is e = is ∙ ap not e
 
--- where there is no command, the line is that of Usage
-pub line_of_none : {E : Type 0} (contents : E → Option (List ℕ)) (faults : E → ℕ) (old new : E) (command : Option Command) (why : Why) (written : ℕ) → None ≡ command → written ≡ 0
-    → TakesLine contents faults old new usage_line [] 0 → TakesLine contents faults old new (line_for command why) [] written
-line_of_none contents faults old new command why written is none line =
-    subst (λ (n : ℕ). TakesLine contents faults old new (line_for command why) [] n) (sym none)
-    (subst (λ (o : Option Command). TakesLine contents faults old new (line_for o why) [] 0) is line)
+pub stopped_told : {E : Type 0} (contents : E → Option (List ℕ)) (faults : E → ℕ) (old new : E) (line others : List ℕ) (r : Option ℕ) → is_some r ≡ true → Takes contents faults old new line r
+    → TakesLine contents faults old new (line ++ others) [] 0
+stopped_told contents faults old new line others None is takes = absurd cc
+stopped_told contents faults old new line others (Some n) is takes = first_told contents faults old new line others n takes
+
+pub went_on_told : {E : Type 0} (contents : E → Option (List ℕ)) (faults : E → ℕ) (old mid new : E) (line others : List ℕ) (r last : Option ℕ) → is_some r ≡ false → Takes contents faults old mid line r
+    → Takes contents faults mid new others last → TakesLine contents faults old new (line ++ others) [] 0
+went_on_told contents faults old mid new line others None last is takes then_takes = both_told contents faults old mid new line others last takes then_takes
+went_on_told contents faults old mid new line others (Some n) last is takes then_takes = absurd cc

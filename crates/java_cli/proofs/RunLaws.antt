@@ -1,6 +1,6 @@
 -- What the call answers to a run.
 use Rattle.std.proofs.Common.{◌≡◌, ◌⊎◌, inl, inr, ℕ, ◌<◌, true, false, Bool, ℤ, List, [], take, length, Option, Some, None, refl, sym, ap, subst, ◌∙◌, arith}
-use Rattle.std.specs.Prelude.{IsSomeAnd, unwrap_or, if◌then◌else◌}
+use Rattle.std.specs.Prelude.{◌++◌, unwrap_or, if◌then◌else◌}
 use Rattle.std.specs.List.{list_any}
 use Rattle.std.proofs.lemmas.List.{take_all}
 use Rattle.jvm_edges.specs.Bytes.{Appends}
@@ -22,13 +22,14 @@ use Rattle.java_cli.specs.declared.runnable.Runnable.{Runnable}
 use Rattle.command_line.specs.declared.answer.Which.TheVariants.{Threads, Events}
 use Rattle.command_line.specs.declared.answer.Why.{Why}
 use Rattle.command_line.specs.declared.answer.Why.TheVariants.{Ended, MainThrew, Exited, Stalled, Usage, Limit, SinkFault, NoMemory}
-use Rattle.command_line.specs.Commands.{Command}
-use Rattle.command_line.specs.Answers.{line_of, line_for, memory_line}
+use Rattle.arguments.specs.Commands.{Run}
+use Rattle.command_line.specs.Commands.{Names, names_of, no_names}
+use Rattle.command_line.specs.Answers.{line_of, memory_line}
 use Rattle.program_files.specs.Limits.{run_limits}
 use Rattle.java_cli.specs.Causes.{HasRun, IsOfRun, Due, runs, IsDueOrFault, IsCaused, IsExact}
 use Rattle.program_files.specs.StoreFaults.{StoreFaults}
 use Rattle.java_cli.specs.Runs.{HasRead, IsRunDue}
-use Rattle.java_cli.specs.Headline.{IsEndingAnswer, IsRunAnswer, IsOutTaken, IsErrTaken, TakesLine, RanProgram, Ran, IsIdle, IsRunOrNoMemory, OnRun, OnNoRun, OutFaults, Takes, answer_with, line_after, no_command, run_carriers, taken_of, ending_answer, Wrote, Unwritten}
+use Rattle.java_cli.specs.Headline.{IsEndingAnswer, IsRunAnswer, IsOutTaken, IsErrTaken, TakesLine, RanProgram, Ran, IsIdle, IsRunOrNoMemory, OnRun, OnNoRun, OutFaults, Takes, answer_with, line_after, run_tail, tail_of, trace_part, taken_of, ending_answer, Wrote, Unwritten}
 use Rattle.java_cli.proofs.AnswerLaws.{has_run, memory_exact}
 use Rattle.java_cli.proofs.LineLaws.{answer_told}
 
@@ -154,23 +155,26 @@ unwrapped None size = refl
 unwrapped (Some n) size = refl
 
 module _ {O E : Type 0} (bytes : O → Option (List ℕ)) (counts : O → ℕ) (old_out new_out : O) (contents : E → Option (List ℕ)) (faults : E → ℕ) (old new : E) where
-  -- what the err sink took of this error output, and of the line of the report's answer to a command
-  abbrev Told : Command → Report → List ℕ → Type 0
-  Told c r text = TakesLine contents faults old new (line_of c r.why) text r.err_written
+  -- what the err sink took of this error output, and of what follows it
+  abbrev Told : Names → Bool → ℕ → Report → List ℕ → Type 0
+  Told names trace carriers r text = TakesLine contents faults old new (tail_of names trace carriers r) text r.err_written
 
   -- a run as it was written, by what the sinks took
-  pub wrote_is : (c : Command) (history : List Entry) (text errors : List ℕ) (why : Why) (line last : List ℕ) (out_fault err_fault : Option ℕ) (r : Report) → line ≡ line_of c why → last ≡ line_after out_fault line
+  pub wrote_is : (names : Names) (trace : Bool) (carriers : ℕ) (history : List Entry) (text errors : List ℕ) (why : Why) (line last printed : List ℕ) (out_fault err_fault : Option ℕ) (r : Report) → line ≡ line_of names why
+      → last ≡ line_after out_fault line → printed ≡ trace_part trace carriers history
       → r.history.items ≡ history → r.why ≡ answer_with why out_fault err_fault → r.out_written ≡ unwrap_or out_fault (length text) → r.err_written ≡ unwrap_or err_fault (length errors)
-      → Takes bytes counts old_out new_out text out_fault → ((n : ℕ) → err_fault ≡ Some n → n < length errors) → TakesLine contents faults old new last errors (taken_of err_fault (length errors))
-      → Wrote bytes counts old_out new_out contents faults old new c history text errors why r
-  wrote_is c history text errors why line last out_fault err_fault r line_is last_is history_is why_is out_written err_written takes short told =
+      → Takes bytes counts old_out new_out text out_fault → ((n : ℕ) → err_fault ≡ Some n → n < length errors) → TakesLine contents faults old new (last ++ printed) errors (taken_of err_fault (length errors))
+      → Wrote bytes counts old_out new_out contents faults old new names trace carriers history text errors why r
+  wrote_is names trace carriers history text errors why line last printed out_fault err_fault r line_is last_is printed_is history_is why_is out_written err_written takes short told =
       let written : r.err_written ≡ taken_of err_fault (length errors) = err_written ∙ unwrapped err_fault (length errors) in
-      let told_of : TakesLine contents faults old new (line_after out_fault line) errors (taken_of err_fault (length errors)) =
-      subst (λ (l : List ℕ). TakesLine contents faults old new l errors (taken_of err_fault (length errors))) last_is told in
-      let answer : TakesLine contents faults old new (line_of c (answer_with why out_fault err_fault)) errors (taken_of err_fault (length errors)) =
-      answer_told contents faults old new c why line errors out_fault err_fault line_is short told_of in
-      let whys : TakesLine contents faults old new (line_of c r.why) errors (taken_of err_fault (length errors)) =
-      subst (λ (w : Why). TakesLine contents faults old new (line_of c w) errors (taken_of err_fault (length errors))) (sym why_is) answer in
+      let told_of : TakesLine contents faults old new (line_after out_fault line ++ printed) errors (taken_of err_fault (length errors)) =
+      subst (λ (l : List ℕ). TakesLine contents faults old new (l ++ printed) errors (taken_of err_fault (length errors))) last_is told in
+      let answer : TakesLine contents faults old new (line_of names (answer_with why out_fault err_fault) ++ printed) errors (taken_of err_fault (length errors)) =
+      answer_told contents faults old new names why line printed errors out_fault err_fault line_is short told_of in
+      let whys : TakesLine contents faults old new (line_of names r.why ++ printed) errors (taken_of err_fault (length errors)) =
+      subst (λ (w : Why). TakesLine contents faults old new (line_of names w ++ printed) errors (taken_of err_fault (length errors))) (sym why_is) answer in
+      let tail : TakesLine contents faults old new (tail_of names trace carriers r) errors (taken_of err_fault (length errors)) =
+      subst (λ (l : List ℕ). TakesLine contents faults old new (line_of names r.why ++ l) errors (taken_of err_fault (length errors))) (printed_is ∙ ap (trace_part trace carriers) (sym history_is)) whys in
       record {
         out_fault = out_fault;
         err_fault = err_fault;
@@ -180,19 +184,19 @@ module _ {O E : Type 0} (bytes : O → Option (List ℕ)) (counts : O → ℕ) (
         out_written = out_written ∙ unwrapped out_fault (length text);
         err_written = written;
         err_size = short;
-        err = subst (λ (n : ℕ). TakesLine contents faults old new (line_of c r.why) errors n) (sym written) whys;
+        err = subst (λ (n : ℕ). TakesLine contents faults old new (tail_of names trace carriers r) errors n) (sym written) tail;
       }
 
   -- what a run left was written, or memory ran out before
-  abbrev pub Delivered : List Entry → List ℕ → List ℕ → Why → Report → Type 0
-  Delivered history text errors why r =
-      Unwritten old_out new_out contents faults old new r ⊎ Wrote bytes counts old_out new_out contents faults old new no_command history text errors why r
+  abbrev pub Delivered : Bool → ℕ → List Entry → List ℕ → List ℕ → Why → Report → Type 0
+  Delivered trace carriers history text errors why r =
+      Unwritten old_out new_out contents faults old new r ⊎ Wrote bytes counts old_out new_out contents faults old new no_names trace carriers history text errors why r
 
   -- the report of a run that was written
-  ran_is : (p : Setting) (gives : ℕ → Bool) (carriers : ℕ) (history : List Entry) (text errors live : List ℕ) (told : Ending) (r : Report) → IsRun p gives carriers history text errors live told
-      → Wrote bytes counts old_out new_out contents faults old new no_command history text errors (ending_answer live told) r
-      → RanProgram p gives carriers (bytes old_out) (bytes new_out) (Told no_command r) r
-  ran_is p gives carriers history text errors live told r run_is wrote =
+  ran_is : (p : Setting) (gives : ℕ → Bool) (trace : Bool) (carriers : ℕ) (history : List Entry) (text errors live : List ℕ) (told : Ending) (r : Report) → IsRun p gives carriers history text errors live told
+      → Wrote bytes counts old_out new_out contents faults old new no_names trace carriers history text errors (ending_answer live told) r
+      → RanProgram p gives carriers (bytes old_out) (bytes new_out) (Told no_names trace carriers r) r
+  ran_is p gives trace carriers history text errors live told r run_is wrote =
       let none = names_no_sink live told in
       let short = fault_short bytes counts old_out new_out text wrote.out_fault wrote.out in
       let ended = ending_told p (length history) run_is.after live told run_is.ended run_is.live in
@@ -211,37 +215,37 @@ module _ {O E : Type 0} (bytes : O → Option (List ℕ)) (counts : O → ℕ) (
         out = rw (run_is.prints, wrote.out_written) (takes_front bytes counts old_out new_out text wrote.out_fault wrote.out);
         out_taken = rw (wrote.why_is, run_is.prints, wrote.out_written) (taken_is (ending_answer live told) wrote.out_fault wrote.err_fault (length text) none short);
         err_taken = rw (wrote.why_is, run_is.tells, wrote.err_written) (err_taken_is (ending_answer live told) wrote.out_fault wrote.err_fault (length errors) none wrote.err_size);
-        err = subst (Told no_command r) (sym run_is.tells) wrote.err;
+        err = subst (Told no_names trace carriers r) (sym run_is.tells) wrote.err;
       }
 
   -- a run of main in this world was delivered: so much is known of its report
-  pub record IsDelivered (gives : ℕ → Bool) (w : World) (main : ℕ) (most : Limits) (carriers : ℕ) (r : Report) : Type 0 where
-    pub headline : OnRun r.why ((p : Setting) → p.world ≡ w → p.main ≡ main → p.limits ≡ most → RanProgram p gives carriers (bytes old_out) (bytes new_out) (Told no_command r) r)
+  pub record IsDelivered (gives : ℕ → Bool) (w : World) (main : ℕ) (most : Limits) (trace : Bool) (carriers : ℕ) (r : Report) : Type 0 where
+    pub headline : OnRun r.why ((p : Setting) → p.world ≡ w → p.main ≡ main → p.limits ≡ most → RanProgram p gives carriers (bytes old_out) (bytes new_out) (Told no_names trace carriers r) r)
     pub answer : IsRunOrNoMemory r.why
     pub idle : OnNoRun r.why (IsIdle (bytes old_out) (bytes new_out) r)
     pub out_faults : OutFaults r.why (counts old_out) (counts new_out)
-    pub line : OnNoRun r.why (Told no_command r [])
+    pub line : OnNoRun r.why (TakesLine contents faults old new (line_of no_names r.why) [] r.err_written)
 
   -- where memory ran out, nothing was run
-  pub unwritten_is : (gives : ℕ → Bool) (w : World) (main : ℕ) (most : Limits) (carriers : ℕ) (r : Report) → Unwritten old_out new_out contents faults old new r
-      → IsDelivered gives w main most carriers r
-  unwritten_is gives w main most carriers r none = record {
+  pub unwritten_is : (gives : ℕ → Bool) (w : World) (main : ℕ) (most : Limits) (trace : Bool) (carriers : ℕ) (r : Report) → Unwritten old_out new_out contents faults old new r
+      → IsDelivered gives w main most trace carriers r
+  unwritten_is gives w main most trace carriers r none = record {
     headline = λ of. absurd (subst IsOfRun none.why of);
     answer = inr none.why;
     idle = λ idle. record { history = none.history; out_written = none.out_written; err_written = none.err_written; same = ap bytes none.same };
     out_faults = rw (none.why, none.same) refl;
     line = λ idle.
-        subst (λ (why : Why). TakesLine contents faults old new (line_of no_command why) [] r.err_written) (sym none.why)
+        subst (λ (why : Why). TakesLine contents faults old new (line_of no_names why) [] r.err_written) (sym none.why)
         (subst (λ (n : ℕ). TakesLine contents faults old new memory_line [] n) (sym none.err_written) none.line);
   }
 
-  pub delivered_is : (gives : ℕ → Bool) (w : World) (main : ℕ) (most : Limits) (carriers : ℕ) (history : List Entry) (text errors live : List ℕ) (told : Ending) (r : Report)
-      → ((p : Setting) → p.world ≡ w → p.main ≡ main → p.limits ≡ most → IsRun p gives carriers history text errors live told) → Delivered history text errors (ending_answer live told) r
-      → IsDelivered gives w main most carriers r
-  delivered_is gives w main most carriers history text errors live told r run_is (inl none) = unwritten_is gives w main most carriers r none
-  delivered_is gives w main most carriers history text errors live told r run_is (inr wrote) =
-      let ran : (p : Setting) → p.world ≡ w → p.main ≡ main → p.limits ≡ most → RanProgram p gives carriers (bytes old_out) (bytes new_out) (Told no_command r) r =
-      λ p in_world has_main has_limits. ran_is p gives carriers history text errors live told r (run_is p in_world has_main has_limits) wrote in
+  pub delivered_is : (gives : ℕ → Bool) (w : World) (main : ℕ) (most : Limits) (trace : Bool) (carriers : ℕ) (history : List Entry) (text errors live : List ℕ) (told : Ending) (r : Report)
+      → ((p : Setting) → p.world ≡ w → p.main ≡ main → p.limits ≡ most → IsRun p gives carriers history text errors live told) → Delivered trace carriers history text errors (ending_answer live told) r
+      → IsDelivered gives w main most trace carriers r
+  delivered_is gives w main most trace carriers history text errors live told r run_is (inl none) = unwritten_is gives w main most trace carriers r none
+  delivered_is gives w main most trace carriers history text errors live told r run_is (inr wrote) =
+      let ran : (p : Setting) → p.world ≡ w → p.main ≡ main → p.limits ≡ most → RanProgram p gives carriers (bytes old_out) (bytes new_out) (Told no_names trace carriers r) r =
+      λ p in_world has_main has_limits. ran_is p gives trace carriers history text errors live told r (run_is p in_world has_main has_limits) wrote in
       let p : Setting = record { world = w; main = main; limits = most } in
       let first = ran p refl refl refl in
       let of = answer_of_run p (length r.history.items) first.last r.why first.answer in
@@ -257,10 +261,10 @@ module _ {O E : Type 0} (bytes : O → Option (List ℕ)) (counts : O → ℕ) (
 -- ---- the report of a command
 
 -- the line of an answer to a run names no argument of the command
-same_line : (c d : Command) (why : Why) → IsRunOrNoMemory why → line_of c why ≡ line_of d why
-same_line c d why (inl of) = by why of
+same_line : (a b : Names) (why : Why) → IsRunOrNoMemory why → line_of a why ≡ line_of b why
+same_line a b why (inl of) = by why of
   where
-    by : (why : Why) → IsOfRun why → line_of c why ≡ line_of d why
+    by : (why : Why) → IsOfRun why → line_of a why ≡ line_of b why
     by Ended of = refl
     by MainThrew of = refl
     by (Exited status) of = refl
@@ -268,21 +272,23 @@ same_line c d why (inl of) = by why of
     by (Limit which number) of = refl
     by (SinkFault which written) of = refl
     by why of = absurd of
-same_line c d why (inr is) = subst (λ (why : Why). line_of c why ≡ line_of d why) (sym is) refl
+same_line a b why (inr is) = subst (λ (why : Why). line_of a why ≡ line_of b why) (sym is) refl
 
-module _ {E : Type 0} (contents : E → Option (List ℕ)) (faults : E → ℕ) (old new : E) (command : Option Command) (c : Command) (r : Report) (is : Some c ≡ command) (answer : IsRunOrNoMemory r.why) where
-  -- the err sink took the line of this command's answer too
-  of_line : (text : List ℕ) (written : ℕ) → TakesLine contents faults old new (line_of no_command r.why) text written → TakesLine contents faults old new (line_of c r.why) text written
-  of_line text written = subst (λ (line : List ℕ). TakesLine contents faults old new line text written) (same_line no_command c r.why answer)
+module _ {E : Type 0} (contents : E → Option (List ℕ)) (faults : E → ℕ) (old new : E) (c : Run) (r : Report) (answer : IsRunOrNoMemory r.why) where
+  pub line_is : OnNoRun r.why (TakesLine contents faults old new (line_of no_names r.why) [] r.err_written)
+      → OnNoRun r.why (TakesLine contents faults old new (line_of (names_of c) r.why) [] r.err_written)
+  line_is line idle = subst (λ (l : List ℕ). TakesLine contents faults old new l [] r.err_written) (same_line no_names (names_of c) r.why answer) (line idle)
 
-  pub line_is : OnNoRun r.why (TakesLine contents faults old new (line_of no_command r.why) [] r.err_written) → OnNoRun r.why (TakesLine contents faults old new (line_for command r.why) [] r.err_written)
-  line_is line idle = subst (λ (o : Option Command). TakesLine contents faults old new (line_for o r.why) [] r.err_written) is (of_line [] r.err_written (line idle))
+  -- the err sink took what follows this command's error output
+  of_tail : (text : List ℕ) → TakesLine contents faults old new (tail_of no_names c.trace c.carriers r) text r.err_written → TakesLine contents faults old new (run_tail c r) text r.err_written
+  of_tail text =
+      subst (λ (l : List ℕ). TakesLine contents faults old new (l ++ trace_part c.trace c.carriers r.history.items) text r.err_written) (same_line no_names (names_of c) r.why answer)
 
   ran_for : (known : Option store.Files) (gives : ℕ → Bool) (before after : Option (List ℕ)) (x : Runnable) → HasRead known c x
-      → RanProgram (record { world = x.checked; main = x.main; limits = run_limits }) gives run_carriers before after (λ text. TakesLine contents faults old new (line_of no_command r.why) text r.err_written) r
-      → Ran c known gives before after (λ text. TakesLine contents faults old new (line_of c r.why) text r.err_written) r
+      → RanProgram (record { world = x.checked; main = x.main; limits = run_limits c.events }) gives c.carriers before after (λ text. TakesLine contents faults old new (tail_of no_names c.trace c.carriers r) text r.err_written) r
+      → Ran c known gives before after (λ text. TakesLine contents faults old new (run_tail c r) text r.err_written) r
   ran_for known gives before after x read ran = record {
-    program = record { world = x.checked; main = x.main; limits = run_limits };
+    program = record { world = x.checked; main = x.main; limits = run_limits c.events };
     given = read.given;
     ran = record {
       first = ran.first;
@@ -297,19 +303,21 @@ module _ {E : Type 0} (contents : E → Option (List ℕ)) (faults : E → ℕ) 
       complete = ran.complete;
       out = ran.out;
       out_taken = ran.out_taken;
-      err = of_line ran.last.state.memory.err r.err_written ran.err;
+      err = of_tail ran.last.state.memory.err ran.err;
       err_taken = ran.err_taken;
     };
   }
 
-  pub headline_is : (known : Option store.Files) (gives : ℕ → Bool) (before after : Option (List ℕ)) (x : Runnable) → HasRead known c x
-      → OnRun r.why ((p : Setting) → p.world ≡ x.checked → p.main ≡ x.main → p.limits ≡ run_limits → RanProgram p gives run_carriers before after (λ text. TakesLine contents faults old new (line_of no_command r.why) text r.err_written) r)
-      → OnRun r.why (IsSomeAnd command (λ d. Ran d known gives before after (λ text. TakesLine contents faults old new (line_of d r.why) text r.err_written) r))
-  headline_is known gives before after x read ran of = rw (← is) (ran_for known gives before after x read (ran of (record { world = x.checked; main = x.main; limits = run_limits }) refl refl refl))
+  pub headline_is : (known : Option store.Files) (gives : ℕ → Bool) (before after : Option (List ℕ)) (x : Runnable) (most : Limits) → most ≡ run_limits c.events → HasRead known c x
+      → OnRun r.why ((p : Setting) → p.world ≡ x.checked → p.main ≡ x.main → p.limits ≡ most
+      → RanProgram p gives c.carriers before after (λ text. TakesLine contents faults old new (tail_of no_names c.trace c.carriers r) text r.err_written) r)
+      → OnRun r.why (Ran c known gives before after (λ text. TakesLine contents faults old new (run_tail c r) text r.err_written) r)
+  headline_is known gives before after x most limits read ran of =
+      ran_for known gives before after x read (ran of (record { world = x.checked; main = x.main; limits = run_limits c.events }) refl refl (sym limits))
 
 -- ---- its cause
 
-run_cause : (known : Option store.Files) (faulty : Type 0) (c : Command) (why : Why) → IsOfRun why → HasRun known c → IsCaused known faulty c why
+run_cause : (known : Option store.Files) (faulty : Type 0) (c : Run) (why : Why) → IsOfRun why → HasRun known c → IsCaused known faulty c why
 run_cause known faulty c Ended of run = run
 run_cause known faulty c MainThrew of run = run
 run_cause known faulty c (Exited status) of run = run
@@ -329,13 +337,13 @@ run_is_due p (Limit Events number) of = tt
 run_is_due p (SinkFault which written) of = tt
 run_is_due p why of = absurd of
 
-run_exact : (known : Option store.Files) (faulty : Type 0) (c : Command) (why : Why) → IsOfRun why → HasRun known c → IsRunDue known c → IsExact known faulty c why
+run_exact : (known : Option store.Files) (faulty : Type 0) (c : Run) (why : Why) → IsOfRun why → HasRun known c → IsRunDue known c → IsExact known faulty c why
 run_exact known faulty c why of run due = record {
   cause = run_cause known faulty c why of run;
   due = λ files d told it. let is = due files d told it in subst (λ (x : Due). IsDueOrFault x why) (sym (is.1)) (run_is_due is.0 why of);
 }
 
-pub answer_exact : (known : Option store.Files) (faulty : Type 0) (c : Command) (x : Runnable) (why : Why) → HasRead known c x → IsRunDue known c → IsRunOrNoMemory why → IsExact known faulty c why
+pub answer_exact : (known : Option store.Files) (faulty : Type 0) (c : Run) (x : Runnable) (why : Why) → HasRead known c x → IsRunDue known c → IsRunOrNoMemory why → IsExact known faulty c why
 answer_exact known faulty c x why read due (inl of) = run_exact known faulty c why of (has_run known c x read) due
 answer_exact known faulty c x why read due (inr is) = subst (λ (why : Why). IsExact known faulty c why) (sym is) (memory_exact known faulty c)
 

@@ -6,14 +6,15 @@ use Rattle.jvm_edges.specs.Files as store
 use Rattle.class_model.specs.declared.class_file.ClassFile.{ClassFile}
 use Rattle.link_rules.specs.declared.why.LinkWhy.TheVariants.{Unsupported}
 use Rattle.ref_model.specs.Setting.{Setting}
-use Rattle.command_line.specs.Commands.{Command}
+use Rattle.arguments.specs.Commands.{Run}
 use Rattle.command_line.specs.declared.answer.Which.TheVariants.{Files, FileSize, Threads, Events}
 use Rattle.command_line.specs.declared.answer.Why.{Why}
 use Rattle.command_line.specs.declared.answer.Why.TheVariants.{Ended, MainThrew, Exited, Stalled, Usage, Limit, Missing, SourceFault, BadClass, NoMain, LinkFault, VerifyFault, SinkFault, NoMemory}
 use Rattle.program_files.specs.declared.errors.LoadError.{LoadError}
 use Rattle.program_files.specs.Contents.{Contents, HaveContents, AreClasses, FirstWrong}
 use Rattle.program_files.specs.Errors.{load_answer}
-use Rattle.program_files.specs.Limits.{most_files}
+use Rattle.program_files.specs.Limits.{most_files, run_limits}
+use Rattle.ref_model.specs.declared.limits.Limits.{Limits}
 use Rattle.program_files.specs.LinkCauses.{CannotRun}
 use Rattle.program_files.specs.Linking.{IsLinkFault, IsVerifyFault, AreAccepted}
 use Rattle.program_files.specs.MainClass.{class_named}
@@ -35,32 +36,32 @@ IsProgramRefusal name classes (LinkFault class reason) =
 IsProgramRefusal name classes (VerifyFault class method pc reason) = IsVerifyFault classes class method pc reason
 IsProgramRefusal name classes why = ⊥
 
--- what is due to classes
-abbrev pub IsProgramDue : List ℕ → List ClassFile → Due → Type 0
-IsProgramDue name classes (answered why) = IsProgramRefusal name classes why
-IsProgramDue name classes (runs p) = IsProgram name classes p
+-- what is due to classes, under these limits
+abbrev pub IsProgramDue : Limits → List ℕ → List ClassFile → Due → Type 0
+IsProgramDue most name classes (answered why) = IsProgramRefusal name classes why
+IsProgramDue most name classes (runs p) = IsProgram most name classes p
 
 -- ---- the whole command
 
 -- what the command asks for, where its files are these and neither the store nor memory fails
-pub data IsDue (c : Command) (contents : List Contents) (due : Due) : Type 0 where
+pub data IsDue (c : Run) (contents : List Contents) (due : Due) : Type 0 where
   too_many : most_files < length c.files → due ≡ answered (Limit Files most_files) → IsDue c contents due
   wrong : length c.files ≤ most_files → (error : LoadError) → FirstWrong 0 contents error → due ≡ answered (load_answer error) → IsDue c contents due
-  by_linking : length c.files ≤ most_files → (classes : List ClassFile) → AreClasses contents classes → IsProgramDue (class_named c.main) classes due → IsDue c contents due
+  by_linking : length c.files ≤ most_files → (classes : List ClassFile) → AreClasses contents classes → IsProgramDue (run_limits c.events) (class_named c.main) classes due → IsDue c contents due
 
 -- it is due by the store's files
-pub record HasCause (known : Option store.Files) (c : Command) (what : Due) : Type 0 where
+pub record HasCause (known : Option store.Files) (c : Run) (what : Due) : Type 0 where
   pub contents : List Contents
   pub holds : HaveContents known c.files contents
   pub due : IsDue c contents what
 
 -- a run is due
-pub record HasRun (known : Option store.Files) (c : Command) : Type 0 where
+pub record HasRun (known : Option store.Files) (c : Run) : Type 0 where
   pub program : Setting
   pub cause : HasCause known c (runs program)
 
 -- the files before the one of index n were read, and that one is to be read next
-pub record IsReached (known : Option store.Files) (c : Command) (n : ℕ) : Type 0 where
+pub record IsReached (known : Option store.Files) (c : Run) (n : ℕ) : Type 0 where
   pub contents : List Contents
   pub classes : List ClassFile
   pub few : length c.files ≤ most_files
@@ -69,7 +70,7 @@ pub record IsReached (known : Option store.Files) (c : Command) (n : ℕ) : Type
   pub read : AreClasses contents classes
 
 -- The cause of each answer, where `faulty` says that the store failed.
-abbrev pub IsCaused : Option store.Files → Type 0 → Command → Why → Type 0
+abbrev pub IsCaused : Option store.Files → Type 0 → Run → Why → Type 0
 IsCaused known faulty c NoMemory = Unit {0}
 IsCaused known faulty c (SourceFault file) = faulty × IsReached known c file
 IsCaused known faulty c Ended = HasRun known c
@@ -108,7 +109,7 @@ contents_of files names = map (λ name. file_named name files) names
 
 -- Each answer comes only by its cause; and where the store's files are known, it is what is due, unless the store or a sink failed or
 -- memory ran out.
-pub record IsExact (known : Option store.Files) (faulty : Type 0) (c : Command) (why : Why) : Type 0 where
+pub record IsExact (known : Option store.Files) (faulty : Type 0) (c : Run) (why : Why) : Type 0 where
   pub cause : IsCaused known faulty c why
   pub due : (files : store.Files) (due : Due) → known ≡ Some files → IsDue c (contents_of files c.files) due → IsDueOrFault due why
 
@@ -135,7 +136,7 @@ AreBytes None = Unit {0}
 AreBytes (Some bytes) = (i : ℕ) → slice_index bytes i < 256
 
 -- something is due, and what else is due is this
-pub record OneIsDue (c : Command) (contents : List Contents) : Type 0 where
+pub record OneIsDue (c : Run) (contents : List Contents) : Type 0 where
   pub what : Due
   pub due : IsDue c contents what
   pub only : (other : Due) → IsDue c contents other → other ≡ what

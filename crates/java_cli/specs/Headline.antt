@@ -1,5 +1,5 @@
 -- What a call of the machine did, from the words to what the sinks took.
-use Rattle.std.specs.Prelude.{◌≡◌, ◌⊎◌, ℕ, ◌+◌, ◌<◌, ◌≤◌, Bool, true, List, [], ◌++◌, Option, Some, None, length, take}
+use Rattle.std.specs.Prelude.{◌≡◌, ◌⊎◌, ℕ, ◌+◌, ◌<◌, ◌≤◌, Bool, true, List, [], ◌++◌, Option, Some, None, length, take, if◌then◌else◌}
 use Rattle.jvm_edges.specs.Bytes.{Appends}
 use Rattle.jvm_edges.specs.Causes.{Rose}
 use Rattle.jvm_edges.specs.Files.{Files}
@@ -20,8 +20,13 @@ use Rattle.java_cli.specs.declared.report.Report.{Report}
 use Rattle.command_line.specs.declared.answer.SinkName.TheVariants.{Out, Err}
 use Rattle.command_line.specs.declared.answer.Which.TheVariants.{Threads, Events}
 use Rattle.command_line.specs.declared.answer.Why.{Why}
-use Rattle.command_line.specs.declared.answer.Why.TheVariants.{Ended, MainThrew, Exited, Stalled, Limit, SinkFault, NoMemory}
-use Rattle.command_line.specs.Commands.{Command}
+use Rattle.command_line.specs.declared.answer.Why.TheVariants.{Ended, MainThrew, Exited, Stalled, Usage, Limit, SinkFault, NoMemory}
+use Rattle.history.specs.TraceText.{trace_text}
+use Rattle.arguments.specs.Commands as commands
+use Rattle.arguments.specs.Commands.{Command, Run}
+use Rattle.arguments.specs.declared.command.CommandError.{CommandError}
+use Rattle.arguments.specs.declared.command.CommandError.TheVariants as errors
+use Rattle.command_line.specs.Commands.{Names, names_of, no_names}
 use Rattle.java_cli.specs.Runs.{IsGiven}
 use Rattle.command_line.specs.Answers.{NamesSomething, line_of, fault_line, memory_line}
 use Rattle.java_cli.specs.Causes.{IsOfRun}
@@ -68,6 +73,18 @@ pub record TakesLine {E : Type 0} (contents : E → Option (List ℕ)) (faults :
   pub whole : length text ≤ written → taken < length line → Rose (faults old) (faults new)
   pub kept : length text ≤ written → length line ≤ taken → faults new ≡ faults old
 
+-- the history's text, where it is asked for
+abbrev pub trace_part : Bool → ℕ → List Entry → List ℕ
+trace_part trace carriers entries = if trace then trace_text carriers entries else []
+
+-- what follows the program's error output: the line of the answer, and the history's text where it is asked for
+abbrev pub tail_of : Names → Bool → ℕ → Report → List ℕ
+tail_of names trace carriers r = line_of names r.why ++ trace_part trace carriers r.history.items
+
+-- the same for this command
+abbrev pub run_tail : Run → Report → List ℕ
+run_tail c r = tail_of (names_of c) c.trace c.carriers r
+
 -- Each entry of the report's history may stand where it stands, under the schedule of so many carriers; without its mounts and unmounts the
 -- history is one of the reference machine for the program; the answer says how it ends; and what the sinks took is its output and error
 -- output, or their fronts after a fault of the sink. Of the err sink, `Errs` says what it took where the error output is this. The history
@@ -89,19 +106,11 @@ pub record RanProgram (p : Setting) (gives : ℕ → Bool) (carriers : ℕ) (bef
   pub err : Errs last.state.memory.err
   pub err_taken : IsErrTaken r.why r.err_written (length last.state.memory.err)
 
--- on how many carriers a command runs its program
-abbrev pub run_carriers : ℕ
-run_carriers = 4
-
--- so it is for the program that the command's files are, on these carriers
-pub record Ran (c : Command) (known : Option Files) (gives : ℕ → Bool) (before after : Option (List ℕ)) (Errs : List ℕ → Type 0) (r : Report) : Type 0 where
+-- so it is for the program that the command's files are, with the command's limit of events and on its carriers
+pub record Ran (c : Run) (known : Option Files) (gives : ℕ → Bool) (before after : Option (List ℕ)) (Errs : List ℕ → Type 0) (r : Report) : Type 0 where
   pub program : Setting
   pub given : IsGiven known c program
-  pub ran : RanProgram program gives run_carriers before after Errs r
-
--- a command without arguments, for the lines that name none
-abbrev pub no_command : Command
-no_command = record { main = []; files = [] }
+  pub ran : RanProgram program gives c.carriers before after Errs r
 
 -- Nothing was run: the history is empty, and neither sink took any output of a program.
 pub record IsIdle (before after : Option (List ℕ)) (r : Report) : Type 0 where
@@ -122,6 +131,57 @@ OnNoRun why fact = (IsOfRun why → ⊥) → fact
 abbrev pub OutFaults : Why → ℕ → ℕ → Type 0
 OutFaults (SinkFault Out written) before now = Rose before now
 OutFaults why before now = now ≡ before
+
+-- ---- which command it was
+
+-- the fact holds of the command, where the words spell a run
+abbrev pub IfRun : Option Command → (Run → Type 0) → Type 0
+IfRun (Some (commands.run c)) fact = fact c
+IfRun command fact = Unit {0}
+
+-- the fact holds, where the words ask for the help or the version
+abbrev pub IfHelp : Option Command → Type 0 → Type 0
+IfHelp (Some commands.help) fact = fact
+IfHelp command fact = Unit {0}
+
+-- Usage is answered where the words spell no command, and only there; but memory may run out before they are read
+pub record IsUsageExact (command : Option Command) (why : Why) : Type 0 where
+  pub only : why ≡ Usage → command ≡ None
+  pub due : command ≡ None → (why ≡ Usage) ⊎ (why ≡ NoMemory)
+
+-- the answer to arguments that give no command
+abbrev pub refusal_of : CommandError → Why
+refusal_of (errors.Usage text) = Usage
+refusal_of errors.NoMemory = NoMemory
+
+-- the answers where a text is shown
+abbrev pub IsOfHelp : Why → Type 0
+IsOfHelp Ended = Unit {0}
+IsOfHelp (SinkFault Out written) = Unit {0}
+IsOfHelp why = ⊥
+
+-- A text was shown, and nothing was run: the out sink took all of the text, unless its fault is the answer; and the err sink the answer's line.
+pub record Shown {O E : Type 0} (bytes : O → Option (List ℕ)) (old_out new_out : O) (contents : E → Option (List ℕ)) (faults : E → ℕ)
+    (old new : E) (r : Report) : Type 0 where
+  pub answer : IsOfHelp r.why
+  pub history : r.history.items ≡ []
+  pub text : List ℕ
+  pub out : Appends (bytes old_out) (take r.out_written text) (bytes new_out)
+  pub out_taken : IsOutTaken r.why r.out_written (length text)
+  pub err_written : r.err_written ≡ 0
+  pub line : TakesLine contents faults old new (line_of no_names r.why) [] 0
+
+-- what follows the line of an answer without a run: after that of Usage, what is wrong with the words
+abbrev pub IsMore : Why → List ℕ → Type 0
+IsMore Usage more = Unit {0}
+IsMore why more = more ≡ []
+
+-- the err sink took the line and what follows it, or a front of the two
+pub record TakesAnswer {E : Type 0} (contents : E → Option (List ℕ)) (faults : E → ℕ) (old new : E) (why : Why) (line : List ℕ) (written : ℕ)
+    : Type 0 where
+  pub more : List ℕ
+  pub is_more : IsMore why more
+  pub takes : TakesLine contents faults old new (line ++ more) [] written
 
 -- ---- a sink that takes all, or fails
 
@@ -159,7 +219,8 @@ ending_answer live other = NoMemory
 
 -- A run was written: its history, its answer, and what the sinks took of these two outputs.
 pub record Wrote {O E : Type 0} (bytes : O → Option (List ℕ)) (counts : O → ℕ) (old_out new_out : O) (contents : E → Option (List ℕ))
-    (faults : E → ℕ) (old new : E) (c : Command) (entries : List Entry) (text errors : List ℕ) (why : Why) (r : Report) : Type 0 where
+    (faults : E → ℕ) (old new : E) (names : Names) (trace : Bool) (carriers : ℕ) (entries : List Entry) (text errors : List ℕ) (why : Why)
+    (r : Report) : Type 0 where
   pub out_fault : Option ℕ
   pub err_fault : Option ℕ
   pub history : r.history.items ≡ entries
@@ -168,7 +229,7 @@ pub record Wrote {O E : Type 0} (bytes : O → Option (List ℕ)) (counts : O �
   pub out_written : r.out_written ≡ taken_of out_fault (length text)
   pub err_written : r.err_written ≡ taken_of err_fault (length errors)
   pub err_size : (n : ℕ) → err_fault ≡ Some n → n < length errors
-  pub err : TakesLine contents faults old new (line_of c r.why) errors r.err_written
+  pub err : TakesLine contents faults old new (tail_of names trace carriers r) errors r.err_written
 
 -- Memory ran out before anything was written.
 pub record Unwritten {O E : Type 0} (old_out new_out : O) (contents : E → Option (List ℕ)) (faults : E → ℕ) (old new : E) (r : Report)

@@ -2,12 +2,12 @@
 
 ghost use Rattle.std.specs.Prelude.{List};
 ghost use Rattle.std.specs.List.{AllByRecursion};
-ghost use Rattle.command_line.specs.Commands.{Command};
+ghost use Rattle.arguments.specs.Commands.{Run};
 ghost use Rattle.program_files.specs.Contents.{Contents};
 ghost use Rattle.java_cli.specs.Causes.{AreBytes, OneIsDue};
 
 /// Exactly one answer is due to a command whose files have these bytes.
 pub fn one_answer()
-    ensures { (c : Command) (contents : List Contents) →
+    ensures { (c : Run) (contents : List Contents) →
         AllByRecursion AreBytes contents → OneIsDue c contents }
 {}

@@ -1,23 +1,24 @@
 //! The run of a checked program, and the writing of what came of it.
 
-ghost use Rattle.std.specs.Prelude.{◌≡◌, ◌⊎◌, ◌<◌, [], ℕ, Some, length};
+ghost use Rattle.std.specs.Prelude.{◌≡◌, ◌⊎◌, ◌<◌, ◌++◌, [], ℕ, Bool, Some, IfOk, length};
 ghost use Rattle.link_soundness.specs.Library.{HasLibrary};
 ghost use Rattle.schedule_soundness.specs.PinLaws.{NamesNoHold};
 ghost use Rattle.step_soundness.specs.OpeningLaws.{IsMain};
 ghost use Rattle.ref_model.specs.Setting.{Setting};
 ghost use Rattle.command_line.specs.Answers.{line_of};
-ghost use Rattle.command_line.specs.Commands.{Command as Text};
+ghost use Rattle.command_line.specs.Commands.{Names as Named, no_names as none_named};
 ghost use Rattle.java_cli.specs.Headline as spec;
-ghost use Rattle.java_cli.specs.Headline.{IsIdle, IsRunOrNoMemory, OnNoRun, OnRun, OutFaults, RanProgram, Takes, TakesLine, Unwritten, Wrote, ending_answer, no_command};
+ghost use Rattle.java_cli.specs.Headline.{IsIdle, IsRunOrNoMemory, OnNoRun, OnRun, OutFaults, RanProgram, TakesLine, Unwritten, Wrote, ending_answer, tail_of, trace_part};
 
+use crate::refusals::no_memory;
 use crate::report::Report;
-use crate::top_call::no_memory;
+use crate::writing::{put_both, put_part};
 use carrier::{Execution, run};
 use class_world::World;
-use command_line::{CANNOT_WRITE, Command, SinkName, Which, Why, make_line};
-use history::Entry;
-use items::Items;
-use jvm_edges::{Clock, Gate, Sink, put_all};
+use command_line::{CANNOT_WRITE, SinkName, Which, Why, make_line, no_names};
+use history::{Entry, print};
+use items::{Items, NoMemory};
+use jvm_edges::{Clock, Gate, Sink};
 use ref_model::{Ending, Limits, Which as Limited};
 use std::alloc::Global;
 use std::sync::Wait;
@@ -25,8 +26,8 @@ use std::thread::Threads;
 use verify_code::Checked;
 
 /// Runs the main method with this number of a checked program, with these limits, on so many carriers, each in a thread of its own as far as
-/// threads can be started. Writes the program's output to `out`, and its error output and then the answer's line to `err`. A carrier that finds
-/// nothing to do naps by the clock. For now `trace` has no effect.
+/// threads can be started. Writes the program's output to `out`; and to `err` its error output, then the answer's line, and then, where `trace` is
+/// set, the text of the history. A carrier that finds nothing to do naps by the clock.
 pub fn run_checked<R: Threads + Wait + Sync, O: Sink, E: Sink, C: Clock + Sync, G: Gate + Sync>(
     rt: &R,
     alloc: Global,
@@ -49,29 +50,19 @@ pub fn run_checked<R: Threads + Wait + Sync, O: Sink, E: Sink, C: Clock + Sync, 
     ensures headline { OnRun result.why ((p : Setting) → p.world ≡ checked → p.main ≡ main
         → p.limits ≡ limits → RanProgram p (C.gives clock.now) carriers
         (O.contents out.old) (O.contents out.new)
-        (λ text. TakesLine E.contents E.faults err.old err.new (line_of no_command result.why)
-        text result.err_written) result) }
+        (λ text. TakesLine E.contents E.faults err.old err.new
+        (tail_of none_named trace carriers result) text result.err_written) result) }
     // Otherwise memory ran out; the history is empty, and neither sink took any output of a program.
     ensures answer { IsRunOrNoMemory result.why }
     ensures idle { OnNoRun result.why (IsIdle (O.contents out.old) (O.contents out.new) result) }
     // No fault of `out` goes unanswered.
     ensures out_faults { OutFaults result.why (O.faults out.old) (O.faults out.new) }
     ensures line { OnNoRun result.why (TakesLine E.contents E.faults err.old err.new
-        (line_of no_command result.why) [] result.err_written) }
+        (line_of none_named result.why) [] result.err_written) }
 {
     match run(rt, alloc, checked, main, limits, carriers, clock, gate) {
-        Ok(execution) => deliver(alloc, execution, out, err),
+        Ok(execution) => deliver(alloc, execution, carriers, trace, out, err),
         Err(_) => no_memory(alloc, err),
-    }
-}
-
-// Puts all the bytes. The result is how many the sink took, where it fails.
-fn put_part<S: Sink>(sink: &mut S, bytes: &[u8]) -> Option<u64>
-    ensures { Takes S.contents S.faults sink.old sink.new bytes.now result }
-{
-    match put_all(sink, bytes) {
-        Ok(()) => None,
-        Err(part) => Some(part.taken),
     }
 }
 
@@ -126,37 +117,40 @@ fn line_after<'a>(out_fault: Option<u64>, line: &'a [u8]) -> &'a [u8]
     }
 }
 
-// Puts the program's error output, and after all of it the line. The result is how many bytes of the error output the sink took, where it
-// fails there.
-fn put_faults<E: Sink>(err: &mut E, text: &[u8], line: &[u8]) -> Option<u64>
-    ensures taken { TakesLine E.contents E.faults err.old err.new line.now text.now
-        (spec.taken_of result (length text.now)) }
+// Puts the program's error output, and after all of it the line and the text of the history. The result is how many bytes of the error output
+// the sink took, where it fails there.
+fn put_faults<E: Sink>(err: &mut E, text: &[u8], line: &[u8], trace_text: &[u8]) -> Option<u64>
+    ensures taken { TakesLine E.contents E.faults err.old err.new (line.now ++ trace_text.now)
+        text.now (spec.taken_of result (length text.now)) }
     ensures short { (n : ℕ) → result ≡ Some n → n < length text.now }
 {
     match put_part(err, text) {
         Some(taken) => Some(taken),
         None => {
-            let _ = put_part(err, line);
+            put_both(err, line, trace_text);
             None
         }
     }
 }
 
-// Writes what a run left, and the line.
+// Writes what a run left, the line, and the text of the history.
 fn write_run<O: Sink, E: Sink>(
     history: Vec<Entry>,
     text: &[u8],
     error_text: &[u8],
     why: Why,
     line: &[u8],
+    trace_text: &[u8],
     out: &mut O,
     err: &mut E,
 ) -> Report
-    ensures { (c : Text) → line.now ≡ line_of c why → Wrote O.contents O.faults out.old out.new
-        E.contents E.faults err.old err.new c history.items text.now error_text.now why result }
+    ensures { (names : Named) (trace : Bool) (carriers : ℕ) → line.now ≡ line_of names why
+        → trace_text.now ≡ trace_part trace carriers history.items
+        → Wrote O.contents O.faults out.old out.new E.contents E.faults err.old err.new
+        names trace carriers history.items text.now error_text.now why result }
 {
     let out_fault = put_part(out, text);
-    let err_fault = put_faults(err, error_text, line_after(out_fault, line));
+    let err_fault = put_faults(err, error_text, line_after(out_fault, line), trace_text);
     Report {
         why: answer_with(why, out_fault, err_fault),
         history,
@@ -165,17 +159,35 @@ fn write_run<O: Sink, E: Sink>(
     }
 }
 
-// Writes what a run left, and the line, which names no argument. Takes the memory for the line before anything is written.
+// The text of the history, where it is asked for.
+fn make_trace(
+    alloc: Global,
+    trace: bool,
+    carriers: u32,
+    history: &[Entry],
+) -> Result<Vec<u8>, NoMemory>
+    ensures { IfOk result (λ v. v.items ≡ trace_part trace carriers history.now) }
+{
+    if trace {
+        return print(alloc, carriers, history);
+    }
+    Ok(Vec::new(alloc))
+}
+
+// Writes what a run left, the line, which names no argument, and the text of the history, where it is asked for. Takes the memory for these two
+// before anything is written.
 fn deliver<O: Sink, E: Sink>(
     alloc: Global,
     execution: Execution,
+    carriers: u32,
+    trace: bool,
     out: &mut O,
     err: &mut E,
 ) -> Report
     ensures { Unwritten out.old out.new E.contents E.faults err.old err.new result
         ⊎ Wrote O.contents O.faults out.old out.new E.contents E.faults err.old err.new
-        no_command execution.history.items execution.out.items execution.err.items
-        (ending_answer execution.live.items execution.ending) result }
+        none_named trace carriers execution.history.items execution.out.items
+        execution.err.items (ending_answer execution.live.items execution.ending) result }
 {
     let Execution {
         history,
@@ -185,12 +197,19 @@ fn deliver<O: Sink, E: Sink>(
         ending,
     } = execution;
     let why = answer_to(ending, live);
-    let command = Command {
-        main: "",
-        files: &[],
-    };
-    match make_line(alloc, &why, &command) {
-        Ok(line) => write_run(history, &text, &error_text, why, line.as_slice(), out, err),
-        Err(_) => no_memory(alloc, err),
+    let line = make_line(alloc, &why, no_names());
+    let trace_text = make_trace(alloc, trace, carriers, &history);
+    match (line, trace_text) {
+        (Ok(line), Ok(trace_text)) => write_run(
+            history,
+            &text,
+            &error_text,
+            why,
+            line.as_slice(),
+            &trace_text,
+            out,
+            err,
+        ),
+        _ => no_memory(alloc, err),
     }
 }

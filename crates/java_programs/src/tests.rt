@@ -113,16 +113,17 @@ fn store_of(alloc: Global, bytes: &[u8]) -> Result<MapStore, AllocError> {
     Ok(MapStore::new(files, Vec::new(alloc)))
 }
 
-// The call of `run A A.class`, where `A.class` has these bytes.
-fn run_a<R: Threads + Wait + Sync + AllocGlobal, G: Gate + Sync>(
+// The call with these words, where `A.class` has these bytes.
+fn call<R: Threads + Wait + Sync + AllocGlobal, G: Gate + Sync>(
     rt: &R,
+    words: &str,
     bytes: &[u8],
     out: &mut MemSink,
     err: &mut MemSink,
     gate: &G,
 ) -> Result<Report, AllocError> {
     let alloc = rt.alloc();
-    let args = arguments_of(alloc, "run A A.class")?;
+    let args = arguments_of(alloc, words)?;
     let mut store = store_of(alloc, bytes)?;
     let clock = ListClock::new(vec![in alloc; 0]?);
     Ok(jvt(rt, alloc, &args, &mut store, out, err, &clock, gate))
@@ -246,14 +247,8 @@ fn a_program_that_yields_for_ever_comes_to_the_limit_of_events(
     rt: HostRuntime,
 ) -> Result<(), Fail> {
     let (out, err) = (&mut sink(rt.alloc(), &[])?, &mut sink(rt.alloc(), &[])?);
-    let report = run_with(
-        &rt,
-        &YIELDS_FOR_EVER,
-        room_for(1, 1000),
-        out,
-        err,
-        &OpenGate::new(),
-    )?;
+    let words = "run --carriers 1 --events 1000 A A.class";
+    let report = call(&rt, words, &YIELDS_FOR_EVER, out, err, &OpenGate::new())?;
     assert_eq!(rt; report.why.status(), 71);
     assert_eq!(rt; report.history.len(), 998);
     assert_eq!(rt; err.bytes(), b"jvt: limit Events 1000\n".as_slice());
@@ -265,7 +260,7 @@ fn a_sink_that_fails_has_its_line_on_the_other(rt: HostRuntime) -> Result<(), Fa
     for (fails_at, written) in [(1, 0), (2, 2)] {
         let out = &mut sink(rt.alloc(), &[fails_at])?;
         let err = &mut sink(rt.alloc(), &[])?;
-        let report = run_a(&rt, &A_CLASS, out, err, &OpenGate::new())?;
+        let report = call(&rt, "run A A.class", &A_CLASS, out, err, &OpenGate::new())?;
         assert!(rt;
             matches!(
                 report.why,
@@ -281,10 +276,22 @@ fn a_sink_that_fails_has_its_line_on_the_other(rt: HostRuntime) -> Result<(), Fa
 }
 
 #[test]
+fn a_trace_that_cannot_be_written_leaves_the_answer(rt: HostRuntime) -> Result<(), Fail> {
+    let (out, err) = (&mut sink(rt.alloc(), &[])?, &mut sink(rt.alloc(), &[3])?);
+    let words = "run --carriers 1 --trace A A.class";
+    let report = call(&rt, words, &A_CLASS, out, err, &OpenGate::new())?;
+    assert_eq!(rt; report.why.status(), 0);
+    assert_eq!(rt; report.history.len(), 5);
+    assert_eq!(rt; out.bytes(), b"42\n".as_slice());
+    assert_eq!(rt; err.bytes(), b"jvt-".as_slice());
+    Ok(())
+}
+
+#[test]
 fn a_file_of_one_byte_too_many_is_refused(rt: HostRuntime) -> Result<(), Fail> {
     let (out, err) = (&mut sink(rt.alloc(), &[])?, &mut sink(rt.alloc(), &[])?);
     let bytes = vec![in rt.alloc(); 0u8; 4_194_305]?;
-    let report = run_a(&rt, &bytes, out, err, &OpenGate::new())?;
+    let report = call(&rt, "run A A.class", &bytes, out, err, &OpenGate::new())?;
     assert!(rt;
         matches!(
             report.why,

@@ -10,6 +10,6 @@ most_files = 256
 abbrev pub most_bytes : ℕ
 most_bytes = 4194304
 
--- the limits of a run: cells of the heap, threads, and entries of the history
-abbrev pub run_limits : Limits
-run_limits = record { heap_cells = 4194304; threads = 100000; events = 4194304 }
+-- the limits of a run whose history may have so many entries: cells of the heap, and threads
+abbrev pub run_limits : ℕ → Limits
+run_limits events = record { heap_cells = 4194304; threads = 100000; events = events }

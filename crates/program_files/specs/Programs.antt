@@ -6,7 +6,7 @@ use Rattle.link_model.specs.Worlds.{world_of}
 use Rattle.link_model.specs.MainMethod.{main_of}
 use Rattle.ref_model.specs.Setting.{Setting}
 use Rattle.program_files.specs.Linking.{program_of, AreAccepted}
-use Rattle.program_files.specs.Limits.{run_limits}
+use Rattle.ref_model.specs.declared.limits.Limits.{Limits}
 use Rattle.program_files.specs.Supported.{is_supported}
 
 -- the linked world of class files, after the built-in classes
@@ -22,9 +22,9 @@ pub record IsStarted (name : List ℕ) (classes : List ClassFile) (main : ℕ) :
   pub number : main_of (world_of_files classes) name ≡ Some main
   pub supported : is_supported (world_of_files classes) ≡ true
 
--- The classes are accepted and have main in the class of this name, which the program runs under the limits of a run.
-pub record IsProgram (name : List ℕ) (classes : List ClassFile) (p : Setting) : Type 0 where
+-- The classes are accepted and have main in the class of this name, which the program runs under these limits.
+pub record IsProgram (most : Limits) (name : List ℕ) (classes : List ClassFile) (p : Setting) : Type 0 where
   pub accepted : AreAccepted classes
   pub main : IsStarted name classes p.main
   pub world : p.world ≡ world_of_files classes
-  pub limits : p.limits ≡ run_limits
+  pub limits : p.limits ≡ most

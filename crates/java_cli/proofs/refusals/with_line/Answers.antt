@@ -1,6 +1,6 @@
 use Rattle.std.proofs.Common.{◌∙◌}
 use Rattle.java_cli.proofs.LineLaws.{takes}
-use Rattle.java_cli.proofs.top_call.with_line.Goals as goal
+use Rattle.java_cli.proofs.refusals.with_line.Goals as goal
 
 pub returns-in-Ok-clause-line : goal.returns-in-Ok-clause-line
 returns-in-Ok-clause-line g c = rw (← (c.as_slice.ensures ∙ c.in-Ok.ensures.line)) (takes _ _ _ _ _ c.put_all.result c.put_all.ensures.ok c.put_all.ensures.part c.put_all.ensures.short c.put_all.ensures.cause c.put_all.ensures.kept)

@@ -1,0 +1,162 @@
+-- What the call answers, by what its arguments spell.
+use Rattle.std.proofs.Common.{◌≡◌, ◌⊎◌, inl, inr, ℕ, List, [], length, take, Option, Some, None, refl, sym, ap, subst, ◌∙◌, arith}
+use Rattle.std.proofs.lemmas.List.{append-nil, take_all}
+use Rattle.arguments.specs.Commands as commands
+use Rattle.arguments.specs.Commands.{Command, Run}
+use Rattle.arguments.specs.Meanings.{IsRefusal}
+use Rattle.arguments.specs.declared.command.CommandError.{CommandError}
+use Rattle.arguments.specs.declared.command.CommandError.TheVariants as errors
+use Rattle.jvm_edges.specs.Bytes.{Appends}
+use Rattle.jvm_edges.specs.Files as store
+use Rattle.command_line.specs.Answers.{fault_line, line_of}
+use Rattle.command_line.specs.Commands.{Names, names_in, no_names}
+use Rattle.command_line.specs.declared.answer.Why.{Why}
+use Rattle.command_line.specs.declared.answer.SinkName.TheVariants.{Out}
+use Rattle.command_line.specs.declared.answer.Why.TheVariants.{Ended, SinkFault, Usage, NoMemory}
+use Rattle.program_files.specs.StoreFaults.{StoreFaults}
+use Rattle.java_cli.specs.declared.report.Report.{Report}
+use Rattle.java_cli.specs.Causes.{IsCaused, IsExact, IsOfRun}
+use Rattle.java_cli.specs.Headline.{IfHelp, IfRun, IsMore, IsOfHelp, IsUsageExact, OnRun, OutFaults, Shown, Takes, TakesAnswer, TakesLine, refusal_of}
+use Rattle.java_cli.proofs.AnswerLaws.{memory_exact}
+use Rattle.java_cli.proofs.LineLaws.{line_told}
+
+-- ---- a command
+
+-- what holds of the run, where the words spell one
+pub of_run : (o : Option Command) (c : Run) (fact : Run → Type 0) → o ≡ Some (commands.run c) → fact c → IfRun o fact
+of_run o c fact is holds = subst (λ (x : Option Command). IfRun x fact) (sym is) holds
+
+pub of_no_run : (o : Option Command) (fact : Run → Type 0) → o ≡ Some commands.help → IfRun o fact
+of_no_run o fact is = subst (λ (x : Option Command). IfRun x fact) (sym is) tt
+
+pub of_help : (o : Option Command) (fact : Type 0) → o ≡ Some commands.help → fact → IfHelp o fact
+of_help o fact is holds = subst (λ (x : Option Command). IfHelp x fact) (sym is) holds
+
+pub of_no_help : (o : Option Command) (c : Run) (fact : Type 0) → o ≡ Some (commands.run c) → IfHelp o fact
+of_no_help o c fact is = subst (λ (x : Option Command). IfHelp x fact) (sym is) tt
+
+-- a command is spelled, and so the answer is not Usage
+pub spelled : (o : Option Command) (c : Command) (why : Why) → o ≡ Some c → (why ≡ Usage → ⊥) → IsUsageExact o why
+spelled o c why is not_usage = record {
+  only = λ usage. absurd (not_usage usage);
+  due = λ none. let bad : None ≡ Some c = sym none ∙ is in absurd cc;
+}
+
+-- an answer with its cause is not Usage
+pub exact_not_usage : (known : Option store.Files) (faulty : Type 0) (c : Run) (why : Why) → IsExact known faulty c why → why ≡ Usage → ⊥
+exact_not_usage known faulty c why exact is = subst (IsCaused known faulty c) is exact.cause
+
+-- nothing but the line
+pub line_alone : {E : Type 0} (contents : E → Option (List ℕ)) (faults : E → ℕ) (old new : E) (o : Option Command) (c : Command) (why : Why) (written : ℕ) → o ≡ Some c → (why ≡ Usage → ⊥)
+    → TakesLine contents faults old new (line_of (names_in (Some c)) why) [] written → TakesAnswer contents faults old new why (line_of (names_in o) why) written
+line_alone contents faults old new o c why written is not_usage line = record {
+  more = [];
+  is_more = is_more why not_usage;
+  takes = subst (λ (l : List ℕ). TakesLine contents faults old new l [] written) (ap (λ (x : Option Command). line_of (names_in x) why) (sym is) ∙ sym (append-nil (line_of (names_in o) why))) line;
+}
+  where
+    is_more : (why : Why) → (why ≡ Usage → ⊥) → IsMore why []
+    is_more Usage other = absurd (other refl)
+    is_more why other = refl
+
+-- ---- no command
+
+each_run : (o : Option Command) (fact : Run → Type 0) → ((c : Run) → fact c) → IfRun o fact
+each_run None fact each = tt
+each_run (Some commands.help) fact each = tt
+each_run (Some (commands.run c)) fact each = each c
+
+not_of_run : (e : CommandError) → IsOfRun (refusal_of e) → ⊥
+not_of_run (errors.Usage text) of = of
+not_of_run errors.NoMemory of = of
+
+pub refused_headline : (o : Option Command) (e : CommandError) (why : Why) (fact : Run → Type 0) → why ≡ refusal_of e → IfRun o (λ c. OnRun why (fact c))
+refused_headline o e why fact is = each_run o (λ c. OnRun why (fact c)) (λ c of. absurd (not_of_run e (subst IsOfRun is of)))
+
+pub refused_usage : (o : Option Command) (e : CommandError) (why : Why) → IsRefusal o e → why ≡ refusal_of e → IsUsageExact o why
+refused_usage o (errors.Usage text) why none is = record { only = λ usage. none; due = λ same. inl is }
+refused_usage o errors.NoMemory why none is = record { only = λ usage. let bad : Usage ≡ NoMemory = sym usage ∙ is in absurd cc; due = λ same. inr is }
+
+pub refused_exact : (known : Option store.Files) (faulty : Type 0) (o : Option Command) (e : CommandError) (why : Why) → IsRefusal o e → why ≡ refusal_of e → IfRun o (λ c. IsExact known faulty c why)
+refused_exact known faulty o (errors.Usage text) why none is = subst (λ (x : Option Command). IfRun x (λ c. IsExact known faulty c why)) (sym none) tt
+refused_exact known faulty o errors.NoMemory why none is = each_run o (λ c. IsExact known faulty c why) (λ c. subst (λ (w : Why). IsExact known faulty c w) (sym is) (memory_exact known faulty c))
+
+pub refused_store : (e : CommandError) (why : Why) (n : ℕ) → why ≡ refusal_of e → StoreFaults why n n
+refused_store (errors.Usage text) why n is = subst (λ (w : Why). StoreFaults w n n) (sym is) refl
+refused_store errors.NoMemory why n is = subst (λ (w : Why). StoreFaults w n n) (sym is) tt
+
+pub refused_out : (e : CommandError) (why : Why) (n : ℕ) → why ≡ refusal_of e → OutFaults why n n
+refused_out (errors.Usage text) why n is = subst (λ (w : Why). OutFaults w n n) (sym is) refl
+refused_out errors.NoMemory why n is = subst (λ (w : Why). OutFaults w n n) (sym is) refl
+
+module _ {E : Type 0} (contents : E → Option (List ℕ)) (faults : E → ℕ) (old new : E) where
+  -- the line of such an answer names nothing
+  no_name : (e : CommandError) (names : Names) → line_of no_names (refusal_of e) ≡ line_of names (refusal_of e)
+  no_name (errors.Usage text) names = refl
+  no_name errors.NoMemory names = refl
+
+  pub refused_line : (o : Option Command) (e : CommandError) (why : Why) (written : ℕ) → why ≡ refusal_of e → written ≡ 0
+      → TakesAnswer contents faults old new (refusal_of e) (line_of no_names (refusal_of e)) 0 → TakesAnswer contents faults old new why (line_of (names_in o) why) written
+  refused_line o e why written is none line =
+      subst (λ (n : ℕ). TakesAnswer contents faults old new why (line_of (names_in o) why) n) (sym none)
+      (subst (λ (w : Why). TakesAnswer contents faults old new w (line_of (names_in o) w) 0) (sym is)
+      (subst (λ (l : List ℕ). TakesAnswer contents faults old new (refusal_of e) l 0) (no_name e (names_in o)) line))
+
+-- ---- a text that is shown
+
+each_help : (o : Option Command) (fact : Type 0) → fact → IfHelp o fact
+each_help None fact holds = tt
+each_help (Some commands.help) fact holds = holds
+each_help (Some (commands.run c)) fact holds = tt
+
+pub refused_help : (o : Option Command) (e : CommandError) (why : Why) (fact : Type 0) → IsRefusal o e → why ≡ refusal_of e → IfHelp o ((why ≡ NoMemory) ⊎ fact)
+refused_help o (errors.Usage text) why fact none is = subst (λ (x : Option Command). IfHelp x ((why ≡ NoMemory) ⊎ fact)) (sym none) tt
+refused_help o errors.NoMemory why fact none is = each_help o ((why ≡ NoMemory) ⊎ fact) (inl is)
+
+-- such an answer may be one to a run too
+pub help_of_run : (why : Why) → IsOfHelp why → IsOfRun why
+help_of_run Ended of = tt
+help_of_run (SinkFault Out written) of = tt
+help_of_run why of = absurd of
+
+pub help_not_usage : (why : Why) → IsOfHelp why → why ≡ Usage → ⊥
+help_not_usage why of is = subst IsOfHelp is of
+
+-- nothing is put
+nothing_told : {E : Type 0} (contents : E → Option (List ℕ)) (faults : E → ℕ) (old : E) → TakesLine contents faults old old [] [] 0
+nothing_told contents faults old = record {
+  taken = 0;
+  takes = appends_nothing (contents old);
+  part = λ lt. absurd (omega (arith, lt));
+  whole = λ all lt. absurd (omega (arith, lt));
+  kept = λ all le. refl;
+}
+  where
+    appends_nothing : (o : Option (List ℕ)) → Appends o [] o
+    appends_nothing None = refl
+    appends_nothing (Some bytes) = ap (λ (bs : List ℕ). Some bs) (sym (append-nil bytes))
+
+module _ {O E : Type 0} (bytes : O → Option (List ℕ)) (counts : O → ℕ) (old_out new_out : O) (contents : E → Option (List ℕ)) (faults : E → ℕ) (old new : E) (text : List ℕ) (r : Report) where
+  pub shown_whole : Takes bytes counts old_out new_out text None → r.why ≡ Ended → r.history.items ≡ [] → r.out_written ≡ length text → r.err_written ≡ 0 → Shown bytes old_out new_out contents faults old old r
+  shown_whole takes why history out_written err_written = record {
+    answer = rw why tt;
+    history = history;
+    text = text;
+    out = subst (λ (n : ℕ). Appends (bytes old_out) (take n text) (bytes new_out)) (sym out_written)
+        (subst (λ (piece : List ℕ). Appends (bytes old_out) piece (bytes new_out)) (sym (take_all (length text) text (omega arith))) takes.0);
+    out_taken = rw (why, out_written) refl;
+    err_written = err_written;
+    line = rw why (nothing_told contents faults old);
+  }
+
+  pub shown_part : (n : ℕ) (last : Option ℕ) → Takes bytes counts old_out new_out text (Some n) → Takes contents faults old new fault_line last → r.why ≡ SinkFault Out n → r.history.items ≡ [] → r.out_written ≡ n → r.err_written ≡ 0
+      → Shown bytes old_out new_out contents faults old new r
+  shown_part n last takes put why history out_written err_written = record {
+    answer = rw why tt;
+    history = history;
+    text = text;
+    out = subst (λ (n : ℕ). Appends (bytes old_out) (take n text) (bytes new_out)) (sym out_written) takes.0;
+    out_taken = rw (why, out_written) (refl, takes.1);
+    err_written = err_written;
+    line = rw why (line_told contents faults old new fault_line last put);
+  }
