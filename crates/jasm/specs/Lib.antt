@@ -1,0 +1,5 @@
+pub mod Texts
+pub mod Flags
+pub mod Methods
+pub mod Listing
+pub mod Lists
