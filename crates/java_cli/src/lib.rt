@@ -1,4 +1,4 @@
-//! Runs a Java program from its class files: all that `jvt run MAIN FILE ..` does but collect its arguments.
+//! Runs a Java program from its class files: all that `jvt` does but collect its arguments.
 #![tactic(auto)]
 
 mod command_run;
