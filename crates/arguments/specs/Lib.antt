@@ -1,3 +1,4 @@
 pub mod CommandLine
 pub mod Commands
 pub mod Meanings
+pub mod PlainWords

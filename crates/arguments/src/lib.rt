@@ -4,7 +4,9 @@
 mod clap_command;
 mod command;
 mod help_texts;
+mod laws;
 mod reading;
 
 pub use command::{Command, CommandError, Run};
+pub use laws::plain_words_spell;
 pub use reading::read_command;
