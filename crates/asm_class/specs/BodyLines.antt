@@ -1,5 +1,5 @@
 -- The lines of the body of a method, before its end (JVMS 4.7.3, 4.7.4).
-use Rattle.std.specs.Prelude.{ℕ, Bool, true, false, not, List, [], ◌∷◌, ◌++◌, codes, Option, Some, None, is_some, ◌&&◌, if◌then◌else◌}
+use Rattle.std.specs.Prelude.{ℕ, true, false, not, List, [], ◌∷◌, ◌++◌, codes, Option, Some, None, is_some, ◌&&◌, if◌then◌else◌}
 use Rattle.std.specs.Str.{bytes_eq}
 use Rattle.items.specs.Options.{◌>>=◌}
 use Rattle.class_model.specs.declared.constant.Const.{Const}

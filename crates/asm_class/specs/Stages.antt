@@ -1,5 +1,5 @@
 -- Which line may come next, and what it makes.
-use Rattle.std.specs.Prelude.{ℕ, List, [], Option, Some, None, Result, Ok, Err}
+use Rattle.std.specs.Prelude.{ℕ, [], Option, Some, None, Result, Ok}
 use Rattle.asm_text.specs.declared.line.Line.{Line}
 use Rattle.asm_text.specs.declared.line.Line.TheVariants as lines
 use Rattle.asm_body.specs.Bodies.{or_line}

@@ -1,5 +1,5 @@
 -- What the lines so far have made.
-use Rattle.std.specs.Prelude.{◌≡◌, ℕ, Bool, true, false, List, [], Option, Some, None, Result, Ok, Err}
+use Rattle.std.specs.Prelude.{◌≡◌, ℕ, List, Option, Some, None, Result, Ok, Err}
 use Rattle.class_model.specs.declared.constant.Const.{Const}
 use Rattle.asm_text.specs.declared.error.LineError.{LineError}
 use Rattle.asm_text.specs.declared.error.LineError.TheVariants as line_errors

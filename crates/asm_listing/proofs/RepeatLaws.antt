@@ -1,6 +1,5 @@
 -- So many steps, one after the other, as a loop makes them.
 use Rattle.std.proofs.Common.{◌≡◌, ℕ, suc, ◌-◌, ◌+◌, ◌≤◌, ◌<◌, List, Option, Some, None, refl, sym, ◌∙◌, arith}
-use Rattle.items.specs.Options.{◌>>=◌}
 use Rattle.asm_text.specs.declared.error.LineError.{LineError}
 use Rattle.asm_text.specs.declared.error.LineError.TheVariants as line_errors
 use Rattle.asm_listing.specs.Numbers.{StepOn, repeat, Stops}

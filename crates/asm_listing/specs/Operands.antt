@@ -1,5 +1,5 @@
 -- An instruction of a code, and the operands that its line has (JVMS 6.5).
-use Rattle.std.specs.Prelude.{ℕ, Bool, List, [], ◌∷◌, ◌++◌, length, Option, Some, None, nat_lt, nat_le, ◌==◌, ◌&&◌, if◌then◌else◌}
+use Rattle.std.specs.Prelude.{ℕ, Bool, List, [], ◌∷◌, Option, Some, None, nat_le, ◌==◌, ◌&&◌, if◌then◌else◌}
 use Rattle.items.specs.Options.{◌>>=◌}
 use Rattle.class_model.specs.declared.constant.Const.{Const}
 use Rattle.asm_text.specs.declared.instruction.Operands.{Operands}

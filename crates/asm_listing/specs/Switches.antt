@@ -1,5 +1,5 @@
 -- The operands of switches (JVMS 6.5, tableswitch and lookupswitch).
-use Rattle.std.specs.Prelude.{ℕ, ◌+◌, ◌-◌, ◌%◌, ℤ, pos, ◌-ℤ◌, int_lt, unsigned_abs, List, [], ◌∷◌, ◌++◌, Option, Some, None, if◌then◌else◌}
+use Rattle.std.specs.Prelude.{ℕ, ◌+◌, ◌-◌, ◌%◌, ℤ, pos, ◌-ℤ◌, int_lt, unsigned_abs, [], ◌∷◌, ◌++◌, Option, Some, None, if◌then◌else◌}
 use Rattle.items.specs.Options.{◌>>=◌}
 use Rattle.asm_text.specs.declared.instruction.Operands.TheVariants as operands
 use Rattle.asm_listing.specs.declared.operand_reader.Listed.{Listed}

@@ -1,5 +1,5 @@
 -- The words for labels and for entries of the constant pool. What has none is not listed.
-use Rattle.std.specs.Prelude.{ℕ, ℤ, pos, ◌+ℤ◌, int_lt, unsigned_abs, Bool, List, [], ◌∷◌, ◌++◌, codes, decimal, Option, Some, None, slice_get, nat_lt, ◌==◌, ◌||◌, if◌then◌else◌}
+use Rattle.std.specs.Prelude.{ℕ, ℤ, pos, ◌+ℤ◌, int_lt, unsigned_abs, List, ◌++◌, codes, decimal, Option, Some, None, slice_get, nat_lt, ◌==◌, ◌||◌, if◌then◌else◌}
 use Rattle.std.specs.List.{list_all}
 use Rattle.items.specs.Options.{◌>>=◌}
 use Rattle.class_model.specs.declared.constant.Const.{Const}

@@ -5,6 +5,8 @@
 #[cfg(test)]
 mod ascii;
 #[cfg(test)]
+mod asm_texts;
+#[cfg(test)]
 mod built_in_classes;
 #[cfg(test)]
 mod class_files;

@@ -1,5 +1,5 @@
 -- What the calls of the assembler give, one after the other.
-use Rattle.std.proofs.Common.{◌≡◌, ℕ, ◌+◌, ◌<◌, List, length, Result, Ok, Err, Option, Some, None, min, refl, sym, ◌∙◌, ap, subst}
+use Rattle.std.proofs.Common.{◌≡◌, ℕ, ◌<◌, List, length, Result, Err, Option, sym, ap, subst}
 use Rattle.class_model.specs.declared.class_file.ClassFile.{ClassFile}
 use Rattle.asm_text.specs.declared.line.Line.{Line}
 use Rattle.asm_text.specs.Spelling.{BeginsWith}

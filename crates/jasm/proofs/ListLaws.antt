@@ -1,5 +1,5 @@
 -- A text is assembled to one class file at most.
-use Rattle.std.proofs.Common.{◌≡◌, ◌≢◌, ℕ, List, Result, Ok, Err, subst}
+use Rattle.std.proofs.Common.{◌≡◌, ◌≢◌, ℕ, List, Ok, Err, subst}
 use Rattle.class_model.specs.declared.class_file.ClassFile.{ClassFile}
 use Rattle.asm_class.specs.Ends.{start}
 use Rattle.jasm.specs.declared.error.TextError.{TextError}

@@ -1,12 +1,12 @@
 -- Laws of assembler text: it makes one thing at most.
-use Rattle.std.proofs.Common.{◌≡◌, ℕ, ◌+◌, ◌<◌, List, [], ◌∷◌, ◌++◌, length, Result, Ok, Err, refl, sym, ◌∙◌, ap, subst, arith, length-append}
+use Rattle.std.proofs.Common.{◌≡◌, ℕ, ◌+◌, ◌<◌, List, ◌∷◌, length, Result, Ok, Err, refl, sym, ◌∙◌, ap, subst, arith, length-append}
 use Rattle.class_model.specs.declared.class_file.ClassFile.{ClassFile}
 use Rattle.asm_text.specs.declared.line.Line.{Line}
 use Rattle.asm_text.specs.Spelling.{BeginsWith}
 use Rattle.asm_text.proofs.SpellingLaws.{one_at_most}
 use Rattle.asm_class.specs.States.{State}
 use Rattle.asm_class.specs.Stages.{after_line}
-use Rattle.jasm.specs.Texts.{Leads, Misfits, BeginsWithNone, Makes, next_line}
+use Rattle.jasm.specs.Texts.{Makes, next_line}
 use Rattle.jasm.specs.Texts.Makes.{ended, unread, refused, goes_on}
 
 -- a text that begins with a line is longer than the rest

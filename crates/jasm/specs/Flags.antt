@@ -1,5 +1,5 @@
 -- The flags of some bits, in the order of the bits (JVMS 4.1, 4.5, 4.6). A bit that isn't here is left out.
-use Rattle.std.specs.Prelude.{ℕ, List, [], ◌∷◌, ◌++◌, bit_and, ◌==◌, if◌then◌else◌}
+use Rattle.std.specs.Prelude.{ℕ, List, [], ◌∷◌, bit_and, ◌==◌, if◌then◌else◌}
 use Rattle.asm_text.specs.declared.line.Flag.{Flag}
 use Rattle.asm_text.specs.declared.line.Flag.TheVariants as flags
 

@@ -1,5 +1,5 @@
 -- The text of a class file that is assembled to it.
-use Rattle.std.specs.Prelude.{◌≡◌, ℕ, List, Option, Some, Result, Ok, Err}
+use Rattle.std.specs.Prelude.{◌≡◌, ℕ, List, Some, Result, Ok, Err}
 use Rattle.std.specs.Global.{Vec}
 use Rattle.class_model.specs.declared.class_file.ClassFile.{ClassFile}
 use Rattle.jasm.specs.Listing.{listing}

@@ -1,5 +1,5 @@
 -- What a text of the assembler makes, line by line.
-use Rattle.std.specs.Prelude.{◌≡◌, ℕ, ◌+◌, ◌<◌, List, [], length, min, Option, Some, None, Result, Ok, Err}
+use Rattle.std.specs.Prelude.{◌≡◌, ℕ, ◌+◌, ◌<◌, List, length, min, Result, Ok, Err}
 use Rattle.std.specs.Borrow.{Bor}
 use Rattle.class_model.specs.declared.class_file.ClassFile.{ClassFile}
 use Rattle.asm_text.specs.declared.line.Line.{Line}

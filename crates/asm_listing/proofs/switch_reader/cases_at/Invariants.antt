@@ -1,4 +1,4 @@
-use Rattle.std.proofs.Common.{◌-◌, length}
+use Rattle.std.proofs.Common.{◌-◌}
 use Rattle.asm_listing.specs.Numbers.{repeat}
 use Rattle.asm_listing.specs.Switches.{one_case, no_cases}
 use Rattle.asm_listing.proofs.RepeatLaws.{GoesOnBy}

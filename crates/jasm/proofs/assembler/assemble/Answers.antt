@@ -1,4 +1,4 @@
-use Rattle.std.proofs.Common.{◌≡◌, length, refl, ap, ◌∙◌, sym, subst, Ok, Err, Some, None, arith, rules}
+use Rattle.std.proofs.Common.{◌≡◌, length, Some, None, rules}
 use Rattle.asm_class.specs.States.{state_of}
 use Rattle.jasm.proofs.AddLaws.{next_makes, end_makes}
 use Rattle.jasm.proofs.assembler.assemble.Goals as goal
