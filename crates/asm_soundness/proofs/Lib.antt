@@ -1,0 +1,4 @@
+pub mod KeyLaws
+pub mod PoolLaws
+pub mod NameLaws
+pub mod SpellLaws

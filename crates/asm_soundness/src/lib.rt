@@ -1,0 +1,6 @@
+//! What is assembled keeps to the grammar of class files, in definitions and laws.
+#![tactic(auto)]
+
+mod laws;
+
+pub use laws::{pools_stay_sound, sound_pools_are_spelled};
