@@ -1,7 +1,10 @@
 -- What is answered to arguments, by what clap makes of them.
-use Rattle.std.proofs.Common.{◌≡◌, true, Bool, List, [], ◌∷◌, Option, Some, None, Result, Ok, Err, inl, inr, refl, sym, ap, subst, ◌∙◌}
-use Rattle.std.specs.Prelude.{IfErr, IfOk, option_and_then, if◌then◌else◌}
+use Rattle.std.proofs.Common.{◌≡◌, true, Bool, List, [], ◌∷◌, Option, Some, None, Result, Ok, Err, String, inl, inr, length, arith, refl, sym, ap, subst, ◌∙◌}
+use Rattle.std.specs.Prelude.{◌==◌, IfErr, IfOk, option_and_then, if◌then◌else◌}
+use Rattle.std.specs.Global.{Global}
+use Rattle.std.proofs.lemmas.Bool.{eqb-true}
 use Rattle.std.specs.List.{AllByRecursion}
+use Rattle.clap.proofs.OnLiterals.{clap_on_literals}
 use Rattle.clap.specs.Faults.{fault_of, is_simple_and_free}
 use Rattle.clap.specs.Kinds.{FailsBy, IsAmong, Kinds}
 use Rattle.clap.specs.Simple.{App, HasMatchesOf, is_simple, subcommand_of}
@@ -12,7 +15,7 @@ use Rattle.clap.specs.declared.error.kind.ErrorKind.{ErrorKind}
 use Rattle.clap.specs.declared.error.kind.ErrorKind.TheVariants.{OutOfMemory}
 use Rattle.clap.specs.declared.parser.matches.ArgMatches.{ArgMatches}
 use Rattle.arguments.specs.CommandLine.{command_line}
-use Rattle.arguments.specs.Commands.{Command, command_by, command_of, help, is_wish, matched}
+use Rattle.arguments.specs.Commands.{Command, command_by, command_of, help, is_wish, matched, texts}
 use Rattle.arguments.specs.Meanings.{AnswersTo, IsRefusal, command_meaning, matched_in}
 use Rattle.arguments.specs.declared.command.Command.{Command as CodeCommand}
 use Rattle.arguments.specs.declared.command.Command.TheVariants as code
@@ -78,6 +81,17 @@ spelled_by a words m is passes has =
     let none = ap (λ (x : App). fault_of x words) (sym is) ∙ passes (ap is_simple_and_free is ∙ free) in
     ap (option_and_then matched) ((has (ap is_simple is ∙ simple)).1 ∙ ap (λ (x : App). subcommand_of x words) is)
     ∙ sym (ap (λ (ks : Kinds). command_by ks words) none)
+
+-- ---- no arguments
+
+-- without even the program's name they spell nothing
+nothing_spelled : command_of [] ≡ None
+unfolding clap_on_literals
+nothing_spelled = refl
+
+pub no_arguments : (args : List (String Global)) → (length args == 0) ≡ true → command_of (texts args) ≡ None
+no_arguments [] none = nothing_spelled
+no_arguments (a ∷ args) none = absurd (omega (arith, eqb-true _ _ none))
 
 -- ---- the two clauses
 

@@ -1,4 +1,4 @@
-//! What the help says.
+//! What the help says, and what is wrong where clap isn't asked.
 
 /// What the program does.
 pub const ABOUT: &str =
@@ -70,3 +70,6 @@ pub const FILE_LONG: &str = "\
 The class files of the program, MAIN's among them: at most 256, of 4194304 bytes
 each. There is no class path and no JAR file: a class that isn't the JDK's has
 its file here.";
+
+/// What is wrong with arguments of which one isn't UTF-8.
+pub const NOT_TEXT: &str = "error: an argument is not UTF-8\n";

@@ -9,16 +9,21 @@ ghost use Rattle.arguments.specs.Meanings.{AnswersTo, HasBounds, IsInBounds, IsR
 
 use crate::clap_command::command_line;
 use crate::command::{Command, CommandError, Run};
+use crate::help_texts;
 use clap::error::ErrorKind;
 use clap::{ArgMatches, Error};
 use std::alloc::{AllocError, Global};
 
-/// The command that the arguments spell, of which the first is the program's name.
+/// The command that the arguments spell, of which the first is the program's name. Where there are none at all, they could not be read as text.
 pub fn read_command(alloc: Global, args: &[String]) -> Result<Command, CommandError>
     ensures command { IfOk result (λ c. command_of (texts args.now) ≡ Some (command_meaning c)) }
     ensures bounds { IfOk result (λ c. IsInBounds (command_meaning c)) }
     ensures refusal { IfErr result (IsRefusal (command_of (texts args.now))) }
 {
+    if args.is_empty() {
+        let text = String::from_str(alloc, help_texts::NOT_TEXT)?;
+        return Err(CommandError::Usage(text));
+    }
     match command_line(alloc)?.try_get_matches_from(args) {
         Ok(matches) => read_matches(alloc, &matches),
         Err(error) => without_matches(alloc, &error),

@@ -2,7 +2,7 @@ use Rattle.std.proofs.Common.{sym, subst, ◌∙◌}
 use Rattle.std.proofs.lemmas.Result.{IfErr-weaker, IfOk-weaker}
 use Rattle.arguments.specs.Commands.{texts}
 use Rattle.arguments.specs.Meanings.{IsRefusal}
-use Rattle.arguments.proofs.ReadingLaws.{refused, spelled_by, when_ok, when_err}
+use Rattle.arguments.proofs.ReadingLaws.{no_arguments, refused, spelled_by, when_ok, when_err}
 use Rattle.arguments.proofs.reading.read_command.Goals as goal
 
 pub returns-in-Ok-clause-command : goal.returns-in-Ok-clause-command
@@ -24,3 +24,6 @@ pub returns-in-Err-clause-refusal : goal.returns-in-Err-clause-refusal
 returns-in-Err-clause-refusal c =
     when_err _ c.without_matches.result
     (refused _ (texts c.args.args.now) c.in-Err.error c.without_matches.result c.in_ok-command_line.ensures c.in-Err.ensures.kinds c.without_matches.ensures)
+
+pub returns-then-is_empty-clause-refusal : goal.returns-then-is_empty-clause-refusal
+returns-then-is_empty-clause-refusal c = no_arguments c.args.args.now (sym c.is_empty.ensures ∙ c.if-is_empty.true)
