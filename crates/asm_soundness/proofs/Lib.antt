@@ -2,3 +2,4 @@ pub mod KeyLaws
 pub mod PoolLaws
 pub mod NameLaws
 pub mod SpellLaws
+pub mod FileLaws

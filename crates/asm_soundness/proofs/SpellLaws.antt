@@ -40,6 +40,12 @@ there pool i c few e =
     let lt : i < length pool = slice_get_within pool i c e in
     omega arith
 
+pub small_text : (pool : List Const) (i : ℕ) (units : List ℕ) → length pool ≤ 65535 → text_at pool i ≡ Some units → IsU2 i
+small_text pool i units few e = small text_of pool i units few e
+
+pub small_class : (pool : List Const) (i : ℕ) → length pool ≤ 65535 → IsClassAt pool i → IsU2 i
+small_class pool i few h = small (class_name_of pool) pool i h.name few h.here
+
 ascii_units : (units : List ℕ) → IsAscii units → AllByRecursion IsU2 units
 ascii_units [] h = tt
 ascii_units (u ∷ us) h = let lt : u < 128 = h.0 in (omega arith, ascii_units us h.1)
@@ -107,12 +113,12 @@ class_passes : (pool : List Const) (c : Const) (name : List ℕ) → class_name_
 class_passes pool (Class n) name e = refl
 class_passes pool other name e = absurd cc
 
-class_sound : (pool : List Const) (i : ℕ) → IsClassAt pool i → class_fault pool i ≡ None
+pub class_sound : (pool : List Const) (i : ℕ) → IsClassAt pool i → class_fault pool i ≡ None
 class_sound pool i h =
     let p = found (class_name_of pool) (slice_get pool i) h.name h.here in
     ap (λ (o : Option Const). unless (option_map_or is_class o false) whys.Index) p.1 ∙ ap (λ (b : Bool). unless b whys.Index) (class_passes pool p.0 h.name p.2)
 
-text_sound : (test : List ℕ → Bool) (why : ClassWhy) (pool : List Const) (i : ℕ) (units : List ℕ) → text_at pool i ≡ Some units → test units ≡ true → text_fault test why pool i ≡ None
+pub text_sound : (test : List ℕ → Bool) (why : ClassWhy) (pool : List Const) (i : ℕ) (units : List ℕ) → text_at pool i ≡ Some units → test units ≡ true → text_fault test why pool i ≡ None
 text_sound test why pool i units is passed =
     ap (λ (o : Option (List ℕ)). option_map_or (λ units. unless (test units) why) o (Some whys.Index)) is ∙ ap (λ (b : Bool). unless b why) passed
 
@@ -172,7 +178,7 @@ sound_of pool (NameAndType name descriptor) h =
     (refl, (t.0, (t.1, tt)))
 sound_of pool other h = absurd h
 
-all_append : (xs ys : List Item) → AllByRecursion IsSound xs → AllByRecursion IsSound ys → AllByRecursion IsSound (xs ++ ys)
+pub all_append : (xs ys : List Item) → AllByRecursion IsSound xs → AllByRecursion IsSound ys → AllByRecursion IsSound (xs ++ ys)
 all_append [] ys h k = k
 all_append (x ∷ xs) ys h k = (h.0, all_append xs ys h.1 k)
 

@@ -3,10 +3,13 @@
 ghost use Rattle.std.specs.Prelude.{ℕ, ℤ, List};
 ghost use Rattle.std.specs.List.{AllByRecursion, flat_map};
 ghost use Rattle.class_model.specs.declared.constant.Const.{Const as OneConst};
+ghost use Rattle.class_model.specs.declared.class_file.ClassFile.{ClassFile};
+ghost use Rattle.class_grammar.specs.Layout.{class_file};
 ghost use Rattle.class_grammar.specs.Ranges.{IsPool};
 ghost use Rattle.class_grammar.specs.Checks.{constant_items};
-ghost use Rattle.class_grammar.specs.Grammar.{IsSound};
+ghost use Rattle.class_grammar.specs.Grammar.{IsSound, Spells};
 ghost use Rattle.asm_soundness.specs.Pools as spec;
+ghost use Rattle.asm_soundness.specs.SoundStates.{IsSoundFile};
 
 /// Each mention of a constant leaves a pool that a class file may have, and gives the index of the constant. This does
 /// nothing.
@@ -25,4 +28,9 @@ pub fn sound_pools_are_spelled()
     ensures range { (pool : List OneConst) → spec.IsSoundPool pool → IsPool pool }
     ensures sound { (pool : List OneConst) → spec.IsSoundPool pool
         → AllByRecursion IsSound (flat_map (constant_items pool) pool) }
+{}
+
+/// A class file whose parts are such as a class file may have is spelled. This does nothing.
+pub fn sound_files_are_spelled()
+    ensures { (f : ClassFile) → IsSoundFile f → Spells (class_file f) f }
 {}
