@@ -35,7 +35,7 @@ use Rattle.asm_soundness.proofs.SpellLaws.{range_is, sound_is, small_text, small
 
 -- ---- what holds of each item of a list
 
-all_by : {X : Type 0} (P Q : X → Type 0) → ((x : X) → P x → Q x) → (xs : List X) → AllByRecursion P xs → AllByRecursion Q xs
+pub all_by : {X : Type 0} (P Q : X → Type 0) → ((x : X) → P x → Q x) → (xs : List X) → AllByRecursion P xs → AllByRecursion Q xs
 all_by P Q f [] h = tt
 all_by P Q f (x ∷ xs) h = (f x h.0, all_by P Q f xs h.1)
 

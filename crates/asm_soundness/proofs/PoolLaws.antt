@@ -32,7 +32,7 @@ get_stays pool more i c e =
     let all : i < length (pool ++ more) = omega (arith, lt, length-append pool more) in
     slice_get-get_or (pool ++ more) i c all ∙ ap (λ (x : Const). Some x) (get_or-append pool more c i lt ∙ get_or_from_slice_get pool i c c e)
 
-text_stays : (pool more : List Const) (i : ℕ) (t : List ℕ) → text_at pool i ≡ Some t → text_at (pool ++ more) i ≡ Some t
+pub text_stays : (pool more : List Const) (i : ℕ) (t : List ℕ) → text_at pool i ≡ Some t → text_at (pool ++ more) i ≡ Some t
 text_stays pool more i t e =
     let p = found text_of (slice_get pool i) t e in
     ap (option_and_then text_of) (get_stays pool more i p.0 p.1) ∙ p.2
@@ -41,12 +41,12 @@ name_of_stays : (pool more : List Const) (c : Const) (t : List ℕ) → class_na
 name_of_stays pool more (Class name) t e = text_stays pool more name t e
 name_of_stays pool more other t e = absurd cc
 
-name_stays : (pool more : List Const) (i : ℕ) (t : List ℕ) → class_name_at pool i ≡ Some t → class_name_at (pool ++ more) i ≡ Some t
+pub name_stays : (pool more : List Const) (i : ℕ) (t : List ℕ) → class_name_at pool i ≡ Some t → class_name_at (pool ++ more) i ≡ Some t
 name_stays pool more i t e =
     let p = found (class_name_of pool) (slice_get pool i) t e in
     ap (option_and_then (class_name_of (pool ++ more))) (get_stays pool more i p.0 p.1) ∙ name_of_stays pool more p.0 t p.2
 
-class_stays : (pool more : List Const) (i : ℕ) → IsClassAt pool i → IsClassAt (pool ++ more) i
+pub class_stays : (pool more : List Const) (i : ℕ) → IsClassAt pool i → IsClassAt (pool ++ more) i
 class_stays pool more i h = record { name = h.name; here = name_stays pool more i h.name h.here }
 
 member_stays : (of_field : Bool) (pool more : List Const) (i : ℕ) → IsMemberAt of_field pool i → IsMemberAt of_field (pool ++ more) i
