@@ -6,3 +6,5 @@ pub mod FileLaws
 pub mod StayLaws
 pub mod ClassLaws
 pub mod BodyLaws
+pub mod CodeLaws
+pub mod EndLaws
