@@ -1,23 +1,20 @@
 -- The lines of a body keep what is sound.
-use Rattle.std.proofs.Common.{◌≡◌, ℕ, ℤ, zero, suc, ◌+◌, ◌<◌, ◌≤◌, ◌^◌, ◌==◌, ◌⊎◌, inl, inr, Bool, true, false, not, ◌&&◌, cond, List, [], ◌∷◌, ◌++◌, length, get_or, codes, Option, Some, None, is_some, refl, sym, ◌∙◌, ap, subst, arith, ltb, leb, length-append, append_assoc, lit<, bit_and}
+use Rattle.std.proofs.Common.{◌≡◌, ℕ, ◌+◌, ◌<◌, ◌≤◌, ◌^◌, ◌==◌, ◌⊎◌, inl, inr, Bool, true, false, not, ◌&&◌, cond, List, [], ◌∷◌, ◌++◌, length, get_or, codes, Option, Some, None, is_some, refl, sym, ◌∙◌, ap, subst, arith, ltb, leb, lit<, bit_and}
 use Rattle.std.specs.Option.{option_map}
 use Rattle.std.specs.List.{AllByRecursion, list_all}
 use Rattle.std.proofs.lemmas.Bool.{leb-true}
 use Rattle.std.proofs.lemmas.Bool.Decides.{leb_tells}
 use Rattle.std.proofs.lemmas.List.{append-nil, get_or_past}
-use Rattle.items.specs.Options.{◌>>=◌}
 use Rattle.items.proofs.Binds.{some_is}
 use Rattle.class_model.specs.declared.access_flags.TheConstants.{ACC_MODULE}
 use Rattle.class_model.specs.declared.constant.Const.{Const}
-use Rattle.class_model.specs.declared.member.Member.{Member}
 use Rattle.class_model.specs.declared.attribute.Attribute.{Attribute}
-use Rattle.class_grammar.specs.Names.{is_class_text, is_field_name, is_method_name}
-use Rattle.class_grammar.specs.Pool.{text_at, class_name_at}
+use Rattle.class_grammar.specs.Names.{is_class_text}
+use Rattle.class_grammar.specs.Pool.{text_at}
 use Rattle.class_grammar.specs.Ranges.{IsU2}
-use Rattle.class_grammar.specs.Checks.{has_no_code}
 use Rattle.descriptors.specs.declared.kind.Kind.{Kind}
 use Rattle.descriptors.specs.Descriptors.{slots}
-use Rattle.descriptors.specs.States.{is_field, is_method}
+use Rattle.descriptors.specs.States.{is_method}
 use Rattle.descriptors.specs.Meaning as descriptors
 use Rattle.asm_text.specs.declared.line.FrameType.{FrameType}
 use Rattle.asm_text.specs.declared.line.FrameType.TheVariants as types
@@ -42,12 +39,12 @@ use Rattle.asm_class.specs.declared.assembly.Stage.{Stage}
 use Rattle.asm_class.specs.declared.assembly.Stage.TheVariants as stages
 use Rattle.asm_class.specs.declared.assembly.ClassParts.{ClassParts}
 use Rattle.asm_class.specs.declared.assembly.BodyParts.{BodyParts}
-use Rattle.asm_class.specs.Names.{class_at, is_sound, is_member_of, is_field_of, is_method_of, is_sound_type, are_sound_types}
+use Rattle.asm_class.specs.Names.{is_sound, is_member_of, is_field_of, is_method_of, is_sound_type, are_sound_types}
 use Rattle.asm_class.specs.States.{State}
 use Rattle.asm_class.specs.ClassLines.{has_room, with_method}
 use Rattle.asm_class.specs.BodyLines.{stack_line, label_line, with_target, with_frame, frame_at, frame_by, frame_line, with_instructions, instruction_line, caught_at, with_row, row_at, catch_line}
 use Rattle.asm_soundness.specs.Pools.{IsClassAt, IsSoundPool, Grows, IsAscii, AreMember}
-use Rattle.asm_soundness.specs.SoundStates.{IsSoundClass, IsSoundField, IsSoundMethod, IsCaughtAt, AreFew, AreSoundAttributes}
+use Rattle.asm_soundness.specs.SoundStates.{IsSoundField, IsSoundMethod, IsCaughtAt, AreFew, AreSoundAttributes}
 use Rattle.asm_soundness.specs.SoundLines.{IsHead, IsSoundPlaced, Spans, IsSoundBody, IsOpen, IsAt, IsSoundState}
 use Rattle.asm_soundness.proofs.PoolLaws.{text_keeps, class_keeps, string_keeps, numbers_keep, members_keep, text_stays}
 use Rattle.asm_soundness.proofs.StayLaws as stays
@@ -212,7 +209,7 @@ instruction_line_keeps line opcode ops s t stage o b h small k e =
       rows = old.rows;
     } in
     subst IsSoundState same (state_with s m.0.1 new h named.0 refl refl
-        (subst (λ (g : Stage). IsAt g new) (sym stage) (open_kept s m.0.1 true named.0 o, body)))
+    (subst (λ (g : Stage). IsAt g new) (sym stage) (open_kept s m.0.1 true named.0 o, body)))
 
 le_or_lt : (a b : ℕ) → (a ≤ b) ⊎ (b < a)
 le_or_lt a b = by (leb_tells a b)
@@ -241,7 +238,6 @@ opcode_small opcode h =
 -- ---- frames
 
 type_keeps : (t : FrameType) (pool : List Const) (x : PlacedType × List Const) → IsSoundPool pool → IsFrameType t → is_sound_type t ≡ true → frame_types.type_of t pool ≡ Some x → Grows pool x.1
-
 type_keeps types.Top pool x h k s e = subst (λ (y : PlacedType × List Const). Grows pool y.1) (some_same _ x e) (same_pool pool h)
 type_keeps types.Int pool x h k s e = subst (λ (y : PlacedType × List Const). Grows pool y.1) (some_same _ x e) (same_pool pool h)
 type_keeps types.Long pool x h k s e = subst (λ (y : PlacedType × List Const). Grows pool y.1) (some_same _ x e) (same_pool pool h)
@@ -293,7 +289,7 @@ frame_line_keeps line locals stack s t stage o b h l k e =
       rows = old.rows;
     } in
     subst IsSoundState (some_same new t q.2) (state_with s q.0.1 new h whole refl refl
-        (subst (λ (x : Stage). IsAt x new) (sym stage) (open_kept s q.0.1 true whole o, body)))
+    (subst (λ (x : Stage). IsAt x new) (sym stage) (open_kept s q.0.1 true whole o, body)))
 
 -- ---- rows, labels, sizes
 
@@ -339,7 +335,7 @@ label_line_keeps label s t stage o b h e =
 pub stack_line_keeps : (stack locals : ℕ) (s : State) → IsOpen s true → IsSoundState s → stack < 2 ^ 16 → locals < 2 ^ 16 → IsSoundState (stack_line stack locals s)
 stack_line_keeps stack locals s o h a b =
     state_with s s.pool (stack_line stack locals s) h (same_pool s.pool h.pool) refl refl
-        (o, record { max_stack = a; max_locals = b; spans = refl; small = omega arith; placed = tt; map_name = inl refl; rows = record { few = omega arith; each = tt } })
+    (o, record { max_stack = a; max_locals = b; spans = refl; small = omega arith; placed = tt; map_name = inl refl; rows = record { few = omega arith; each = tt } })
 
 -- ---- the end of a method
 

@@ -1,34 +1,30 @@
 -- The lines of a class and of its members keep what is sound.
-use Rattle.std.proofs.Common.{◌≡◌, ℕ, zero, suc, ◌+◌, ◌<◌, ◌≤◌, ◌==◌, ◌⊎◌, inl, inr, Bool, true, false, not, ◌&&◌, cond, List, [], ◌∷◌, ◌++◌, length, codes, Option, Some, None, refl, sym, ◌∙◌, ap, subst, arith, bit_and, bit_or, ltb, length-append, append_assoc, lit<, ◌^◌}
+use Rattle.std.proofs.Common.{◌≡◌, ℕ, ◌<◌, ◌==◌, inl, inr, Bool, true, false, not, ◌&&◌, cond, List, [], ◌∷◌, ◌++◌, length, codes, Option, Some, None, refl, sym, ◌∙◌, ap, subst, arith, bit_and, bit_or, ltb, length-append, append_assoc, lit<, ◌^◌}
 use Rattle.std.specs.List.{AllByRecursion, list_all}
 use Rattle.std.proofs.lemmas.Bool.{ltb-true}
 use Rattle.std.proofs.lemmas.Nat.{or_lt, and_or_apart}
 use Rattle.std.proofs.lemmas.List.{append-nil}
-use Rattle.items.specs.Options.{◌>>=◌}
 use Rattle.items.proofs.Binds.{some_is}
 use Rattle.class_model.specs.declared.access_flags.TheConstants.{ACC_MODULE}
 use Rattle.class_model.specs.declared.constant.Const.{Const}
-use Rattle.class_model.specs.declared.member.Member.{Member}
-use Rattle.class_model.specs.declared.attribute.Attribute.{Attribute}
 use Rattle.class_grammar.specs.Text.{same_text}
 use Rattle.class_grammar.specs.Names.{object_class, is_class_text, is_field_name, is_method_name}
 use Rattle.class_grammar.specs.Pool.{text_at, class_name_at}
-use Rattle.class_grammar.specs.Ranges.{IsU2}
 use Rattle.class_grammar.specs.Checks.{has_no_code}
 use Rattle.descriptors.specs.States.{is_field, is_method}
 use Rattle.asm_text.specs.declared.line.Flag.{Flag}
 use Rattle.asm_text.specs.declared.line.Flag.TheVariants as flags
-use Rattle.asm_text.specs.Words.{is_word, is_word_byte, IsWord}
+use Rattle.asm_text.specs.Words.{is_word_byte, IsWord}
 use Rattle.asm_pool.specs.Mentions as pools
 use Rattle.asm_class.specs.declared.assembly.Stage.{Stage}
 use Rattle.asm_class.specs.declared.assembly.Stage.TheVariants as stages
 use Rattle.asm_class.specs.Flags.{bit_of, bits_with, bits_of}
 use Rattle.asm_class.specs.Names.{class_at, names_at, is_field_of, is_method_of}
 use Rattle.asm_class.specs.States.{State}
-use Rattle.asm_class.specs.ClassLines.{has_room, after_class, class_line, super_line, with_interface, implements_line, field_of, with_field, field_line, after_method, code_at, method_of, method_line, with_method}
+use Rattle.asm_class.specs.ClassLines.{has_room, class_line, super_line, with_interface, implements_line, field_of, field_line, after_method, code_at, method_of, method_line}
 use Rattle.asm_soundness.specs.Pools.{IsClassAt, IsSoundPool, Grows, IsAscii}
-use Rattle.asm_soundness.specs.SoundStates.{IsPassed, IsSoundClass, IsSoundField, IsSoundMethod, AreSoundAttributes, AreFew}
-use Rattle.asm_soundness.specs.SoundLines.{IsHead, IsOther, IsOpen, IsAt, IsSoundState}
+use Rattle.asm_soundness.specs.SoundStates.{IsSoundClass, IsSoundField, IsSoundMethod, AreFew}
+use Rattle.asm_soundness.specs.SoundLines.{IsHead, IsOther, IsAt, IsSoundState}
 use Rattle.asm_soundness.proofs.PoolLaws.{text_keeps, class_keeps, text_stays}
 use Rattle.asm_soundness.proofs.StayLaws as stays
 
@@ -94,7 +90,7 @@ AreKept pool s = AreFew (IsClassAt pool) s.class.interfaces × AreFew (IsSoundFi
 pub kept : (s : State) (new : List Const) → IsSoundState s → Grows s.pool new → AreKept new s
 kept s new h g =
     subst (λ (p : List Const). AreKept p s) (sym g.is)
-        (stays.classes s.pool g.more s.class.interfaces h.interfaces, stays.fields s.pool g.more s.class.fields h.fields, stays.methods s.pool g.more s.class.methods h.methods)
+    (stays.classes s.pool g.more s.class.interfaces h.interfaces, stays.fields s.pool g.more s.class.fields h.fields, stays.methods s.pool g.more s.class.methods h.methods)
 
 pub own_kept : (pool new : List Const) (own parent : ℕ) → Grows pool new → IsSoundClass pool own parent → IsSoundClass new own parent
 own_kept pool new own parent g h = subst (λ (p : List Const). IsSoundClass p own parent) (sym g.is) (stays.owned pool g.more own parent h)
@@ -192,7 +188,7 @@ names_at_keep name descriptor pool x h w v e =
     let same = some_same _ x q.2 in
     let name_is : text_at q.0.1 p.0.0 ≡ Some name = ap (λ (r : List Const). text_at r p.0.0) l.0.is ∙ text_stays p.0.1 l.0.more p.0.0 name k.1 in
     subst (λ (y : (ℕ × ℕ) × List Const). Grows pool y.1 × (text_at y.1 y.0.0 ≡ Some name) × (text_at y.1 y.0.1 ≡ Some descriptor)) same
-        (grows_on pool p.0.1 q.0.1 k.0 l.0, name_is, l.1)
+    (grows_on pool p.0.1 q.0.1 k.0 l.0, name_is, l.1)
 
 pub field_line_keeps : (fs : List Flag) (name descriptor : List ℕ) (s t : State) → IsSoundClass s.pool s.class.own s.class.parent → IsSoundState s → IsWord name → IsWord descriptor
     → field_line fs name descriptor s ≡ Some t → IsSoundState t

@@ -1,9 +1,8 @@
 -- The bytes of instructions and of frames are bytes.
-use Rattle.std.proofs.Common.{◌≡◌, ℕ, ℤ, pos, negsuc, zero, suc, ◌+◌, ◌-◌, ◌*◌, ◌/◌, ◌%◌, ◌<◌, ◌≤◌, ◌^◌, ◌==◌, Bool, true, false, not, ◌&&◌, cond, List, [], ◌∷◌, ◌++◌, length, replicate, Option, Some, None, Result, Ok, Err, refl, sym, ◌∙◌, ap, subst, arith, ltb, leb, lit<, mod-lt, length-append, FitsSigned, int_le}
-use Rattle.std.specs.Int.{w8, w16, w32, cast_unsigned, to_be_bytes, byte_at, bytes_high_first}
+use Rattle.std.proofs.Common.{◌≡◌, ℕ, ℤ, pos, negsuc, zero, suc, ◌+◌, ◌-◌, ◌/◌, ◌%◌, ◌<◌, ◌^◌, ◌==◌, Bool, true, false, ◌&&◌, cond, List, [], ◌∷◌, ◌++◌, length, replicate, Option, Some, None, Result, Ok, Err, refl, sym, ◌∙◌, ap, subst, arith, ltb, lit<, mod-lt, FitsSigned, int_le}
+use Rattle.std.specs.Int.{w8, w16, w32, cast_unsigned, byte_at, bytes_high_first}
 use Rattle.std.specs.List.{AllByRecursion}
 use Rattle.std.proofs.lemmas.Bool.{ltb-true, leb-true}
-use Rattle.items.specs.Options.{◌>>=◌}
 use Rattle.items.proofs.Binds.{some_is}
 use Rattle.class_grammar.specs.Ranges.{IsU1}
 use Rattle.asm_text.specs.declared.instruction.Operands.{Operands}
@@ -13,14 +12,14 @@ use Rattle.asm_text.specs.declared.instruction.Element.TheVariants as elements
 use Rattle.asm_text.specs.declared.instruction.Case.{Case}
 use Rattle.asm_text.specs.LineText.{IsOperands}
 use Rattle.asm_code.specs.declared.instruction.Mentioned.{Mentioned}
-use Rattle.asm_code.specs.Encoding.{Targets, u2, s1, s2, s4, offset, is_near, near, far, far_all, padding, highest, is_table, table_targets, table, are_rising, case, cases, lookup, constant, local, is_small, increment, branch, member, element_code, dimensions, with_instruction}
+use Rattle.asm_code.specs.Encoding.{Targets, u2, s1, s2, s4, offset, is_near, near, far, far_all, padding, highest, is_table, table_targets, table, are_rising, case, cases, lookup, is_small, element_code, with_instruction}
 use Rattle.asm_code.specs.Sizes.{size_of}
 use Rattle.asm_code.proofs.SizeLaws.{sizes}
 use Rattle.asm_body.specs.declared.placed.Placed.{Placed}
 use Rattle.asm_body.specs.declared.placed.PlacedType.{PlacedType}
 use Rattle.asm_body.specs.declared.placed.PlacedType.TheVariants as types
 use Rattle.asm_body.specs.declared.placed.PlacedFrame.{PlacedFrame}
-use Rattle.asm_body.specs.Bodies.{or_line, ◌then◌, put_one, put_all, with_new, with_type, with_types, with_counted, delta_of, with_frame, put_frame, put_frames}
+use Rattle.asm_body.specs.Bodies.{or_line, ◌then◌, put_one, put_all, with_type, with_types, with_counted, delta_of, with_frame, put_frame, put_frames}
 use Rattle.asm_soundness.specs.SoundLines.{IsSoundPlaced, Spans}
 use Rattle.asm_soundness.proofs.ClassLaws.{some_same, both_true, chosen}
 

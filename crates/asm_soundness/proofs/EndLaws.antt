@@ -1,29 +1,25 @@
 -- The end of a method makes sound code.
-use Rattle.std.proofs.Common.{◌≡◌, ◌≢◌, ℕ, zero, suc, ◌+◌, ◌*◌, ◌<◌, ◌≤◌, ◌^◌, ◌==◌, ◌⊎◌, inl, inr, Bool, true, false, not, ◌&&◌, cond, List, [], ◌∷◌, ◌++◌, length, codes, Option, Some, None, Result, Ok, Err, min, refl, sym, ◌∙◌, ap, subst, arith, ltb, leb, lit<, length-append}
+use Rattle.std.proofs.Common.{◌≡◌, ℕ, zero, suc, ◌+◌, ◌*◌, ◌<◌, ◌≤◌, ◌^◌, ◌==◌, ◌⊎◌, inl, inr, Bool, true, false, not, ◌&&◌, cond, List, [], ◌∷◌, ◌++◌, length, codes, Some, None, Result, Ok, Err, refl, sym, ◌∙◌, ap, subst, arith, ltb, leb, length-append}
 use Rattle.std.specs.List.{AllByRecursion, flat_map}
 use Rattle.std.proofs.lemmas.Bool.{ltb-true, leb-true}
-use Rattle.std.proofs.lemmas.Bool.Decides.{eqb_tells}
 use Rattle.std.proofs.lemmas.List.{append-nil}
 use Rattle.std.proofs.lemmas.List.Concat.{flat_map-cons}
-use Rattle.items.specs.Options.{◌>>=◌}
 use Rattle.items.proofs.Binds.{some_is}
 use Rattle.class_model.specs.declared.constant.Const.{Const}
 use Rattle.class_model.specs.declared.attribute.Row.{Row}
 use Rattle.class_model.specs.declared.attribute.CodeBody.{CodeBody}
-use Rattle.class_model.specs.declared.attribute.CodeAttribute.{CodeAttribute}
 use Rattle.class_grammar.specs.Layout as layout
 use Rattle.class_grammar.specs.Pool.{text_at}
-use Rattle.class_grammar.specs.Ranges.{IsU4, IsSized}
 use Rattle.class_grammar.specs.Checks.{has_no_code}
 use Rattle.asm_code.specs.Encoding.{Targets, u2}
 use Rattle.asm_body.specs.declared.placed.PlacedFrame.{PlacedFrame}
 use Rattle.asm_body.specs.declared.placed.PlacedRow.{PlacedRow}
-use Rattle.asm_body.specs.Bodies.{or_line, ◌then◌, put_all, put_frames, is_range, in_range, row_at, row_of, put_rows}
+use Rattle.asm_body.specs.Bodies.{or_line, put_all, put_frames, is_range, row_at, row_of, put_rows}
 use Rattle.asm_class.specs.declared.assembly.BodyParts.{BodyParts}
 use Rattle.asm_class.specs.States.{State}
 use Rattle.asm_class.specs.ClassLines.{with_method}
 use Rattle.asm_class.specs.Ends.{both, maps_of, attribute_size, is_code, code_body, code_of, body_of, code_attribute, code_end}
-use Rattle.asm_soundness.specs.SoundStates.{IsCaughtAt, IsSoundRow, IsSoundMap, AreSoundMaps, IsSoundCode, IsSoundAttribute, AreSoundAttributes}
+use Rattle.asm_soundness.specs.SoundStates.{IsCaughtAt, IsSoundRow, AreSoundMaps, IsSoundCode}
 use Rattle.asm_soundness.specs.SoundLines.{IsSoundBody, IsOpen, IsSoundState}
 use Rattle.asm_soundness.proofs.ClassLaws.{some_same, both_true, chosen}
 use Rattle.asm_soundness.proofs.BodyLaws.{method_end_keeps}
@@ -163,7 +159,7 @@ code_end_keeps line s t o b h e =
     let sound = body_is_sound s.pool s.targets line s.body p.0 b p.1 in
     let none : has_no_code s.method.flags ≡ false = o.1.none in
     subst IsSoundState (ok_same _ t p.2) (method_end_keeps (code_attribute s.method.code p.0 ∷ []) s true o h
-        (none, record { code = p.0; body = refl; name = o.1.named refl; sound = sound }))
+    (none, record { code = p.0; body = refl; name = o.1.named refl; sound = sound }))
   where
     not_waiting : (w : Bool) (q : Result State ℕ) (y : State) → cond w (Err line) q ≡ Ok y → q ≡ Ok y
     not_waiting true q y f = absurd cc

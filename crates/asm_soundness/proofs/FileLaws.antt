@@ -1,11 +1,9 @@
 -- A class file that is sound is spelled.
-use Rattle.std.proofs.Common.{◌≡◌, ℕ, zero, suc, ◌+◌, ◌<◌, ◌≤◌, ◌==◌, ◌⊎◌, inl, inr, Bool, true, false, not, ◌&&◌, ◌||◌, cond, List, [], ◌∷◌, ◌++◌, length, codes, Option, Some, None, option_and_then, slice_get, refl, sym, ◌∙◌, ap, subst, arith, bit_and}
+use Rattle.std.proofs.Common.{◌≡◌, ℕ, ◌≤◌, ◌==◌, ◌⊎◌, inl, inr, Bool, true, false, not, ◌||◌, cond, List, [], ◌∷◌, length, codes, Option, None, refl, sym, ◌∙◌, ap, subst, arith}
 use Rattle.std.specs.Option.{option_map_or}
 use Rattle.std.specs.List.{AllByRecursion, flat_map, list_any}
-use Rattle.std.proofs.lemmas.Option.{slice_get_within}
 use Rattle.std.proofs.lemmas.Bool.{le-leb, lt-ltb}
 use Rattle.std.proofs.lemmas.List.Concat.{flat_map-cons}
-use Rattle.class_model.specs.declared.access_flags.TheConstants.{ACC_MODULE}
 use Rattle.class_model.specs.declared.constant.Const.{Const}
 use Rattle.class_model.specs.declared.attribute.Attribute.{Attribute}
 use Rattle.class_model.specs.declared.attribute.Body.{Body}
@@ -22,14 +20,14 @@ use Rattle.class_grammar.specs.declared.class_why.ClassWhy.TheVariants as whys
 use Rattle.class_grammar.specs.declared.holder.Holder.TheVariants as holders
 use Rattle.class_grammar.specs.Text.{same_text}
 use Rattle.class_grammar.specs.Names.{object_class, is_field_name, is_method_name}
-use Rattle.class_grammar.specs.Pool.{text_at, class_name_at, is_text}
+use Rattle.class_grammar.specs.Pool.{text_at, is_text}
 use Rattle.class_grammar.specs.Layout as layout
 use Rattle.class_grammar.specs.Ranges.{IsU2, IsU4, IsSized, IsBody, IsTable, IsMember, IsAttribute, IsCode, IsRow, IsCodeAttribute, IsInRange}
-use Rattle.class_grammar.specs.Attributes.{has_body_name, is_extra_of_name, has_extra_name, is_map, is_recognized_body, HasOwnAttributes, AreExtras, IsAttributeAt, AreAttributesAt, AreMembers, HasAttributes}
-use Rattle.class_grammar.specs.Checks.{Item, unless, class_fault, flags_fault, parent_fault, interface_items, class_items, catch_fault, row_items, code_items, extra_items, body_items, attribute_items, field_items, method_items, member_items, pool_items, items, has_no_code, code_fault, constant_items, is_code, text_fault, is_object}
+use Rattle.class_grammar.specs.Attributes.{has_body_name, is_extra_of_name, has_extra_name, is_map, is_recognized_body, HasOwnAttributes, AreExtras, IsAttributeAt, AreAttributesAt, HasAttributes}
+use Rattle.class_grammar.specs.Checks.{Item, unless, class_fault, parent_fault, interface_items, class_items, catch_fault, row_items, code_items, extra_items, body_items, attribute_items, field_items, method_items, member_items, pool_items, items, has_no_code, is_code, text_fault, is_object}
 use Rattle.class_grammar.specs.Grammar.{IsSound, Spells}
 use Rattle.descriptors.specs.States.{is_field, is_method}
-use Rattle.asm_soundness.specs.Pools.{IsClassAt, IsSoundPool}
+use Rattle.asm_soundness.specs.Pools.{IsClassAt}
 use Rattle.asm_soundness.specs.SoundStates.{IsPassed, IsSoundClass, IsSoundField, IsCaughtAt, IsSoundRow, IsSoundMap, AreSoundMaps, IsSoundCode, IsSoundAttribute, AreSoundAttributes, IsSoundMethod, AreFew, IsSoundFile}
 use Rattle.asm_soundness.proofs.SpellLaws.{range_is, sound_is, small_text, small_class, class_sound, text_sound, all_append}
 
@@ -68,11 +66,16 @@ module _ (pool : List Const) (few : length pool ≤ 65535) where
   caught_sound i (inr k) = no_fault (i == 0) (class_fault pool i) (class_sound pool i k)
 
   row_sound : (size : ℕ) (r : Row) → IsSoundRow pool size r → AllByRecursion IsSound (row_items pool size r)
-  row_sound size r h =
-      (ap (λ (b : Bool). unless b whys.Range) (lt-ltb r.start r.end h.start),
-      (ap (λ (b : Bool). unless b whys.Range) (le-leb r.end size h.end),
-      (ap (λ (b : Bool). unless b whys.Range) (lt-ltb r.handler size h.handler),
-      (caught_sound r.catch_type h.caught, tt))))
+  row_sound size r h = (
+    ap (λ (b : Bool). unless b whys.Range) (lt-ltb r.start r.end h.start),
+    (
+      ap (λ (b : Bool). unless b whys.Range) (le-leb r.end size h.end),
+      (
+        ap (λ (b : Bool). unless b whys.Range) (lt-ltb r.handler size h.handler),
+        (caught_sound r.catch_type h.caught, tt),
+      ),
+    ),
+  )
 
   map_range : (a : CodeAttribute) → IsSoundMap pool a → IsCodeAttribute a
   map_range a h = record {
@@ -99,10 +102,18 @@ module _ (pool : List Const) (few : length pool ≤ 65535) where
   extras_sound (a ∷ cs) = subst (AllByRecursion IsSound) (sym (flat_map-cons extra_items a cs)) (all_append (extra_items a) (flat_map extra_items cs) (refl, (refl, tt)) (extras_sound cs))
 
   code_sound : (c : CodeBody) → IsSoundCode pool c → AllByRecursion IsSound (code_items pool c)
-  code_sound c h = (refl, (refl, (refl,
-      all_append (flat_map (row_items pool (length c.code)) c.rows) _
-          (items_by (IsSoundRow pool (length c.code)) (row_items pool (length c.code)) (row_sound (length c.code)) c.rows h.rows)
-          (refl, extras_sound c.attributes))))
+  code_sound c h = (
+    refl,
+    (
+      refl,
+      (
+        refl,
+        all_append (flat_map (row_items pool (length c.code)) c.rows) _
+            (items_by (IsSoundRow pool (length c.code)) (row_items pool (length c.code)) (row_sound (length c.code)) c.rows h.rows)
+            (refl, extras_sound c.attributes),
+      ),
+    ),
+  )
 
   map_named : (a : CodeAttribute) → IsSoundMap pool a → is_extra_of_name pool a ≡ true
   map_named a h =
@@ -174,9 +185,16 @@ module _ (pool : List Const) (few : length pool ≤ 65535) where
   field_at m h = subst (λ (as' : List Attribute). AreAttributesAt pool holders.Field false as') (sym h.attributes) (record { each = tt; single = refl })
 
   field_is_sound : (m : Member) → IsSoundField pool m → AllByRecursion IsSound (field_items pool m)
-  field_is_sound m h =
-      (refl, (passed_sound is_field_name whys.Name m.name h.name, (passed_sound is_field whys.Descriptor m.descriptor h.descriptor,
-      (refl, subst (λ (as' : List Attribute). AllByRecursion IsSound (flat_map (attribute_items pool m) as')) (sym h.attributes) tt))))
+  field_is_sound m h = (
+    refl,
+    (
+      passed_sound is_field_name whys.Name m.name h.name,
+      (
+        passed_sound is_field whys.Descriptor m.descriptor h.descriptor,
+        (refl, subst (λ (as' : List Attribute). AllByRecursion IsSound (flat_map (attribute_items pool m) as')) (sym h.attributes) tt),
+      ),
+    ),
+  )
 
   method_range : (m : Member) → IsSoundMethod pool m → IsMember m
   method_range m h = record {
@@ -193,10 +211,16 @@ module _ (pool : List Const) (few : length pool ≤ 65535) where
   code_is false false e = absurd cc
 
   method_is_sound : (m : Member) → IsSoundMethod pool m → AllByRecursion IsSound (method_items pool m)
-  method_is_sound m h =
-      (code_is (has_no_code m.flags) (list_any is_code m.attributes) (has_code m.flags m.attributes h.attributes),
-      (passed_sound is_method_name whys.Name m.name h.name, (passed_sound is_method whys.Descriptor m.descriptor h.descriptor,
-      (refl, attributes_sound m m.flags m.attributes h.attributes))))
+  method_is_sound m h = (
+    code_is (has_no_code m.flags) (list_any is_code m.attributes) (has_code m.flags m.attributes h.attributes),
+    (
+      passed_sound is_method_name whys.Name m.name h.name,
+      (
+        passed_sound is_method whys.Descriptor m.descriptor h.descriptor,
+        (refl, attributes_sound m m.flags m.attributes h.attributes),
+      ),
+    ),
+  )
 
   -- ---- the class
 
@@ -205,6 +229,7 @@ module _ (pool : List Const) (few : length pool ≤ 65535) where
     where
       object : is_object pool own ≡ same_text h.name object_class
       object = ap (λ (o : Option (List ℕ)). option_map_or (is_text object_class) o false) h.own_is
+
       by : ((same_text h.name object_class ≡ true) × (parent ≡ 0)) ⊎ ((same_text h.name object_class ≡ false) × IsClassAt pool parent) → parent_fault pool own parent ≡ None
       by (inl k) = ap (λ (b : Bool). cond b (unless (parent == 0) whys.Index) (class_fault pool parent)) (object ∙ k.0) ∙ ap (λ (n : ℕ). unless (n == 0) whys.Index) k.1
       by (inr k) = ap (λ (b : Bool). cond b (unless (parent == 0) whys.Index) (class_fault pool parent)) (object ∙ k.0) ∙ class_sound pool parent k.1
@@ -255,15 +280,24 @@ module _ (f : ClassFile) (h : IsSoundFile f) where
   }
 
   class_is_sound : AllByRecursion IsSound (class_items f)
-  class_is_sound =
-      (ap (λ (n : ℕ). unless (n == 0) whys.Unsupported) h.no_module, (class_sound f.pool f.own own_at, (parent_sound f.pool few f.own f.parent h.class,
-      (refl, interfaces_sound f.pool few f.interfaces h.interfaces.each))))
+  class_is_sound = (
+    ap (λ (n : ℕ). unless (n == 0) whys.Unsupported) h.no_module,
+    (
+      class_sound f.pool f.own own_at,
+      (
+        parent_sound f.pool few f.own f.parent h.class,
+        (refl, interfaces_sound f.pool few f.interfaces h.interfaces.each),
+      ),
+    ),
+  )
 
   members_sound : AllByRecursion IsSound (member_items f)
-  members_sound =
-      (refl, all_append (flat_map (field_items f.pool) f.fields) _
-          (items_by (IsSoundField f.pool) (field_items f.pool) (field_is_sound f.pool few) f.fields h.fields.each)
-          (refl, items_by (IsSoundMethod f.pool) (method_items f.pool) (method_is_sound f.pool few) f.methods h.methods.each))
+  members_sound = (
+    refl,
+    all_append (flat_map (field_items f.pool) f.fields) _
+        (items_by (IsSoundField f.pool) (field_items f.pool) (field_is_sound f.pool few) f.fields h.fields.each)
+        (refl, items_by (IsSoundMethod f.pool) (method_items f.pool) (method_is_sound f.pool few) f.methods h.methods.each),
+  )
 
   pub all_sound : AllByRecursion IsSound (items f)
   all_sound = all_append (pool_items f) _ (refl, sound_is f.pool h.pool) (all_append (class_items f) (member_items f) class_is_sound members_sound)

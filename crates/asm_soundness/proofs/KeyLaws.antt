@@ -1,8 +1,7 @@
 -- A constant of assembler text is told by its key.
-use Rattle.std.proofs.Common.{◌≡◌, ℕ, ◌<◌, ℤ, List, [], ◌∷◌, length, Option, Some, None, refl, sym, ◌∙◌, ap, arith}
-use Rattle.std.specs.Fmt.{signed_decimal}
+use Rattle.std.proofs.Common.{◌≡◌, ℕ, List, [], ◌∷◌}
 use Rattle.class_model.specs.declared.constant.Const.{Const}
-use Rattle.class_model.specs.declared.constant.Const.TheVariants.{Unused, Utf8, Integer, Float, Long, Double, Class, Text, Fieldref, Methodref, InterfaceMethodref, NameAndType, MethodHandle, MethodType, Dynamic, InvokeDynamic, Module, Package}
+use Rattle.class_model.specs.declared.constant.Const.TheVariants.{Utf8, Class, NameAndType}
 use Rattle.asm_pool.specs.Keys.{key_of}
 
 -- a text is the only constant with its key

@@ -8,3 +8,4 @@ pub mod ClassLaws
 pub mod BodyLaws
 pub mod CodeLaws
 pub mod EndLaws
+pub mod LineLaws

@@ -1,9 +1,8 @@
 -- A pool that grows by a mention stays sound.
-use Rattle.std.proofs.Common.{◌≡◌, ℕ, ℤ, FitsSigned, zero, suc, ◌+◌, ◌<◌, ◌≤◌, Bool, true, false, cond, List, [], ◌∷◌, ◌++◌, length, Option, Some, None, option_and_then, slice_get, refl, sym, ◌∙◌, ap, subst, arith, length-append, append_assoc, nat_eq, ltb}
+use Rattle.std.proofs.Common.{◌≡◌, ℕ, ℤ, FitsSigned, suc, ◌+◌, ◌<◌, ◌≤◌, Bool, true, false, cond, List, [], ◌∷◌, ◌++◌, length, Option, Some, None, option_and_then, slice_get, refl, sym, ◌∙◌, ap, subst, arith, length-append, append_assoc, nat_eq, ltb}
 use Rattle.std.specs.Int.{w32, w64}
 use Rattle.std.specs.Option.{option_map}
 use Rattle.std.specs.List.{AllByRecursion}
-use Rattle.std.specs.Str.{bytes_eq}
 use Rattle.std.specs.Cmp.Lexicographic.{pointwise, bytes_decides}
 use Rattle.std.proofs.Math.ListN.{get_or-append}
 use Rattle.std.proofs.Math.Seq.{get_or-append_seam}
@@ -11,13 +10,13 @@ use Rattle.std.proofs.lemmas.List.{append-nil}
 use Rattle.std.proofs.lemmas.Option.{slice_get_within, slice_get-get_or, get_or_from_slice_get}
 use Rattle.std.proofs.lemmas.Bool.{ltb-false}
 use Rattle.class_model.specs.declared.constant.Const.{Const}
-use Rattle.class_model.specs.declared.constant.Const.TheVariants.{Unused, Utf8, Integer, Float, Long, Double, Class, Text, Fieldref, Methodref, InterfaceMethodref, NameAndType, MethodHandle, MethodType, Dynamic, InvokeDynamic, Module, Package}
+use Rattle.class_model.specs.declared.constant.Const.TheVariants.{Unused, Utf8, Integer, Long, Class, Text, Fieldref, Methodref, InterfaceMethodref, NameAndType}
 use Rattle.class_grammar.specs.Names.{is_class_text}
 use Rattle.class_grammar.specs.Pool.{text_of, text_at, class_name_of, class_name_at}
 use Rattle.class_grammar.specs.Ranges.{is_wide, AreEntries}
 use Rattle.asm_pool.specs.Keys.{key_of}
 use Rattle.asm_pool.specs.Mentions.{Mention, ◌then◌, is_long, second_entry, slots_of, place_of, mentioned_at, mentioned, is_short, text, class, string, int, long, name_and_type, field, method, interface_method}
-use Rattle.asm_soundness.specs.Pools.{IsMemberAt, IsClassAt, IsText, AreNames, IsClassName, IsTextAt, IsKnown, IsSoundPool, Grows, IsAscii, AreMember, is_member_by, KeepsMembers}
+use Rattle.asm_soundness.specs.Pools.{IsMemberAt, IsClassAt, AreNames, IsKnown, IsSoundPool, Grows, IsAscii, AreMember, is_member_by, KeepsMembers}
 use Rattle.asm_soundness.proofs.KeyLaws.{utf8_of_key, class_of_key, names_of_key}
 
 -- ---- what is in a pool stays there
@@ -267,17 +266,19 @@ name_and_type_keeps of_field name descriptor pool index new h a b passed e =
     let known : AreNames r.0.1 s.0.0 r.0.0 = record { name_units = name; descriptor_units = descriptor; name_is = name_is; descriptor_is = u.1; of_field = of_field; passed = passed } in
     let left = mention_left r.0.1 (NameAndType s.0.0 r.0.0) index new u.0.sound known tt r.2 in
     let same : left.1.0 ≡ NameAndType s.0.0 r.0.0 = names_of_key left.1.0 s.0.0 r.0.0 left.1.2 in
-    let stays : (i : ℕ) (w : List ℕ) → text_at r.0.1 i ≡ Some w → text_at new i ≡ Some w = λ i w g. ap (λ (p : List Const). text_at p i) left.0.is ∙ text_stays r.0.1 left.0.more i w g in
-    (grows_on pool r.0.1 new (grows_on pool s.0.1 r.0.1 t.0 u.0) left.0, record {
-      name_index = s.0.0;
-      descriptor_index = r.0.0;
-      name = name;
-      descriptor = descriptor;
-      here = left.1.1 ∙ ap (λ (x : Const). Some x) same;
-      name_is = stays s.0.0 name name_is;
-      descriptor_is = stays r.0.0 descriptor u.1;
-      passed = passed;
-    })
+    let stays : (i : ℕ) (w : List ℕ) → text_at r.0.1 i ≡ Some w → text_at new i ≡ Some w = λ i w g. ap (λ (p : List Const). text_at p i) left.0.is ∙ text_stays r.0.1 left.0.more i w g in (
+      grows_on pool r.0.1 new (grows_on pool s.0.1 r.0.1 t.0 u.0) left.0,
+      record {
+        name_index = s.0.0;
+        descriptor_index = r.0.0;
+        name = name;
+        descriptor = descriptor;
+        here = left.1.1 ∙ ap (λ (x : Const). Some x) same;
+        name_is = stays s.0.0 name name_is;
+        descriptor_is = stays r.0.0 descriptor u.1;
+        passed = passed;
+      },
+    )
 
 -- a constant that names a class and a member of this kind
 abbrev Names : Bool → (ℕ → ℕ → Const) → Type 0
@@ -298,7 +299,8 @@ member_keeps of_field make owner name descriptor pool index new names h a e =
 
 pub members_keep : (owner name descriptor : List ℕ) (pool : List Const) → KeepsMembers owner name descriptor pool
 unfolding field method interface_method
-members_keep owner name descriptor pool index new h =
-    (λ a e. member_keeps true Fieldref owner name descriptor pool index new (λ p o m c n. ((c, n), tt)) h a e,
-     λ a e. member_keeps false Methodref owner name descriptor pool index new (λ p o m c n. ((c, n), tt)) h a e,
-     λ a e. member_keeps false InterfaceMethodref owner name descriptor pool index new (λ p o m c n. ((c, n), tt)) h a e)
+members_keep owner name descriptor pool index new h = (
+  λ a e. member_keeps true Fieldref owner name descriptor pool index new (λ p o m c n. ((c, n), tt)) h a e,
+  λ a e. member_keeps false Methodref owner name descriptor pool index new (λ p o m c n. ((c, n), tt)) h a e,
+  λ a e. member_keeps false InterfaceMethodref owner name descriptor pool index new (λ p o m c n. ((c, n), tt)) h a e,
+)

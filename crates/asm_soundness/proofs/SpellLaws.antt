@@ -1,5 +1,5 @@
 -- A sound pool keeps to the grammar of class files.
-use Rattle.std.proofs.Common.{◌≡◌, ℕ, zero, suc, ◌+◌, ◌<◌, ◌≤◌, ◌==◌, Bool, true, false, not, ◌&&◌, ◌||◌, cond, List, [], ◌∷◌, ◌++◌, length, Option, Some, None, option_and_then, slice_get, is_some, refl, sym, ◌∙◌, ap, subst, arith, length-append, count_by, ltb, leb}
+use Rattle.std.proofs.Common.{◌≡◌, ℕ, ◌+◌, ◌<◌, ◌≤◌, ◌==◌, Bool, true, false, not, ◌&&◌, ◌||◌, cond, List, [], ◌∷◌, ◌++◌, length, Option, Some, None, option_and_then, slice_get, is_some, refl, sym, ◌∙◌, ap, subst, arith, length-append, count_by, ltb, leb}
 use Rattle.std.specs.Option.{option_map_or}
 use Rattle.std.specs.List.{AllByRecursion, flat_map}
 use Rattle.std.proofs.lemmas.Option.{slice_get_within}
@@ -8,19 +8,17 @@ use Rattle.std.proofs.lemmas.List.Sums.{sum_by-cons}
 use Rattle.std.proofs.lemmas.List.Concat.{flat_map-cons}
 use Rattle.asm_soundness.proofs.NameLaws.{method_like, field_plain}
 use Rattle.class_model.specs.declared.constant.Const.{Const}
-use Rattle.class_model.specs.declared.constant.Const.TheVariants.{Unused, Utf8, Integer, Float, Long, Double, Class, Text, Fieldref, Methodref, InterfaceMethodref, NameAndType, MethodHandle, MethodType, Dynamic, InvokeDynamic, Module, Package}
+use Rattle.class_model.specs.declared.constant.Const.TheVariants.{Unused, Utf8, Integer, Long, Class, Text, Fieldref, Methodref, InterfaceMethodref, NameAndType}
 use Rattle.jvm_utf8.specs.Text as utf8
 use Rattle.class_grammar.specs.declared.class_why.ClassWhy.{ClassWhy}
 use Rattle.class_grammar.specs.declared.class_why.ClassWhy.TheVariants as whys
 use Rattle.class_grammar.specs.Names.{is_class_text, is_field_name, is_method_name, is_like_method}
-use Rattle.class_grammar.specs.Pool.{text_of, text_at, class_name_of, class_name_at}
+use Rattle.class_grammar.specs.Pool.{text_of, text_at, class_name_of}
 use Rattle.class_grammar.specs.Ranges.{IsU2, IsConstant, IsPool}
 use Rattle.class_grammar.specs.Checks.{Item, unless, is_class, text_fault, constant_items, text_items, class_fault, is_descriptor, descriptor_fault, of_field_fault, of_method_fault, name_fault}
 use Rattle.class_grammar.specs.Grammar.{IsSound}
 use Rattle.descriptors.specs.States.{is_field, is_method}
-use Rattle.asm_pool.specs.Mentions.{is_short}
-use Rattle.asm_class.specs.Names.{is_field_of, is_method_of}
-use Rattle.asm_soundness.specs.Pools.{IsMemberAt, IsClassAt, IsText, AreNames, IsClassName, IsTextAt, IsKnown, IsSoundPool, IsAscii, is_member_by}
+use Rattle.asm_soundness.specs.Pools.{IsMemberAt, IsClassAt, IsText, AreNames, IsKnown, IsSoundPool, IsAscii, is_member_by}
 
 -- ---- numbers in their ranges
 
@@ -150,14 +148,16 @@ names_sound : (pool : List Const) (name descriptor : ℕ) (h : AreNames pool nam
     → (name_fault pool name descriptor ≡ None) × (text_fault is_descriptor whys.Descriptor pool descriptor ≡ None)
 names_sound pool name descriptor h true passed =
     let t = both_true (is_field_name h.name_units) (is_field h.descriptor_units) passed in
-    let plain = field_plain h.descriptor_units t.1 in
-    (like_at pool name descriptor h false plain ∙ text_sound is_field_name whys.Name pool name h.name_units h.name_is t.0,
-     text_sound is_descriptor whys.Descriptor pool descriptor h.descriptor_units h.descriptor_is (ap (λ (b : Bool). cond b (is_method h.descriptor_units) (is_field h.descriptor_units)) plain ∙ t.1))
+    let plain = field_plain h.descriptor_units t.1 in (
+      like_at pool name descriptor h false plain ∙ text_sound is_field_name whys.Name pool name h.name_units h.name_is t.0,
+      text_sound is_descriptor whys.Descriptor pool descriptor h.descriptor_units h.descriptor_is (ap (λ (b : Bool). cond b (is_method h.descriptor_units) (is_field h.descriptor_units)) plain ∙ t.1),
+    )
 names_sound pool name descriptor h false passed =
     let t = both_true (is_method_name h.name_units) (is_method h.descriptor_units) passed in
-    let like = method_like h.descriptor_units t.1 in
-    (like_at pool name descriptor h true like ∙ text_sound is_method_name whys.Name pool name h.name_units h.name_is t.0,
-     text_sound is_descriptor whys.Descriptor pool descriptor h.descriptor_units h.descriptor_is (ap (λ (b : Bool). cond b (is_method h.descriptor_units) (is_field h.descriptor_units)) like ∙ t.1))
+    let like = method_like h.descriptor_units t.1 in (
+      like_at pool name descriptor h true like ∙ text_sound is_method_name whys.Name pool name h.name_units h.name_is t.0,
+      text_sound is_descriptor whys.Descriptor pool descriptor h.descriptor_units h.descriptor_is (ap (λ (b : Bool). cond b (is_method h.descriptor_units) (is_field h.descriptor_units)) like ∙ t.1),
+    )
 
 units_sound : (units : List ℕ) → AllByRecursion IsSound (text_items units)
 units_sound [] = tt
@@ -186,7 +186,7 @@ sounds_of : (pool cs : List Const) → AllByRecursion (IsKnown pool) cs → AllB
 sounds_of pool [] h = tt
 sounds_of pool (c ∷ cs) h =
     subst (AllByRecursion IsSound) (sym (flat_map-cons (constant_items pool) c cs))
-        (all_append (constant_items pool c) (flat_map (constant_items pool) cs) (sound_of pool c h.0) (sounds_of pool cs h.1))
+    (all_append (constant_items pool c) (flat_map (constant_items pool) cs) (sound_of pool c h.0) (sounds_of pool cs h.1))
 
 pub sound_is : (pool : List Const) → IsSoundPool pool → AllByRecursion IsSound (flat_map (constant_items pool) pool)
 sound_is pool h = sounds_of pool pool h.known

@@ -1,6 +1,5 @@
 -- What is sound stays so in a pool that grows.
-use Rattle.std.proofs.Common.{◌≡◌, ℕ, ◌⊎◌, inl, inr, Bool, true, false, List, [], ◌∷◌, ◌++◌, length, codes, Option, Some, None, refl, sym, ◌∙◌, ap, subst}
-use Rattle.std.specs.List.{AllByRecursion}
+use Rattle.std.proofs.Common.{◌≡◌, ℕ, ◌⊎◌, inl, inr, Bool, true, false, List, [], ◌∷◌, ◌++◌, length, codes, Some}
 use Rattle.class_model.specs.declared.constant.Const.{Const}
 use Rattle.class_model.specs.declared.attribute.Attribute.{Attribute}
 use Rattle.class_model.specs.declared.attribute.CodeBody.{CodeBody}
@@ -13,8 +12,8 @@ use Rattle.class_grammar.specs.Pool.{text_at}
 use Rattle.asm_body.specs.declared.placed.PlacedRow.{PlacedRow}
 use Rattle.asm_class.specs.declared.assembly.MethodParts.{MethodParts}
 use Rattle.asm_class.specs.declared.assembly.BodyParts.{BodyParts}
-use Rattle.asm_soundness.specs.Pools.{IsClassAt, IsSoundPool, Grows}
-use Rattle.asm_soundness.specs.SoundStates.{IsPassed, IsSoundClass, IsSoundField, IsCaughtAt, IsSoundRow, IsSoundMap, AreSoundMaps, IsSoundCode, IsSoundAttribute, AreSoundAttributes, IsSoundMethod, AreFew}
+use Rattle.asm_soundness.specs.Pools.{IsClassAt}
+use Rattle.asm_soundness.specs.SoundStates.{IsPassed, IsSoundClass, IsSoundField, IsCaughtAt, IsSoundRow, AreSoundMaps, IsSoundCode, AreSoundAttributes, IsSoundMethod, AreFew}
 use Rattle.asm_soundness.specs.SoundLines.{IsHead, IsSoundBody, IsOther}
 use Rattle.asm_soundness.proofs.PoolLaws.{text_stays, name_stays, class_stays}
 use Rattle.asm_soundness.proofs.FileLaws.{all_by}

@@ -1,5 +1,5 @@
 -- What the lines so far have made, such as a class file may come of it.
-use Rattle.std.specs.Prelude.{◌≡◌, ℕ, ◌+◌, ◌<◌, ◌≤◌, ◌^◌, ◌⊎◌, Bool, true, false, not, List, [], ◌∷◌, codes, Option, Some, None, bit_and}
+use Rattle.std.specs.Prelude.{◌≡◌, ℕ, ◌+◌, ◌<◌, ◌≤◌, ◌⊎◌, Bool, true, false, not, List, [], ◌∷◌, codes, Some, bit_and}
 use Rattle.std.specs.List.{AllByRecursion}
 use Rattle.class_model.specs.declared.access_flags.TheConstants.{ACC_MODULE}
 use Rattle.class_model.specs.declared.constant.Const.{Const}

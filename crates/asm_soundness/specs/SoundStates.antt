@@ -1,5 +1,5 @@
 -- What lines of assembler text make, such as a class file may have it (JVMS 4).
-use Rattle.std.specs.Prelude.{◌≡◌, ℕ, ◌+◌, ◌<◌, ◌≤◌, ◌^◌, ◌⊎◌, Bool, true, false, List, [], ◌∷◌, length, codes, Option, Some, None, bit_and}
+use Rattle.std.specs.Prelude.{◌≡◌, ℕ, ◌<◌, ◌≤◌, ◌⊎◌, Bool, true, false, List, [], ◌∷◌, length, codes, Some, bit_and}
 use Rattle.std.specs.List.{AllByRecursion}
 use Rattle.class_model.specs.declared.access_flags.TheConstants.{ACC_MODULE}
 use Rattle.class_model.specs.declared.constant.Const.{Const}
@@ -15,7 +15,7 @@ use Rattle.class_grammar.specs.Text.{same_text}
 use Rattle.class_grammar.specs.Names.{object_class, is_field_name, is_method_name}
 use Rattle.class_grammar.specs.Layout as layout
 use Rattle.class_grammar.specs.Pool.{text_at, class_name_at}
-use Rattle.class_grammar.specs.Ranges.{IsU1, IsU2, IsU4, IsSized, IsCode}
+use Rattle.class_grammar.specs.Ranges.{IsU1, IsU2, IsU4, IsSized}
 use Rattle.class_grammar.specs.Checks.{has_no_code}
 use Rattle.descriptors.specs.States.{is_field, is_method}
 use Rattle.asm_soundness.specs.Pools.{IsClassAt, IsSoundPool}

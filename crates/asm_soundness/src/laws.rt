@@ -1,6 +1,6 @@
 //! Laws of the constant pool that is assembled.
 
-ghost use Rattle.std.specs.Prelude.{ℕ, ℤ, List};
+ghost use Rattle.std.specs.Prelude.{ℕ, ℤ, List, Ok};
 ghost use Rattle.std.specs.List.{AllByRecursion, flat_map};
 ghost use Rattle.class_model.specs.declared.constant.Const.{Const as OneConst};
 ghost use Rattle.class_model.specs.declared.class_file.ClassFile.{ClassFile};
@@ -8,6 +8,7 @@ ghost use Rattle.class_grammar.specs.Layout.{class_file};
 ghost use Rattle.class_grammar.specs.Ranges.{IsPool};
 ghost use Rattle.class_grammar.specs.Checks.{constant_items};
 ghost use Rattle.class_grammar.specs.Grammar.{IsSound, Spells};
+ghost use Rattle.jasm.specs.Texts.{Assembles};
 ghost use Rattle.asm_soundness.specs.Pools as spec;
 ghost use Rattle.asm_soundness.specs.SoundStates.{IsSoundFile};
 
@@ -33,4 +34,9 @@ pub fn sound_pools_are_spelled()
 /// A class file whose parts are such as a class file may have is spelled. This does nothing.
 pub fn sound_files_are_spelled()
     ensures { (f : ClassFile) → IsSoundFile f → Spells (class_file f) f }
+{}
+
+/// The class file that a text of the assembler makes is spelled, so it can be written. This does nothing.
+pub fn assembled_is_spelled()
+    ensures { (text : List ℕ) (f : ClassFile) → Assembles text (Ok f) → Spells (class_file f) f }
 {}

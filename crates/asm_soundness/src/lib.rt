@@ -3,4 +3,6 @@
 
 mod laws;
 
-pub use laws::{pools_stay_sound, sound_files_are_spelled, sound_pools_are_spelled};
+pub use laws::{
+    assembled_is_spelled, pools_stay_sound, sound_files_are_spelled, sound_pools_are_spelled,
+};
