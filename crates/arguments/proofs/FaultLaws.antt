@@ -17,12 +17,12 @@ use Rattle.clap.specs.declared.builder.action.ArgAction.TheVariants as action
 use Rattle.clap.specs.declared.builder.value_parser.ValueParser.{ValueParser}
 use Rattle.clap.specs.declared.error.kind.ErrorKind.TheVariants as kind
 use Rattle.arguments.specs.CommandLine.{command_line}
-use Rattle.arguments.specs.Commands.{is_wish}
+use Rattle.arguments.specs.Commands.{asks_for_text}
 
 -- each of them asks for a text as the first does
 abbrev pub AreAlike : Kinds → Type 0
 AreAlike [] = Unit {0}
-AreAlike (k ∷ ks) = AllByRecursion (λ x. is_wish x ≡ is_wish k) ks
+AreAlike (k ∷ ks) = AllByRecursion (λ x. asks_for_text x ≡ asks_for_text k) ks
 
 -- ---- how lists are put together
 

@@ -15,7 +15,7 @@ use Rattle.clap.specs.declared.error.kind.ErrorKind.{ErrorKind}
 use Rattle.clap.specs.declared.error.kind.ErrorKind.TheVariants.{OutOfMemory}
 use Rattle.clap.specs.declared.parser.matches.ArgMatches.{ArgMatches}
 use Rattle.arguments.specs.CommandLine.{command_line}
-use Rattle.arguments.specs.Commands.{Command, command_by, command_of, help, is_wish, matched, texts}
+use Rattle.arguments.specs.Commands.{Command, command_by, command_of, help, asks_for_text, matched, texts}
 use Rattle.arguments.specs.Meanings.{AnswersTo, IsRefusal, command_meaning, matched_in}
 use Rattle.arguments.specs.declared.command.Command.{Command as CodeCommand}
 use Rattle.arguments.specs.declared.command.Command.TheVariants as code
@@ -38,17 +38,17 @@ Answers spelled (Err e) = IsRefusal spelled e
 
 -- what one of the reasons says
 abbrev told : ErrorKind → Option Command
-told k = if is_wish k then Some help else None
+told k = if asks_for_text k then Some help else None
 
-same_wish : (x : ErrorKind) (ks : Kinds) (k : ErrorKind) → AllByRecursion (λ y. is_wish y ≡ is_wish x) ks → IsAmong k ks → is_wish k ≡ is_wish x
-same_wish x [] k alike among = absurd among
-same_wish x (y ∷ ks) k alike (inl e) = ap is_wish e ∙ alike.0
-same_wish x (y ∷ ks) k alike (inr among) = same_wish x ks k alike.1 among
+same_asking : (x : ErrorKind) (ks : Kinds) (k : ErrorKind) → AllByRecursion (λ y. asks_for_text y ≡ asks_for_text x) ks → IsAmong k ks → asks_for_text k ≡ asks_for_text x
+same_asking x [] k alike among = absurd among
+same_asking x (y ∷ ks) k alike (inl e) = ap asks_for_text e ∙ alike.0
+same_asking x (y ∷ ks) k alike (inr among) = same_asking x ks k alike.1 among
 
 by_reason : (ks : Kinds) (words : List Text) (k : ErrorKind) → AreAlike ks → IsAmong k ks → command_by ks words ≡ told k
 by_reason [] words k alike among = absurd among
 by_reason (x ∷ ks) words k alike (inl e) = ap told (sym e)
-by_reason (x ∷ ks) words k alike (inr among) = ap (λ (b : Bool). if b then Some help else None) (sym (same_wish x ks k alike among))
+by_reason (x ∷ ks) words k alike (inr among) = ap (λ (b : Bool). if b then Some help else None) (sym (same_asking x ks k alike among))
 
 -- memory ran out, or there is such a reason
 answered : (spelled : Option Command) (k : ErrorKind) (r : Result CodeCommand CommandError) → spelled ≡ told k → AnswersTo k r → Answers spelled r
@@ -59,7 +59,7 @@ answered spelled k (Err NoMemory) is h = tt
 
 without_memory : (spelled : Option Command) (k : ErrorKind) (r : Result CodeCommand CommandError) → k ≡ OutOfMemory → AnswersTo k r → Answers spelled r
 without_memory spelled k (Ok (code.Run run)) is h = absurd h
-without_memory spelled k (Ok (code.Help text)) is h = let bad : is_wish OutOfMemory ≡ true = subst (λ (x : ErrorKind). is_wish x ≡ true) is h in absurd cc
+without_memory spelled k (Ok (code.Help text)) is h = let bad : asks_for_text OutOfMemory ≡ true = subst (λ (x : ErrorKind). asks_for_text x ≡ true) is h in absurd cc
 without_memory spelled k (Err (Usage text)) is h = absurd (h.0 is)
 without_memory spelled k (Err NoMemory) is h = tt
 

@@ -19,7 +19,7 @@ pub record Run : Type 0 where
   pub main : Text
   pub files : List Text
 
--- a command, or a wish for the help or the version
+-- a run; or the help or the version is asked for
 pub data Command : Type 0 where
   run : Run → Command
   help : Command
@@ -73,16 +73,16 @@ run_of rows =
 abbrev pub matched : Text × List Row → Option Command
 matched p = if bytes_eq p.0 (codes "run") then option_map run (run_of p.1) else None
 
--- a text is asked for
-abbrev pub is_wish : ErrorKind → Bool
-is_wish DisplayHelp = true
-is_wish DisplayVersion = true
-is_wish other = false
+-- whether it is no mistake, but the help or the version is asked for
+abbrev pub asks_for_text : ErrorKind → Bool
+asks_for_text DisplayHelp = true
+asks_for_text DisplayVersion = true
+asks_for_text other = false
 
 -- the command where clap has these reasons to give no matches
 abbrev pub command_by : Kinds → List Text → Option Command
 command_by [] words = option_and_then matched (subcommand_of command_line words)
-command_by (k ∷ ks) words = if is_wish k then Some help else None
+command_by (k ∷ ks) words = if asks_for_text k then Some help else None
 
 -- the command that the arguments spell, of which the first is the program's name
 abbrev pub command_of : List Text → Option Command

@@ -10,7 +10,7 @@ use Rattle.clap.specs.Words.{subcommand_rows_of}
 use Rattle.clap.specs.declared.error.kind.ErrorKind.{ErrorKind}
 use Rattle.clap.specs.declared.error.kind.ErrorKind.TheVariants.{OutOfMemory}
 use Rattle.clap.specs.declared.parser.matches.ArgMatches.{ArgMatches}
-use Rattle.arguments.specs.Commands.{Command, Run, run, help, is_wish, matched, texts}
+use Rattle.arguments.specs.Commands.{Command, Run, run, help, asks_for_text, matched, texts}
 
 abbrev pub run_meaning : run_struct.Run → Run
 run_meaning r = record {
@@ -48,6 +48,6 @@ matched_in m = option_and_then matched (subcommand_rows_of m)
 -- an answer in place of matches, for an error of this kind: a text that is asked for, or what is wrong; or memory ran out
 abbrev pub AnswersTo : ErrorKind → Result CodeCommand CommandError → Type 0
 AnswersTo k (Ok (code.Run r)) = ⊥
-AnswersTo k (Ok (code.Help text)) = is_wish k ≡ true
-AnswersTo k (Err (Usage text)) = (k ≡ OutOfMemory → ⊥) × (is_wish k ≡ false)
+AnswersTo k (Ok (code.Help text)) = asks_for_text k ≡ true
+AnswersTo k (Err (Usage text)) = (k ≡ OutOfMemory → ⊥) × (asks_for_text k ≡ false)
 AnswersTo k (Err NoMemory) = Unit {0}

@@ -54,7 +54,7 @@ fn without_matches(alloc: Global, error: &Error) -> Result<Command, CommandError
     }
 }
 
-// The run that was matched. The numbers are within their bounds, since clap tests them too; it says so of no command's arguments.
+// The run that was matched. clap has tested the bounds of its numbers, but says so of no command's arguments: so they are tested once more.
 fn read_run(alloc: Global, matches: &ArgMatches) -> Result<Run, CommandError>
     ensures run { IfOk result (λ r. run_of (rows_of (found_of matches.now)) ≡ Some (run_meaning r)) }
     ensures bounds { IfOk result (λ r. HasBounds (run_meaning r)) }
