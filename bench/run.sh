@@ -6,6 +6,7 @@ export PYTHONDONTWRITEBYTECODE=1
 . "$(dirname -- "$0")/setup.sh"
 python3 "$top/bench/extract.py" "$classes" "$work/data"
 python3 "$top/bench/classes.py" "$classes" "$work/data"
+python3 "$top/bench/asm_texts.py" "$classes" "$work/data"
 
 # A program of its own for each benchmark, proved and built by the kit over the repository's crates.
 cp -r "$top/crates" "$top/crates.txt" "$top/HANDLES" "$work"
@@ -43,6 +44,8 @@ for name in read write; do
     # Only the kinds of made files have a dash in their names.
     run "$name" $(cd "$work/data" && ls -- *-1 *-10 | sort)
 done
+add assemble 'jasm'
+run assemble texts
 add traces 'history'
 run traces
 add threads 'items sleep_wheel vthread_state wakes'
