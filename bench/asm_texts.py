@@ -3,8 +3,8 @@
 
 usage: asm_texts.py FOLDER OUT
 
-FOLDER is searched for *.class files. In OUT it writes `texts`, for each class file a text after its length in four bytes,
-the highest first. The text has what assembler text can say: of a class file with a name that is no word it is left
+FOLDER is searched for *.class files. In OUT it writes `texts`, for each class file a text after its length in four
+bytes, the highest first. The text has what assembler text can say: of a class file with a name that is no word it is left
 out, and so is a method whose code has an instruction, a constant or a type without a line. Attributes other than Code
 and StackMapTable are left out.
 """
@@ -40,7 +40,8 @@ PLAIN |= {133: "i2l", 136: "l2i", 145: "i2b", 146: "i2c", 147: "i2s", 148: "lcmp
 PLAIN |= {190: "arraylength", 191: "athrow", 194: "monitorenter", 195: "monitorexit"}
 LOCAL = {21: "iload", 22: "lload", 25: "aload", 54: "istore", 55: "lstore", 58: "astore"}
 BRANCH = dict(enumerate("ifeq ifne iflt ifge ifgt ifle".split(), 153))
-BRANCH |= dict(enumerate("if_icmpeq if_icmpne if_icmplt if_icmpge if_icmpgt if_icmple if_acmpeq if_acmpne goto".split(), 159))
+BRANCH |= dict(enumerate("if_icmpeq if_icmpne if_icmplt if_icmpge if_icmpgt if_icmple".split(), 159))
+BRANCH |= dict(enumerate("if_acmpeq if_acmpne goto".split(), 165))
 BRANCH |= {198: "ifnull", 199: "ifnonnull"}
 MEMBER = dict(enumerate("getstatic putstatic getfield putfield invokevirtual invokespecial invokestatic".split(), 178))
 CLASS = {187: "new", 189: "anewarray", 192: "checkcast", 193: "instanceof"}

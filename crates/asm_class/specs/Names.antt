@@ -1,5 +1,5 @@
--- Which words may name a class, a field or a method, and which are their descriptors (JVMS 4.2, 4.3). Words are ASCII, so
--- their bytes are their units.
+-- Which words may name a class, a field or a method, and which are their descriptors (JVMS 4.2, 4.3). Words are ASCII,
+-- so their bytes are their units.
 use Rattle.std.specs.Prelude.{ℕ, Bool, true, List, Option, Some, None, ◌&&◌, nat_lt, if◌then◌else◌}
 use Rattle.std.specs.List.{list_all}
 use Rattle.items.specs.Options.{◌>>=◌}

@@ -73,8 +73,8 @@ end_line stages.Code line s = code_end line s
 end_line stages.Rows line s = code_end line s
 end_line stage line s = or_line line (other_line stage line lines.End s)
 
--- What the line makes of the state, or the number of the first line that doesn't fit: this one, or at the end of a method
--- one of its body. An empty line and a comment mean nothing.
+-- What the line makes of the state, or the number of the first line that doesn't fit: this one, or at the end of a
+-- method one of its body. An empty line and a comment mean nothing.
 abbrev pub after_line : ℕ → Line → State → Result State ℕ
 after_line line lines.Blank s = Ok s
 after_line line lines.End s = end_line s.stage line s

@@ -140,7 +140,8 @@ impl Assembly {
 
     /// The method is whole, and has these attributes.
     pub fn add_method(&mut self, attributes: Items<Attribute>) -> Result<(), AllocError>
-        ensures state { OnOk result (state_of self.new ≡ spec.with_method attributes (state_of self.old)) }
+        ensures state { OnOk result
+            (state_of self.new ≡ spec.with_method attributes (state_of self.old)) }
         ensures pool { self.new.pool ≡ self.old.pool }
     {
         let MethodParts {

@@ -1,6 +1,7 @@
 //! The end of a method with code.
 
-ghost use Rattle.std.specs.Prelude.{◌≡◌, ◌<◌, ◌≤◌, ◌+◌, ◌*◌, ◌^◌, ◌∷◌, ◌++◌, [], None, IfOk, length};
+ghost use Rattle.std.specs.Prelude.{◌≡◌, ◌<◌, ◌≤◌, ◌+◌, ◌*◌, ◌^◌, IfOk};
+ghost use Rattle.std.specs.Prelude.{◌∷◌, ◌++◌, [], None, length};
 ghost use Rattle.asm_code.specs.Encoding.{u2};
 ghost use Rattle.asm_code.specs.Places.{place_of};
 ghost use Rattle.asm_body.specs.Bodies as bodies;

@@ -171,7 +171,8 @@ fn all_lines<'a>(
 ) -> Result<(Found, &'a [u8]), LineError>
     requires { length code.now ≤ 65535 }
     ensures { GivesBy (λ x. (spec.seen x.0, x.1.now)) result
-        (repeat (spec.one_line pool.now (length code.now)) (length code.now) spec.nothing code.now) }
+        (repeat (spec.one_line pool.now (length code.now)) (length code.now) spec.nothing
+        code.now) }
 {
     let size = code.len();
     let mut found = Found::new(alloc);

@@ -23,8 +23,8 @@ pub fn pools_stay_sound()
         → spec.KeepsMembers owner name descriptor pool }
 {}
 
-/// A pool that a class file may have, as far as assembler text makes it, keeps to the grammar of class files: its numbers
-/// fit their fields, and nothing is wrong with a constant (JVMS 4.4). This does nothing.
+/// A pool that a class file may have, as far as assembler text makes it, keeps to the grammar of class files: its
+/// numbers fit their fields, and nothing is wrong with a constant (JVMS 4.4). This does nothing.
 pub fn sound_pools_are_spelled()
     ensures range { (pool : List OneConst) → spec.IsSoundPool pool → IsPool pool }
     ensures sound { (pool : List OneConst) → spec.IsSoundPool pool

@@ -17,7 +17,8 @@ impl Same for Member {
 
 // Whether version, flags, class and superclass are the same.
 fn is_same_head(left: &ClassFile, right: &ClassFile) -> bool
-    ensures { Decides result ((left.now.minor ≡ right.now.minor) × (left.now.major ≡ right.now.major)
+    ensures { Decides result ((left.now.minor ≡ right.now.minor)
+        × (left.now.major ≡ right.now.major)
         × (left.now.flags ≡ right.now.flags) × (left.now.own ≡ right.now.own)
         × (left.now.parent ≡ right.now.parent)) }
 {

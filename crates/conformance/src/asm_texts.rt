@@ -53,7 +53,8 @@ fn a_refusal_names_the_first_line_that_does_not_fit(rt: HostRuntime) {
             7,
         ),
         (
-            "class A\nsuper B\nmethod f ()V\nstack 1 locals 1\na:\nreturn\ncatch any from a to a using a\nend\n",
+            "class A\nsuper B\nmethod f ()V\nstack 1 locals 1\na:\nreturn\n\
+            catch any from a to a using a\nend\n",
             7,
         ),
     ];

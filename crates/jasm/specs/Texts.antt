@@ -35,7 +35,8 @@ pub record Misfits (s : State) (line : ℕ) (text : List ℕ) (bad : ℕ) : Type
 abbrev pub BeginsWithNone : List ℕ → Type 0
 BeginsWithNone text = (l : Line) (rest : List ℕ) → BeginsWith text l rest → ⊥
 
--- The state, with the lines of the text from this one on, makes the class file, or names the first line that doesn't fit.
+-- The state, with the lines of the text from this one on, makes the class file, or names the first line that doesn't
+-- fit.
 pub data Makes : State → ℕ → List ℕ → Result ClassFile ℕ → Type 0 where
   -- no line is left; one that is missing is behind the last
   ended : (s : State) (line : ℕ) (text : List ℕ) (made : Result ClassFile ℕ) → length text ≡ 0 → made ≡ or_line line (finished s)
