@@ -1,17 +1,8 @@
 # Read by the scripts beside it. It sets what work.sh does, and puts the player (bench/plays) beside a copy of the crates into `work`, where
 # play_cases compiles it without proof.
 . "$(dirname -- "$0")/work.sh"
-mkdir "$work/.git" "$work/crates"
-cp "$top/HANDLES" "$top/crates.txt" "$work"
-echo 'plays: anyhow carrier class_write history jvm_edges lib_table machine program_files ref_model ref_run runtime_program' >>"$work/crates.txt"
-for crate in "$top"/crates/*; do
-    mkdir "$work/crates/${crate##*/}"
-    for part in src specs proofs; do
-        [ ! -e "$crate/$part" ] || cp -R "$crate/$part" "$work/crates/${crate##*/}"
-    done
-done
-mkdir -p "$work/crates/plays/src"
-cp "$top/bench/plays/main.txt" "$work/crates/plays/src/main.rt"
+. "$(dirname -- "$0")/crates.sh"
+add_program plays anyhow carrier class_write history jvm_edges lib_table machine program_files ref_model ref_run runtime_program
 
 # Plays the cases in the folder `cases` of `work`, whose class files lie in a folder, and writes what came of them to `played`:
 # play_cases FOLDER
