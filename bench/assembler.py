@@ -47,6 +47,7 @@ class BadLine(Exception):
 
 
 def require(holds):
+    """Refuses the line that is looked at, unless this holds."""
     if not holds:
         raise Unfit
 
@@ -123,6 +124,7 @@ def is_method_name(text):
 
 
 def flags_in(words, table):
+    """The bits of flags, which may stand in any order and more than once."""
     bits = 0
     for word in words:
         require(word in table)
@@ -155,6 +157,7 @@ class Pool:
         return self.mention(UTF8, big_endian(len(body), 2) + body)
 
     def named(self, tag, *indexes):
+        """A constant that names others."""
         return self.mention(tag, b"".join(big_endian(index, 2) for index in indexes))
 
     def class_named(self, name):
@@ -231,6 +234,8 @@ class Places(dict):
 
 
 class Branch:
+    """A branch, whose offset is counted from its own pc and takes `width` bytes."""
+
     def __init__(self, opcode, label, width):
         self.opcode = opcode
         self.label = label
@@ -249,6 +254,8 @@ def padding(pc):
 
 
 class TableSwitch:
+    """A tableswitch: `LOW LABEL.. default LABEL`."""
+
     def __init__(self, words):
         require(len(words) > 2)
         low, *self.labels, word, self.default = words
@@ -267,6 +274,8 @@ class TableSwitch:
 
 
 class LookupSwitch:
+    """A lookupswitch: `N LABEL .. default LABEL`, with numbers that rise."""
+
     def __init__(self, words):
         require(len(words) > 1)
         *pairs, word, self.default = words
@@ -383,6 +392,8 @@ class InstructionReader:
 
 
 class Instruction:
+    """An instruction at its pc."""
+
     def __init__(self, pc, said):
         self.pc = pc
         self.said = said
@@ -526,7 +537,7 @@ def attribute(name, content):
 
 
 class Member:
-    """A field or a method, with what it has of a Code."""
+    """A field or a method, and the Code of a method that has one."""
 
     def __init__(self, bits, name, descriptor):
         self.head = b"".join(big_endian(value, 2) for value in (bits, name, descriptor))

@@ -27,11 +27,11 @@ sys.path.insert(0, str(Path(__file__).parent / "changed_texts"))
 from limits import long_texts, short_texts  # noqa: E402
 
 # The longest base of a class file, in bytes: without proof the crates take some 30 KB a second.
-LONGEST = 700
+LONGEST = 900
 # How many bases of class files are assembled as they are.
 UNCHANGED = 300
-# The part of the changed texts that are of files *.jasm.
-OF_FILES = 0.08
+# The part of the changed texts that are of files *.jasm, and the part of the others that are of methods with frames.
+OF_FILES, WITH_FRAMES = 0.08, 0.5
 NUMBER = re.compile("-?[0-9]+")
 LIMITS = [-(2**63) - 1, -(2**63), -(2**31) - 1, -(2**31), -32769, -32768, -129, -128, -1, 0, 1, 127, 128, 255, 256]
 LIMITS += [32767, 32768, 65535, 65536, 2**31 - 1, 2**31, 2**32, 2**63 - 1, 2**63]
@@ -43,8 +43,8 @@ DEEP = ["[" * 255 + "I", "[" * 256 + "I", "(" + "J" * 127 + "I)V", "(" + "J" * 1
 STRANGE = [b"\r", b"\t", b"\0", b"\x7f", b"\x80", b"\xc3\xa9", b"\xff", b"\x0b", b"\xc0\x80"]
 SAID = [b"", b"   ", b"# said", b"  # said  twice ", b"#\xc3\xa9\r", b"end", b"L0:", b":", b"frame |", b"return", b"super A", b"implements A"]
 SAID += [b"field x I", b"method x ()V", b"stack 1 locals 1", b"catch any from L0 to L1 using L0", b"nop", b"flop", b"class A"]
-SAID += [b"tableswitch 0 default L0", b"lookupswitch default L0", b"ldc int 7", b"ldc2_w long 7", b"ldc text a", b"goto_w L0", b"wide", b"iinc 256 -129"]
-SAID += [b"multianewarray [[I 2"]
+SAID += [b"tableswitch 0 default L0", b"lookupswitch default L0", b"ldc int 7", b"ldc2_w long 7", b"ldc text a", b"goto_w L0", b"wide"]
+SAID += [b"iinc 256 -129", b"multianewarray [[I 2"]
 
 
 class Draws(random.Random):
@@ -342,9 +342,16 @@ def make(texts, folder, out, count=10000, seed=1):
     """Writes some bases as they are, texts at limits, and so many changed bases."""
     files = [path.read_bytes() for path in sorted(Path(folder).rglob("*.jasm"))]
     bases = [base for text in read_texts(texts) for base in classes_of_one_method(text)]
+    framed = [base for base in bases if b"\nframe " in base]
     draws = Draws(seed)
+
+    def drawn():
+        if draws.random() < OF_FILES:
+            return draws.choice(files)
+        return draws.choice(framed if draws.random() < WITH_FRAMES else bases)
+
+    made = [changed(draws, drawn()) for _ in range(count)]
     unchanged = [("unchanged", text) for text in files + draws.sample(bases, min(UNCHANGED, len(bases)))]
-    made = [changed(draws, draws.choice(files if draws.random() < OF_FILES else bases)) for _ in range(count)]
     write_texts(Path(out), made + short_texts() + unchanged)
 
 
