@@ -1,6 +1,6 @@
 -- A step that code made, as an entry.
 use Rattle.std.proofs.Common.{◌≡◌, ◌<◌, ◌≤◌, ◌++◌, ℕ, Bool, true, false, List, [], ◌∷◌, Option, None, Some, length, refl, ap, sym, subst, ◌∙◌, arith}
-use Rattle.std.specs.Prelude.{Err, IfOk, Ok, Result, is_none}
+use Rattle.std.specs.Prelude.{Err, IfOk, Ok, Result, is_none, nat_lt}
 use Rattle.std.specs.Option.{option_map_or}
 use Rattle.std.proofs.lemmas.Bool.{and_from}
 use Rattle.std.proofs.lemmas.Option.{slice_get_within}
@@ -18,7 +18,7 @@ use Rattle.ref_model.specs.declared.ending.Ending.{Ending}
 use Rattle.ref_model.specs.State.{JavaThread, State, with_frames}
 use Rattle.ref_model.specs.Enabled.{has_ended, is_ready}
 use Rattle.ref_model.specs.Ending.{ending}
-use Rattle.ref_model.specs.Looks.{reads_clock_next}
+use Rattle.ref_model.specs.Looks.{pins_of, reads_clock_next}
 use Rattle.ref_model.specs.Step.{enabled}
 use Rattle.program_state.specs.declared.state.ProgramState.{ProgramState}
 use Rattle.program_state.specs.Monitors.{AreSeated}
@@ -95,7 +95,7 @@ module _ (w : World) (n : ℕ) (state : ProgramState) (deques : Lists) (on : Lis
     who_starts u e = start_free w n state deques on c t k frames x made new after made_so.lists made_so.first moved u e
 
     pub enters_by : (left : Lists) (now : ℕ) (told : After) → IsInTime w now t state frames → HasPut new t made.others c deques.lists left.lists → length new.threads.threads ≤ left.threads
-        → ((r : State) (out : ℕ → Bool) → IsState new r out → told ≡ outcome_of (has_ended r t) made.yields (enabled r t))
+        → ((r : State) (out : ℕ → Bool) → IsState new r out → told ≡ outcome_of (has_ended r t) (nat_lt 0 (pins_of w after)) made.yields (enabled r t))
         → Enters w n state deques on c t k frames x now told (picked made.others) new left after
     enters_by left now told in_time put room tells =
         let v = then w n state deques on c t k frames x made new after made_so.lists made_so.first moved in
@@ -107,10 +107,10 @@ module _ (w : World) (n : ℕ) (state : ProgramState) (deques : Lists) (on : Lis
           makes = step_enters w n state deques on c t k frames x made new after made_so.lists made_so.first moved;
           parts = then_parts w n state deques on c t k frames x made new after made_so.lists made_so.first moved left put room;
           hand = then_hand w n state deques on c t k frames x made new after made_so.lists made_so.first moved;
-          outcome = subst (λ a. IsTold a v t) (sym is) (then_outcome w n state deques on c t k frames x made new after made_so.lists made_so.first moved);
+          outcome = subst (λ a. IsTold w a v t) (sym is) (then_outcome w n state deques on c t k frames x made new after made_so.lists made_so.first moved);
         }
 
-    pub concluded_by : (left : Lists) (now : ℕ) (pick : Option ℕ) (tried : Attempt After) → IsInTime w now t state frames → IsConcluded new t made c deques left pick tried
+    pub concluded_by : (left : Lists) (now : ℕ) (pick : Option ℕ) (tried : Attempt After) → IsInTime w now t state frames → IsConcluded w new t after made c deques left pick tried
         → IsTried w n state deques on c t k frames x now tried pick new left after
     concluded_by left now pick (Made told) in_time ends =
         subst (λ u. Enters w n state deques on c t k frames x now told u new left after) (sym ends.pick_is)
@@ -143,7 +143,7 @@ module _ (w : World) (n : ℕ) (state : ProgramState) (deques : Lists) (on : Lis
         let r = m.leads.next in
         let out = is_out x.before.schedule in
         let alive = alive_now r out is has in
-        let goes = goes_by (has_ended r t) false (enabled r t) alive refl (enabled_now r out is has) in
+        let goes = goes_by (has_ended r t) (nat_lt 0 (pins_of w after)) false (enabled r t) alive refl (enabled_now r out is has) in
         let v = then w n state deques on c t k frames x alone new after made_so.0.lists made_so.0.first m in
         let parts = then_parts w n state deques on c t k frames x alone new after made_so.0.lists made_so.0.first m deques (put_nobody new t c moves.Stay deques.lists refl (ended_in new r out t is ∙ alive)) room in
         let hand = then_hand w n state deques on c t k frames x alone new after made_so.0.lists made_so.0.first m in
@@ -155,8 +155,9 @@ module _ (w : World) (n : ℕ) (state : ProgramState) (deques : Lists) (on : Lis
           parts = parts;
           hand = hand;
           outcome = (
-            subst (λ a. IsTold a v t) (sym goes) (then_outcome w n state deques on c t k frames x alone new after made_so.0.lists made_so.0.first m),
+            (subst (λ a. IsTold w a v t) (sym goes) (then_outcome w n state deques on c t k frames x alone new after made_so.0.lists made_so.0.first m)).0,
             record { thread = hand.thread; at = hand.at; status = status_is new v.state (is_out v.schedule) t hand.thread Run parts.state hand.at still_runs },
+            enabled_now r out is has,
           );
         }
       where
@@ -177,17 +178,17 @@ entered_by made after result h entries told tells c most step is items same so =
 -- the end of a step that was made
 pub concluded_so : (w : World) (made : Move) (state new : ProgramState) (m : Continuation) (deques left : Lists) (c now : ℕ) (tried : Result (Attempt After) NoMemory) (pick : Option ℕ)
     (after : List Frame) → Moves w made m.thread state m.stack.frames new after → IsInTime w now m.thread state m.stack.frames
-    → IfOk tried (IsConcluded new m.thread made c deques left pick) → IsTriedSo w state deques c m now tried pick new left after
+    → IfOk tried (IsConcluded w new m.thread after made c deques left pick) → IsTriedSo w state deques c m now tried pick new left after
 concluded_so w made state new m deques left c now tried pick after made_so in_time ends carriers n on from =
-    IfOk-weaker tried (IsConcluded new m.thread made c deques left pick) (λ o. IsTried w carriers state deques on c m.thread n m.stack.frames from now o pick new left after)
+    IfOk-weaker tried (IsConcluded w new m.thread after made c deques left pick) (λ o. IsTried w carriers state deques on c m.thread n m.stack.frames from now o pick new left after)
     (λ o is. concluded_by w carriers state deques on c m.thread n m.stack.frames from made new after made_so left now pick o in_time is) ends
 
-pub concluded_stays : (state : ProgramState) (t c : ℕ) (made : Move) (deques left : Lists) (pick : Option ℕ) (m k : Continuation) (tried : Result (Attempt After) NoMemory)
-    → IfOk tried (IsConcluded state t made c deques left pick) → IfOk tried (λ o. StaysIfReading o m k)
-concluded_stays state t c made deques left pick m k tried ends =
-    IfOk-weaker tried (IsConcluded state t made c deques left pick) (λ o. StaysIfReading o m k) by ends
+pub concluded_stays : (w : World) (state : ProgramState) (t c : ℕ) (frames : List Frame) (made : Move) (deques left : Lists) (pick : Option ℕ) (m k : Continuation) (tried : Result (Attempt After) NoMemory)
+    → IfOk tried (IsConcluded w state t frames made c deques left pick) → IfOk tried (λ o. StaysIfReading o m k)
+concluded_stays w state t c frames made deques left pick m k tried ends =
+    IfOk-weaker tried (IsConcluded w state t frames made c deques left pick) (λ o. StaysIfReading o m k) by ends
   where
-    by : (o : Attempt After) → IsConcluded state t made c deques left pick o → StaysIfReading o m k
+    by : (o : Attempt After) → IsConcluded w state t frames made c deques left pick o → StaysIfReading o m k
     by (Made told) is = tt
     by LacksThreads is = tt
     by ReadsClock is = absurd is.outcome
@@ -209,9 +210,18 @@ picks_none others became none nobody = by (told_of became) refl
     by (Ok tried) is = record { same = is; pick_is = nobody ∙ sym none }
     by (Err e) is = tt
 
-pub concluded_with : (state : ProgramState) (t : ℕ) (made : Move) (c : ℕ) (old new : Lists) (became : StepResult) (pick : Option ℕ) (tried : Result (Attempt After) NoMemory)
-    → HasPut state t made.others c old.lists new.lists → length state.threads.threads ≤ new.threads → IfOk (told_of became) (Becomes state t made.yields)
-    → IfOk tried (IsPicking made.others became pick) → IfOk tried (IsConcluded state t made c old new pick)
-concluded_with state t made c old new became pick tried put room becomes picks =
-    IfOk-weaker tried (IsPicking made.others became pick) (IsConcluded state t made c old new pick)
-    (λ o is. record { put = put; room = room; outcome = subst (λ r. IfOk r (Becomes state t made.yields)) is.same becomes; pick_is = is.pick_is }) picks
+-- what becomes of the thread is told by its pins where it yielded or can't go on
+pub becomes_by_pins : (w : World) (state : ProgramState) (t : ℕ) (frames : List Frame) (yields goes : Bool) (told : Result (Attempt After) NoMemory)
+    → told ≡ Ok (Made (outcome_of false (nat_lt 0 (pins_of w frames)) yields goes))
+    → ((r : State) (out : ℕ → Bool) → IsState state r out → (has_ended r t ≡ false) × (goes ≡ enabled r t)) → IfOk told (Becomes w state t frames yields)
+becomes_by_pins w state t frames yields goes told is so =
+    let pinned = nat_lt 0 (pins_of w frames) in
+    subst (λ o. IfOk o (Becomes w state t frames yields)) (sym is)
+    (λ r out at. ap (λ b. outcome_of b pinned yields goes) (sym (so r out at).0) ∙ ap (outcome_of (has_ended r t) pinned yields) (so r out at).1)
+
+pub concluded_with : (w : World) (state : ProgramState) (t : ℕ) (frames : List Frame) (made : Move) (c : ℕ) (old new : Lists) (became : StepResult) (pick : Option ℕ)
+    (tried : Result (Attempt After) NoMemory) → HasPut state t made.others c old.lists new.lists → length state.threads.threads ≤ new.threads
+    → IfOk (told_of became) (Becomes w state t frames made.yields) → IfOk tried (IsPicking made.others became pick) → IfOk tried (IsConcluded w state t frames made c old new pick)
+concluded_with w state t frames made c old new became pick tried put room becomes picks =
+    IfOk-weaker tried (IsPicking made.others became pick) (IsConcluded w state t frames made c old new pick)
+    (λ o is. record { put = put; room = room; outcome = subst (λ r. IfOk r (Becomes w state t frames made.yields)) is.same becomes; pick_is = is.pick_is }) picks

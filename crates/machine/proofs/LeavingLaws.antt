@@ -9,7 +9,7 @@ use Rattle.ref_model.specs.Looks.{machine_from}
 use Rattle.machine.specs.declared.machine.Machine.TheInside.{Inside}
 use Rattle.machine.specs.Insides.{AreParts, IsSound, known}
 use Rattle.machine.specs.Legal.{Works}
-use Rattle.machine.specs.Live.{ListsLive, live_below, live_threads}
+use Rattle.machine.specs.Live.{ListsLive, ListsMounted, live_below, live_threads, mounted_threads}
 use Rattle.machine.specs.Machines.{Known, scheduled}
 use Rattle.machine.proofs.LiveLaws.{live_of_state}
 
@@ -21,16 +21,21 @@ inner : (v w : Scheduled State) → ◌≡◌ {A = Option (Scheduled State)} (So
 inner v w e = cc
 
 -- what the history gives
-given : (a : Inside) (m : Known) → known a ≡ m → (x : IsSound a) → scheduled m ≡ Some x.after
+given : (a : Inside) (m : Known) → known a ≡ m → (x : IsSound a) → scheduled m ≡ Some x.sound.after
 given a m same x =
     ap scheduled (sym same)
-    ∙ bind_is (opening (known a).setting) (λ first. schedule_of (machine_from (known a).setting first) a.carriers a.history.items) x.first (Some x.after) x.begins x.runs
+    ∙ bind_is (opening (known a).setting) (λ first. schedule_of (machine_from (known a).setting first) a.carriers a.history.items) x.sound.first (Some x.sound.after) x.sound.begins x.sound.runs
 
-parts_of : (a : Inside) (m : Known) → known a ≡ m → (x : IsSound a) → Works m → AreParts a.carriers a.state a.deques a.mounted.items x.after
-parts_of a m same x works = x.parts (λ halted. works (sym (ap (λ (k : Known). k.told) same) ∙ halted))
+parts_of : (a : Inside) (m : Known) → known a ≡ m → (x : IsSound a) → Works m → AreParts a.carriers a.state a.deques a.mounted.items x.sound.after
+parts_of a m same x works = x.sound.parts (λ halted. works (sym (ap (λ (k : Known). k.told) same) ∙ halted))
 
 pub lists_live : (a : Inside) (m : Known) (live : List ℕ) → known a ≡ m → IsSound a → Works m
     → live ≡ live_below a.state.threads.threads (length a.state.threads.threads) → ListsLive m live
 lists_live a m live same x works is = λ v at.
-    is ∙ live_of_state a.state.threads.threads x.after.state (parts_of a m same x works).state.rows
-    ∙ ap (λ (w : Scheduled State). live_threads w.state) (inner x.after v (sym (given a m same x) ∙ at))
+    is ∙ live_of_state a.state.threads.threads x.sound.after.state (parts_of a m same x works).state.rows
+    ∙ ap (λ (w : Scheduled State). live_threads w.state) (inner x.sound.after v (sym (given a m same x) ∙ at))
+
+pub lists_mounted : (a : Inside) (m : Known) (threads : List ℕ) → known a ≡ m → IsSound a → Works m → threads ≡ mounted_threads a.mounted.items → ListsMounted m threads
+lists_mounted a m threads same x works is = λ v at.
+    is ∙ ap mounted_threads (parts_of a m same x works).mounted
+    ∙ ap (λ (w : Scheduled State). mounted_threads w.schedule.mounted) (inner x.sound.after v (sym (given a m same x) ∙ at))

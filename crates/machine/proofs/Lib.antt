@@ -9,6 +9,8 @@ mod AheadLaws
 mod JoinerLaws
 mod ListLaws
 mod PickLaws
+mod LooseLaws
+mod PinLaws
 mod StepLaws
 mod PlainLaws
 mod BeginLaws
@@ -17,6 +19,7 @@ mod EnterLaws
 mod NextLaws
 mod SettleLaws
 mod StallLaws
+mod StarveLaws
 mod StallCallLaws
 mod AnyLaws
 mod SliceLaws
@@ -26,6 +29,7 @@ mod OperandLaws
 mod MoveLaws
 mod LocalLaws
 mod StepCallLaws
+mod StepPinLaws
 mod TickLaws
 mod ClockLaws
 pub mod LiveLaws

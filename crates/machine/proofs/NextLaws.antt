@@ -1,6 +1,6 @@
 -- A machine whose idle carrier takes up a thread.
 use Rattle.std.proofs.Common.{◌≡◌, ◌<◌, ℕ, false, List, [], ◌∷◌, ◌++◌, Option, None, Some, length, slice_get, refl, ap, sym, subst, arith, cond}
-use Rattle.std.specs.Prelude.{All, slice_set}
+use Rattle.std.specs.Prelude.{All, is_some, slice_set}
 use Rattle.std.proofs.lemmas.Bool.{eq-eqb}
 use Rattle.history.specs.declared.entry.Entry.{Entry}
 use Rattle.history.specs.declared.entry.What.TheVariants.{Mount}
@@ -13,12 +13,14 @@ use Rattle.ref_model.specs.Setting.{Setting}
 use Rattle.ref_model.specs.State.{State}
 use Rattle.ref_model.specs.Ending.{ending}
 use Rattle.program_state.specs.declared.state.ProgramState.{ProgramState}
-use Rattle.machine.specs.Hands.{AreDequesEmpty, HasHand, Holds, Idle, IsLive, Lives, OwesNothing}
+use Rattle.machine.specs.Hands.{AreDequesEmpty, HasHand, Holds, Idle, IsLive, IsLoose, Lives, OwesNothing}
 use Rattle.machine.specs.Insides.{AreParts, IsConsistent, IsFrozen}
 use Rattle.machine.specs.Legal.{GoesOn}
 use Rattle.machine.specs.Machines.{Given, Known, machine_ending, scheduled}
 use Rattle.machine.proofs.EndingLaws.{HasNone, has_none}
 use Rattle.machine.proofs.EntryLaws.{entry_of, given, gives, goes_on, parts_are, program_after, with_one_more}
+use Rattle.ref_model.specs.Looks.{look_of}
+use Rattle.machine.proofs.LooseLaws.{taken_is_loose}
 use Rattle.machine.proofs.MountLaws.{Before, is_frozen, is_live, mount_enters, mounted_hand, mounted_number, mounted_parts, then}
 use Rattle.machine.proofs.PlaceLaws.{idle_within}
 use Rattle.machine.proofs.StateLaws.{SameBut}
@@ -97,6 +99,12 @@ module _ (p : Setting) (n : ℕ) (state : ProgramState) (deques : Lists) (mounte
 
     pub next_free : (room : ℕ) → OwesNothing (known_of p n (h ++ entry_of c (Mount t) ∷ []) room told) t
     next_free room = after_mount room (λ v. v.schedule.owes t ≡ false) (ap (λ b. cond b false (x.after.schedule.owes t)) (eq-eqb t t refl))
+
+    pub next_loose : (room : ℕ) → IsLoose (known_of p n (h ++ entry_of c (Mount t) ∷ []) room told) t
+    next_loose room =
+        after_mount room (λ v. (look_of p.world v.state).pinned t ≡ false)
+        (taken_is_loose p x.first x.after (then p x.first x.after n state deques mounted c d t before) before.after c t
+        (mount_enters p x.first x.after n state deques mounted c d t before) (ap is_some before.going))
 
     pub next_going : (room : ℕ) → GoesOn (known_of p n (h ++ entry_of c (Mount t) ∷ []) room told)
     next_going room = record {

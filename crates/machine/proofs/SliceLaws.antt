@@ -1,6 +1,6 @@
 -- The entry of as many local instructions as an entry may have.
-use Rattle.std.proofs.Common.{◌≡◌, ◌==◌, ◌<◌, ◌-◌, ℕ, zero, suc, Bool, true, false, List, [], ◌∷◌, ◌++◌, Option, None, Some, length, slice_get, refl, ap, sym, subst, ◌∙◌, arith, ◌||◌}
-use Rattle.std.specs.Prelude.{is_none, nat_le}
+use Rattle.std.proofs.Common.{◌≡◌, ◌==◌, ◌<◌, ◌-◌, ℕ, zero, suc, Bool, true, false, List, [], ◌∷◌, ◌++◌, Option, None, Some, length, slice_get, refl, ap, sym, subst, ◌∙◌, arith, ◌||◌, inl}
+use Rattle.std.specs.Prelude.{is_none, nat_le, nat_lt}
 use Rattle.std.specs.Option.{option_map_or}
 use Rattle.std.proofs.lemmas.Bool.{and_from, eq-eqb, le-leb}
 use Rattle.items.specs.Options.{◌>>=◌}
@@ -21,7 +21,7 @@ use Rattle.ref_model.specs.Ending.{ending}
 use Rattle.ref_model.specs.Entries.{are_grouped_steps, ends_behind, may_be_last, most_local_steps}
 use Rattle.ref_model.specs.LocalRows.{row, rows}
 use Rattle.ref_model.specs.Step.{enabled, row_or_event, status_step, thread_step}
-use Rattle.ref_model.specs.Looks.{machine_from, yields_next}
+use Rattle.ref_model.specs.Looks.{machine_from, pins_of, yields_next}
 use Rattle.ref_model.proofs.StateLaws.{frames_is, frames_twice, get_set}
 use Rattle.schedule_soundness.specs.PutLaws.{OthersStay, Stays, no_thread, is_kept}
 use Rattle.schedule_soundness.proofs.ThreadLists.{set_other}
@@ -32,13 +32,13 @@ use Rattle.program_state.proofs.StateLaws.{frames_had, other_frames}
 use Rattle.machine.specs.declared.after.After.TheVariants.{Goes}
 use Rattle.machine.specs.declared.made.Move.{Move}
 use Rattle.machine.specs.declared.made.Others.TheVariants as moves
-use Rattle.machine.specs.Hands.{HasHand, Holds, OwesNothing}
+use Rattle.machine.specs.Hands.{HasHand, Holds, IsLiveIn, OwesNothing}
 use Rattle.machine.specs.Insides.{AreParts, IsConsistent, is_out}
 use Rattle.machine.specs.Legal.{GoesOn}
 use Rattle.machine.specs.Machines.{Given, scheduled}
 use Rattle.machine.specs.Moves.{IsMoved}
 use Rattle.machine.specs.Puts.{HasPut, nobody}
-use Rattle.machine.specs.Steps.{IsTold, StepsFrom, outcome_of}
+use Rattle.machine.specs.Steps.{IsTold, StepsFrom}
 use Rattle.machine.specs.Turns.{HasStepped}
 use Rattle.machine.proofs.AheadLaws.{ahead_enabled, enabled_alive, frames_running, hand_ahead}
 use Rattle.machine.proofs.EntryLaws.{entry_of, given, goes_on, parts_are, program_after, with_one_more}
@@ -48,6 +48,9 @@ use Rattle.machine.proofs.MoveLaws.{quiet_yields, same_lists}
 use Rattle.machine.proofs.NextLaws.{known_of, there}
 use Rattle.machine.proofs.PlaceLaws.{push_none}
 use Rattle.machine.proofs.StateLaws.{rows_length}
+use Rattle.machine.specs.Pins.{KnowsPins}
+use Rattle.machine.proofs.OutcomeLaws.{goes_by}
+use Rattle.machine.proofs.PinLaws.{knows_by, runs_freely}
 use Rattle.machine.proofs.StepLaws.{ahead_is, ahead_out, ended_in, step_enters, then, then_hand, then_outcome, then_parts}
 
 or_true : (a b : Bool) → b ≡ true → (a || b) ≡ true
@@ -185,16 +188,32 @@ module _ (p : Setting) (n : ℕ) (state : ProgramState) (deques : Lists) (on : L
     after_alive : has_ended (with_frames r t frames) t ≡ false
     after_alive = enabled_alive (with_frames r t frames) t moved.leads.has.thread moved.leads.has.at after_on
 
-    slice_goes : slice_then.schedule.owes t ≡ false
+    slice_goes : (slice_then.schedule.owes t ≡ false) × (enabled slice_then.state t ≡ true)
     slice_goes =
-        subst (λ b. IsTold (outcome_of b false true) slice_then t) after_alive
-        (subst (λ b. IsTold (outcome_of (has_ended (with_frames r t frames) t) false b) slice_then t) after_on
-        (then_outcome p.world n state deques on c t k last.0 slice_from (record { others = moves.Stay; yields = false }) state frames (same_lists state.monitors state.monitors refl) tt moved))
+        subst (λ a. IsTold p.world a slice_then t)
+        (sym (goes_by (has_ended (with_frames r t frames) t) (nat_lt 0 (pins_of p.world frames)) false (enabled (with_frames r t frames) t) after_alive refl after_on))
+        (then_outcome p.world n state deques on c t k last.0 slice_from (record { others = moves.Stay; yields = false }) state frames (same_lists state.monitors state.monitors refl) tt moved)
 
     pub slice_kept : length h < p.limits.events → IsConsistent p n state deques on (h ++ entry_of c (Step t (suc k) None) ∷ []) told
     slice_kept few =
         subst (λ e. IsConsistent p n state deques on (h ++ entry_of c (Step t (suc k) None) ∷ []) e) (sym goes.told)
         (with_one_more p n state state deques deques on on h told x c (Step t (suc k) None) slice_then slice_enters few slice_parts)
+
+    -- the thread runs on
+    slice_runs : IsLiveIn (with_frames r t frames) t Run
+    slice_runs =
+        record { thread = record hand.thread { frames = frames }; at = with_at; status = running }
+      where
+        with_at : slice_get (with_frames r t frames).threads t ≡ Some (record hand.thread { frames = frames })
+        with_at =
+            ap (λ (s : State). slice_get s.threads t) (frames_is r t (record hand.thread { frames = last.0 }) frames at_r)
+            ∙ get_set r.threads t (record hand.thread { frames = last.0 }) (record hand.thread { frames = frames }) at_r
+
+    pub slice_knows : (entries : List Entry) → entries ≡ h ++ entry_of c (Step t (suc k) None) ∷ [] → IsConsistent p n state deques on entries told → (room : ℕ) (pins : List Bool)
+        → KnowsPins (known_of p n h spare told) pins → KnowsPins (known_of p n entries room told) pins
+    slice_knows entries longer y room pins known =
+        knows_by p n state deques on h told x state deques on entries told y c (Step t (suc k) None) longer spare room pins pins slice_then slice_enters known refl (λ j ne. refl)
+        (λ goes. inl (runs_freely p slice_then.state t slice_runs goes))
 
     pub slice_stepped : (room : ℕ) → room ≡ spare - 1
         → HasStepped Goes (known_of p n h spare told) (known_of p n (h ++ entry_of c (Step t (suc k) None) ∷ []) room told) c t k frames frames
@@ -203,7 +222,7 @@ module _ (p : Setting) (n : ℕ) (state : ProgramState) (deques : Lists) (on : L
       unread = λ w there reads. refl;
       entry = ap (λ i. known_of p n (h ++ entry_of c (Step t (suc k) None) ∷ []) i told) less;
       hand = gives_after (λ w. HasHand p w c t 0 frames) (then_hand p.world n state deques on c t k last.0 slice_from (record { others = moves.Stay; yields = false }) state frames (same_lists state.monitors state.monitors refl) tt moved);
-      outcome = gives_after (λ w. w.schedule.owes t ≡ false) slice_goes;
+      outcome = (gives_after (λ w. w.schedule.owes t ≡ false) slice_goes.0, gives_after (λ w. enabled w.state t ≡ true) slice_goes.1);
     }
       where
         gives_after : (P : Scheduled State → Type 0) → P slice_then → Given (known_of p n (h ++ entry_of c (Step t (suc k) None) ∷ []) room told) P

@@ -101,7 +101,7 @@ timed_live (Live (Joining u deadline)) d e = refl
 and_true : (a b : Bool) → a ≡ true → b ≡ true → (a && b) ≡ true
 and_true a b e f = ap (λ x. x && b) e ∙ f
 
-or_true : (a b : Bool) → b ≡ true → (a || b) ≡ true
+pub or_true : (a b : Bool) → b ≡ true → (a || b) ≡ true
 or_true true b e = refl
 or_true false b e = e
 
@@ -109,17 +109,19 @@ or_true false b e = e
 timed_look : (l : Look) (t d : ℕ) → is_live (l.spot t) ≡ true → l.deadline t ≡ Some d → l.now < d → has_time l t ≡ true
 timed_look l t d live has later = rw has (and_true (is_live (l.spot t)) (nat_lt l.now d) live (lt-ltb l.now d later))
 
-pub timed_goes : (p : Setting) (r : State) (t d : ℕ) → deadlines_of r.now r.threads t ≡ Some d → is_stalled p.world r ≡ false
-timed_goes p r t d e = by (slice_get r.threads t) refl
+pub timed_has : (p : Setting) (r : State) (t d : ℕ) → deadlines_of r.now r.threads t ≡ Some d → (t < length r.threads) × (has_time (look_of p.world r) t ≡ true)
+timed_has p r t d e = by (slice_get r.threads t) refl
   where
-    by : (o : Option JavaThread) → slice_get r.threads t ≡ o → is_stalled p.world r ≡ false
+    by : (o : Option JavaThread) → slice_get r.threads t ≡ o → (t < length r.threads) × (has_time (look_of p.world r) t ≡ true)
     by None at = let no : ◌≡◌ {A = Option ℕ} None (Some d) = sym (ap (coming_deadline r.now) at) ∙ e in absurd cc
     by (Some x) at =
         let timed = timed_status r.now d x.thread.status (sym (ap (coming_deadline r.now) at) ∙ e) in
         let has : (look_of p.world r).deadline t ≡ Some d = ap (λ o. option_map_or (λ (y : JavaThread). deadline_in y.thread.status) o None) at ∙ timed.0 in
         let live : is_live ((look_of p.world r).spot t) ≡ true = ap (λ o. is_live (spot_at o)) at ∙ timed_live x.thread.status d timed.0 in
-        one_goes p r t (slice_get_within r.threads t x at)
-        (or_true (enabled r t) (has_time (look_of p.world r) t) (timed_look (look_of p.world r) t d live has timed.1))
+        (slice_get_within r.threads t x at, timed_look (look_of p.world r) t d live has timed.1)
+
+pub timed_goes : (p : Setting) (r : State) (t d : ℕ) → deadlines_of r.now r.threads t ≡ Some d → is_stalled p.world r ≡ false
+timed_goes p r t d e = let h = timed_has p r t d e in one_goes p r t h.0 (or_true (enabled r t) (has_time (look_of p.world r) t) h.1)
 
 -- ---- a thread in a deque may step
 
@@ -170,7 +172,7 @@ untimed_look l t (Some d) e none =
       | inr not_later ↦ rw e (and_right (is_live (l.spot t)) (nat_lt l.now d) not_later)
     ]
 
-no_time : (p : Setting) (r : State) (t : ℕ) → deadlines_of r.now r.threads t ≡ None → has_time (look_of p.world r) t ≡ false
+pub no_time : (p : Setting) (r : State) (t : ℕ) → deadlines_of r.now r.threads t ≡ None → has_time (look_of p.world r) t ≡ false
 no_time p r t none = by (slice_get r.threads t) refl
   where
     by : (o : Option JavaThread) → slice_get r.threads t ≡ o → has_time (look_of p.world r) t ≡ false

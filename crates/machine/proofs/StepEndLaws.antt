@@ -23,7 +23,8 @@ use Rattle.machine.specs.declared.made.Attempt.TheVariants.{Made, LacksThreads, 
 use Rattle.ref_model.specs.State.{State, with_frames}
 use Rattle.ref_model.specs.Looks.{lacks_threads_next, reads_clock_next}
 use Rattle.ref_model.specs.Enabled.{has_ended}
-use Rattle.machine.specs.Hands.{HasHand, Holds, IsLive, IsLiveIn, MayStep, OwesNothing}
+use Rattle.ref_model.specs.Step.{enabled}
+use Rattle.machine.specs.Hands.{HasHand, Holds, IsHeld, IsLive, IsLiveIn, MayStep, OwesNothing}
 use Rattle.machine.specs.Legal.{IsCause}
 use Rattle.machine.specs.Insides.{IsConsistent}
 use Rattle.machine.specs.Machines.{Given, Known, scheduled}
@@ -120,13 +121,15 @@ module _ (p : Setting) (n : ℕ) (state : ProgramState) (deques : Lists) (on : L
           parts = λ works. absurd (works refl);
         }))
 
-    outcome_is : (a : After) (v : Scheduled State) (new : Known) → IsTold a v t → ((P : Scheduled State → Type 0) → P v → Given new P) → IsOutcome a new t
-    outcome_is Goes v new is gives = gives (λ w. w.schedule.owes t ≡ false) is
-    outcome_is Runs v new is gives = (gives (λ w. w.schedule.owes t ≡ false) is.0, gives (λ w. IsLiveIn w.state t Run) is.1)
-    outcome_is Leaves v new is gives = (gives (λ w. w.schedule.owes t ≡ true) is.0, gives (λ w. IsLive w.state t) is.1)
-    outcome_is Ends v new is gives = (gives (λ w. w.schedule.owes t ≡ true) is.0, gives (λ w. has_ended w.state t ≡ true) is.1)
-    outcome_is afters.ReadsClock v new is gives = absurd is
-    outcome_is Halts v new is gives = absurd is
+    outcome_is : (a : After) (v : Scheduled State) (es : List Entry) (room : ℕ) → IsTold p.world a v t → ((P : Scheduled State → Type 0) → P v → Given (known_of p n es room told) P)
+        → IsOutcome a (known_of p n es room told) t
+    outcome_is Goes v es room is gives = (gives (λ w. w.schedule.owes t ≡ false) is.0, gives (λ w. enabled w.state t ≡ true) is.1)
+    outcome_is Runs v es room is gives = (gives (λ w. w.schedule.owes t ≡ false) is.0, gives (λ w. IsLiveIn w.state t Run) is.1, gives (λ w. enabled w.state t ≡ true) is.2)
+    outcome_is Leaves v es room is gives = (gives (λ w. w.schedule.owes t ≡ true) is.0, gives (λ w. IsLive w.state t) is.1)
+    outcome_is afters.Waits v es room is gives = (gives (λ w. w.schedule.owes t ≡ false) is.0, gives (λ w. IsHeld p.world w.state t) is.1)
+    outcome_is Ends v es room is gives = (gives (λ w. w.schedule.owes t ≡ true) is.0, gives (λ w. has_ended w.state t ≡ true) is.1)
+    outcome_is afters.ReadsClock v es room is gives = absurd is
+    outcome_is Halts v es room is gives = absurd is
 
     entered : (a : After) (pick : Option ℕ) (new : ProgramState) (left : Lists) (after : List Frame) (room : ℕ)
         → Enters p.world n state deques on c t k frames (steps_from p n state deques on h told spare x c t k frames next none holds free may ready) now a pick new left after
@@ -139,7 +142,7 @@ module _ (p : Setting) (n : ℕ) (state : ProgramState) (deques : Lists) (on : L
           enters.unread;
       entry = ap (λ r. known_of p n (h ++ step_entry pick ∷ []) r told) less;
       hand = gives_after (λ v. HasHand p v c t 0 after) enters.hand;
-      outcome = outcome_is a enters.then (known_of p n (h ++ step_entry pick ∷ []) room told) enters.outcome gives_after;
+      outcome = outcome_is a enters.then (h ++ step_entry pick ∷ []) room enters.outcome gives_after;
     }
       where
         gives_after : (P : Scheduled State → Type 0) → P enters.then → Given (known_of p n (h ++ step_entry pick ∷ []) room told) P
@@ -147,10 +150,11 @@ module _ (p : Setting) (n : ℕ) (state : ProgramState) (deques : Lists) (on : L
             given (known_of p n (h ++ step_entry pick ∷ []) room told) x.first enters.then P x.begins
             (goes_on p n state deques on h told x c (Step t (suc k) pick) enters.then enters.makes) is
 
-    as_step : (a : After) (old new : Known) (after : List Frame) (v : Scheduled State) → IsTold a v t → HasStepped a old new c t k frames after → Steps a old new c t k now frames after
+    as_step : (a : After) (old new : Known) (after : List Frame) (v : Scheduled State) → IsTold p.world a v t → HasStepped a old new c t k frames after → Steps a old new c t k now frames after
     as_step Goes old new after v told is = is
     as_step Runs old new after v told is = is
     as_step Leaves old new after v told is = is
+    as_step afters.Waits old new after v told is = is
     as_step Ends old new after v told is = is
     as_step afters.ReadsClock old new after v told is = absurd told
     as_step Halts old new after v told is = absurd told
@@ -203,6 +207,7 @@ module _ (p : Setting) (n : ℕ) (state : ProgramState) (deques : Lists) (on : L
         by Goes is = is
         by Runs is = is
         by Leaves is = is
+        by afters.Waits is = is
         by Ends is = is
         by afters.ReadsClock is = tt
         by Halts is = tt
@@ -216,10 +221,11 @@ module _ (p : Setting) (n : ℕ) (state : ProgramState) (deques : Lists) (on : L
         → IfOk made (λ tried. StaysIfReading tried was is_) → result ≡ afters.ReadsClock → is_ ≡ was
     made_stays (Ok (Made a)) pick new left after entries tells result was is_ enters is stays reads = absurd (by a enters.then (sym is.2 ∙ reads) enters.outcome)
       where
-        by : (a : After) (v : Scheduled State) → a ≡ afters.ReadsClock → IsTold a v t → ⊥
+        by : (a : After) (v : Scheduled State) → a ≡ afters.ReadsClock → IsTold p.world a v t → ⊥
         by Goes v e is = absurd cc
         by Runs v e is = absurd cc
         by Leaves v e is = absurd cc
+        by afters.Waits v e is = absurd cc
         by Ends v e is = absurd cc
         by afters.ReadsClock v e is = is
         by Halts v e is = is

@@ -1,6 +1,6 @@
 -- The step of a thread as an entry of the history.
 use Rattle.std.proofs.Common.{◌≡◌, ◌≢◌, ◌⊎◌, ◌<◌, ◌≤◌, ◌==◌, inl, inr, ℕ, zero, suc, Bool, true, false, List, [], ◌∷◌, Option, None, Some, length, refl, ap, sym, subst, ◌∙◌, arith, cond, not, ◌&&◌, ◌||◌}
-use Rattle.std.specs.Prelude.{◌↔◌, Contains, filter, is_none, is_some, map, slice_get}
+use Rattle.std.specs.Prelude.{◌↔◌, Contains, filter, is_none, is_some, map, nat_lt, slice_get}
 use Rattle.std.specs.Option.{option_map_or}
 use Rattle.std.proofs.lemmas.Bool.{and_parts, cases_lt, eq-eqb, ne_eqb}
 use Rattle.std.proofs.lemmas.List.Kept.{IsStrictlyIncreasing-filter}
@@ -26,14 +26,13 @@ use Rattle.ref_model.specs.Enabled.{has_ended, is_done, is_free, is_ready}
 use Rattle.ref_model.specs.Entries.{is_grouped}
 use Rattle.ref_model.specs.Ending.{ending, is_live}
 use Rattle.ref_model.specs.Step.{enabled, step}
-use Rattle.ref_model.specs.Looks.{look_of, machine_from, spot_of, yields_next}
+use Rattle.ref_model.specs.Looks.{is_pinned, look_of, machine_from, pins_of, spot_of, yields_next}
 use Rattle.ref_model.proofs.StateLaws.{frames_is, get_set}
 use Rattle.schedule_soundness.specs.HistoryLaws.{IsProgramAfter}
 use Rattle.schedule_soundness.specs.PutLaws.{EndsNoWait, IsWoken as AnyWoken, OthersStay, Stays, rows_of}
 use Rattle.schedule_soundness.proofs.Ahead.{steps_are_entries}
 use Rattle.schedule_soundness.proofs.Histories.{deques_have_live, histories_go_on}
 use Rattle.schedule_soundness.proofs.OtherMoves.{spot_at}
-use Rattle.schedule_soundness.proofs.Pins.{nobody_is_pinned}
 use Rattle.schedule_soundness.proofs.PutLaws.{ends_put_joiners, quiet_steps_put_nobody, starts_put_the_started, wakes_put_the_woken}
 use Rattle.vthread_state.specs.Threads.{joins_in}
 use Rattle.monitor_soundness.specs.ListLaws.{AreInLine}
@@ -482,25 +481,37 @@ module _ (w : World) (n : ℕ) (state : ProgramState) (deques : Lists) (on : Lis
       ahead = ap Some m.leads.has.has;
     }
 
-    unpinned : (l q).pinned t ≡ false
-    unpinned = nobody_is_pinned x.setting x.first then after_then x.accepted.typed x.accepted.calls t
+    -- whether it is pinned is seen by its frames
+    abbrev pins : Bool
+    pins = nat_lt 0 (pins_of w after)
+
+    pinned_is : (l q).pinned t ≡ pins
+    pinned_is =
+        ap (λ o. option_map_or (is_pinned x.setting.world) o false) m.leads.has.at ∙ ap (λ fs. nat_lt 0 (pins_of x.setting.world fs)) m.leads.has.has
+        ∙ ap (λ u. nat_lt 0 (pins_of u after)) x.world
 
     yields_is : yields_next x.setting.world r t ≡ made.yields
     yields_is = ap (λ u. yields_next u r t) x.world ∙ m.yields
 
-    owes_is : then_schedule.owes t ≡ (has_ended q t || (made.yields || not (enabled q t)))
+    owes_is : then_schedule.owes t ≡ (has_ended q t || (not pins && (made.yields || not (enabled q t))))
     owes_is =
         let yields = yields_next x.setting.world r t in
         ap (λ b. cond b (has_to_leave (l q) t yields) (v.schedule.owes t)) (eq-eqb t t refl)
         ∙ ap (λ b. b || (not ((l q).pinned t) && (yields || not (enabled q t)))) (done_spot q t)
-        ∙ ap (λ b. has_ended q t || (not b && (yields || not (enabled q t)))) unpinned
-        ∙ ap (λ b. has_ended q t || (b || not (enabled q t))) yields_is
+        ∙ ap (λ b. has_ended q t || (not b && (yields || not (enabled q t)))) pinned_is
+        ∙ ap (λ b. has_ended q t || (not pins && (b || not (enabled q t)))) yields_is
 
-    pub then_outcome : IsTold (outcome_of (has_ended m.leads.next t) made.yields (enabled m.leads.next t)) then t
-    then_outcome = by (has_ended q t) made.yields (enabled q t) refl owes_is
+    pub then_outcome : IsTold w (outcome_of (has_ended m.leads.next t) (nat_lt 0 (pins_of w after)) made.yields (enabled m.leads.next t)) then t
+    then_outcome = by (has_ended q t) pins made.yields (enabled q t) refl refl refl owes_is
       where
-        by : (ended yields goes : Bool) → has_ended q t ≡ ended → then_schedule.owes t ≡ (ended || (yields || not goes)) → IsTold (outcome_of ended yields goes) then t
-        by true yields goes is owes = (owes, is)
-        by false true goes is owes = (owes, live_from new q out t m.leads.is is_mounted is)
-        by false false true is owes = owes
-        by false false false is owes = (owes, live_from new q out t m.leads.is is_mounted is)
+        held : (look_of w q).pinned t ≡ pins
+        held = subst (λ u. (look_of u q).pinned t ≡ pins) x.world pinned_is
+
+        by : (ended pinned yields goes : Bool) → has_ended q t ≡ ended → pins ≡ pinned → enabled q t ≡ goes
+            → then_schedule.owes t ≡ (ended || (not pinned && (yields || not goes))) → IsTold w (outcome_of ended pinned yields goes) then t
+        by true pinned yields goes is pin on owes = (owes, is)
+        by false true yields true is pin on owes = (owes, on)
+        by false true yields false is pin on owes = (owes, record { live = live_from new q out t m.leads.is is_mounted is; pinned = held ∙ pin; off = on })
+        by false false true goes is pin on owes = (owes, live_from new q out t m.leads.is is_mounted is)
+        by false false false true is pin on owes = (owes, on)
+        by false false false false is pin on owes = (owes, live_from new q out t m.leads.is is_mounted is)

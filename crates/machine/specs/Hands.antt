@@ -3,6 +3,7 @@ use Rattle.std.specs.Prelude.{◌≡◌, ◌<◌, ℕ, true, false, List, [], So
 use Rattle.vthread_state.specs.declared.phase.Phase.{Phase}
 use Rattle.vthread_state.specs.declared.phase.Phase.TheVariants.{Run}
 use Rattle.vthread_state.specs.declared.thread.Status.TheVariants.{Live}
+use Rattle.link_model.specs.World.{World}
 use Rattle.state_model.specs.Frames.{Frame}
 use Rattle.schedule_model.specs.Schedule.{on_carriers}
 use Rattle.schedule_model.specs.Entries.{has_mounted, is_idle, may_unmount}
@@ -47,6 +48,12 @@ pub record IsLive (r : State) (t : ℕ) : Type 0 where
   pub phase : Phase
   pub live : IsLiveIn r t phase
 
+-- it is live, pinned, and can't go on, so that its carrier keeps it
+pub record IsHeld (w : World) (r : State) (t : ℕ) : Type 0 where
+  pub live : IsLive r t
+  pub pinned : (look_of w r).pinned t ≡ true
+  pub off : enabled r t ≡ false
+
 abbrev pub Lives : Known → ℕ → Type 0
 Lives m t = Given m (λ v. IsLive v.state t)
 
@@ -59,6 +66,13 @@ HasEnded m t = Given m (λ v. has_ended v.state t ≡ true)
 -- some carrier has it mounted
 abbrev pub IsMounted : Known → ℕ → Type 0
 IsMounted m t = Given m (λ v. 0 < on_carriers t v.schedule)
+
+abbrev pub Waits : Known → ℕ → Type 0
+Waits m t = Given m (λ v. IsHeld m.setting.world v.state t)
+
+-- nothing pins it to its carrier (JEP 444)
+abbrev pub IsLoose : Known → ℕ → Type 0
+IsLoose m t = Given m (λ v. (look_of m.setting.world v.state).pinned t ≡ false)
 
 abbrev pub MayStep : Known → ℕ → Type 0
 MayStep m t = Given m (λ v. enabled v.state t ≡ true)

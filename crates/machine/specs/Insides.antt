@@ -19,6 +19,7 @@ use Rattle.machine.specs.declared.machine.Machine.TheInside.{Inside}
 use Rattle.machine.specs.Legal.{IsAccepted, IsCause}
 use Rattle.machine.specs.Lists.{HasLists}
 use Rattle.machine.specs.Machines.{Known}
+use Rattle.machine.specs.Pins.{KnowsPins}
 
 -- some carrier has the thread mounted
 abbrev pub is_out : Schedule → ℕ → Bool
@@ -65,5 +66,6 @@ known a = record {
   told = a.told;
 }
 
-abbrev pub IsSound : Inside → Type 0
-IsSound a = IsConsistent (setting_in a) a.carriers a.state a.deques a.mounted.items a.history.items a.told
+pub record IsSound (a : Inside) : Type 0 where
+  pub sound : IsConsistent (setting_in a) a.carriers a.state a.deques a.mounted.items a.history.items a.told
+  pub pins : KnowsPins (known a) a.pins.items

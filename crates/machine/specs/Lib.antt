@@ -8,6 +8,7 @@ pub mod Insides
 pub mod Ready
 pub mod AtHand
 pub mod Moves
+pub mod Pins
 pub mod Puts
 pub mod Steps
 pub mod Stalls

@@ -1,5 +1,5 @@
 -- The step of a mounted thread as an entry of the history.
-use Rattle.std.specs.Prelude.{◌≡◌, ◌<◌, ◌≤◌, ◌++◌, ◌∷◌, [], ℕ, suc, Bool, true, false, List, Option, Some, None, Result, Ok, Err, IfOk, length}
+use Rattle.std.specs.Prelude.{◌≡◌, ◌<◌, ◌≤◌, ◌++◌, ◌∷◌, [], ℕ, suc, Bool, true, false, List, Option, Some, None, Result, Ok, Err, IfOk, length, nat_lt}
 use Rattle.items.specs.declared.no_memory.NoMemory.{NoMemory}
 use Rattle.history.specs.declared.entry.Entry.{Entry}
 use Rattle.history.specs.declared.entry.What.{What}
@@ -18,20 +18,20 @@ use Rattle.ref_model.specs.State.{State, with_frames}
 use Rattle.ref_model.specs.Enabled.{has_ended}
 use Rattle.ref_model.specs.Entries.{is_grouped}
 use Rattle.ref_model.specs.Step.{enabled}
-use Rattle.ref_model.specs.Looks.{lacks_threads_next, machine_from, reads_clock_next}
+use Rattle.ref_model.specs.Looks.{lacks_threads_next, machine_from, pins_of, reads_clock_next}
 use Rattle.schedule_soundness.specs.HistoryLaws.{IsProgramAfter}
 use Rattle.program_state.specs.declared.state.ProgramState.{ProgramState}
 use Rattle.program_state.specs.States.{IsState}
 use Rattle.machine.specs.declared.after.After.{After}
 use Rattle.machine.specs.declared.after.After.TheVariants as afters
-use Rattle.machine.specs.declared.after.After.TheVariants.{Goes, Runs, Leaves, Ends, Halts}
+use Rattle.machine.specs.declared.after.After.TheVariants.{Goes, Runs, Leaves, Waits, Ends, Halts}
 use Rattle.machine.specs.declared.made.Attempt.{Attempt}
 use Rattle.machine.specs.declared.made.Attempt.TheVariants.{Made, LacksThreads, ReadsClock}
 use Rattle.machine.specs.declared.made.Move.{Move}
 use Rattle.machine.specs.declared.made.Others.{Others}
 use Rattle.machine.specs.declared.made.StepResult.{StepResult}
 use Rattle.machine.specs.declared.made.StepResult.TheVariants as results
-use Rattle.machine.specs.Hands.{HasHand, IsLive, IsLiveIn}
+use Rattle.machine.specs.Hands.{HasHand, IsHeld, IsLive, IsLiveIn}
 use Rattle.machine.specs.Insides.{AreParts}
 use Rattle.machine.specs.Legal.{IsAccepted}
 use Rattle.machine.specs.Moves.{picked}
@@ -58,21 +58,24 @@ pub record MayBeMade (w : World) (state : ProgramState) (deques : Lists) (c t : 
   pub local : ℕ
   pub from : StepsFrom w carriers state deques on c t local frames
 
--- whether the thread goes on after its step, has to leave, or has ended
-abbrev pub outcome_of : Bool → Bool → Bool → After
-outcome_of true yields goes_on = Ends
-outcome_of false true goes_on = Leaves
-outcome_of false false true = Goes
-outcome_of false false false = Leaves
+-- whether the thread, which has ended, is pinned, and yielded, and may step or not, goes on after its step, waits, has to leave, or has ended
+abbrev pub outcome_of : Bool → Bool → Bool → Bool → After
+outcome_of true pinned yields goes_on = Ends
+outcome_of false true yields true = Goes
+outcome_of false true yields false = Waits
+outcome_of false false true goes_on = Leaves
+outcome_of false false false true = Goes
+outcome_of false false false false = Leaves
 
 -- what is told of it holds
-abbrev pub IsTold : After → Scheduled State → ℕ → Type 0
-IsTold Goes v t = v.schedule.owes t ≡ false
-IsTold Runs v t = (v.schedule.owes t ≡ false) × IsLiveIn v.state t Run
-IsTold Leaves v t = (v.schedule.owes t ≡ true) × IsLive v.state t
-IsTold Ends v t = (v.schedule.owes t ≡ true) × (has_ended v.state t ≡ true)
-IsTold afters.ReadsClock v t = ⊥
-IsTold Halts v t = ⊥
+abbrev pub IsTold : World → After → Scheduled State → ℕ → Type 0
+IsTold w Goes v t = (v.schedule.owes t ≡ false) × (enabled v.state t ≡ true)
+IsTold w Runs v t = (v.schedule.owes t ≡ false) × IsLiveIn v.state t Run × (enabled v.state t ≡ true)
+IsTold w Leaves v t = (v.schedule.owes t ≡ true) × IsLive v.state t
+IsTold w Waits v t = (v.schedule.owes t ≡ false) × IsHeld w v.state t
+IsTold w Ends v t = (v.schedule.owes t ≡ true) × (has_ended v.state t ≡ true)
+IsTold w afters.ReadsClock v t = ⊥
+IsTold w Halts v t = ⊥
 
 -- The history goes on with the step, which picks this thread or none, after which these are the parts, and the thread has these frames. A step
 -- that reads the clock isn't made before this time, and picks none.
@@ -84,7 +87,7 @@ pub record Enters (w : World) (carriers : ℕ) (state : ProgramState) (deques : 
   pub makes : scheduled_after (machine_from from.setting from.first) from.before c (Step t (suc n) pick) ≡ Some then
   pub parts : AreParts carriers new left on then
   pub hand : HasHand from.setting then c t 0 after
-  pub outcome : IsTold told then t
+  pub outcome : IsTold w told then t
 
 -- No step was made, since it would make one more thread than there may be.
 pub record Lacks (w : World) (carriers : ℕ) (state : ProgramState) (deques : Lists) (on : List (Option ℕ)) (c t n : ℕ) (frames : List Frame)
@@ -118,6 +121,7 @@ told_of results.Goes = Ok (Made Goes)
 told_of results.Runs = Ok (Made Runs)
 told_of (results.Notifies u) = Ok (Made Goes)
 told_of results.Leaves = Ok (Made Leaves)
+told_of results.Waits = Ok (Made Waits)
 told_of results.Ends = Ok (Made Ends)
 told_of results.LacksThreads = Ok LacksThreads
 told_of results.ReadsClock = Ok ReadsClock
@@ -129,6 +133,7 @@ picked_by results.Goes = None
 picked_by results.Runs = None
 picked_by (results.Notifies u) = Some u
 picked_by results.Leaves = None
+picked_by results.Waits = None
 picked_by results.Ends = None
 picked_by results.LacksThreads = None
 picked_by results.ReadsClock = None
@@ -136,11 +141,12 @@ picked_by results.LacksMemory = None
 
 -- ---- the end of a step
 
--- what becomes of a thread after its step, which was a yield or not
-abbrev pub Becomes : ProgramState → ℕ → Bool → Attempt After → Type 0
-Becomes state t yields (Made after) = (r : State) (out : ℕ → Bool) → IsState state r out → after ≡ outcome_of (has_ended r t) yields (enabled r t)
-Becomes state t yields LacksThreads = ⊥
-Becomes state t yields ReadsClock = ⊥
+-- what becomes of a thread with these frames after its step, which was a yield or not
+abbrev pub Becomes : World → ProgramState → ℕ → List Frame → Bool → Attempt After → Type 0
+Becomes w state t frames yields (Made after) = (r : State) (out : ℕ → Bool) → IsState state r out →
+    after ≡ outcome_of (has_ended r t) (nat_lt 0 (pins_of w frames)) yields (enabled r t)
+Becomes w state t frames yields LacksThreads = ⊥
+Becomes w state t frames yields ReadsClock = ⊥
 
 -- the same becomes of the thread of a step that did so much to others, which picked the thread that it notified
 pub record IsPicking (others : Others) (became : StepResult) (pick : Option ℕ) (tried : Attempt After) : Type 0 where
@@ -148,10 +154,11 @@ pub record IsPicking (others : Others) (became : StepResult) (pick : Option ℕ)
   pub pick_is : pick ≡ picked others
 
 -- whom it put and picked, and what becomes of its thread
-pub record IsConcluded (state : ProgramState) (t : ℕ) (made : Move) (c : ℕ) (old new : Lists) (pick : Option ℕ) (tried : Attempt After) : Type 0 where
+pub record IsConcluded (w : World) (state : ProgramState) (t : ℕ) (frames : List Frame) (made : Move) (c : ℕ) (old new : Lists) (pick : Option ℕ)
+    (tried : Attempt After) : Type 0 where
   pub put : HasPut state t made.others c old.lists new.lists
   pub room : length state.threads.threads ≤ new.threads
-  pub outcome : Becomes state t made.yields tried
+  pub outcome : Becomes w state t frames made.yields tried
   pub pick_is : pick ≡ picked made.others
 
 -- ---- the history after a step

@@ -15,10 +15,11 @@ use Rattle.frame_soundness.specs.Typed.{Typed}
 use Rattle.interp_local.specs.declared.fetched.Fetched.{Fetched}
 use Rattle.interp_local.specs.Fetched.{IsTopAt}
 use Rattle.machine.specs.declared.after.After.{After}
+use Rattle.machine.specs.declared.after.After.TheVariants as afters
 use Rattle.machine.specs.declared.after.After.TheVariants.{Goes, Runs, Leaves, Ends, ReadsClock, Halts}
 use Rattle.machine.specs.Clocks.{IsBefore}
 use Rattle.machine.specs.Machines.{Given, Known, with_ending, with_entry}
-use Rattle.machine.specs.Hands.{HasEnded, HasPhase, Holds, Lives, OwesNothing, OwesUnmount}
+use Rattle.machine.specs.Hands.{HasEnded, HasPhase, Holds, Lives, MayStep, OwesNothing, OwesUnmount, Waits}
 
 -- ---- before a step
 
@@ -42,11 +43,13 @@ IsStepReady m t n frames next =
 
 -- ---- after a step
 
--- The thread goes on, and may be told to run; or it has to be unmounted, since it yielded or can't go on; or it has ended.
+-- The thread goes on, and may be told to run; or it has to be unmounted, since it yielded or can't go on; or it can't go on, and is pinned; or it
+-- has ended.
 abbrev pub IsOutcome : After → Known → ℕ → Type 0
-IsOutcome Goes m t = OwesNothing m t
-IsOutcome Runs m t = OwesNothing m t × HasPhase m t Run
+IsOutcome Goes m t = OwesNothing m t × MayStep m t
+IsOutcome Runs m t = OwesNothing m t × HasPhase m t Run × MayStep m t
 IsOutcome Leaves m t = OwesUnmount m t × Lives m t
+IsOutcome afters.Waits m t = OwesNothing m t × Waits m t
 IsOutcome Ends m t = OwesUnmount m t × HasEnded m t
 IsOutcome ReadsClock m t = ⊥
 IsOutcome Halts m t = ⊥

@@ -7,6 +7,8 @@ pub enum After {
     Runs,
     /// The thread has to be unmounted: it yielded or can't go on.
     Leaves,
+    /// The thread can't go on, and its carrier keeps it, since it is pinned (JEP 444).
+    Waits,
     /// The thread has ended.
     Ends,
     /// Nothing was done: the step reads the clock, and time has to go on first.

@@ -150,6 +150,13 @@ pub(crate) fn first_deques(alloc: Global, carriers: u32) -> Result<Deques, NoMem
     Ok(deques)
 }
 
+/// No carrier has a pinned thread.
+pub(crate) fn first_pins(alloc: Global, carriers: u32) -> Result<Vec<bool>, NoMemory>
+    ensures { IfOk result (λ pins. pins.items ≡ replicate carriers false) }
+{
+    Ok(vec![in alloc; false; carriers as usize]?)
+}
+
 /// No carrier has a thread mounted.
 pub(crate) fn first_mounted(alloc: Global, carriers: u32) -> Result<Vec<Option<u32>>, NoMemory>
     ensures { IfOk result (λ mounted. mounted.items ≡ replicate carriers None) }

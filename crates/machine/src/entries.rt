@@ -1,8 +1,9 @@
 //! The step of a mounted thread, with what it does to the deque of its carrier.
 
-ghost use Rattle.std.specs.Prelude.{◌≡◌, ◌<◌, ◌++◌, ◌∷◌, [], ℕ, Bool, None, length, vec_capacity, IfOk, IsTrue, OnOk};
+ghost use Rattle.std.specs.Prelude.{◌≡◌, ◌<◌, ◌++◌, ◌∷◌, ◌||◌, [], ℕ, Bool, None, Ok, false, length, nat_lt, not, vec_capacity, IfOk, IsTrue, OnOk};
 ghost use Rattle.vthread_state.specs.declared.phase.Phase.TheVariants.{Run};
 ghost use Rattle.ref_model.specs.Ending.{ending as ending_of};
+ghost use Rattle.ref_model.specs.Looks.{pins_of};
 ghost use Rattle.ref_model.specs.State.{State};
 ghost use Rattle.frame_soundness.specs.Typed.{Typed};
 ghost use Rattle.interp_local.specs.Fetched.{IsTopAt};
@@ -13,7 +14,8 @@ ghost use Rattle.machine.specs.AtHand.{AreTyped, HasNext, IsAt};
 ghost use Rattle.machine.specs.Moves.{IsAsked, StaysIfReading, alone};
 ghost use Rattle.machine.specs.Puts.{IsTouched};
 ghost use Rattle.machine.specs.Ready.{IsReady};
-ghost use Rattle.machine.specs.Steps.{Becomes, IsConcluded, IsEntered, IsPicking, IsTriedSo, MayBeMade, picked_by, told_of};
+ghost use Rattle.machine.specs.Steps.{Becomes, IsConcluded, IsEntered, IsPicking, IsTriedSo, MayBeMade, outcome_of, picked_by, told_of};
+ghost use Rattle.machine.specs.declared.made.Attempt.TheVariants.{Made};
 ghost use Rattle.machine.specs.declared.made.Others.TheVariants as moves;
 
 use crate::after::After;
@@ -24,7 +26,7 @@ use crate::puts::{is_done, put_woken};
 use continuation::Mounted;
 use history::{Entry, What};
 use interp_local::Fetched;
-use invocation::InvocationCache;
+use invocation::{InvocationCache, is_pinned};
 use items::NoMemory;
 use program_state::{ProgramState, ending};
 use ref_model::{Ending, Which};
@@ -33,24 +35,46 @@ use startup::ReadyProgram;
 use std::alloc::Global;
 use thread_steps::Progress;
 
+// What becomes of a thread that goes on or not after its step, where it would leave its carrier if it weren't pinned.
+#[inline(never)]
+fn outcome_of_pins(program: &ReadyProgram, mounted: &Mounted, goes_on: bool) -> StepResult
+    ensures becomes { (yields : Bool) → IsTrue (yields || not goes_on)
+        → told_of result ≡ Ok (Made (outcome_of false
+        (nat_lt 0 (pins_of program.now mounted.now.stack.frames)) yields goes_on)) }
+    ensures picks { picked_by result ≡ None }
+{
+    if !is_pinned(program, mounted) {
+        return StepResult::Leaves;
+    }
+    if goes_on {
+        StepResult::Goes
+    } else {
+        StepResult::Waits
+    }
+}
+
 // What becomes of a thread after its step, which was a yield or not.
 #[inline(always)]
-fn outcome(state: &ProgramState, t: u32, yields: bool) -> StepResult
+fn outcome(
+    program: &ReadyProgram,
+    state: &ProgramState,
+    mounted: &Mounted,
+    t: u32,
+    yields: bool,
+) -> StepResult
     requires { t < length state.now.threads.threads }
-    ensures becomes { IfOk (told_of result) (Becomes state.now t yields) }
+    ensures becomes { IfOk (told_of result)
+        (Becomes program.now state.now t mounted.now.stack.frames yields) }
     ensures picks { picked_by result ≡ None }
 {
     if is_done(&state.threads, t) {
         return StepResult::Ends;
     }
-    if yields {
-        return StepResult::Leaves;
+    let goes_on = may_step(state, t);
+    if goes_on && !yields {
+        return StepResult::Goes;
     }
-    if may_step(state, t) {
-        StepResult::Goes
-    } else {
-        StepResult::Leaves
-    }
+    outcome_of_pins(program, mounted, goes_on)
 }
 
 // What becomes of a thread whose step may have notified another one. One that doesn't go on after that counts as memory run out.
@@ -72,8 +96,10 @@ fn picking(others: Others, became: StepResult) -> StepResult
 #[inline(always)]
 fn conclude(
     alloc: Global,
+    program: &ReadyProgram,
     state: &ProgramState,
     deques: &mut Deques,
+    mounted: &Mounted,
     c: u32,
     t: u32,
     made: Move,
@@ -83,28 +109,39 @@ fn conclude(
     requires carrier { c < length deques.old.lists }
     requires free { (u : ℕ) → made.others ≡ moves.Starts u
         → total (count u) deques.old.lists ≡ 0 }
-    ensures { IfOk (told_of result)
-        (IsConcluded state.now t made c deques.old deques.new (picked_by result)) }
+    ensures { IfOk (told_of result) (IsConcluded program.now state.now t
+        mounted.now.stack.frames made c deques.old deques.new (picked_by result)) }
 {
     match put_woken(alloc, state, deques, c, t, made.others) {
-        Ok(()) => picking(made.others, outcome(state, t, made.yields)),
+        Ok(()) => picking(
+            made.others,
+            outcome(program, state, mounted, t, made.yields),
+        ),
         Err(NoMemory) => StepResult::LacksMemory,
     }
 }
 
 // The end of a step that did nothing to other threads, and was no yield.
 #[inline(never)]
-fn end_step(alloc: Global, state: &ProgramState, deques: &mut Deques, c: u32, t: u32) -> StepResult
+fn end_step(
+    alloc: Global,
+    program: &ReadyProgram,
+    state: &ProgramState,
+    deques: &mut Deques,
+    mounted: &Mounted,
+    c: u32,
+    t: u32,
+) -> StepResult
     requires thread { t < length state.now.threads.threads }
     requires carrier { c < length deques.old.lists }
-    ensures { IfOk (told_of result)
-        (IsConcluded state.now t alone c deques.old deques.new (picked_by result)) }
+    ensures { IfOk (told_of result) (IsConcluded program.now state.now t
+        mounted.now.stack.frames alone c deques.old deques.new (picked_by result)) }
 {
     let made = Move {
         others: Others::Stay,
         yields: false,
     };
-    conclude(alloc, state, deques, c, t, made)
+    conclude(alloc, program, state, deques, mounted, c, t, made)
 }
 
 // The step of a thread whose instruction asks this. One that reads the clock is made only where the time isn't less than `now`.
@@ -134,7 +171,7 @@ fn asking_step(
         return StepResult::LacksMemory;
     };
     match tried {
-        Attempt::Made(made) => conclude(alloc, state, deques, c, t, made),
+        Attempt::Made(made) => conclude(alloc, program, state, deques, mounted, c, t, made),
         Attempt::LacksThreads => StepResult::LacksThreads,
         Attempt::ReadsClock => StepResult::ReadsClock,
     }
@@ -187,7 +224,7 @@ fn running_step(
     if same && goes_on(state) {
         return StepResult::Runs;
     }
-    end_step(alloc, state, deques, c, t)
+    end_step(alloc, program, state, deques, mounted, c, t)
 }
 
 // The step of a thread that doesn't run.
@@ -217,7 +254,7 @@ fn other_step(
     let Ok(made) = other_move(alloc, program, cache, state, mounted) else {
         return StepResult::LacksMemory;
     };
-    conclude(alloc, state, deques, c, t, made)
+    conclude(alloc, program, state, deques, mounted, c, t, made)
 }
 
 /// Makes the step of a thread that carrier c has mounted; where it runs `next` is its instruction. One that reads the clock is made only where
@@ -304,6 +341,7 @@ pub(crate) fn enter_step(
         StepResult::Goes => enter(history, c, step, After::Goes),
         StepResult::Notifies(_) => enter(history, c, step, After::Goes),
         StepResult::Leaves => enter(history, c, step, After::Leaves),
+        StepResult::Waits => enter(history, c, step, After::Waits),
         StepResult::Ends => enter(history, c, step, After::Ends),
         StepResult::ReadsClock => After::ReadsClock,
         StepResult::LacksThreads => {

@@ -3,13 +3,12 @@
 ghost use Rattle.std.specs.Prelude.{◌≡◌, false};
 ghost use Rattle.step_soundness.specs.OpeningLaws.{IsMain};
 ghost use Rattle.link_soundness.specs.Library.{HasLibrary};
-ghost use Rattle.schedule_soundness.specs.PinLaws.{NamesNoHold};
 ghost use Rattle.schedule_soundness.specs.PromiseLaws.{IsPlain};
 ghost use Rattle.startup.specs.Openings.{setting};
 ghost use Rattle.machine.specs.Legal.{IsAccepted};
 
 use ref_model::Limits;
-use schedule_soundness::{histories_are_typed, nobody_is_pinned, promises_are_kept};
+use schedule_soundness::{histories_are_typed, promises_are_kept};
 use startup::ReadyProgram;
 
 /// Whether the main method is jvt.Native.hold, whose frame pins its thread.
@@ -27,11 +26,9 @@ pub(crate) fn is_accepted(program: &ReadyProgram, main: u32, limits: Limits)
     requires library { HasLibrary program.now.program }
     requires main { IsMain program.now main }
     requires plain { IsPlain program.now main }
-    requires names { NamesNoHold program.now }
     ensures { IsAccepted (setting program.now main limits) }
 {
     program.is_linked();
     histories_are_typed();
     promises_are_kept();
-    nobody_is_pinned();
 }

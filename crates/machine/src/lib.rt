@@ -12,6 +12,7 @@ mod live;
 mod machine;
 mod made;
 mod moves;
+mod pins;
 mod puts;
 mod stalls;
 

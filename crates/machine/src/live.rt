@@ -1,7 +1,7 @@
-//! The live threads of a program.
+//! The threads that an answer lists.
 
 ghost use Rattle.std.specs.Prelude.{◌≡◌, ◌++◌, [], ◌∷◌, IfOk, OnOk, if◌then◌else◌, length};
-ghost use Rattle.machine.specs.Live.{live_below};
+ghost use Rattle.machine.specs.Live.{live_below, mounted_threads, of_carrier};
 
 use items::NoMemory;
 use std::alloc::Global;
@@ -28,4 +28,25 @@ pub(crate) fn live_in(alloc: Global, table: &ThreadTable) -> Result<Vec<u32>, No
         push_if(&mut live, t, table.is_alive(t))?;
     }
     Ok(live)
+}
+
+// Appends the thread that a carrier has mounted, if any.
+fn push_mounted(threads: &mut Vec<u32>, thread: Option<u32>) -> Result<(), NoMemory>
+    ensures { OnOk result (threads.new.items ≡ threads.old.items ++ of_carrier thread) }
+{
+    if let Some(t) = thread {
+        threads.push(t)?;
+    }
+    Ok(())
+}
+
+/// The threads that carriers have mounted, in the order of the carriers.
+pub(crate) fn mounted_in(alloc: Global, mounted: &[Option<u32>]) -> Result<Vec<u32>, NoMemory>
+    ensures { IfOk result (λ threads. threads.items ≡ mounted_threads mounted.now) }
+{
+    let mut threads = Vec::new(alloc);
+    for thread in mounted {
+        push_mounted(&mut threads, *thread)?;
+    }
+    Ok(threads)
 }

@@ -3,35 +3,35 @@
 ghost use Rattle.std.specs.Prelude.{◌≡◌, ◌≤◌, ◌<◌, ◌-◌, ℕ, None, Some, drop, is_some, length, vec_capacity, IfNone, IfOk, IfSome, IsTrue, MatchBool, OnErr, OnOk, false, ◌≢◌};
 ghost use Rattle.history.specs.declared.entry.What.TheVariants as whats;
 ghost use Rattle.ref_model.specs.declared.ending.Ending.TheVariants as endings;
-ghost use Rattle.ref_model.specs.Looks.{is_stalled};
+ghost use Rattle.ref_model.specs.Looks.{is_stalled, look_of};
 ghost use Rattle.ref_model.specs.Step.{enabled};
 ghost use Rattle.schedule_model.specs.Run.{Scheduled};
 ghost use Rattle.step_soundness.specs.OpeningLaws.{IsMain};
 ghost use Rattle.link_soundness.specs.Library.{HasLibrary};
-ghost use Rattle.schedule_soundness.specs.PinLaws.{NamesNoHold};
 ghost use Rattle.startup.specs.Openings.{setting};
 ghost use Rattle.machine.specs.Machines.{Given, Known, at_first, errors, limit_reached, machine_ending, output, with_ending, with_entry};
-ghost use Rattle.machine.specs.Hands.{AreDequesEmpty, AreTypedInRun, HasEnded, HasPhase, Holds, Idle, IsMounted, Lives, MayStep, MayUnmount, OwesNothing};
-ghost use Rattle.machine.specs.Legal.{GoesOn, HasEntryLeft, HasNotStalled, IsLegal, Works};
+ghost use Rattle.machine.specs.Hands.{AreDequesEmpty, AreTypedInRun, HasEnded, HasPhase, Holds, Idle, IsLoose, IsMounted, Lives, MayStep, MayUnmount, OwesNothing};
+ghost use Rattle.machine.specs.Legal.{GoesOn, HasEntryLeft, HasNotStalled, HasNotStarved, IsLegal, Works};
 ghost use Rattle.machine.specs.Clocks.{Awaits, AwaitsNothing, IsBefore, IsEarliest};
-ghost use Rattle.machine.specs.Live.{ListsLive};
+ghost use Rattle.machine.specs.Live.{ListsLive, ListsMounted};
 ghost use Rattle.machine.specs.Turns.{HasStepped, IsInTime, IsStepReady, Steps};
 ghost use Rattle.machine.specs.declared.after.After.TheVariants as After;
 ghost use Rattle.invocation.specs.InvocationCache.{AreSelected};
 
 use crate::after::After;
-use crate::begin::{first_deques, first_mounted, first_state};
+use crate::begin::{first_deques, first_mounted, first_pins, first_state};
 use crate::carriers::{put_frozen, put_if, set_mounted, take_frozen};
 use crate::endings::{ended_within, limit_within, may_step};
 use crate::entries::{MOST_STEPS, enter_step, make_step, pick_of};
 use crate::laws::{is_accepted, main_pins};
-use crate::live::live_in;
+use crate::live::{live_in, mounted_in};
+use crate::pins::{note_pins, set_pin};
 use crate::puts::put_due;
-use crate::stalls::{any_deque_goes, any_enabled};
+use crate::stalls::{any_deque_goes, any_enabled, first_going};
 use continuation::{Frozen, Mounted};
 use history::{Entry, What};
 use interp_local::Fetched;
-use invocation::InvocationCache;
+use invocation::{InvocationCache, is_pinned};
 use items::NoMemory;
 use program_state::{ProgramState, earliest, pass_time};
 use ref_model::{Ending, Limits};
@@ -53,6 +53,8 @@ pub struct Machine<'p> {
     state: ProgramState,
     deques: Deques,
     mounted: Vec<Option<u32>>,
+    // By carrier, whether its thread is pinned, for each that doesn't just go on.
+    pins: Vec<bool>,
     history: Vec<Entry>,
     told: Option<Ending>,
 }
@@ -88,7 +90,6 @@ impl<'p> Machine<'p> {
     ) -> Result<Self, NoMemory>
         requires library { HasLibrary program.now.program }
         requires main { IsMain program.now main }
-        requires names { NamesNoHold program.now }
         requires carriers { 0 < carriers }
         ensures { IfOk result (λ m. m ≡ at_first (setting program.now main limits) carriers) }
     {
@@ -105,6 +106,7 @@ impl<'p> Machine<'p> {
             state: first_state(alloc, opened, limits)?,
             deques: first_deques(alloc, carriers)?,
             mounted: first_mounted(alloc, carriers)?,
+            pins: first_pins(alloc, carriers)?,
             history: Vec::new(alloc),
             told: None,
         })
@@ -249,6 +251,7 @@ impl<'p> Machine<'p> {
             Holds self.new c f.thread 0 f.stack.frames) }
         ensures live { IfSome result (λ f. Lives self.new f.thread) }
         ensures free { IfSome result (λ f. OwesNothing self.new f.thread) }
+        ensures loose { IfSome result (λ f. IsLoose self.new f.thread) }
         ensures goes_on { IfSome result (λ f. GoesOn self.new) }
         ensures none { IfNone result (self.new ≡ self.old) }
         ensures empty { IfNone result (AreDequesEmpty self.old) }
@@ -256,6 +259,7 @@ impl<'p> Machine<'p> {
         let (_, t) = self.deques.take(c)?;
         let frozen = take_frozen(&mut self.state.frozen, t);
         set_mounted(&mut self.mounted, c, Some(t));
+        set_pin(&mut self.pins, c, false);
         self.history.push_reserved(Entry {
             carrier: c,
             what: What::Mount(t),
@@ -311,6 +315,16 @@ impl<'p> Machine<'p> {
         may_step(&self.state, t)
     }
 
+    /// Whether the thread that a carrier has mounted is pinned to it (JEP 444).
+    pub fn is_pinned(&self, c: u32, mounted: &Mounted) -> bool
+        requires { Holds self.now c mounted.now.thread 0 mounted.now.stack.frames }
+        ensures { Given self.now (λ v.
+            result ≡ (look_of self.now.setting.world v.state).pinned mounted.now.thread) }
+    {
+        let _ = c;
+        is_pinned(self.program, mounted)
+    }
+
     /// The phase of a live thread.
     pub fn phase(&self, t: u32) -> Phase
         requires works { Works self.now }
@@ -361,6 +375,15 @@ impl<'p> Machine<'p> {
             c,
             next,
             now,
+        );
+        note_pins(
+            self.program,
+            &self.state,
+            mounted,
+            &mut self.pins,
+            c,
+            t,
+            tried,
         );
         let step = What::Step {
             thread: t,
@@ -418,6 +441,20 @@ impl<'p> Machine<'p> {
         true
     }
 
+    /// Ends the run where each carrier has a pinned thread that can't go on, while another thread could: whether it does.
+    pub fn starve(&mut self) -> bool
+        requires going { machine_ending self.old ≡ None }
+        requires some { Given self.old (λ v. is_stalled self.old.setting.world v.state ≡ false) }
+        ensures { MatchBool result (self.new ≡ with_ending self.old endings.Starved)
+            (HasNotStarved self.old self.new) }
+    {
+        if first_going(&self.state, self.mounted.as_slice(), self.pins.as_slice()).is_some() {
+            return false;
+        }
+        self.told = Some(Ending::Starved);
+        true
+    }
+
     /// The frames of a mounted thread that runs keep to the typing. This does nothing.
     pub fn frames_are_typed(&self, c: u32, mounted: &Mounted)
         requires { Holds self.now c mounted.now.thread 0 mounted.now.stack.frames }
@@ -442,6 +479,14 @@ impl<'p> Machine<'p> {
         ensures { IfOk result (λ live. ListsLive self.now live.items) }
     {
         live_in(alloc, &self.state.threads)
+    }
+
+    /// The threads that carriers have mounted, in the order of the carriers.
+    pub fn mounted_threads(&self, alloc: Global) -> Result<Vec<u32>, NoMemory>
+        requires { Works self.now }
+        ensures { IfOk result (λ threads. ListsMounted self.now threads.items) }
+    {
+        mounted_in(alloc, self.mounted.as_slice())
     }
 
     /// The history, and what the program wrote to its two streams.

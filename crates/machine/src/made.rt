@@ -45,6 +45,8 @@ pub(crate) enum StepResult {
     Notifies(u32),
     /// It was made, and the thread has to be unmounted.
     Leaves,
+    /// It was made, and the thread can't go on, and is pinned.
+    Waits,
     /// It was made, and the thread has ended.
     Ends,
     /// It makes a thread where there may be no more, and wasn't made.

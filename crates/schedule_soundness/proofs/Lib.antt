@@ -29,9 +29,3 @@ pub mod TimeLaws
 pub mod Ahead
 pub mod Creations
 pub mod MainGoes
-pub mod FreeFrames
-pub mod FreeSteps
-pub mod Pins
-pub mod HoldCalls
-pub mod HoldStatic
-pub mod HoldNames

@@ -11,4 +11,3 @@ pub mod PutLaws
 pub mod TimeLaws
 pub mod ClockLaws
 pub mod EntryLaws
-pub mod PinLaws

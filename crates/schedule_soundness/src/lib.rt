@@ -13,7 +13,6 @@ ghost use Rattle.schedule_soundness.specs.AloneLaws.{StepsAreOfMain, MainRunsAlo
 ghost use Rattle.schedule_soundness.specs.ClockLaws.{NothingTicksAlone};
 ghost use Rattle.schedule_soundness.specs.PutLaws.{QuietStepsPutNobody, EndsPutJoiners, StartsPutTheStarted, WakesPutTheWoken};
 ghost use Rattle.schedule_soundness.specs.TimeLaws.{TicksLeaveThreads, TicksPutWhoIsDue};
-ghost use Rattle.schedule_soundness.specs.PinLaws.{NobodyIsPinned, StepsPinNobody, RowsPinNobody, NamesTellCalls, TestsTellNames, LinkedHoldIsStatic};
 ghost use Rattle.schedule_soundness.specs.EntryLaws.{YieldsAreNext, StepsAreEntries};
 
 /// A step of a thread makes, starts, tells or wakes other threads, and does nothing else to them; nor does time (JLS 17.2). Only one that
@@ -63,16 +62,6 @@ pub fn no_wake_up_is_lost()
 pub fn pinned_threads_stay_mounted()
     ensures mounted { PinnedAreMounted }
     ensures stay { PinnedStayMounted }
-{}
-
-/// Where no instruction calls jvt.Native.hold nobody is ever pinned (JEP 444). None does where none names it.
-pub fn nobody_is_pinned()
-    ensures histories { NobodyIsPinned }
-    ensures steps { StepsPinNobody }
-    ensures rows { RowsPinNobody }
-    ensures names { NamesTellCalls }
-    ensures tests { TestsTellNames }
-    ensures linked { LinkedHoldIsStatic }
 {}
 
 /// The entries of other carriers leave what a carrier has mounted, and what it may unmount. So it freezes frames outside the lock.

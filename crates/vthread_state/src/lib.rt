@@ -14,6 +14,16 @@
 //! | Joining | it waits in `Thread.join` | the end of its target, its deadline, an interrupt |
 //!
 //!     New --start--> Live(Run) --set_phase--> Live(any phase) --finish--> Done
+//!
+//! A live virtual thread is in one of these places of the machine (JEP 444), which this table doesn't keep:
+//!
+//! | Place | What it means | What leads on |
+//! |---|---|---|
+//! | in a deque | a carrier may take it up | `next` of a carrier: mounted |
+//! | mounted | a carrier makes its steps | it waits or yields, and its frames are frozen: in a deque, parked or in line; its end: Done |
+//! | mounted and pinned | it has a native frame, and keeps its carrier while it waits | the return of that frame: mounted |
+//! | parked | its frames are frozen while it is Parked, Asleep, Joining or Waiting | what ends its wait: in a deque, or in line |
+//! | in line | its frames are frozen while it is Entering or Reenter | the monitor has no owner: in a deque |
 #![tactic(auto)]
 
 mod error;

@@ -71,11 +71,11 @@ returns-in-Made-clause-made c =
     c.in-Made.is c.in-Ok.ensures.made in
     let pick = picked_by c.conclude.result in
     concluded_so c.args.program.now c.in-Made.made c.args.state.now new m c.args.deques.now left c.args.c c.args.now tried pick k.stack.frames moves.0 moves.1
-    (subst (λ (t : ℕ). IfOk tried (IsConcluded new t c.in-Made.made c.args.c c.args.deques.now left pick)) c.thread-t.ensures c.conclude.ensures)
+    (subst (λ (t : ℕ). IfOk tried (IsConcluded c.args.program.now new t k.stack.frames c.in-Made.made c.args.c c.args.deques.now left pick)) c.thread-t.ensures c.conclude.ensures)
 
 pub returns-in-Made-clause-kept : goal.returns-in-Made-clause-kept
 returns-in-Made-clause-kept c =
-    concluded_stays c.asked_move.new.state c.thread-t.result c.args.c c.in-Made.made c.args.deques.now c.conclude.new.deques (picked_by c.conclude.result) c.args.mounted.now c.asked_move.new.mounted
+    concluded_stays c.args.program.now c.asked_move.new.state c.thread-t.result c.args.c c.asked_move.new.mounted.stack.frames c.in-Made.made c.args.deques.now c.conclude.new.deques (picked_by c.conclude.result) c.args.mounted.now c.asked_move.new.mounted
     (told_of c.conclude.result) c.conclude.ensures
 
 pub asked_move-requires-clause-seated : goal.asked_move-requires-clause-seated

@@ -42,11 +42,11 @@ returns-clause-made c = λ now.
     let pick = picked_by c.conclude.result in
     concluded_so c.args.program.now c.in-Ok.made c.args.state.now new m c.args.deques.now left c.args.c now tried pick k.stack.frames c.in-Ok.ensures.made.0
     (c.in-Ok.ensures.made.1 now)
-    (subst (λ (t : ℕ). IfOk tried (IsConcluded new t c.in-Ok.made c.args.c c.args.deques.now left pick)) c.thread-t.ensures c.conclude.ensures)
+    (subst (λ (t : ℕ). IfOk tried (IsConcluded c.args.program.now new t k.stack.frames c.in-Ok.made c.args.c c.args.deques.now left pick)) c.thread-t.ensures c.conclude.ensures)
 
 pub returns-clause-kept : goal.returns-clause-kept
 returns-clause-kept c =
-    concluded_stays c.other_move.new.state c.thread-t.result c.args.c c.in-Ok.made c.args.deques.now c.conclude.new.deques (picked_by c.conclude.result) c.args.mounted.now c.other_move.new.mounted
+    concluded_stays c.args.program.now c.other_move.new.state c.thread-t.result c.args.c c.other_move.new.mounted.stack.frames c.in-Ok.made c.args.deques.now c.conclude.new.deques (picked_by c.conclude.result) c.args.mounted.now c.other_move.new.mounted
     (told_of c.conclude.result) c.conclude.ensures
 
 pub other_move-requires-clause-seated : goal.other_move-requires-clause-seated

@@ -105,9 +105,9 @@ returns-clause-made c =
     let tried = told_of c.end_step.result in
     let pick = picked_by c.end_step.result in
     concluded_so w alone c.args.state.now mid m c.args.deques.now left c.args.c c.args.now tried pick k.stack.frames made.0 (made.1 c.args.now)
-    (subst (λ (t : ℕ). IfOk tried (IsConcluded mid t alone c.args.c c.args.deques.now left pick)) c.thread-t.ensures c.end_step.ensures)
+    (subst (λ (t : ℕ). IfOk tried (IsConcluded w mid t k.stack.frames alone c.args.c c.args.deques.now left pick)) c.thread-t.ensures c.end_step.ensures)
 
 pub returns-clause-kept : goal.returns-clause-kept
 returns-clause-kept c =
-    concluded_stays c.running_move.new.state c.thread-t.result c.args.c alone c.args.deques.now c.end_step.new.deques (picked_by c.end_step.result) c.args.mounted.now
+    concluded_stays c.args.program.now c.running_move.new.state c.thread-t.result c.args.c c.running_move.new.mounted.stack.frames alone c.args.deques.now c.end_step.new.deques (picked_by c.end_step.result) c.args.mounted.now
     c.running_move.new.mounted (told_of c.end_step.result) c.end_step.ensures

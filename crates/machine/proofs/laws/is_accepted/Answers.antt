@@ -3,7 +3,6 @@ use Rattle.link_model.specs.World.{World}
 use Rattle.verify_types.specs.Typing.{AreTyped}
 use Rattle.step_soundness.specs.OpeningLaws.{IsMain}
 use Rattle.startup.specs.Openings.{setting}
-use Rattle.schedule_soundness.specs.PinLaws.{HoldIsStatic}
 use Rattle.schedule_soundness.specs.TypedLaws.{IsTypedProgram}
 use Rattle.machine.proofs.PlainLaws.{begins_unpinned}
 use Rattle.machine.proofs.laws.is_accepted.Goals as goal
@@ -21,7 +20,4 @@ returns c =
       library = c.requires.library;
       typed = typed;
       unpinned = begins_unpinned (setting w c.args.main c.args.limits) (ap (λ (v : World). v.methods) linked) c.requires.plain;
-      calls =
-          c.nobody_is_pinned.ensures.names w typed.named (subst HoldIsStatic (sym linked) (c.nobody_is_pinned.ensures.linked w.program links c.requires.library))
-          c.requires.names;
     }

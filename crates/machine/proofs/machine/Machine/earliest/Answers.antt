@@ -10,5 +10,5 @@ pub returns : goal.returns
 returns c =
     let a = c.self.inside in
     subst (λ (k : Known). IsEarliest k c.earliest.result) c.self.view_is
-    (earliest_is (setting_in a) a.carriers a.state a.deques a.mounted.items a.history.items a.told (vec_capacity a.history - length a.history.items) c.self.invariant
+    (earliest_is (setting_in a) a.carriers a.state a.deques a.mounted.items a.history.items a.told (vec_capacity a.history - length a.history.items) c.self.invariant.sound
     (subst Works (sym c.self.view_is) c.requires.works) c.earliest.result c.earliest.ensures.none c.earliest.ensures.least)

@@ -10,5 +10,5 @@ returns c =
     let a = c.self.inside in
     let m = c.args.mounted.now in
     subst (λ (k : Known). AreTypedInRun k m.thread m.stack.frames) c.self.view_is
-    (typed_hand (setting_in a) a.carriers a.state a.deques a.mounted.items a.history.items a.told (vec_capacity a.history - length a.history.items) c.self.invariant
+    (typed_hand (setting_in a) a.carriers a.state a.deques a.mounted.items a.history.items a.told (vec_capacity a.history - length a.history.items) c.self.invariant.sound
     c.args.c m.thread m.stack.frames (subst (λ (k : Known). Holds k c.args.c m.thread 0 m.stack.frames) (sym c.self.view_is) c.requires))

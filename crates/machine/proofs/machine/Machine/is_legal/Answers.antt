@@ -4,7 +4,7 @@ use Rattle.machine.proofs.machine.Machine.is_legal.Goals as goal
 
 pub returns : goal.returns
 returns c =
-    let x = c.self.invariant in
+    let x = c.self.invariant.sound in
     subst IsLegal c.self.view_is (record {
       accepted = x.accepted;
       some = x.some;

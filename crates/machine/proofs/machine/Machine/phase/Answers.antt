@@ -9,13 +9,13 @@ use Rattle.machine.proofs.machine.Machine.phase.Goals as goal
 pub phase-requires : goal.phase-requires
 phase-requires c =
     let a = c.self.inside in
-    phase_there (setting_in a) a.carriers a.state a.deques a.mounted.items a.history.items a.told (vec_capacity a.history - length a.history.items) c.self.invariant
+    phase_there (setting_in a) a.carriers a.state a.deques a.mounted.items a.history.items a.told (vec_capacity a.history - length a.history.items) c.self.invariant.sound
     c.args.t (subst Works (sym c.self.view_is) c.requires.works) (subst (λ (k : Known). Lives k c.args.t) (sym c.self.view_is) c.requires.live)
 
 pub returns : goal.returns
 returns c =
     let a = c.self.inside in
     subst (λ (k : Known). HasPhase k c.args.t c.phase.result) c.self.view_is
-    (phase_given (setting_in a) a.carriers a.state a.deques a.mounted.items a.history.items a.told (vec_capacity a.history - length a.history.items) c.self.invariant
+    (phase_given (setting_in a) a.carriers a.state a.deques a.mounted.items a.history.items a.told (vec_capacity a.history - length a.history.items) c.self.invariant.sound
     c.args.t (subst Works (sym c.self.view_is) c.requires.works) (subst (λ (k : Known). Lives k c.args.t) (sym c.self.view_is) c.requires.live)
     c.phase.result c.phase.ensures)
