@@ -41,6 +41,7 @@ use Rattle.machine.specs.Legal.{IsAccepted, IsCause, LacksThreads}
 use Rattle.carrier.specs.Runs.{IsComplete, IsEndingOf, own, caused, limited}
 use Rattle.carrier_turns.proofs.AheadLaws.{ahead_steps, runs_with}
 use Rattle.carrier_turns.proofs.StallLaws.{enabled_goes}
+use Rattle.carrier.proofs.StarveLaws.{starves_nobody}
 
 -- ---- steps of the main thread alone
 
@@ -213,7 +214,7 @@ complete p first carriers history v told accepted some begins runs_ reasons ends
         cause MainThrew is works = is
         cause (Exited status) is works = is
         cause Stalled is works = no_true (is_stalled p.world v.state) is (enabled_goes p.world v.state 0 goes.may)
-        cause Starved is works = is
+        cause Starved is works = starves_nobody p first v (record { begins = begins; plain = accepted.unpinned; carriers = carriers; some = some; history = history; runs = runs_ }) goes.only goes.may is
         cause (Limit Files k) is works = is
         cause (Limit FileSize k) is works = is
         cause (Limit Threads k) is works = lacks_not p first carriers history v n q e begins runs_ timeless lone over goes.only is.1

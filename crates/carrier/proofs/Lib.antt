@@ -1,4 +1,5 @@
 pub mod TimeLaws
+pub mod StarveLaws
 pub mod AloneLaws
 pub mod RunLaws
 pub mod PostLaws

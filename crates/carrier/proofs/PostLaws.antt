@@ -12,7 +12,7 @@ use Rattle.ref_model.specs.declared.ending.Ending.{Ending}
 use Rattle.ref_model.specs.declared.limits.Limits.{Limits}
 use Rattle.ref_model.specs.Setting.{Setting}
 use Rattle.machine.specs.Hands.{Idle}
-use Rattle.machine.specs.Legal.{IsLegal, Works}
+use Rattle.machine.specs.Legal.{IsLegal}
 use Rattle.machine.specs.Machines.{Known, machine_ending}
 use Rattle.machine.specs.Ready.{IsReady}
 use Rattle.carrier_turns.specs.declared.ask.Turn.{Turn}
@@ -116,7 +116,7 @@ module _ (run : SharedRun) (new : Known) (s : SeatState) (same : machine_parts n
     over = turn.over;
   }
 
-  pub met_on : (o : Option Ending) → o ≡ machine_ending new → (Works new → IsTimed run.gives new) → (told : Ending) → o ≡ Some told → HasMetEnding run s.seen told
+  pub met_on : (o : Option Ending) → o ≡ machine_ending new → IsTimed run.gives new → (told : Ending) → o ≡ Some told → HasMetEnding run s.seen told
   met_on o is timed told some = record { machine = new; later = later; ended = sym is ∙ some; timed = timed }
 
 -- the program of the machine is such as its steps ask

@@ -7,7 +7,7 @@ use Rattle.history.specs.declared.entry.Entry.{Entry}
 use Rattle.link_model.specs.World.{World}
 use Rattle.schedule_model.specs.Run.{Scheduled}
 use Rattle.ref_model.specs.declared.ending.Ending.{Ending}
-use Rattle.ref_model.specs.declared.ending.Ending.TheVariants.{Halted, Limit, Stalled}
+use Rattle.ref_model.specs.declared.ending.Ending.TheVariants.{Halted, Limit, Stalled, Starved}
 use Rattle.ref_model.specs.declared.ending.Which.TheVariants.{Events}
 use Rattle.ref_model.specs.declared.limits.Limits.{Limits}
 use Rattle.ref_model.specs.Setting.{Setting}
@@ -16,10 +16,10 @@ use Rattle.ref_model.specs.Ending.{ending}
 use Rattle.schedule_soundness.proofs.Histories.{histories_run}
 use Rattle.machine.specs.Insides as insides
 use Rattle.machine.specs.Legal.{IsCause, IsLegal, Works}
-use Rattle.machine.specs.Live.{ListsLive}
-use Rattle.machine.specs.Machines.{Known, at_first, entries_left, errors, limit_reached, machine_ending, output}
+use Rattle.machine.specs.Live.{ListsLive, ListsMounted}
+use Rattle.machine.specs.Machines.{Known, at_first, entries_left, errors, limit_reached, machine_ending, output, scheduled}
 use Rattle.carrier.specs.Shared.{machine_parts}
-use Rattle.carrier.specs.Runs.{IsEndingOf, IsRun, IsTimed, own, caused, limited}
+use Rattle.carrier.specs.Runs.{AreListed, IsEndingOf, IsRun, IsTimed, own, caused, limited}
 use Rattle.carrier.proofs.AloneLaws.{complete}
 use Rattle.carrier_turns.proofs.EndingLaws.{ending_at, is_scheduled}
 
@@ -51,14 +51,20 @@ works_so m told x is works halted =
     works (sym (same_ending Halted told (sym (ap (λ o. option_or o (option_or (ending x.after.state) (limit_reached m.setting.limits (length m.history)))) halted)
     ∙ sym (ending_at m x.after (is_scheduled m x)) ∙ is)))
 
+-- the threads that the answer lists
+listed_by : (m : Known) (told : Ending) (threads : List ℕ) (v : Scheduled State) → scheduled m ≡ Some v → (told ≡ Stalled → ListsLive m threads)
+    → (told ≡ Starved → ListsMounted m threads) → AreListed v told threads
+listed_by m Stalled threads v at stalled starved = stalled refl v at
+listed_by m Starved threads v at stalled starved = starved refl v at
+listed_by m told threads v at stalled starved = tt
+
 pub is_run : (m : Known) (told : Ending) (history : List Entry) (out err live : List ℕ) → (x : IsLegal m) → machine_ending m ≡ Some told → told ≢ Halted
-    → history ≡ m.history → out ≡ output m → err ≡ errors m → (told ≡ Stalled → ListsLive m live) → (gives : ℕ → Bool) → (Works m → IsTimed gives m)
+    → history ≡ m.history → out ≡ output m → err ≡ errors m → (told ≡ Stalled → ListsLive m live) → (told ≡ Starved → ListsMounted m live) → (gives : ℕ → Bool) → IsTimed gives m
     → IsRun m.setting gives m.carriers history out err live told
-is_run m told history out err live x is works same prints tells lists gives timed =
+is_run m told history out err live x is works same prints tells stalled starved gives timed =
     let at = is_scheduled m x in
     let ends = ends_so m told x is works in
-    let t = timed (works_so m told x is works) in
-    let reasons = t.reasons x.first x.begins in
+    let reasons = timed.reasons (works_so m told x is works) x.first x.begins in
     subst (λ (es : List Entry). IsRun m.setting gives m.carriers es out err live told) (sym same) (record {
       first = x.first;
       begins = x.begins;
@@ -68,8 +74,8 @@ is_run m told history out err live x is works same prints tells lists gives time
       ended = ends;
       prints = sym (ap (λ o. option_map_or (λ (v : Scheduled State). v.state.memory.out) o []) at) ∙ sym prints;
       tells = sym (ap (λ o. option_map_or (λ (v : Scheduled State). v.state.memory.err) o []) at) ∙ sym tells;
-      live = λ stalled. lists stalled x.after at;
-      times = t.times;
+      listed = listed_by m told live x.after at stalled starved;
+      times = timed.times;
       reasons = reasons;
       few = x.few;
       complete = complete m.setting x.first m.carriers m.history x.after told x.accepted x.some x.begins x.runs reasons ends;

@@ -1,5 +1,5 @@
 -- The entries of time in a history that grows by turns.
-use Rattle.std.proofs.Common.{◌≡◌, ◌⊎◌, inl, inr, ℕ, suc, Bool, true, List, [], ◌∷◌, ◌++◌, Some, refl, ap, sym, ◌∙◌, subst}
+use Rattle.std.proofs.Common.{◌≡◌, ◌≢◌, ◌⊎◌, inl, inr, ℕ, suc, Bool, true, false, List, [], ◌∷◌, ◌++◌, Option, Some, None, refl, ap, sym, ◌∙◌, subst}
 use Rattle.std.specs.Prelude.{is_some}
 use Rattle.std.proofs.lemmas.List.{append-nil}
 use Rattle.items.specs.First.{Each}
@@ -8,6 +8,7 @@ use Rattle.history.specs.declared.entry.Entry.{Entry}
 use Rattle.history.specs.declared.entry.What.{What}
 use Rattle.history.specs.declared.entry.What.TheVariants.{Clock, Mount, Step, Unmount}
 use Rattle.schedule_model.specs.Run.{Scheduled, schedule_of}
+use Rattle.ref_model.specs.declared.ending.Ending.{Ending}
 use Rattle.ref_model.specs.declared.ending.Ending.TheVariants.{Halted}
 use Rattle.ref_model.specs.Setting.{Setting}
 use Rattle.ref_model.specs.State.{State}
@@ -21,7 +22,7 @@ use Rattle.carrier_turns.specs.declared.ask.Turn.{Turn}
 use Rattle.carrier.specs.Shared.{MachineAndClock}
 use Rattle.carrier.specs.Runs.{AreGivenTimes, IsGivenTime, IsTimed}
 use Rattle.carrier_turns.specs.Turns as turns
-use Rattle.carrier_turns.specs.Turns.{AreActs, AreOfTurn, IsTurn, entry_by}
+use Rattle.carrier_turns.specs.Turns.{AreActs, AreOfTurn, HadReason, IsTurn, entry_by}
 use Rattle.carrier_turns.proofs.EndingLaws.{halted_ends}
 use Rattle.carrier_turns.proofs.EntryLaws.{first_entry}
 
@@ -134,48 +135,115 @@ timed_first c now d n es k later (turns.timed rest are is) e = by k (sym is ∙ 
 
 -- ---- a turn
 
-pub timed_after : (gives : ℕ → Bool) (old new : Known) (c now : ℕ) (h g : Hand) (answer : Turn) → gives now ≡ true → IsTurn old new c now h g answer
-    → (new.told ≡ Some Halted → ⊥) → IsTimed gives old → IsTimed gives new
-timed_after gives old new c now h g answer given turn works timed = record {
-  times = subst (AreGivenTimes gives) (sym turn.appends.history)
-      (each_append (λ (e : Entry). IsGivenTime gives e.what) old.history es timed.times (turn_given gives c now es given turn.appends.of_turn));
-  reasons = λ first begins front later d n v is runs.
-      let setting = turn.appends.setting in
-      let begun : opening old.setting ≡ Some first = ap opening (sym setting) ∙ begins in
-      let ran : schedule_of (machine_from old.setting first) old.carriers front ≡ Some v =
-      ap (λ (q : Setting). schedule_of (machine_from q first) old.carriers front) (sym setting)
-      ∙ ap (λ k. schedule_of (machine_from new.setting first) k front) (sym turn.appends.carriers) ∙ runs in
-      subst (λ (q : Setting). HasReason q v.state d n later) (sym setting)
-      (by first begun front later d n v ran (lies old.history es front (entry_by d (Clock n)) later (sym turn.appends.history ∙ is)));
-}
+-- the entries behind others are told by both
+back_is : (xs ys zs : List Entry) → xs ++ ys ≡ xs ++ zs → ys ≡ zs
+back_is [] ys zs e = e
+back_is (x ∷ xs) ys zs e = back_is xs ys zs (tail e)
   where
-    es : List Entry
-    es = turn.appends.entries
+    tail : (x ∷ xs) ++ ys ≡ (x ∷ xs) ++ zs → xs ++ ys ≡ xs ++ zs
+    tail e = cc
 
-    by : (first : State) → opening old.setting ≡ Some first → (front later : List Entry) (d n : ℕ) (v : Scheduled State)
-        → schedule_of (machine_from old.setting first) old.carriers front ≡ Some v → Lies old.history turn.appends.entries front (entry_by d (Clock n)) later
-        → HasReason old.setting v.state d n later
-    by first begins front later d n v runs (inl h) =
-        subst (HasReason old.setting v.state d n) (sym h.2)
-        (reason_stays old.setting v.state d n h.0 turn.appends.entries (timed.reasons first begins front h.0 d n v h.1 runs))
-    by first begins front later d n v runs (inr h) =
-        let at = timed_first c now d n turn.appends.entries h.0 later turn.appends.of_turn h.2 in
-        let whole : front ≡ old.history = h.1 ∙ ap (λ k. old.history ++ k) at.none ∙ append-nil old.history in
-        let there : scheduled old ≡ Some v =
-        bind_is (opening old.setting) (λ r. schedule_of (machine_from old.setting r) old.carriers old.history) first (Some v) begins
-        (ap (schedule_of (machine_from old.setting first) old.carriers) (sym whole) ∙ runs) in
-        let own : turn.appends.entries ≡ entry_by c (Clock now) ∷ later =
-        h.2 ∙ ap (λ k. k ++ entry_by d (Clock n) ∷ later) at.none ∙ ap (λ i. entry_by i (Clock n) ∷ later) at.carrier ∙ ap (λ i. entry_by c (Clock i) ∷ later) at.time in
-        subst (λ i. HasReason old.setting v.state i n later) (sym at.carrier) (subst (λ i. HasReason old.setting v.state c i later) (sym at.time) (turn.reason works later own v there))
+-- an entry of time of a machine that works had a reason, or is the last of a turn with which the run was given up
+module _ (gives : ℕ → Bool) (old new : Known) (c now : ℕ) (h g : Hand) (answer : Turn) (legal : IsLegal old) (turn : IsTurn old new c now h g answer)
+    (ended : is_some (machine_ending old) ≡ true → new ≡ old) (timed : IsTimed gives old) where
+  abbrev es : List Entry
+  es = turn.appends.entries
 
--- so it is while the run wasn't given up
-pub timed_on : (gives : ℕ → Bool) (old new : Known) (c now : ℕ) (h g : Hand) (answer : Turn) → IsLegal old → gives now ≡ true → IsTurn old new c now h g answer
-    → (is_some (machine_ending old) ≡ true → new ≡ old) → (Works old → IsTimed gives old) → Works new → IsTimed gives new
-timed_on gives old new c now h g answer legal given turn ended timed works =
-    timed_after gives old new c now h g answer given turn works (timed (λ halted. works (ap (λ (m : Known). m.told) (ended (halts halted)) ∙ halted)))
-  where
-    halts : old.told ≡ Some Halted → is_some (machine_ending old) ≡ true
-    halts halted = halted_ends old legal halted
+  -- The reason of an entry in the history before: more entries follow it only where the run wasn't given up.
+  in_old : (first : State) → opening old.setting ≡ Some first → (front rest : List Entry) (d n : ℕ) (v : Scheduled State)
+      → old.history ≡ front ++ entry_by d (Clock n) ∷ rest → schedule_of (machine_from old.setting first) old.carriers front ≡ Some v
+      → (rest ≢ []) ⊎ Works old → HasReason old.setting v.state d n (rest ++ es)
+  in_old first begins front rest d n v is runs (inl more) = reason_stays old.setting v.state d n rest es (timed.before first begins front rest d n v more is runs)
+  in_old first begins front rest d n v is runs (inr works) = reason_stays old.setting v.state d n rest es (timed.reasons works first begins front rest d n v is runs)
+
+  -- The reason of the turn's entry, or the run was given up.
+  in_turn : (first : State) → opening old.setting ≡ Some first → (front later k : List Entry) (d n : ℕ) (v : Scheduled State) → front ≡ old.history ++ k
+      → es ≡ k ++ entry_by d (Clock n) ∷ later → schedule_of (machine_from old.setting first) old.carriers front ≡ Some v
+      → HasReason old.setting v.state d n later ⊎ ((new.told ≡ Some Halted) × (later ≡ []))
+  in_turn first begins front later k d n v is lies_ runs = by (turn.reason later own)
+    where
+      at : TimeOf c now d n es k later
+      at = timed_first c now d n es k later turn.appends.of_turn lies_
+
+      there : scheduled old ≡ Some v
+      there =
+          bind_is (opening old.setting) (λ r. schedule_of (machine_from old.setting r) old.carriers old.history) first (Some v) begins
+          (ap (schedule_of (machine_from old.setting first) old.carriers) (sym (is ∙ ap (λ xs. old.history ++ xs) at.none ∙ append-nil old.history)) ∙ runs)
+
+      own : es ≡ entry_by c (Clock now) ∷ later
+      own =
+          lies_ ∙ ap (λ xs. xs ++ entry_by d (Clock n) ∷ later) at.none ∙ ap (λ i. entry_by i (Clock n) ∷ later) at.carrier
+          ∙ ap (λ i. entry_by c (Clock i) ∷ later) at.time
+
+      by : HadReason old new c now later → HasReason old.setting v.state d n later ⊎ ((new.told ≡ Some Halted) × (later ≡ []))
+      by (inl reason) =
+          inl (subst (λ i. HasReason old.setting v.state i n later) (sym at.carrier)
+          (subst (λ i. HasReason old.setting v.state c i later) (sym at.time) (reason v there)))
+      by (inr given) = inr given
+
+  -- what the history after the turn begins with, the machine before it began with, too
+  began : (first : State) → opening new.setting ≡ Some first → opening old.setting ≡ Some first
+  began first begins = ap opening (sym turn.appends.setting) ∙ begins
+
+  ran : (first : State) (front : List Entry) (v : Scheduled State) → schedule_of (machine_from new.setting first) new.carriers front ≡ Some v
+      → schedule_of (machine_from old.setting first) old.carriers front ≡ Some v
+  ran first front v runs =
+      ap (λ (q : Setting). schedule_of (machine_from q first) old.carriers front) (sym turn.appends.setting)
+      ∙ ap (λ k. schedule_of (machine_from new.setting first) k front) (sym turn.appends.carriers) ∙ runs
+
+  -- where a turn appends nothing, or wasn't made
+  works_or_none : (es ≡ []) ⊎ Works old
+  works_or_none = by (machine_ending old) refl
+    where
+      by : (o : Option Ending) → machine_ending old ≡ o → (es ≡ []) ⊎ Works old
+      by None none = inr (λ halted. absurd (let bad : true ≡ false = sym (halted_ends old legal halted) ∙ ap is_some none in cc))
+      by (Some told) some =
+          let same : old.history ++ es ≡ old.history ++ [] = sym turn.appends.history ∙ ap (λ (m : Known). m.history) (ended (ap is_some some)) ∙ sym (append-nil old.history) in
+          inl (back_is old.history es [] same)
+
+  inner_or_works : (k later : List Entry) → later ≢ [] → later ≡ k ++ es → (k ≢ []) ⊎ Works old
+  inner_or_works k later more is = by works_or_none
+    where
+      by : (es ≡ []) ⊎ Works old → (k ≢ []) ⊎ Works old
+      by (inl none) = inl (λ empty. more (is ∙ ap (λ xs. xs ++ es) empty ∙ none))
+      by (inr works) = inr works
+
+  pub timed_after : gives now ≡ true → IsTimed gives new
+  timed_after given = record {
+    times = subst (AreGivenTimes gives) (sym turn.appends.history)
+        (each_append (λ (e : Entry). IsGivenTime gives e.what) old.history es timed.times (turn_given gives c now es given turn.appends.of_turn));
+    before = λ first begins front later d n v more is runs.
+        subst (λ (q : Setting). HasReason q v.state d n later) (sym turn.appends.setting)
+        (before first (began first begins) front later d n v more (ran first front v runs) (lies old.history es front (entry_by d (Clock n)) later (sym turn.appends.history ∙ is)));
+    reasons = λ works first begins front later d n v is runs.
+        subst (λ (q : Setting). HasReason q v.state d n later) (sym turn.appends.setting)
+        (all works first (began first begins) front later d n v (ran first front v runs) (lies old.history es front (entry_by d (Clock n)) later (sym turn.appends.history ∙ is)));
+  }
+    where
+      before : (first : State) → opening old.setting ≡ Some first → (front later : List Entry) (d n : ℕ) (v : Scheduled State) → later ≢ []
+          → schedule_of (machine_from old.setting first) old.carriers front ≡ Some v → Lies old.history turn.appends.entries front (entry_by d (Clock n)) later
+          → HasReason old.setting v.state d n later
+      before first begins front later d n v more runs (inl l) =
+          subst (HasReason old.setting v.state d n) (sym l.2) (in_old first begins front l.0 d n v l.1 runs (inner_or_works l.0 later more l.2))
+      before first begins front later d n v more runs (inr l) = by (in_turn first begins front later l.0 d n v l.1 l.2 runs)
+        where
+          by : HasReason old.setting v.state d n later ⊎ ((new.told ≡ Some Halted) × (later ≡ [])) → HasReason old.setting v.state d n later
+          by (inl reason) = reason
+          by (inr given_up) = absurd (more given_up.1)
+
+      all : Works new → (first : State) → opening old.setting ≡ Some first → (front later : List Entry) (d n : ℕ) (v : Scheduled State)
+          → schedule_of (machine_from old.setting first) old.carriers front ≡ Some v → Lies old.history turn.appends.entries front (entry_by d (Clock n)) later
+          → HasReason old.setting v.state d n later
+      all works first begins front later d n v runs (inl l) =
+          subst (HasReason old.setting v.state d n) (sym l.2) (in_old first begins front l.0 d n v l.1 runs (inr works_before))
+        where
+          works_before : Works old
+          works_before = λ halted. works (ap (λ (m : Known). m.told) (ended (halted_ends old legal halted)) ∙ halted)
+      all works first begins front later d n v runs (inr l) = by (in_turn first begins front later l.0 d n v l.1 l.2 runs)
+        where
+          by : HasReason old.setting v.state d n later ⊎ ((new.told ≡ Some Halted) × (later ≡ [])) → HasReason old.setting v.state d n later
+          by (inl reason) = reason
+          by (inr given_up) = absurd (works given_up.0)
 
 -- the clock of a machine, which is seen as its parts
 pub given_at : {C : Type 0} (gives : C → ℕ → Bool) (t u : MachineAndClock C) (now : ℕ) → t ≡ u → gives u.clock now ≡ true → gives t.clock now ≡ true
@@ -184,7 +252,8 @@ given_at gives t u now same given = ap (λ k. gives k.clock now) same ∙ given
 pub timed_at_first : (gives : ℕ → Bool) (m : Known) → m.history ≡ [] → IsTimed gives m
 timed_at_first gives m none = record {
   times = subst (AreGivenTimes gives) (sym none) tt;
-  reasons = λ first begins front later c now v is runs. absurd (by (entry_by c (Clock now)) later front (sym none ∙ is));
+  before = λ first begins front later c now v more is runs. absurd (by (entry_by c (Clock now)) later front (sym none ∙ is));
+  reasons = λ works first begins front later c now v is runs. absurd (by (entry_by c (Clock now)) later front (sym none ∙ is));
 }
   where
     by : (e : Entry) (later front : List Entry) → [] ≡ front ++ e ∷ later → ⊥

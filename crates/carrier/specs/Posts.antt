@@ -4,7 +4,7 @@ use Rattle.atomic_table.specs.Seated.{TableId}
 use Rattle.history.specs.declared.entry.Entry.{Entry}
 use Rattle.ref_model.specs.declared.ending.Ending.{Ending}
 use Rattle.turn_lock.specs.Seats.{IsIdle, SeatState}
-use Rattle.machine.specs.Legal.{IsLegal, Works}
+use Rattle.machine.specs.Legal.{IsLegal}
 use Rattle.machine.specs.Machines.{Known, machine_ending}
 use Rattle.carrier_turns.specs.declared.ask.Turn.{Turn}
 use Rattle.carrier_turns.specs.declared.hand.Hand.{Hand}
@@ -39,13 +39,12 @@ pub record HasTurned (run : SharedRun) (c : ℕ) (seen : List Entry) (h : Hand) 
   pub may : MayDo run.first.setting.world h answer
   pub over : is_over answer ≡ is_some (machine_ending machine)
 
--- What a carrier met at its last turn: this ending of the run. Unless the run was given up, each entry of time before it has a number that
--- the clock gives, and a reason.
+-- What a carrier met at its last turn: this ending of the run. Each entry of time before it has a number that the clock gives, and a reason.
 pub record HasMetEnding (run : SharedRun) (seen : List Entry) (told : Ending) : Type 0 where
   pub machine : Known
   pub later : IsLater run.first seen machine
   pub ended : machine_ending machine ≡ Some told
-  pub timed : Works machine → IsTimed run.gives machine
+  pub timed : IsTimed run.gives machine
 
 -- The seat of a post doesn't have the turn of this lock; and its hand is that of its carrier, or the run has ended.
 pub record IsPost (run : SharedRun) (p : Post) : Type 0 where

@@ -1,5 +1,5 @@
 -- What a run of a program leaves.
-use Rattle.std.specs.Prelude.{◌≡◌, ◌+◌, ◌*◌, ◌<◌, ◌≤◌, ℕ, Bool, true, List, Some, None, length}
+use Rattle.std.specs.Prelude.{◌≡◌, ◌≢◌, ◌+◌, ◌*◌, ◌<◌, ◌≤◌, ℕ, Bool, true, List, [], ◌∷◌, ◌++◌, Some, None, length}
 use Rattle.items.specs.First.{Each}
 use Rattle.history.specs.declared.entry.Entry.{Entry}
 use Rattle.history.specs.declared.entry.What.{What}
@@ -7,7 +7,7 @@ use Rattle.history.specs.declared.entry.What.TheVariants.{Clock}
 use Rattle.history.specs.Java.{java}
 use Rattle.schedule_model.specs.Run.{Scheduled, schedule_of}
 use Rattle.ref_model.specs.declared.ending.Ending.{Ending}
-use Rattle.ref_model.specs.declared.ending.Ending.TheVariants.{Limit, Stalled, Halted}
+use Rattle.ref_model.specs.declared.ending.Ending.TheVariants.{Limit, Stalled, Starved, Halted}
 use Rattle.ref_model.specs.declared.ending.Which.TheVariants.{Events}
 use Rattle.ref_model.specs.Setting.{Setting}
 use Rattle.ref_model.specs.State.{State}
@@ -16,11 +16,11 @@ use Rattle.ref_model.specs.Ending.{ending}
 use Rattle.ref_model.specs.Alone.{alone}
 use Rattle.ref_model.specs.Run.{run}
 use Rattle.ref_model.specs.Looks.{machine_from}
-pub use Rattle.schedule_soundness.specs.ClockLaws.{HaveReasons}
+pub use Rattle.schedule_soundness.specs.ClockLaws.{HasReason, HaveReasons}
 use Rattle.machine.specs.Machines.{Known}
 pub use Rattle.machine.specs.Machines.{entries_left}
-pub use Rattle.machine.specs.Legal.{IsCause, LacksThreads}
-pub use Rattle.machine.specs.Live.{live_threads}
+pub use Rattle.machine.specs.Legal.{IsCause, LacksThreads, Works}
+pub use Rattle.machine.specs.Live.{live_threads, mounted_threads}
 
 -- How a run ended after so many entries: as the program did; or the program went on, and no thread could go on, or the next step of a thread
 -- would have made a thread too many; or fewer entries were left than a turn may make.
@@ -35,6 +35,13 @@ pub data IsEndingOf (p : Setting) (v : Scheduled State) (entries : ℕ) (told : 
 abbrev pub IsComplete : Setting → State → Type 0
 IsComplete p last = (n : ℕ) (q : State) (e : Ending) → alone p n ≡ Some q → ending q ≡ Some e → 3 * n + 3 ≤ p.limits.events → last ≡ q
 
+-- The threads that an answer lists: the live ones, where no thread can go on; and the mounted ones, in the order of the carriers, where they are
+-- pinned and keep all others from going on.
+abbrev pub AreListed : Scheduled State → Ending → List ℕ → Type 0
+AreListed v Stalled threads = threads ≡ live_threads v.state
+AreListed v Starved threads = threads ≡ mounted_threads v.schedule.mounted
+AreListed v told threads = Unit {0}
+
 -- where an entry is of time, the clock gives that number
 abbrev pub IsGivenTime : (ℕ → Bool) → What → Type 0
 IsGivenTime gives what = (now : ℕ) → what ≡ Clock now → gives now ≡ true
@@ -43,8 +50,8 @@ abbrev pub AreGivenTimes : (ℕ → Bool) → List Entry → Type 0
 AreGivenTimes gives history = Each (λ (e : Entry). IsGivenTime gives e.what) history
 
 -- Each entry of the history may stand where it stands, on so many carriers; without its mount and unmount entries it is a history of the
--- reference machine. The run ended so, and what the program wrote to its two streams is the output of that history; where no thread can go on,
--- the live ones are listed. The history has no more entries than the limit allows; each entry of time has a number that the clock gives, and a
+-- reference machine. The run ended so, and what the program wrote to its two streams is the output of that history; the threads that keep it
+-- from going on are listed. The history has no more entries than the limit allows; each entry of time has a number that the clock gives, and a
 -- reason; and a program that ends in time has ended.
 pub record IsRun (p : Setting) (gives : ℕ → Bool) (carriers : ℕ) (history : List Entry) (out err numbers : List ℕ) (told : Ending) : Type 0 where
   pub first : State
@@ -55,7 +62,7 @@ pub record IsRun (p : Setting) (gives : ℕ → Bool) (carriers : ℕ) (history 
   pub ended : IsEndingOf p after (length history) told
   pub prints : after.state.memory.out ≡ out
   pub tells : after.state.memory.err ≡ err
-  pub live : told ≡ Stalled → numbers ≡ live_threads after.state
+  pub listed : AreListed after told numbers
   pub times : AreGivenTimes gives history
   pub reasons : HaveReasons p first carriers history
   pub few : length history ≤ p.limits.events
@@ -63,7 +70,16 @@ pub record IsRun (p : Setting) (gives : ℕ → Bool) (carriers : ℕ) (history 
 
 -- ---- while it runs
 
--- each entry of time in the history of a machine has a number that the clock gives, and a reason
+-- each entry of time before the last entry of a history has a reason
+abbrev pub HaveReasonsBefore : Setting → State → ℕ → List Entry → Type 0
+HaveReasonsBefore p first carriers history =
+    (front later : List Entry) (c now : ℕ) (v : Scheduled State) → later ≢ [] →
+    history ≡ front ++ record { carrier = c; what = Clock now } ∷ later →
+    schedule_of (machine_from p first) carriers front ≡ Some v → HasReason p v.state c now later
+
+-- Each entry of time in the history of a machine has a number that the clock gives, and a reason. Where the run was given up the last entry
+-- may have none: the next of its carrier was to have been a step that reads the clock.
 pub record IsTimed (gives : ℕ → Bool) (m : Known) : Type 0 where
   pub times : AreGivenTimes gives m.history
-  pub reasons : (first : State) → opening m.setting ≡ Some first → HaveReasons m.setting first m.carriers m.history
+  pub before : (first : State) → opening m.setting ≡ Some first → HaveReasonsBefore m.setting first m.carriers m.history
+  pub reasons : Works m → (first : State) → opening m.setting ≡ Some first → HaveReasons m.setting first m.carriers m.history

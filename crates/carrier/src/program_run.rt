@@ -1,13 +1,12 @@
 //! Runs a program to its end.
 
 ghost use Rattle.std.specs.Prelude.{◌≡◌, ◌≢◌, ◌<◌, ℕ, Bool, All, IfOk, Some, length};
-ghost use Rattle.ref_model.specs.declared.ending.Ending.TheVariants.{Halted, Stalled};
+ghost use Rattle.ref_model.specs.declared.ending.Ending.TheVariants.{Halted, Stalled, Starved};
 ghost use Rattle.ref_model.specs.Setting.{Setting};
 ghost use Rattle.step_soundness.specs.OpeningLaws.{IsMain};
 ghost use Rattle.link_soundness.specs.Library.{HasLibrary};
-ghost use Rattle.schedule_soundness.specs.PinLaws.{NamesNoHold};
 ghost use Rattle.machine.specs.Legal.{Works};
-ghost use Rattle.machine.specs.Live.{ListsLive};
+ghost use Rattle.machine.specs.Live.{ListsLive, ListsMounted};
 ghost use Rattle.machine.specs.Machines.{machine_ending};
 ghost use Rattle.carrier.specs.Posts.{IsBeginning, IsNewSeat, IsPost};
 ghost use Rattle.carrier.specs.Runs.{IsRun, IsTimed};
@@ -61,7 +60,7 @@ fn run_machine<'p, R: Threads + Wait + Sync, C: Clock + Sync, G: Gate + Sync>(
     requires some { 0 < machine.carriers }
     requires program { program.now ≡ machine.setting.world }
     ensures parts { IfOk result (λ m. machine_parts m ≡ machine_parts machine.entry) }
-    ensures timed { IfOk result (λ m. Works m → IsTimed (C.gives clock.now) m) }
+    ensures timed { IfOk result (IsTimed (C.gives clock.now)) }
 {
     let carriers = machine.carriers();
     let timed = TimedMachine::new(alloc, machine, clock)?;
@@ -71,17 +70,21 @@ fn run_machine<'p, R: Threads + Wait + Sync, C: Clock + Sync, G: Gate + Sync>(
     Ok(lock.close(seats).into_machine())
 }
 
-// The live threads, where no thread can go on.
-fn live_if_stalled(
+// The threads that an answer lists.
+fn listed_threads(
     alloc: Global,
     machine: &Machine<'_>,
     ending: Ending,
 ) -> Result<Vec<u32>, NoMemory>
     requires { Works machine.now }
-    ensures { IfOk result (λ live. ending ≡ Stalled → ListsLive machine.now live.items) }
+    ensures stalled { IfOk result (λ v. ending ≡ Stalled → ListsLive machine.now v.items) }
+    ensures starved { IfOk result (λ v. ending ≡ Starved → ListsMounted machine.now v.items) }
 {
     if let Ending::Stalled = ending {
         return machine.live_threads(alloc);
+    }
+    if let Ending::Starved = ending {
+        return machine.mounted_threads(alloc);
     }
     Ok(Vec::new(alloc))
 }
@@ -99,19 +102,19 @@ fn ending_of(machine: &Machine<'_>) -> Result<Ending, NoMemory>
 
 // What a machine leaves, unless its run was given up.
 fn leave(alloc: Global, machine: Machine<'_>) -> Result<Execution, NoMemory>
-    ensures { (gives : ℕ → Bool) → (Works machine.entry → IsTimed gives machine.entry)
+    ensures { (gives : ℕ → Bool) → IsTimed gives machine.entry
         → IfOk result (λ x. IsRun machine.entry.setting gives machine.entry.carriers
-        x.history.items x.out.items x.err.items x.live.items x.ending) }
+        x.history.items x.out.items x.err.items x.listed.items x.ending) }
 {
     let ending = ending_of(&machine)?;
     machine.is_legal();
-    let live = live_if_stalled(alloc, &machine, ending)?;
+    let listed = listed_threads(alloc, &machine, ending)?;
     let Written { history, out, err } = machine.into_written();
     Ok(Execution {
         history,
         out,
         err,
-        live,
+        listed,
         ending,
     })
 }
@@ -129,11 +132,10 @@ fn run_ready<R: Threads + Wait + Sync, C: Clock + Sync, G: Gate + Sync>(
 ) -> Result<Execution, NoMemory>
     requires library { HasLibrary program.now.program }
     requires main { IsMain program.now main }
-    requires names { NamesNoHold program.now }
     requires some { 0 < carriers }
     ensures { IfOk result (λ x. (p : Setting) → p.world ≡ program.now → p.main ≡ main
         → p.limits ≡ limits → IsRun p (C.gives clock.now) carriers x.history.items
-        x.out.items x.err.items x.live.items x.ending) }
+        x.out.items x.err.items x.listed.items x.ending) }
 {
     let machine = Machine::begin(alloc, program, main, limits, carriers)?;
     machine.is_legal();
@@ -144,10 +146,10 @@ fn run_ready<R: Threads + Wait + Sync, C: Clock + Sync, G: Gate + Sync>(
     leave(alloc, machine)
 }
 
-/// Runs the main method with this number, on so many carriers, until the run has ended: the program has, or no thread can go on, or it came
-/// to a limit. Each carrier has a thread of its own, as far as threads can be started. Where it finds nothing to do it naps by the clock, so a
-/// run may wait. The gate is passed before local instructions. The program has the built-in classes, and no instruction of it names
-/// jvt.Native.hold.
+/// Runs the main method with this number, on so many carriers, until the run has ended: the program has, or no thread can go on, or the
+/// carriers' pinned threads keep all others from it, or it came to a limit. Each carrier has a thread of its own, as far as threads can be
+/// started. Where it finds nothing to do it naps by the clock, so a run may wait. The gate is passed before local instructions. The program has
+/// the built-in classes.
 pub fn run<R: Threads + Wait + Sync, C: Clock + Sync, G: Gate + Sync>(
     rt: &R,
     alloc: Global,
@@ -160,11 +162,10 @@ pub fn run<R: Threads + Wait + Sync, C: Clock + Sync, G: Gate + Sync>(
 ) -> Result<Execution, NoMemory>
     requires library { HasLibrary checked.program }
     requires main { IsMain checked main }
-    requires names { NamesNoHold checked }
     requires some { 0 < carriers }
     ensures { IfOk result (λ x. (p : Setting) → p.world ≡ checked → p.main ≡ main
         → p.limits ≡ limits → IsRun p (C.gives clock.now) carriers x.history.items
-        x.out.items x.err.items x.live.items x.ending) }
+        x.out.items x.err.items x.listed.items x.ending) }
 {
     let program = ReadyProgram::new(alloc, checked)?;
     run_ready(rt, alloc, &program, main, limits, carriers, clock, gate)

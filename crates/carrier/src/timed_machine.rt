@@ -1,7 +1,7 @@
 //! A machine with the clock of its run.
 
 ghost use Rattle.std.specs.Prelude.{◌≡◌, [], IfOk, IsTrue};
-ghost use Rattle.machine.specs.Legal.{IsLegal, Works};
+ghost use Rattle.machine.specs.Legal.{IsLegal};
 ghost use Rattle.machine.specs.Machines.{machine_ending};
 ghost use Rattle.carrier_turns.specs.Hands.{Fits, HasDone};
 ghost use Rattle.carrier_turns.specs.Turns.{IsTurn};
@@ -17,8 +17,7 @@ use std::alloc::Global;
 use std::marker::Model;
 use turn_lock::TurnLock;
 
-/// A machine, and the clock of its run. Unless the run was given up, each entry of time in the history has a number that the clock gives, and
-/// a reason.
+/// A machine, and the clock of its run. Each entry of time in the history has a number that the clock gives, and a reason.
 #[derive(Drop)]
 pub struct TimedMachine<'p, 'c, C: Clock> {
     machine: Box<Machine<'p>>,
@@ -26,7 +25,6 @@ pub struct TimedMachine<'p, 'c, C: Clock> {
 }
 
 impl<'p, 'c, C: Clock> Model for TimedMachine<'p, 'c, C> {
-    ghost use Rattle.machine.specs.Legal.{Works};
     ghost use Rattle.carrier.specs.Runs.{IsTimed};
     ghost use Rattle.carrier.specs.Shared.{MachineAndClock};
 
@@ -34,8 +32,7 @@ impl<'p, 'c, C: Clock> Model for TimedMachine<'p, 'c, C> {
 
     ghost view = { λ t. record { machine = t.machine.value; clock = t.clock.now } };
 
-    ghost invariant = { λ t. Works t.machine.value
-        → IsTimed (C.gives t.clock.now) t.machine.value };
+    ghost invariant = { λ t. IsTimed (C.gives t.clock.now) t.machine.value };
 }
 
 /// A lock that keeps a machine, for the carriers of a run.
@@ -96,7 +93,7 @@ impl<'p, 'c, C: Clock> TimedMachine<'p, 'c, C> {
     #[inline(always)]
     pub fn is_legal(&self)
         ensures legal { IsLegal self.now.machine }
-        ensures timed { Works self.now.machine → IsTimed (C.gives self.now.clock) self.now.machine }
+        ensures timed { IsTimed (C.gives self.now.clock) self.now.machine }
     {
         self.machine.is_legal();
     }
@@ -104,7 +101,7 @@ impl<'p, 'c, C: Clock> TimedMachine<'p, 'c, C> {
     /// Takes the machine out.
     pub fn into_machine(self) -> Machine<'p>
         ensures machine { result ≡ self.entry.machine }
-        ensures timed { Works result → IsTimed (C.gives self.entry.clock) result }
+        ensures timed { IsTimed (C.gives self.entry.clock) result }
     {
         let TimedMachine { machine, .. } = self;
         Box::into_inner(machine)

@@ -57,9 +57,10 @@ turn old new c now h g cache answer x = record {
     by_act m (turns.puts_down k holds history) = turns.puts_down k holds history
     by_act m (turns.takes_up t none history) = turns.takes_up t (record { mounted = none.mounted; frozen = none.frozen }) history
     by_act m (turns.naps nanos none empty history is nap) = turns.naps nanos (record { mounted = none.mounted; frozen = none.frozen }) empty history is nap
-    by_act m (turns.steps k n pick rest mounted ahead may unread history owes) =
-        turns.steps k n pick rest mounted ahead may (λ r. unread (record { kept = r.kept; mounted = r.mounted; few = r.few; reads = r.reads })) history owes
-    by_act m (turns.freezes k mounted may history is) = turns.freezes k mounted may history is
+    by_act m (turns.steps k n pick rest mounted ahead may unread history owes naps) =
+        turns.steps k n pick rest mounted ahead may (λ r. unread (record { kept = r.kept; mounted = r.mounted; few = r.few; reads = r.reads })) history owes naps
+    by_act m (turns.freezes k mounted may loose history is) = turns.freezes k mounted may loose history is
+    by_act m (turns.keeps k nanos mounted held history is nap) = turns.keeps k nanos mounted held history is nap
 
     by_tick : MayTick old now (with_cache h cache) → MayTick old now h
     by_tick (turns.awaited is) = turns.awaited is

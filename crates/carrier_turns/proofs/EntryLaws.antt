@@ -89,26 +89,6 @@ stepped_last p first v w c t n pick e =
     let same = inner (with_schedule q.0 (after_step (l v.state) (l q.0) v.schedule c t (yields_after p v.state t n))) w q.2 in
     sym (ap (λ (x : Scheduled State). x.schedule.last) same)
 
--- whether it owes the Unmount of the thread is seen by the state after the step
-pub stepped_owes : (p : Setting) (first : State) (v w : Scheduled State) (c t n : ℕ) (pick : Option ℕ) → scheduled_after (machine_from p first) v c (Step t n pick) ≡ Some w
-    → (yields : Bool) × (w.schedule.owes t ≡ has_to_leave (look_of p.world w.state) t yields)
-stepped_owes p first v w c t n pick e =
-    let l = look_of p.world in
-    let yields = yields_after p v.state t n in
-    let given = under_is (may_step (l v.state) v.schedule c t pick) _ w e in
-    let q = some_is (grouped_steps p v.state t n pick) (λ q. Some (with_schedule q (after_step (l v.state) (l q) v.schedule c t yields))) w given.1 in
-    let same = inner (with_schedule q.0 (after_step (l v.state) (l q.0) v.schedule c t yields)) w q.2 in
-    let leaves = has_to_leave (l q.0) t yields in
-    let here : with_value v.schedule.owes t leaves t ≡ leaves = ap (λ b. cond b leaves (v.schedule.owes t)) (eq-eqb t t refl) in
-    (yields, sym (ap (λ (x : Scheduled State). x.schedule.owes t) same) ∙ here ∙ ap (λ (x : Scheduled State). has_to_leave (l x.state) t yields) same)
-
--- one that doesn't have to leave, and isn't pinned, may step
-pub stays_enabled : (l : Look) (t : ℕ) (yields : Bool) → l.pinned t ≡ false → has_to_leave l t yields ≡ false → l.enabled t ≡ true
-stays_enabled l t yields free stays =
-    let rest = (or_parts (is_done (l.spot t)) (not (l.pinned t) && (yields || not (l.enabled t))) stays).1 in
-    let open_ : (yields || not (l.enabled t)) ≡ false = sym (ap (λ b. not b && (yields || not (l.enabled t))) free) ∙ rest in
-    not-false (l.enabled t) (or_parts yields (not (l.enabled t)) open_).1
-
 -- ---- lists of entries
 
 -- the first entries of equal lists do the same, by the same carrier

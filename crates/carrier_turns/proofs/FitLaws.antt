@@ -10,15 +10,15 @@ use Rattle.state_model.specs.Frames.{Frame}
 use Rattle.continuation.specs.Continuation.{Continuation}
 use Rattle.schedule_model.specs.Entries.{came_late, has_mounted, is_last_act, may_unmount}
 use Rattle.ref_model.specs.declared.ending.Ending.{Ending}
-use Rattle.ref_model.specs.State.{JavaThread, frames_at, running_frames}
+use Rattle.ref_model.specs.State.{JavaThread, State, frames_at, running_frames}
 use Rattle.ref_model.specs.Ending.{ending}
 use Rattle.ref_model.specs.Looks.{look_of}
-use Rattle.ref_model.specs.Step.{is_ready}
+use Rattle.ref_model.specs.Step.{enabled, is_ready}
 use Rattle.frame_soundness.specs.Typed.{Typed}
 use Rattle.invocation.specs.InvocationCache.{AreSelected}
 use Rattle.schedule_soundness.proofs.TypedHistories.{frames_are_typed}
 use Rattle.machine.specs.Machines.{Given, Known, machine_ending}
-use Rattle.machine.specs.Hands.{HasPhase, Holds, Idle, Lives, MayStep, OwesNothing, OwesUnmount}
+use Rattle.machine.specs.Hands.{HasPhase, Holds, Idle, IsLiveIn, Lives, MayStep, OwesNothing, OwesUnmount, Waits}
 use Rattle.machine.specs.Legal.{IsLegal}
 use Rattle.carrier_turns.specs.declared.ask.Ask.{Ask}
 use Rattle.carrier_turns.specs.declared.ask.Ask.TheVariants.{Nothing, Local, Freeze}
@@ -144,12 +144,27 @@ typed_in m c t frames x holds phase =
     frames_are_typed m.setting x.first m.carriers m.history v t frames x.accepted.typed x.begins x.runs has
 
 -- it may step, while the program goes on
+pub running_goes : (r : State) (t : ℕ) → ending r ≡ None → IsLiveIn r t phases.Run → enabled r t ≡ true
+running_goes r t goes p =
+    and_from (is_none (ending r)) _ (ap is_none goes)
+    (ap (λ o. option_map_or (λ (x : JavaThread). is_ready r x x.thread.status) o false) p.at ∙ ap (is_ready r p.thread) p.status)
+
 pub running_steps : (m : Known) (t : ℕ) → machine_ending m ≡ None → HasPhase m t phases.Run → MayStep m t
-running_steps m t none phase = λ v at.
-    let p = phase v at in
-    let ready : is_ready v.state p.thread p.thread.thread.status ≡ true = ap (is_ready v.state p.thread) p.status in
-    and_from (is_none (ending v.state)) _ (ap is_none (going m v at none).own)
-    (ap (λ o. option_map_or (λ (x : JavaThread). is_ready v.state x x.thread.status) o false) p.at ∙ ready)
+running_steps m t none phase = λ v at. running_goes v.state t (going m v at none).own (phase v at)
+
+-- one that can't step doesn't run
+pub held_rests : (m : Known) (t : ℕ) → machine_ending m ≡ None → Waits m t → IsNotRunning m t
+held_rests m t none waits_ = λ v at.
+    let held = waits_ v at in
+    record {
+      phase = held.live.phase;
+      live = held.live.live;
+      other = λ runs.
+          no_true (enabled v.state t) (running_goes v.state t (going m v at none).own (subst (IsLiveIn v.state t) runs held.live.live)) held.off;
+    }
+  where
+    no_true : (b : Bool) → b ≡ true → b ≡ false → ⊥
+    no_true b e f = absurd cc
 
 -- ---- how a thread goes on
 
@@ -184,6 +199,18 @@ goes_fits m c t k g answer legal below same holds owes way parts works selected 
         running k (asks (Local k.thread) (ap asked_by is ∙ ap Local (sym same))) kept free here (typed_in m c k.thread k.stack.frames legal kept here)
     by (goes_to_wait none not is) =
         waiting k (asks Nothing (ap asked_by is)) kept free (moved m (IsNotRunning m) t k.thread same not)
+
+-- One that is pinned and can't go on stays.
+pub waiting_fits : (m : Known) (c t : ℕ) (k : Continuation) (g : Hand) → c < m.carriers → k.thread ≡ t → Holds m c t 0 k.stack.frames → OwesNothing m t
+    → IsNotRunning m t → HasParts g (Some k) None None Nothing → g.failed ≡ false → AreSelected m.setting.world g.cache → Fits m c g
+waiting_fits m c t k g below same holds owes not parts works selected =
+    record {
+      below = below;
+      holds = λ fine. waiting k parts (moved m (λ u. Holds m c u 0 k.stack.frames) t k.thread same holds) (moved m (OwesNothing m) t k.thread same owes)
+          (moved m (IsNotRunning m) t k.thread same not);
+      rests = λ bad. absurd (let e = sym works ∙ bad in cc);
+      selected = selected;
+    }
 
 -- One that has to leave is to be frozen.
 pub leaving_fits : (m : Known) (c t : ℕ) (k : Continuation) (g : Hand) → c < m.carriers → k.thread ≡ t → Holds m c t 0 k.stack.frames → Lives m t

@@ -12,6 +12,7 @@ pub mod HandLaws
 pub mod FitLaws
 pub mod StepLaws
 pub mod TurnLaws
+pub mod AnswerLaws
 pub mod ActLaws
 pub mod OutlastLaws
 pub mod AheadLaws

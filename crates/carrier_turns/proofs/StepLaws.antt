@@ -24,11 +24,10 @@ use Rattle.ref_model.specs.Setting.{Setting}
 use Rattle.ref_model.specs.Ending.{ending}
 use Rattle.ref_model.specs.Enabled.{has_ended, is_done}
 use Rattle.ref_model.specs.Step.{is_ready}
-use Rattle.schedule_soundness.proofs.Pins.{nobody_is_pinned}
 use Rattle.ref_model.specs.Looks.{look_of, reads_clock_next, spot_of}
 use Rattle.machine.specs.declared.after.After.{After}
-use Rattle.machine.specs.declared.after.After.TheVariants.{Goes, Runs, Leaves, Ends, Halts, ReadsClock}
-use Rattle.machine.specs.Hands.{HasEnded, HasPhase, Holds, IsLive, IsMounted, Lives, MayStep, MayUnmount, OwesNothing, OwesUnmount}
+use Rattle.machine.specs.declared.after.After.TheVariants.{Goes, Runs, Leaves, Waits, Ends, Halts, ReadsClock}
+use Rattle.machine.specs.Hands.{HasEnded, HasPhase, Holds, IsLive, IsLoose, IsMounted, Lives, MayStep, MayUnmount, OwesNothing, OwesUnmount}
 use Rattle.machine.specs.Legal.{HasEntryLeft, IsLegal, Works}
 use Rattle.machine.specs.Machines.{Given, Known, machine_ending, scheduled, with_entry}
 use Rattle.machine.specs.Turns.{HasToRead, IsInTime, IsStepReady, IsStepReadyIn, Steps}
@@ -39,7 +38,7 @@ use Rattle.carrier_turns.specs.Hands.{HasParts, HasToLeave, IsInOtherPhase, IsNo
 use Rattle.carrier_turns.specs.Turns.{MayNotStep, ReadsInTime}
 use Rattle.carrier_turns.specs.Steps.{HasGone, MayGoOn, MountedBy, NeedsClock, ran, waits}
 use Rattle.carrier_turns.proofs.EndingLaws.{going, is_scheduled}
-use Rattle.carrier_turns.proofs.EntryLaws.{last_entry, stays_enabled, stepped_last, stepped_owes}
+use Rattle.carrier_turns.proofs.EntryLaws.{last_entry, stepped_last}
 use Rattle.carrier_turns.proofs.HistoryLaws.{is_program_after}
 use Rattle.carrier_turns.proofs.LateLaws.{late_leaves}
 use Rattle.carrier_turns.proofs.LocalLaws.{ends_may}
@@ -214,21 +213,9 @@ may_retire old c t n k pick frames holds owes ended = λ v at.
 pub left_after : (old : Known) (c : ℕ) (what : What) → length old.history + 2 ≤ old.setting.limits.events → HasEntryLeft (with_entry old c what)
 left_after old c what room = let e : Entry = record { carrier = c; what = what } in omega (arith, length-append old.history (e ∷ []))
 
--- ---- a thread that goes on
+-- ---- a thread that may step
 
--- it may step: it doesn't have to leave, and nobody is pinned
-pub goes_enabled : (old new : Known) (c t n : ℕ) (pick : Option ℕ) → new ≡ with_entry old c (Step t n pick) → IsLegal new → OwesNothing new t → MayStep new t
-goes_enabled old new c t n pick entry legal owes = λ v at.
-    let last = last_entry old c (Step t n pick) v (ap scheduled (sym entry) ∙ at) in
-    let setting : new.setting ≡ old.setting = ap (λ (m : Known). m.setting) entry in
-    let p = old.setting in
-    let after = is_program_after new v legal at in
-    let free : (look_of p.world v.state).pinned t ≡ false =
-    subst (λ (q : Setting). (look_of q.world v.state).pinned t ≡ false) setting (nobody_is_pinned new.setting legal.first v after legal.accepted.typed legal.accepted.calls t) in
-    let tells = stepped_owes p last.first last.before v c t n pick last.after in
-    stays_enabled (look_of p.world v.state) t tells.0 free (sym tells.1 ∙ owes v at)
-
--- so it is live
+-- it is live
 pub enabled_lives : (m : Known) (t : ℕ) → MayStep m t → Lives m t
 enabled_lives m t may = λ v at. live_by v.state (slice_get v.state.threads t) refl (and_parts (is_none (ending v.state)) _ (may v at)).1
   where
@@ -253,12 +240,12 @@ mounted_lives m c h k (waits parts holds owes not) = λ v at. record { phase = (
 
 -- ---- a thread that can't step
 
--- its Unmount is allowed
-pub off_leaves : (m : Known) (c t n : ℕ) (frames : List Frame) → IsLegal m → Holds m c t n frames → OwesNothing m t → MayNotStep m t → HasToLeave m c t
-off_leaves m c t n frames legal holds owes off = λ v at goes.
+-- its Unmount is allowed, unless it is pinned
+pub off_leaves : (m : Known) (c t n : ℕ) (frames : List Frame) → IsLegal m → Holds m c t n frames → OwesNothing m t → IsLoose m t → MayNotStep m t → HasToLeave m c t
+off_leaves m c t n frames legal holds owes loose off = λ v at goes.
     let after = is_program_after m v legal at in
     late_leaves m.setting legal.first v c t after (ap is_some goes) (holds v at).mounted (owes v at)
-    (nobody_is_pinned m.setting legal.first v after legal.accepted.typed legal.accepted.calls t) (off v at)
+    (loose v at) (off v at)
 
 -- ---- a step that was made, as one that reads the clock
 
@@ -270,11 +257,12 @@ by_kept_in_time m h now k mounted in_time r = λ v at.
     (subst (λ (x : Continuation). reads_clock_next m.setting.world (with_frames v.state x.thread x.stack.frames) x.thread ≡ true)
     (same_kept r.kept k (sym r.mounted ∙ mounted)) (r.reads v at))
 
--- one that goes on, leaves or ends is made in time
+-- one that goes on, leaves, waits or ends is made in time
 pub gone_in_time : (after : After) (old new : Known) (c t now : ℕ) (h g : Hand) → HasGone after old new c t now h g → (after ≡ Halts → ⊥) → ReadsInTime old h now
 gone_in_time Goes old new c t now h g gone made r = by_kept_in_time old h now gone.was gone.had (λ few. gone.in_time few) r
 gone_in_time Runs old new c t now h g gone made r = by_kept_in_time old h now gone.was gone.had (λ few. gone.in_time few) r
 gone_in_time Leaves old new c t now h g gone made r = by_kept_in_time old h now gone.was gone.had (λ few. gone.in_time few) r
+gone_in_time Waits old new c t now h g gone made r = by_kept_in_time old h now gone.was gone.had (λ few. gone.in_time few) r
 gone_in_time Ends old new c t now h g gone made r = by_kept_in_time old h now gone.was gone.had (λ few. gone.in_time few) r
 gone_in_time ReadsClock old new c t now h g gone made r = absurd (gone.tried refl)
 gone_in_time Halts old new c t now h g gone made r = absurd (made refl)
@@ -287,3 +275,6 @@ leaves_made e = cc
 
 pub ends_made : Ends ≡ Halts → ⊥
 ends_made e = cc
+
+pub waits_made : Waits ≡ Halts → ⊥
+waits_made e = cc

@@ -10,18 +10,18 @@ use Rattle.history.specs.declared.entry.What.TheVariants.{Clock, Mount, Step, Un
 use Rattle.vthread_state.specs.declared.phase.Phase.TheVariants as phases
 use Rattle.continuation.specs.Continuation.{Continuation}
 use Rattle.schedule_model.specs.Run.{Scheduled}
-use Rattle.ref_model.specs.declared.ending.Ending.TheVariants.{Halted, Stalled}
+use Rattle.ref_model.specs.declared.ending.Ending.TheVariants.{Halted, Stalled, Starved}
 use Rattle.ref_model.specs.State.{JavaThread, State, with_frames}
 use Rattle.ref_model.specs.Ending.{ending}
 use Rattle.ref_model.specs.Step.{enabled, is_ready}
-use Rattle.ref_model.specs.Looks.{is_stalled, lacks_threads_next, reads_clock_next}
+use Rattle.ref_model.specs.Looks.{lacks_threads_next, reads_clock_next}
 use Rattle.schedule_soundness.specs.ClockLaws.{HasReason, awaited, read, reads_clock_after}
 use Rattle.machine.specs.Clocks.{Awaits, AwaitsNothing, IsBefore}
 use Rattle.vthread_state.specs.declared.thread.Status.TheVariants.{Live}
 use Rattle.machine.specs.Hands.{HasHand, HasPhase, IsLiveIn, MayStep}
 use Rattle.machine.specs.Legal.{GoesOn, IsLegal}
 use Rattle.machine.specs.Machines.{Given, Known, machine_ending, scheduled, with_ending, with_entry}
-use Rattle.carrier_turns.specs.Acts.{IsAct, StepLacks}
+use Rattle.carrier_turns.specs.Acts.{IsAct, IsGivenUpWith, StepLacks}
 use Rattle.carrier_turns.specs.declared.ask.Turn.{Turn}
 use Rattle.carrier_turns.specs.declared.ask.Turn.TheVariants.{Over}
 use Rattle.carrier_turns.specs.declared.hand.Hand.{Hand}
@@ -29,9 +29,10 @@ use Rattle.carrier_turns.specs.declared.ask.Ask.TheVariants.{Nothing}
 use Rattle.invocation.specs.InvocationCache.{AreSelected}
 use Rattle.carrier_turns.specs.Hands.{Fits, HasThread}
 use Rattle.carrier_turns.specs.LocalRuns.{AreAhead, steps_of}
-use Rattle.carrier_turns.specs.Steps.{AnswersUnlessStalled, MayAct, MayGoOn, MountedBy, ran, waits, looks_over, looks_stalled, looks_on}
+use Rattle.carrier_turns.specs.Steps.{AnswersUnlessStalled, MayAct, MayGoOn, MountedBy, ran, waits, looks_over, looks_stalled, looks_starved, looks_on}
 use Rattle.carrier_turns.specs.Turns as turns
-use Rattle.carrier_turns.specs.Turns.{AreActs, IsActDue, IsTurn, MayNotStep, MayTick, ReadsInTime, StallsAreTold, StepReads, asked_by, entry_by, goes_on, is_over, wants_nothing}
+use Rattle.carrier_turns.specs.Turns.{AreActs, HadReason, IsActDue, IsTurn, MayNotStep, MayTick, ReadsInTime, StallsAreTold, StepReads, asked_by, entry_by, goes_no_more, goes_on, is_over, wants_nothing}
+use Rattle.carrier_turns.proofs.StallLaws.{goes_more}
 use Rattle.carrier_turns.proofs.EndingLaws as endings
 use Rattle.carrier_turns.proofs.EndingLaws.{is_scheduled, not_both, room_for, told_ends, told_over}
 use Rattle.carrier_turns.proofs.FitLaws.{fits_told, mounted_by}
@@ -62,7 +63,7 @@ pub act_turn : (old new : Known) (c now : ℕ) (h g : Hand) (answer : Turn) → 
 act_turn old new c now h g answer nothing in_time x =
     record {
       appends = record { entries = x.entries; of_turn = turns.acts x.are_acts; history = x.history; setting = x.setting; carriers = x.carriers };
-      reason = λ works later is. absurd (no_time c now x.entries later x.are_acts is);
+      reason = λ later is. absurd (no_time c now x.entries later x.are_acts is);
       over = x.over;
       asks = x.asks;
       works = x.works;
@@ -131,7 +132,7 @@ module _ (old : Known) (c now : ℕ) (h : Hand) where
       setting = keeps.setting ∙ ap (λ (m : Known). m.setting) entry;
       carriers = keeps.carriers ∙ ap (λ (m : Known). m.carriers) entry;
     };
-    reason = λ works later is. λ v at. awaited (waits_ v at);
+    reason = λ later is. inl (λ v at. awaited (waits_ v at));
     over = ap is_over (sym is) ∙ over_looked mid new Nothing answer legal look;
     asks = act.done;
     works = λ goes. absurd cc;
@@ -149,7 +150,7 @@ module _ (old : Known) (c now : ℕ) (h : Hand) where
   -- its thread goes on after that
   pub timed_turn : (mid new : Known) (g : Hand) (answer : Turn) → length old.history + 3 ≤ old.setting.limits.events → MayTick old now h → mid ≡ with_entry old c (Clock now)
       → (StallsAreTold old → StallsAreTold mid)
-      → (x : IsAct mid new c now h g answer) → ((new.told ≡ Some Halted → ⊥) → Given old (λ v. HasReason old.setting v.state c now x.entries)) → IsTurn old new c now h g answer
+      → (x : IsAct mid new c now h g answer) → HadReason old new c now x.entries → IsTurn old new c now h g answer
   timed_turn mid new g answer room may entry still x reason = record {
     appends = record {
       entries = entry_by c (Clock now) ∷ x.entries;
@@ -158,7 +159,7 @@ module _ (old : Known) (c now : ℕ) (h : Hand) where
       setting = x.setting ∙ ap (λ (m : Known). m.setting) entry;
       carriers = x.carriers ∙ ap (λ (m : Known). m.carriers) entry;
     };
-    reason = λ works later is. λ v at. subst (HasReason old.setting v.state c now) (same_rest is) (reason works v at);
+    reason = λ later is. subst (HadReason old new c now) (same_rest is) reason;
     over = x.over;
     asks = x.asks;
     works = x.works;
@@ -178,7 +179,7 @@ module _ (old : Known) (c now : ℕ) (h : Hand) where
 pub due_turn : (old mid new : Known) (c now : ℕ) (h g : Hand) (answer : Turn) → MayAct old c h → Awaits old now → mid ≡ with_entry old c (Clock now)
     → StallsAreTold mid → IsAct mid new c now h g answer → IsTurn old new c now h g answer
 due_turn old mid new c now h g answer act waits_ entry told x =
-    timed_turn old c now h mid new g answer (room_for old act.legal act.going) (turns.awaited waits_) entry (λ before. told) x (λ works v at. awaited (waits_ v at))
+    timed_turn old c now h mid new g answer (room_for old act.legal act.going) (turns.awaited waits_) entry (λ before. told) x (inl (λ v at. awaited (waits_ v at)))
 
 -- ---- a turn whose step reads the clock
 
@@ -250,9 +251,15 @@ module _ (old mid : Known) (c now : ℕ) (h : Hand) (act : MayAct old c h) (spar
 
   module _ (new : Known) (g : Hand) (answer : Turn) where
     -- why time went on
-    reason : (x : IsAct mid new c now h g answer) → (new.told ≡ Some Halted → ⊥) → Given old (λ v. HasReason old.setting v.state c now x.entries)
-    reason x works = λ v at. by_told v at (wants_nothing new.told) refl
+    reason : (x : IsAct mid new c now h g answer) → HadReason old new c now x.entries
+    reason x = by_told (wants_nothing new.told) refl
       where
+        steps_off : (k : Continuation) → h.mounted ≡ Some k → enabled legal.after.state k.thread ≡ false → ⊥
+        steps_off k mounted off =
+            let w = legal.after in
+            no_true (enabled w.state r.kept.thread) (may_step w (is_scheduled mid legal))
+            (subst (λ (z : Continuation). enabled w.state z.thread ≡ false) (same_kept k r.kept (sym mounted ∙ r.mounted)) off)
+
         is_step : (v : Scheduled State) → scheduled old ≡ Some v → IsActDue mid new c now h answer → HasReason old.setting v.state c now x.entries
         is_step v at (turns.puts_down k holds history) = absurd (no_frozen k holds was)
           where
@@ -261,12 +268,9 @@ module _ (old mid : Known) (c now : ℕ) (h : Hand) (act : MayAct old c h) (spar
             no_frozen k holds (waits parts held owes not) = let e = sym parts.frozen_is ∙ holds in cc
         is_step v at (turns.takes_up u none history) = absurd (let e = sym none.mounted ∙ r.mounted in cc)
         is_step v at (turns.naps nanos none empty history told nap) = absurd (let e = sym none.mounted ∙ r.mounted in cc)
-        is_step v at (turns.freezes k mounted may history told) =
-            let w = legal.after in
-            let there = is_scheduled mid legal in
-            absurd (no_true (enabled w.state r.kept.thread) (may_step w there)
-            (subst (λ (z : Continuation). enabled w.state z.thread ≡ false) (same_kept k r.kept (sym mounted ∙ r.mounted)) (may w there)))
-        is_step v at (turns.steps k n pick rest mounted ahead may unread history owes) =
+        is_step v at (turns.freezes k mounted may loose history told) = absurd (steps_off k mounted (may legal.after (is_scheduled mid legal)))
+        is_step v at (turns.keeps k nanos mounted held history told nap) = absurd (steps_off k mounted (held legal.after (is_scheduled mid legal)).off)
+        is_step v at (turns.steps k n pick rest mounted ahead may unread history owes naps) =
             let after = rest_is mid.history x.entries (entry_by c (Step k.thread (suc n) pick) ∷ rest) (sym x.history ∙ history) in
             let entries : x.entries ≡ entry_by c (Step k.thread (suc n) None) ∷ rest = after ∙ ap (λ u. entry_by c (Step k.thread (suc n) u) ∷ rest) (unread reads_then) in
             let here : k ≡ r.kept = same_kept k r.kept (sym mounted ∙ r.mounted) in
@@ -278,9 +282,13 @@ module _ (old mid : Known) (c now : ℕ) (h : Hand) (act : MayAct old c h) (spar
             hand_at v at n (inl same) = subst (λ i. HasHand old.setting v c r.kept.thread i r.kept.stack.frames) (sym same) (held_steps old c h r.kept was v at)
             hand_at v at n (inr full) = absurd (r.few full)
 
-        by_stop : (v : Scheduled State) → scheduled old ≡ Some v → (new.told ≡ Some Halted) ⊎ StepLacks mid h → HasReason old.setting v.state c now x.entries
-        by_stop v at (inl halted) = absurd (works halted)
-        by_stop v at (inr lacks) =
+        by_halt : (new.told ≡ Some Halted) → (x.entries ≡ []) ⊎ (h.mounted ≡ None) → HadReason old new c now x.entries
+        by_halt halted (inl none) = inr (halted, none)
+        by_halt halted (inr empty) = absurd (let e = sym empty ∙ r.mounted in cc)
+
+        by_stop : IsGivenUpWith new h x.entries ⊎ StepLacks mid h → HadReason old new c now x.entries
+        by_stop (inl given) = by_halt given.0 given.1
+        by_stop (inr lacks) = inl (λ v at.
             let w = legal.after in
             let there = is_scheduled mid legal in
             let last = last_entry old c (Clock now) w (ap scheduled (sym entry) ∙ there) in
@@ -291,15 +299,15 @@ module _ (old mid : Known) (c now : ℕ) (h : Hand) (act : MayAct old c h) (spar
             (r.reads last.before last.at)
             (subst (λ (y : Continuation). lacks_threads_next old.setting.world (with_frames w.state y.thread y.stack.frames) y.thread ≡ true)
             (same_kept lacks.kept r.kept (sym lacks.mounted ∙ r.mounted))
-            (subst (λ (m : Known). lacks_threads_next m.setting.world (with_frames w.state lacks.kept.thread lacks.kept.stack.frames) lacks.kept.thread ≡ true) entry (lacks.lacks w there))))
+            (subst (λ (m : Known). lacks_threads_next m.setting.world (with_frames w.state lacks.kept.thread lacks.kept.stack.frames) lacks.kept.thread ≡ true) entry (lacks.lacks w there)))))
 
-        by_told : (v : Scheduled State) → scheduled old ≡ Some v → (b : Bool) → wants_nothing new.told ≡ b → HasReason old.setting v.state c now x.entries
-        by_told v at true wants = is_step v at (x.due wants)
-        by_told v at false wants = by_stop v at (x.stops wants)
+        by_told : (b : Bool) → wants_nothing new.told ≡ b → HadReason old new c now x.entries
+        by_told true wants = inl (λ v at. is_step v at (x.due wants))
+        by_told false wants = by_stop (x.stops wants)
 
     pub read_turn : IsAct mid new c now h g answer → IsTurn old new c now h g answer
     read_turn x =
-        timed_turn old c now h mid new g answer (room_for old act.legal act.going) (turns.reads r later) entry (λ told. told_enabled mid r.kept.thread may_step) x (reason x)
+        timed_turn old c now h mid new g answer (room_for old act.legal act.going) (turns.reads r later) entry (λ told. told_enabled mid c r.kept.thread (steps_of h.local) r.kept.stack.frames (held_steps mid c h r.kept is) may_step) x (reason x)
 
 -- ---- a look whether the run has ended with that
 
@@ -308,7 +316,9 @@ pub looked_on : (mid new : Known) (answer : Turn) → AnswersUnlessStalled mid n
     → (new ≡ mid) × (machine_ending mid ≡ None) × StallsAreTold mid
 looked_on mid new answer (looks_over ended same is) on = absurd (on is)
 looked_on mid new answer (looks_stalled none same is) on = absurd (on is)
-looked_on mid new answer (looks_on none goes same _) on = (same, none, λ v at stalls. absurd (no_true (is_stalled mid.setting.world v.state) stalls (goes v at)))
+looked_on mid new answer (looks_starved none same is) on = absurd (on is)
+looked_on mid new answer (looks_on none goes fed same _) on =
+    (same, none, λ v at stops. absurd (no_true (goes_no_more mid.setting.world v) stops (goes_more mid.setting.world v (goes v at) (fed v at))))
 
 -- ---- a run that is given up
 
@@ -332,9 +342,11 @@ tick_ends_fits old mid new c now h answer act entry legal look = by look
 
     by : AnswersUnlessStalled mid new Nothing answer → Fits new c h
     by (looks_over ended same _) = subst (λ m. Fits m c h) (sym same) fits
-    by (looks_stalled none same is) =
+    by (looks_stalled none same _) =
         subst (λ m. Fits m c h) (sym same) (fits_told mid mid.spare (Some Stalled) c h (λ ended. told_ends mid Stalled legal) fits)
-    by (looks_on none not same is) = subst (λ m. Fits m c h) (sym same) fits
+    by (looks_starved none same _) =
+        subst (λ m. Fits m c h) (sym same) (fits_told mid mid.spare (Some Starved) c h (λ ended. told_ends mid Starved legal) fits)
+    by (looks_on none not fed same _) = subst (λ m. Fits m c h) (sym same) fits
 
 -- ---- a turn without a step
 

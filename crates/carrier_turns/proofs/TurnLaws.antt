@@ -1,22 +1,25 @@
 -- What the exits of a turn come to.
 use Rattle.std.proofs.Common.{◌≡◌, ◌⊎◌, inl, inr, ℕ, suc, ◌+◌, ◌-◌, ◌*◌, ◌<◌, ◌≤◌, Bool, true, false, not, List, [], ◌∷◌, ◌++◌, length, Option, Some, None, refl, ap, sym, ◌∙◌, subst, arith, length-append, ◌||◌}
 use Rattle.std.specs.Prelude.{is_some, if◌then◌else◌}
-use Rattle.std.proofs.lemmas.Bool.{or_right}
+use Rattle.std.proofs.lemmas.Bool.{or_left, or_right}
 use Rattle.std.proofs.lemmas.List.{append-nil}
 use Rattle.std.proofs.Math.Seq.{append_snoc}
 use Rattle.history.specs.declared.entry.Entry.{Entry}
 use Rattle.history.specs.declared.entry.What.{What}
 use Rattle.history.specs.declared.entry.What.TheVariants.{Mount, Step, Unmount, Clock}
 use Rattle.continuation.specs.Continuation.{Continuation}
+use Rattle.state_model.specs.Frames.{Frame}
 use Rattle.schedule_model.specs.Run.{Scheduled}
+use Rattle.schedule_model.specs.Stalled.{is_starved}
 use Rattle.ref_model.specs.declared.ending.Ending.{Ending}
-use Rattle.ref_model.specs.declared.ending.Ending.TheVariants.{Halted, Limit, Stalled}
+use Rattle.ref_model.specs.declared.ending.Ending.TheVariants.{Halted, Limit, Stalled, Starved}
 use Rattle.ref_model.specs.declared.ending.Which.TheVariants.{Threads}
 use Rattle.ref_model.specs.Setting.{Setting}
 use Rattle.ref_model.specs.State.{State, with_frames}
-use Rattle.ref_model.specs.Looks.{is_stalled, lacks_threads_next, reads_clock_next}
+use Rattle.ref_model.specs.Looks.{is_stalled, lacks_threads_next, look_of, reads_clock_next}
+use Rattle.machine.specs.declared.after.After.TheVariants as afters
 use Rattle.machine.specs.declared.after.After.TheVariants.{Goes, Leaves, Ends, Halts}
-use Rattle.machine.specs.Hands.{AreDequesEmpty, MayStep, OwesUnmount}
+use Rattle.machine.specs.Hands.{AreDequesEmpty, Holds, Idle, IsLoose, MayStep, OwesUnmount, Waits}
 use Rattle.machine.specs.Legal.{IsLegal}
 use Rattle.machine.specs.Machines.{Given, Known, machine_ending, with_ending, with_entry}
 use Rattle.machine.specs.Turns.{HasHalted, HasStepped, given_up, lacks_threads}
@@ -27,14 +30,14 @@ use Rattle.carrier_turns.specs.declared.ask.Turn.{Turn}
 use Rattle.carrier_turns.specs.declared.ask.Turn.TheVariants.{Run, Nap, Over}
 use Rattle.carrier_turns.specs.Hands.{HasDone}
 use Rattle.carrier_turns.specs.Turns as turns
-use Rattle.carrier_turns.specs.Acts.{IsAct, StepLacks}
-use Rattle.carrier_turns.specs.Turns.{Appends, AreActs, AreOfTurn, HoldsFrozen, HoldsNothing, IsActDue, IsDue, IsNap, IsTurn, MayNotStep, MayTick, StallsAreTold, StepReads, asked_by, entry_by, goes_on, is_freeze, is_over, is_pressing, turns_left, wants_nothing}
-use Rattle.carrier_turns.specs.Steps.{AnswersUnlessOver, AnswersUnlessStalled, GoesOnBy, HasGone, IsGivenUp, MayAct, MayGoOn, MountedBy, ran, waits, was_over, gives_up, goes_over, goes_to_run, goes_to_wait, answers_over, answers, looks_over, looks_stalled, looks_on}
+use Rattle.carrier_turns.specs.Acts.{IsAct, IsGivenUpWith, StepLacks}
+use Rattle.carrier_turns.specs.Turns.{Appends, AreActs, AreOfTurn, HoldsFrozen, HoldsNothing, IsActDue, IsDue, IsNap, IsTurn, MayNotStep, MayTick, StallsAreTold, StepReads, asked_by, entry_by, goes_no_more, goes_on, is_freeze, is_over, is_pressing, turns_left, wants_nothing}
+use Rattle.carrier_turns.specs.Steps.{AnswersUnlessOver, AnswersUnlessStalled, GoesOnBy, HasGone, IsGivenUp, MayAct, MayGoOn, MountedBy, NapsUnlessStalled, ran, waits, was_over, gives_up, goes_over, goes_to_run, goes_to_wait, answers_over, answers, looks_over, looks_stalled, looks_starved, looks_on, naps_over, naps_on}
 use Rattle.carrier_turns.proofs.EndingLaws.{going, is_scheduled, none_is_no, not_both, room_for, told_ends, told_over}
 use Rattle.carrier_turns.proofs.EntryLaws.{LastEntry, last_entry, mounted_is, unmounted_state}
 use Rattle.carrier_turns.proofs.FitLaws.{mounted_by}
 use Rattle.carrier_turns.proofs.StepLaws.{same_kept, thread_kept}
-use Rattle.carrier_turns.proofs.StallLaws.{enabled_goes}
+use Rattle.carrier_turns.proofs.StallLaws.{enabled_feeds, enabled_goes, goes_more, idle_feeds, stalls_by, unpinned_feeds}
 
 -- ---- how far the end is
 
@@ -66,34 +69,49 @@ one_longer xs e rest = omega (arith, length-append xs (e ∷ rest))
 
 -- an entry that leaves the state as it was
 told_same : (old : Known) (c : ℕ) (what : What) → machine_ending old ≡ None
-    → ((w : Scheduled State) (last : LastEntry old c what w) → w.state ≡ last.before.state) → StallsAreTold old → StallsAreTold (with_entry old c what)
-told_same old c what none stays told = λ w at stalled.
+    → ((w : Scheduled State) (last : LastEntry old c what w) → w.state ≡ last.before.state)
+    → Given (with_entry old c what) (λ w. is_starved (look_of old.setting.world w.state) w.schedule ≡ false) → StallsAreTold old → StallsAreTold (with_entry old c what)
+told_same old c what none stays fed told = λ w at stops.
     let last = last_entry old c what w at in
-    absurd (not_both (machine_ending old) (told last.before last.at (subst (λ r. is_stalled old.setting.world r ≡ true) (stays w last) stalled)) none)
+    let before = last.before in
+    let stalled : is_stalled old.setting.world before.state ≡ true =
+    subst (λ r. is_stalled old.setting.world r ≡ true) (stays w last) (stalls_by old.setting.world w stops (fed w at)) in
+    absurd (not_both (machine_ending old)
+    (told before last.at (or_left (is_stalled old.setting.world before.state) (is_starved (look_of old.setting.world before.state) before.schedule) stalled)) none)
 
-pub told_mount : (old : Known) (c t : ℕ) → machine_ending old ≡ None → StallsAreTold old → StallsAreTold (with_entry old c (Mount t))
-told_mount old c t none told =
-    told_same old c (Mount t) none (λ w last. (mounted_is old.setting last.first last.before w c t last.after).state) told
+-- a thread that is taken up isn't pinned
+pub told_mount : (old : Known) (c t : ℕ) (frames : List Frame) → machine_ending old ≡ None → Holds (with_entry old c (Mount t)) c t 0 frames
+    → IsLoose (with_entry old c (Mount t)) t → StallsAreTold old → StallsAreTold (with_entry old c (Mount t))
+told_mount old c t frames none holds loose told =
+    told_same old c (Mount t) none (λ w last. (mounted_is old.setting last.first last.before w c t last.after).state)
+    (λ w at. unpinned_feeds old.setting.world w c t (holds w at).mounted (loose w at)) told
 
-pub told_unmount : (old : Known) (c t : ℕ) → machine_ending old ≡ None → StallsAreTold old → StallsAreTold (with_entry old c (Unmount t))
-told_unmount old c t none told =
-    told_same old c (Unmount t) none (λ w last. unmounted_state old.setting last.first last.before w c t last.after) told
+pub told_unmount : (old : Known) (c t : ℕ) → machine_ending old ≡ None → Idle (with_entry old c (Unmount t)) c → StallsAreTold old
+    → StallsAreTold (with_entry old c (Unmount t))
+told_unmount old c t none idle told =
+    told_same old c (Unmount t) none (λ w last. unmounted_state old.setting last.first last.before w c t last.after)
+    (λ w at. idle_feeds old.setting.world w c (idle w at)) told
 
 no_true : (b : Bool) → b ≡ true → b ≡ false → ⊥
 no_true b e f = absurd cc
 
 -- a thread that may step
-pub told_enabled : (m : Known) (t : ℕ) → MayStep m t → StallsAreTold m
-told_enabled m t may = λ v at stalled.
-    absurd (no_true (is_stalled m.setting.world v.state) stalled (enabled_goes m.setting.world v.state t (may v at)))
+pub told_enabled : (m : Known) (c t n : ℕ) (frames : List Frame) → Holds m c t n frames → MayStep m t → StallsAreTold m
+told_enabled m c t n frames holds may = λ v at stops.
+    let w = m.setting.world in
+    absurd (no_true (goes_no_more w v) stops
+    (goes_more w v (enabled_goes w v.state t (may v at)) (enabled_feeds w v c t (holds v at).mounted (may v at))))
 
 -- after a look
 pub told_looked : (old new : Known) (ask : Ask) (answer : Turn) → IsLegal old → AnswersUnlessStalled old new ask answer → StallsAreTold new
 told_looked old new ask answer legal (looks_over ended same is) = subst StallsAreTold (sym same) (told_over old ended)
 told_looked old new ask answer legal (looks_stalled none same is) =
     subst StallsAreTold (sym same) (told_over (with_ending old Stalled) (told_ends old Stalled legal))
-told_looked old new ask answer legal (looks_on none not same is) =
-    subst StallsAreTold (sym same) (λ v at stalled. absurd (no_true (is_stalled old.setting.world v.state) stalled (not v at)))
+told_looked old new ask answer legal (looks_starved none same is) =
+    subst StallsAreTold (sym same) (told_over (with_ending old Starved) (told_ends old Starved legal))
+told_looked old new ask answer legal (looks_on none not fed same is) =
+    subst StallsAreTold (sym same)
+    (λ v at stops. absurd (no_true (goes_no_more old.setting.world v) stops (goes_more old.setting.world v (not v at) (fed v at))))
 
 -- ---- the answer
 
@@ -117,7 +135,9 @@ pub over_looked : (old new : Known) (ask : Ask) (answer : Turn) → IsLegal old 
 over_looked old new ask answer legal (looks_over ended same is) = over_so new answer (ap (λ m. is_some (machine_ending m)) same ∙ ended) is
 over_looked old new ask answer legal (looks_stalled none same is) =
     over_so new answer (ap (λ m. is_some (machine_ending m)) same ∙ told_ends old Stalled legal) is
-over_looked old new ask answer legal (looks_on none not same is) = runs_so new answer ask (ap machine_ending same ∙ none) is
+over_looked old new ask answer legal (looks_starved none same is) =
+    over_so new answer (ap (λ m. is_some (machine_ending m)) same ∙ told_ends old Starved legal) is
+over_looked old new ask answer legal (looks_on none not fed same is) = runs_so new answer ask (ap machine_ending same ∙ none) is
 
 -- ---- turns that append nothing
 
@@ -133,7 +153,7 @@ pub over_turn : (m : Known) (c now : ℕ) (h : Hand) → is_some (machine_ending
 over_turn m c now h ended done =
     record {
       appends = record { entries = []; of_turn = turns.acts (turns.none refl); history = sym (append-nil m.history); setting = refl; carriers = refl };
-      reason = λ works later is. absurd cc;
+      reason = λ later is. absurd cc;
       over = sym ended;
       asks = done;
       works = λ goes. absurd cc;
@@ -163,7 +183,7 @@ stopped_turn old spare c now h g legal asks =
     let ended : is_some (machine_ending new) ≡ true = told_ends (record old { spare = spare }) Halted (legal_spare old spare legal) in
     record {
       appends = record { entries = []; of_turn = turns.acts (turns.none refl); history = sym (append-nil old.history); setting = refl; carriers = refl };
-      reason = λ works later is. absurd cc;
+      reason = λ later is. absurd cc;
       over = sym ended;
       asks = asks;
       works = λ goes. absurd cc;
@@ -200,9 +220,10 @@ room_turn old new spare c now h g answer x =
     by_act (turns.puts_down k holds history) = turns.puts_down k holds history
     by_act (turns.takes_up t none history) = turns.takes_up t none history
     by_act (turns.naps nanos none empty history is nap) = turns.naps nanos none empty history is nap
-    by_act (turns.steps k n pick rest mounted ahead may unread history owes) =
-        turns.steps k n pick rest mounted ahead may (λ r. unread (record { kept = r.kept; mounted = r.mounted; few = r.few; reads = r.reads })) history owes
-    by_act (turns.freezes k mounted may history is) = turns.freezes k mounted may history is
+    by_act (turns.steps k n pick rest mounted ahead may unread history owes naps) =
+        turns.steps k n pick rest mounted ahead may (λ r. unread (record { kept = r.kept; mounted = r.mounted; few = r.few; reads = r.reads })) history owes naps
+    by_act (turns.freezes k mounted may loose history is) = turns.freezes k mounted may loose history is
+    by_act (turns.keeps k nanos mounted waits_ history is nap) = turns.keeps k nanos mounted waits_ history is nap
 
     by_tick : MayTick before now h → MayTick old now h
     by_tick (turns.awaited is) = turns.awaited is
@@ -215,9 +236,10 @@ room_turn old new spare c now h g answer x =
         by (turns.puts_down k holds history) = turns.puts_down k holds history
         by (turns.takes_up t none history) = turns.takes_up t none history
         by (turns.naps nanos none empty history is nap) = turns.naps nanos none empty history is nap
-        by (turns.steps k n pick rest mounted ahead may unread history owes) =
-            turns.steps k n pick rest mounted ahead may (λ r. unread (record { kept = r.kept; mounted = r.mounted; few = r.few; reads = r.reads })) history owes
-        by (turns.freezes k mounted may history is) = turns.freezes k mounted may history is
+        by (turns.steps k n pick rest mounted ahead may unread history owes naps) =
+            turns.steps k n pick rest mounted ahead may (λ r. unread (record { kept = r.kept; mounted = r.mounted; few = r.few; reads = r.reads })) history owes naps
+        by (turns.freezes k mounted may loose history is) = turns.freezes k mounted may loose history is
+        by (turns.keeps k nanos mounted waits_ history is nap) = turns.keeps k nanos mounted waits_ history is nap
 
     by : IsDue before new c now h answer → IsDue old new c now h answer
     by (turns.acts nothing in_time due) = turns.acts nothing (λ r. in_time (record { kept = r.kept; mounted = r.mounted; few = r.few; reads = r.reads })) (by_act due)
@@ -245,10 +267,29 @@ nap_act m c now nanos h none told_none done nothing empty nap =
       nearer = λ goes. absurd cc;
     }
 
+-- the carrier naps with its thread, which is pinned and can't step
+pub keep_act : (m : Known) (c now : ℕ) (nanos : Option ℕ) (k : Continuation) (h : Hand) → MayAct m c h → h.mounted ≡ Some k → Waits m k.thread → IsNap m now nanos
+    → IsAct m m c now h h (Nap nanos)
+keep_act m c now nanos k h act mounted held nap =
+    record {
+      entries = [];
+      are_acts = turns.none refl;
+      history = sym (append-nil m.history);
+      setting = refl;
+      carriers = refl;
+      over = sym (none_is_no (machine_ending m) act.going);
+      asks = act.done;
+      works = λ goes. absurd cc;
+      due = λ wants. turns.keeps k nanos mounted held refl refl nap;
+      stops = λ lacks. absurd (nothing_lacks m.told (nothing_told m act.legal act.going) lacks);
+      told = λ told. told;
+      nearer = λ goes. absurd cc;
+    }
+
 -- the mounted thread can't step, and is to be frozen
-pub freeze_act : (m : Known) (c now : ℕ) (k : Continuation) (h g : Hand) → MayAct m c h → h.mounted ≡ Some k → MayNotStep m k.thread → g.asked ≡ Freeze → g.failed ≡ false
+pub freeze_act : (m : Known) (c now : ℕ) (k : Continuation) (h g : Hand) → MayAct m c h → h.mounted ≡ Some k → MayNotStep m k.thread → IsLoose m k.thread → g.asked ≡ Freeze → g.failed ≡ false
     → IsAct m m c now h g (Run Freeze)
-freeze_act m c now k h g act mounted off asks works =
+freeze_act m c now k h g act mounted off loose asks works =
     record {
       entries = [];
       are_acts = turns.none refl;
@@ -258,7 +299,7 @@ freeze_act m c now k h g act mounted off asks works =
       over = sym (none_is_no (machine_ending m) act.going);
       asks = asks;
       works = λ goes. works;
-      due = λ wants. turns.freezes k mounted off refl refl;
+      due = λ wants. turns.freezes k mounted off loose refl refl;
       stops = λ lacks. absurd (nothing_lacks m.told (nothing_told m act.legal act.going) lacks);
       told = λ told. told;
       nearer = λ goes. nearer_by_freeze m h g rests (or_right g.failed (is_some g.frozen || is_freeze g.asked) (or_right (is_some g.frozen) (is_freeze g.asked) (ap is_freeze asks)));
@@ -279,7 +320,7 @@ freeze_act m c now k h g act mounted off asks works =
 pub one_entry : (old new : Known) (c now : ℕ) (what : What) (h g : Hand) (answer : Turn) → length old.history + 1 ≤ old.setting.limits.events
     → new.history ≡ old.history ++ entry_by c what ∷ [] → new.setting ≡ old.setting → new.carriers ≡ old.carriers
     → AreActs c (entry_by c what ∷ []) → is_over answer ≡ is_some (machine_ending new) → g.asked ≡ asked_by answer
-    → (goes_on answer ≡ true → g.failed ≡ false) → IsActDue old new c now h answer → (wants_nothing new.told ≡ false → (new.told ≡ Some Halted) ⊎ StepLacks old h)
+    → (goes_on answer ≡ true → g.failed ≡ false) → IsActDue old new c now h answer → (wants_nothing new.told ≡ false → IsGivenUpWith new h (entry_by c what ∷ []) ⊎ StepLacks old h)
     → (StallsAreTold old → StallsAreTold new) → IsAct old new c now h g answer
 one_entry old new c now what h g answer room history setting carriers are_acts over asks works due stops told =
     record {
@@ -316,28 +357,28 @@ told_is old new c what is = ap (λ (m : Known). m.told) is
 
 -- a frozen continuation was put down
 pub settle_act : (old new : Known) (c now : ℕ) (k : Continuation) (h g : Hand) (answer : Turn) → MayAct old c h → h.frozen ≡ Some k
-    → new ≡ with_entry old c (Unmount k.thread) → AnswersUnlessOver new Nothing answer → g.asked ≡ Nothing → g.failed ≡ false
+    → new ≡ with_entry old c (Unmount k.thread) → Idle new c → AnswersUnlessOver new Nothing answer → g.asked ≡ Nothing → g.failed ≡ false
     → IsAct old new c now h g answer
-settle_act old new c now k h g answer act holds entry tells asks works =
+settle_act old new c now k h g answer act holds entry idle tells asks works =
     one_entry old new c now (Unmount k.thread) h g answer (room_one old act) (history_is old new c (Unmount k.thread) entry) (setting_is old new c (Unmount k.thread) entry)
     (carriers_is old new c (Unmount k.thread) entry) (turns.unmount k.thread refl) (over_unless new Nothing answer tells) (asks ∙ asked tells) (λ goes. works)
     (turns.puts_down k holds (history_is old new c (Unmount k.thread) entry))
     (λ lacks. absurd (nothing_lacks new.told (told_is old new c (Unmount k.thread) entry ∙ nothing_told old act.legal act.going) lacks))
-    (λ told. subst StallsAreTold (sym entry) (told_unmount old c k.thread act.going told))
+    (λ told. subst StallsAreTold (sym entry) (told_unmount old c k.thread act.going (subst (λ m. Idle m c) entry idle) told))
   where
     asked : AnswersUnlessOver new Nothing answer → Nothing ≡ asked_by answer
     asked (answers_over ended is) = sym (ap asked_by is)
     asked (answers none is) = sym (ap asked_by is)
 
 -- a thread was taken up
-pub mount_act : (old new : Known) (c t now : ℕ) (h g : Hand) (answer : Turn) → MayAct old c h → HoldsNothing h → new ≡ with_entry old c (Mount t)
-    → GoesOnBy new t answer → g.asked ≡ asked_by answer → g.failed ≡ false → IsAct old new c now h g answer
-mount_act old new c t now h g answer act nothing entry way asks works =
+pub mount_act : (old new : Known) (c t now : ℕ) (frames : List Frame) (h g : Hand) (answer : Turn) → MayAct old c h → HoldsNothing h → new ≡ with_entry old c (Mount t)
+    → Holds new c t 0 frames → IsLoose new t → GoesOnBy new t answer → g.asked ≡ asked_by answer → g.failed ≡ false → IsAct old new c now h g answer
+mount_act old new c t now frames h g answer act nothing entry hand loose way asks works =
     one_entry old new c now (Mount t) h g answer (room_one old act) (history_is old new c (Mount t) entry) (setting_is old new c (Mount t) entry)
     (carriers_is old new c (Mount t) entry) (turns.mount t refl) (over_by new t answer way) asks (λ goes. works)
     (turns.takes_up t nothing (history_is old new c (Mount t) entry))
     (λ lacks. absurd (nothing_lacks new.told (told_is old new c (Mount t) entry ∙ nothing_told old act.legal act.going) lacks))
-    (λ told. subst StallsAreTold (sym entry) (told_mount old c t act.going told))
+    (λ told. subst StallsAreTold (sym entry) (told_mount old c t frames act.going (subst (λ m. Holds m c t 0 frames) entry hand) (subst (λ m. IsLoose m t) entry loose) told))
 
 -- a thread was taken up, and there was no memory to hold it
 pub mount_fails_act : (old mid new : Known) (c t now : ℕ) (h g : Hand) → MayAct old c h → HoldsNothing h → mid ≡ with_entry old c (Mount t) → IsLegal mid
@@ -362,10 +403,10 @@ mount_fails_act old mid new c t now h g act nothing entry legal given asks =
     ended_by (was_over over same) = ap (λ m. is_some (machine_ending m)) same ∙ over
     ended_by (gives_up none same) = ap (λ m. is_some (machine_ending m)) same ∙ told_ends mid Halted legal
 
-    stops_by : IsGivenUp mid new → wants_nothing new.told ≡ false → (new.told ≡ Some Halted) ⊎ StepLacks old h
+    stops_by : IsGivenUp mid new → wants_nothing new.told ≡ false → IsGivenUpWith new h (entry_by c (Mount t) ∷ []) ⊎ StepLacks old h
     stops_by (was_over over same) lacks =
         absurd (nothing_lacks new.told (ap (λ (m : Known). m.told) same ∙ told_is old mid c (Mount t) entry ∙ nothing_told old act.legal act.going) lacks)
-    stops_by (gives_up none same) lacks = inl (ap (λ (m : Known). m.told) same)
+    stops_by (gives_up none same) lacks = inl (ap (λ (m : Known). m.told) same, inr nothing.mounted)
 
     history : new.history ≡ old.history ++ entry_by c (Mount t) ∷ []
     history = history_by given ∙ history_is old mid c (Mount t) entry
@@ -394,13 +435,23 @@ pub looked_keeps : (old new : Known) (ask : Ask) (answer : Turn) → AnswersUnle
 looked_keeps old new ask answer (looks_over ended same is) = kept_same old new same
 looked_keeps old new ask answer (looks_stalled none same is) =
     record { history = ap (λ (m : Known). m.history) same; setting = ap (λ (m : Known). m.setting) same; carriers = ap (λ (m : Known). m.carriers) same }
-looked_keeps old new ask answer (looks_on none not same is) = kept_same old new same
+looked_keeps old new ask answer (looks_starved none same is) =
+    record { history = ap (λ (m : Known). m.history) same; setting = ap (λ (m : Known). m.setting) same; carriers = ap (λ (m : Known). m.carriers) same }
+looked_keeps old new ask answer (looks_on none not fed same is) = kept_same old new same
 
--- nothing but a stall was told
+-- nothing was told but that the program can go on no more
 looked_lacks : (old new : Known) (ask : Ask) (answer : Turn) → AnswersUnlessStalled old new ask answer → old.told ≡ None → wants_nothing new.told ≡ false → ⊥
 looked_lacks old new ask answer (looks_over ended same is) none lacks = nothing_lacks new.told (ap (λ (m : Known). m.told) same ∙ none) lacks
 looked_lacks old new ask answer (looks_stalled going same is) none lacks = let e = sym (ap (λ (m : Known). wants_nothing m.told) same) ∙ lacks in absurd cc
-looked_lacks old new ask answer (looks_on going on same is) none lacks = nothing_lacks new.told (ap (λ (m : Known). m.told) same ∙ none) lacks
+looked_lacks old new ask answer (looks_starved going same is) none lacks = let e = sym (ap (λ (m : Known). wants_nothing m.told) same) ∙ lacks in absurd cc
+looked_lacks old new ask answer (looks_on going on fed same is) none lacks = nothing_lacks new.told (ap (λ (m : Known). m.told) same ∙ none) lacks
+
+-- after a look a carrier doesn't nap
+looked_wakes : (old new : Known) (ask : Ask) (answer : Turn) (nanos : Option ℕ) → AnswersUnlessStalled old new ask answer → answer ≡ Nap nanos → ⊥
+looked_wakes old new ask answer nanos (looks_over ended same over) is = let e = sym is ∙ over in cc
+looked_wakes old new ask answer nanos (looks_stalled none same over) is = let e = sym is ∙ over in cc
+looked_wakes old new ask answer nanos (looks_starved none same over) is = let e = sym is ∙ over in cc
+looked_wakes old new ask answer nanos (looks_on none not fed same goes) is = let e = sym is ∙ goes in cc
 
 left_one : (n k : ℕ) → n + 2 ≤ k → n + 1 ≤ k
 left_one n k few = omega arith
@@ -427,10 +478,16 @@ goes_act old mid c t now least h g x answer may gone still way asks works =
     one_entry old mid c now what h x answer (left_one (length old.history) old.setting.limits.events may.left) (history_is old mid c what s.entry) (setting_is old mid c what s.entry)
     (carriers_is old mid c what s.entry) (turns.step t gone.local s.pick refl) (over_by mid t answer way) asks (λ goes. works)
     (turns.steps has.kept gone.local s.pick [] has.mounted gone.ahead (subst (MayStep old) (sym has.thread) may.enabled) (unread_by old h t gone.was s.pick may gone.had s.unread)
-    (history_is old mid c what s.entry ∙ ap (λ u. old.history ++ entry_by c (Step u (suc gone.local) s.pick) ∷ []) (sym has.thread)) (λ is. absurd (no_freeze is way)))
+    (history_is old mid c what s.entry ∙ ap (λ u. old.history ++ entry_by c (Step u (suc gone.local) s.pick) ∷ []) (sym has.thread)) (λ is. absurd (no_freeze is way))
+    (λ nanos is. absurd (no_nap nanos is way)))
     (λ lacks. absurd (nothing_lacks mid.told (told_is old mid c what s.entry ∙ may.going.told) lacks))
-    (λ told. told_enabled mid t still)
+    (λ told. told_enabled mid c t 0 gone.kept.stack.frames s.hand still)
   where
+    no_nap : (nanos : Option ℕ) → answer ≡ Nap nanos → GoesOnBy mid t answer → ⊥
+    no_nap nanos is (goes_over ended over) = absurd (let e = sym is ∙ over in cc)
+    no_nap nanos is (goes_to_run none phase runs) = absurd (let e = sym is ∙ runs in cc)
+    no_nap nanos is (goes_to_wait none not goes) = absurd (let e = sym is ∙ goes in cc)
+
     no_freeze : answer ≡ Run Freeze → GoesOnBy mid t answer → ⊥
     no_freeze is (goes_over ended over) = absurd (let e = sym is ∙ over in cc)
     no_freeze is (goes_to_run none phase runs) = absurd (let e = sym is ∙ runs in cc)
@@ -449,14 +506,54 @@ leaves_act old mid new c t now least h g x answer may gone legal look asks works
     (keeps.carriers ∙ carriers_is old mid c what s.entry) (turns.step t gone.local s.pick refl) (over_looked mid new Freeze answer legal look) asks (λ goes. works)
     (turns.steps has.kept gone.local s.pick [] has.mounted gone.ahead (subst (MayStep old) (sym has.thread) may.enabled) (unread_by old h t gone.was s.pick may gone.had s.unread)
     (history ∙ ap (λ u. old.history ++ entry_by c (Step u (suc gone.local) s.pick) ∷ []) (sym has.thread))
-    (λ is. subst (OwesUnmount new) (sym has.thread) (owed is look)))
+    (λ is. subst (OwesUnmount new) (sym has.thread) (owed is look)) (λ nanos is. absurd (looked_wakes mid new Freeze answer nanos look is)))
     (λ lacks. absurd (looked_lacks mid new Freeze answer look (told_is old mid c what s.entry ∙ may.going.told) lacks))
     (λ told. told_looked mid new Freeze answer legal look)
   where
     owed : answer ≡ Run Freeze → AnswersUnlessStalled mid new Freeze answer → OwesUnmount new t
     owed is (looks_over ended same over) = absurd (let e = sym is ∙ over in cc)
     owed is (looks_stalled none same over) = absurd (let e = sym is ∙ over in cc)
-    owed is (looks_on none not same goes) = subst (λ m. OwesUnmount m t) (sym same) gone.steps.outcome.0
+    owed is (looks_starved none same over) = absurd (let e = sym is ∙ over in cc)
+    owed is (looks_on none not fed same goes) = subst (λ m. OwesUnmount m t) (sym same) gone.steps.outcome.0
+
+-- the thread is pinned and can't go on
+pub waits_act : (old mid new : Known) (c t now least : ℕ) (h g : Hand) (answer : Turn) → MayGoOn old c h t → HasGone afters.Waits old mid c t least h g → IsLegal mid
+    → NapsUnlessStalled mid new now answer → IsAct old new c now h g answer
+waits_act old mid new c t now least h g answer may gone legal way = by way
+  where
+    s : HasStepped afters.Waits old mid c t gone.local gone.was.stack.frames gone.kept.stack.frames
+    s = gone.steps
+
+    what : What
+    what = Step t (suc gone.local) s.pick
+
+    act_by : (r : Turn) → AnswersUnlessStalled mid new Nothing r → is_over answer ≡ is_over r → asked_by answer ≡ Nothing → (answer ≡ Run Freeze → ⊥)
+        → ((nanos : Option ℕ) → answer ≡ Nap nanos → Waits new t × IsNap new now nanos) → IsAct old new c now h g answer
+    act_by r look over asks no_freeze naps =
+        let keeps = looked_keeps mid new Nothing r look in
+        let history = keeps.history ∙ history_is old mid c what s.entry in
+        let has = may.mounted in
+        one_entry old new c now what h g answer (left_one (length old.history) old.setting.limits.events may.left) history (keeps.setting ∙ setting_is old mid c what s.entry)
+        (keeps.carriers ∙ carriers_is old mid c what s.entry) (turns.step t gone.local s.pick refl) (over ∙ over_looked mid new Nothing r legal look)
+        (gone.parts.asked_is ∙ sym asks) (λ goes. gone.works)
+        (turns.steps has.kept gone.local s.pick [] has.mounted gone.ahead (subst (MayStep old) (sym has.thread) may.enabled) (unread_by old h t gone.was s.pick may gone.had s.unread)
+        (history ∙ ap (λ u. old.history ++ entry_by c (Step u (suc gone.local) s.pick) ∷ []) (sym has.thread))
+        (λ is. absurd (no_freeze is)) (λ nanos is. (subst (Waits new) (sym has.thread) (naps nanos is).0, (naps nanos is).1)))
+        (λ lacks. absurd (looked_lacks mid new Nothing r look (told_is old mid c what s.entry ∙ may.going.told) lacks))
+        (λ told. told_looked mid new Nothing r legal look)
+
+    same_machine : AnswersUnlessStalled mid new Nothing (Run Nothing) → new ≡ mid
+    same_machine (looks_over ended same is) = same
+    same_machine (looks_stalled none same is) = absurd cc
+    same_machine (looks_starved none same is) = absurd cc
+    same_machine (looks_on none not fed same is) = same
+
+    by : NapsUnlessStalled mid new now answer → IsAct old new c now h g answer
+    by (naps_over look is) =
+        act_by Over look (ap is_over is) (ap asked_by is) (λ e. let f = sym is ∙ e in cc) (λ nanos e. absurd (let f = sym is ∙ e in cc))
+    by (naps_on nanos look nap is) =
+        act_by (Run Nothing) look (ap is_over is) (ap asked_by is) (λ e. let f = sym is ∙ e in cc)
+        (λ other e. (subst (λ m. Waits m t) (sym (same_machine look)) s.outcome.1, subst (IsNap new now) (let f = sym is ∙ e in cc) nap))
 
 -- the thread has ended, and was put down
 pub ends_act : (old mid put new : Known) (c t now least : ℕ) (h g x : Hand) (answer : Turn) → MayGoOn old c h t → HasGone Ends old mid c t least h g
@@ -474,7 +571,8 @@ ends_act old mid put new c t now least h g x answer may gone entry legal look as
       works = λ goes. works;
       due = λ wants. turns.steps may.mounted.kept gone.local s.pick (entry_by c (Unmount t) ∷ []) may.mounted.mounted gone.ahead (subst (MayStep old) (sym may.mounted.thread) may.enabled)
           (unread_by old h t gone.was s.pick may gone.had s.unread)
-          (history ∙ ap (λ u. old.history ++ entry_by c (Step u (suc gone.local) s.pick) ∷ entry_by c (Unmount t) ∷ []) (sym may.mounted.thread)) (λ is. absurd (no_freeze is look));
+          (history ∙ ap (λ u. old.history ++ entry_by c (Step u (suc gone.local) s.pick) ∷ entry_by c (Unmount t) ∷ []) (sym may.mounted.thread)) (λ is. absurd (no_freeze is look))
+          (λ nanos is. absurd (looked_wakes put new Nothing answer nanos look is));
       stops = λ lacks.
           absurd (looked_lacks put new Nothing answer look (told_is mid put c (Unmount t) entry ∙ told_is old mid c what s.entry ∙ may.going.told) lacks);
       told = λ told. told_looked put new Nothing answer legal look;
@@ -503,12 +601,14 @@ ends_act old mid put new c t now least h g x answer may gone entry legal look as
     asked : AnswersUnlessStalled put new Nothing answer → Nothing ≡ asked_by answer
     asked (looks_over ended same is) = sym (ap asked_by is)
     asked (looks_stalled none same is) = sym (ap asked_by is)
-    asked (looks_on none not same is) = sym (ap asked_by is)
+    asked (looks_starved none same is) = sym (ap asked_by is)
+    asked (looks_on none not fed same is) = sym (ap asked_by is)
 
     no_freeze : answer ≡ Run Freeze → AnswersUnlessStalled put new Nothing answer → ⊥
     no_freeze is (looks_over ended same over) = absurd (let e = sym is ∙ over in cc)
     no_freeze is (looks_stalled none same over) = absurd (let e = sym is ∙ over in cc)
-    no_freeze is (looks_on none not same goes) = absurd (let e = sym is ∙ goes in cc)
+    no_freeze is (looks_starved none same over) = absurd (let e = sym is ∙ over in cc)
+    no_freeze is (looks_on none not fed same goes) = absurd (let e = sym is ∙ goes in cc)
 
 -- the run was given up, or came to the limit of threads
 pub halts_act : (old mid : Known) (c t now least : ℕ) (h g x : Hand) → MayGoOn old c h t → HasGone Halts old mid c t least h g → x.asked ≡ Nothing → IsAct old mid c now h x Over
@@ -517,7 +617,7 @@ halts_act old mid c t now least h g x may gone asks = by gone.steps
     same_thread : gone.was.thread ≡ t
     same_thread = thread_kept old c h t gone.was may gone.had
 
-    stopped : (e : Ending) → mid ≡ with_ending old e → (wants_nothing (Some e) ≡ false) → (((Some e) ≡ Some Halted) ⊎ StepLacks old h) → IsAct old mid c now h x Over
+    stopped : (e : Ending) → mid ≡ with_ending old e → (wants_nothing (Some e) ≡ false) → IsGivenUpWith (with_ending old e) h [] ⊎ StepLacks old h → IsAct old mid c now h x Over
     stopped e is lacks why = subst (λ m. IsAct old m c now h x Over) (sym is) (record {
       entries = [];
       are_acts = turns.none refl;
@@ -534,7 +634,7 @@ halts_act old mid c t now least h g x may gone asks = by gone.steps
     })
 
     by : HasHalted old mid t gone.was.stack.frames → IsAct old mid c now h x Over
-    by (given_up is) = stopped Halted is refl (inl refl)
+    by (given_up is) = stopped Halted is refl (inl (refl, inl refl))
     by (lacks_threads is lacks) =
         stopped (Limit Threads old.setting.limits.threads) is refl (inr (record {
           kept = gone.was;

@@ -1,5 +1,5 @@
 -- What a carrier does in its turn with its thread, time aside.
-use Rattle.std.specs.Prelude.{◌≡◌, ◌<◌, ◌⊎◌, ℕ, true, false, List, ◌++◌, Some, is_some}
+use Rattle.std.specs.Prelude.{◌≡◌, ◌<◌, ◌⊎◌, ℕ, true, false, List, [], ◌++◌, Some, None, is_some}
 use Rattle.history.specs.declared.entry.Entry.{Entry}
 use Rattle.ref_model.specs.declared.ending.Ending.TheVariants.{Halted}
 use Rattle.ref_model.specs.State.{with_frames}
@@ -16,6 +16,10 @@ pub record StepLacks (m : Known) (h : Hand) : Type 0 where
   pub mounted : h.mounted ≡ Some kept
   pub lacks : Given m (λ v. lacks_threads_next m.setting.world (with_frames v.state kept.thread kept.stack.frames) kept.thread ≡ true)
 
+-- the run was given up, where nothing was appended, or the mount of an empty hand
+abbrev pub IsGivenUpWith : Known → Hand → List Entry → Type 0
+IsGivenUpWith new h entries = (new.told ≡ Some Halted) × ((entries ≡ []) ⊎ (h.mounted ≡ None))
+
 pub record IsAct (old new : Known) (c now : ℕ) (h g : Hand) (answer : Turn) : Type 0 where
   pub entries : List Entry
   pub are_acts : AreActs c entries
@@ -28,6 +32,6 @@ pub record IsAct (old new : Known) (c now : ℕ) (h g : Hand) (answer : Turn) : 
   pub works : goes_on answer ≡ true → g.failed ≡ false
   -- it does what is due, unless memory or threads were wanting
   pub due : wants_nothing new.told ≡ true → IsActDue old new c now h answer
-  pub stops : wants_nothing new.told ≡ false → (new.told ≡ Some Halted) ⊎ StepLacks old h
+  pub stops : wants_nothing new.told ≡ false → IsGivenUpWith new h entries ⊎ StepLacks old h
   pub told : StallsAreTold old → StallsAreTold new
   pub nearer : goes_on answer ≡ true → turns_left new g < turns_left old h

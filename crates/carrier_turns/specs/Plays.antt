@@ -3,18 +3,16 @@ use Rattle.std.specs.Prelude.{◌≡◌, ◌<◌, ℕ, true, List, ◌∷◌, �
 use Rattle.std.specs.List.{All}
 use Rattle.history.specs.declared.entry.Entry.{Entry}
 use Rattle.history.specs.declared.entry.What.TheVariants.{Clock}
-use Rattle.ref_model.specs.declared.ending.Ending.TheVariants.{Halted}
-use Rattle.schedule_soundness.specs.ClockLaws.{HasReason}
 use Rattle.link_model.specs.World.{World}
 use Rattle.machine.specs.Hands.{Idle}
-use Rattle.machine.specs.Machines.{Given, Known, machine_ending}
+use Rattle.machine.specs.Machines.{Known, machine_ending}
 use Rattle.carrier_turns.specs.declared.ask.Ask.TheVariants.{Local, Freeze}
 use Rattle.carrier_turns.specs.declared.hand.Hand.{Hand}
 use Rattle.carrier_turns.specs.declared.plays.TurnOf.{TurnOf}
 use Rattle.carrier_turns.specs.declared.ask.Turn.{Turn}
 use Rattle.carrier_turns.specs.declared.ask.Turn.TheVariants.{Run}
 use Rattle.carrier_turns.specs.Hands.{Fits, HasDone, MayFreeze, MayRun}
-use Rattle.carrier_turns.specs.Turns.{Appends, StallsAreTold, entry_by, goes_on, is_over, turns_left}
+use Rattle.carrier_turns.specs.Turns.{Appends, HadReason, StallsAreTold, entry_by, goes_on, is_over, turns_left}
 
 -- it fits, and has done what its last turn asked for
 pub record IsReadyHand (m : Known) (c : ℕ) (h : Hand) : Type 0 where
@@ -30,8 +28,7 @@ MayDo w h answer = HasDone h
 -- A turn of a carrier, and what it asked for.
 pub record IsDoneTurn (old new : Known) (c now : ℕ) (h g : Hand) (answer : Turn) : Type 0 where
   pub appends : Appends old new c now
-  pub reason : (new.told ≡ Some Halted → ⊥) → (later : List Entry) → appends.entries ≡ entry_by c (Clock now) ∷ later →
-      Given old (λ v. HasReason old.setting v.state c now later)
+  pub reason : (later : List Entry) → appends.entries ≡ entry_by c (Clock now) ∷ later → HadReason old new c now later
   pub over : is_over answer ≡ is_some (machine_ending new)
   pub ended : is_some (machine_ending old) ≡ true → new ≡ old
   pub told : StallsAreTold old → StallsAreTold new

@@ -1,10 +1,11 @@
 -- The parts of a turn.
-use Rattle.std.specs.Prelude.{◌≡◌, ◌<◌, ◌≤◌, ◌+◌, ℕ, Bool, true, false, Some, None, is_some, length}
+use Rattle.std.specs.Prelude.{◌≡◌, ◌<◌, ◌≤◌, ◌+◌, ℕ, Bool, true, false, Option, Some, None, is_some, length}
 use Rattle.continuation.specs.Continuation.{Continuation}
 use Rattle.history.specs.declared.entry.What.TheVariants.{Clock}
+use Rattle.schedule_model.specs.Stalled.{is_starved}
 use Rattle.invocation.specs.InvocationCache.{AreSelected, Kept}
-use Rattle.ref_model.specs.declared.ending.Ending.TheVariants.{Halted, Stalled}
-use Rattle.ref_model.specs.Looks.{is_stalled}
+use Rattle.ref_model.specs.declared.ending.Ending.TheVariants.{Halted, Stalled, Starved}
+use Rattle.ref_model.specs.Looks.{is_stalled, look_of}
 use Rattle.vthread_state.specs.declared.phase.Phase.TheVariants as phases
 use Rattle.machine.specs.declared.after.After.{After}
 use Rattle.machine.specs.declared.after.After.TheVariants.{Halts, ReadsClock, Runs}
@@ -18,10 +19,10 @@ use Rattle.carrier_turns.specs.declared.ask.Ask.TheVariants.{Nothing, Local}
 use Rattle.carrier_turns.specs.declared.hand.Hand.{Hand}
 use Rattle.carrier_turns.specs.declared.local.LocalRun.{LocalRun}
 use Rattle.carrier_turns.specs.declared.ask.Turn.{Turn}
-use Rattle.carrier_turns.specs.declared.ask.Turn.TheVariants.{Run, Over}
+use Rattle.carrier_turns.specs.declared.ask.Turn.TheVariants.{Run, Nap, Over}
 use Rattle.carrier_turns.specs.Hands.{Fits, HasDone, HasParts, HasThread, IsNotRunning}
 use Rattle.carrier_turns.specs.LocalRuns.{AreAhead, HasStopped, steps_of}
-use Rattle.carrier_turns.specs.Turns.{StallsAreTold, StepReads}
+use Rattle.carrier_turns.specs.Turns.{IsNap, StallsAreTold, StepReads}
 
 -- ---- before
 
@@ -113,12 +114,20 @@ pub data AnswersUnlessOver (m : Known) (ask : Ask) (answer : Turn) : Type 0 wher
   answers_over : is_some (machine_ending m) ≡ true → answer ≡ Over → AnswersUnlessOver m ask answer
   answers : machine_ending m ≡ None → answer ≡ Run ask → AnswersUnlessOver m ask answer
 
--- So it does after a look whether any thread can go on; if none can, that is told.
+-- So it does after a look whether any thread can go on, and whether carriers keep all others from it; either is told.
 pub data AnswersUnlessStalled (old new : Known) (ask : Ask) (answer : Turn) : Type 0 where
   looks_over : is_some (machine_ending old) ≡ true → new ≡ old → answer ≡ Over → AnswersUnlessStalled old new ask answer
   looks_stalled : machine_ending old ≡ None → new ≡ with_ending old Stalled → answer ≡ Over → AnswersUnlessStalled old new ask answer
-  looks_on : machine_ending old ≡ None → Given old (λ v. is_stalled old.setting.world v.state ≡ false) → new ≡ old → answer ≡ Run ask →
+  looks_starved : machine_ending old ≡ None → new ≡ with_ending old Starved → answer ≡ Over → AnswersUnlessStalled old new ask answer
+  looks_on : machine_ending old ≡ None → Given old (λ v. is_stalled old.setting.world v.state ≡ false) →
+      Given old (λ v. is_starved (look_of old.setting.world v.state) v.schedule ≡ false) → new ≡ old → answer ≡ Run ask →
       AnswersUnlessStalled old new ask answer
+
+-- A carrier naps whose thread is pinned and can't go on, unless the run has ended.
+pub data NapsUnlessStalled (old new : Known) (now : ℕ) (answer : Turn) : Type 0 where
+  naps_over : AnswersUnlessStalled old new Nothing Over → answer ≡ Over → NapsUnlessStalled old new now answer
+  naps_on : (nanos : Option ℕ) → AnswersUnlessStalled old new Nothing (Run Nothing) → IsNap new now nanos → answer ≡ Nap nanos →
+      NapsUnlessStalled old new now answer
 
 -- The run is given up, unless it has ended.
 pub data IsGivenUp (old new : Known) : Type 0 where

@@ -1,18 +1,21 @@
 -- What a carrier does in its turn with a machine.
-use Rattle.std.specs.Prelude.{◌≡◌, ◌<◌, ◌+◌, ◌-◌, ◌*◌, ◌||◌, ℕ, suc, Bool, true, false, List, [], ◌∷◌, ◌++◌, Option, Some, None, is_some, length, if◌then◌else◌}
+use Rattle.std.specs.Prelude.{◌≡◌, ◌<◌, ◌⊎◌, ◌+◌, ◌-◌, ◌*◌, ◌||◌, ℕ, suc, Bool, true, false, List, [], ◌∷◌, ◌++◌, Option, Some, None, is_some, length, if◌then◌else◌}
 use Rattle.history.specs.declared.entry.Entry.{Entry}
 use Rattle.history.specs.declared.entry.What.{What}
 use Rattle.history.specs.declared.entry.What.TheVariants.{Mount, Step, Unmount, Clock}
+use Rattle.link_model.specs.World.{World}
 use Rattle.continuation.specs.Continuation.{Continuation}
+use Rattle.schedule_model.specs.Run.{Scheduled}
+use Rattle.schedule_model.specs.Stalled.{is_starved}
 use Rattle.ref_model.specs.declared.ending.Ending.{Ending}
-use Rattle.ref_model.specs.declared.ending.Ending.TheVariants.{Halted, Stalled}
+use Rattle.ref_model.specs.declared.ending.Ending.TheVariants.{Halted, Stalled, Starved}
 use Rattle.ref_model.specs.State.{State, with_frames}
-use Rattle.ref_model.specs.Looks.{is_stalled, reads_clock_next}
+use Rattle.ref_model.specs.Looks.{is_stalled, look_of, reads_clock_next}
 use Rattle.ref_model.specs.Step.{enabled}
 use Rattle.schedule_soundness.specs.ClockLaws.{HasReason}
 use Rattle.machine.specs.Clocks.{Awaits, AwaitsNothing, IsBefore, IsEarliestIn, IsNotBefore}
 use Rattle.machine.specs.Machines.{Given, Known, machine_ending, with_entry}
-use Rattle.machine.specs.Hands.{AreDequesEmpty, MayStep, OwesUnmount}
+use Rattle.machine.specs.Hands.{AreDequesEmpty, IsLoose, MayStep, OwesUnmount, Waits}
 use Rattle.carrier_turns.specs.declared.ask.Ask.{Ask}
 use Rattle.carrier_turns.specs.declared.ask.Ask.TheVariants.{Nothing, Local, Freeze}
 use Rattle.carrier_turns.specs.declared.hand.Hand.{Hand}
@@ -70,6 +73,7 @@ pub record Appends (old new : Known) (c now : ℕ) : Type 0 where
 abbrev pub wants_nothing : Option Ending → Bool
 wants_nothing None = true
 wants_nothing (Some Stalled) = true
+wants_nothing (Some Starved) = true
 wants_nothing (Some e) = false
 
 pub record HoldsNothing (h : Hand) : Type 0 where
@@ -109,14 +113,17 @@ pub data IsActDue (old new : Known) (c now : ℕ) (h : Hand) (answer : Turn) : T
   naps : (nanos : Option ℕ) → HoldsNothing h → AreDequesEmpty old → new.history ≡ old.history → answer ≡ Nap nanos → IsNap old now nanos →
       IsActDue old new c now h answer
   -- a mounted thread that is enabled makes a step, which picks no thread if it reads the clock, and after which the thread is to be frozen only
-  -- where its unmount is owed
+  -- where its unmount is owed, and the carrier naps only where the thread is pinned and can't go on
   steps : (k : Continuation) (n : ℕ) (pick : Option ℕ) (rest : List Entry) → h.mounted ≡ Some k → AreAhead h.local n → MayStep old k.thread →
       (StepReads old h → pick ≡ None) →
       new.history ≡ old.history ++ entry_by c (Step k.thread (suc n) pick) ∷ rest → (answer ≡ Run Freeze → OwesUnmount new k.thread) →
-      IsActDue old new c now h answer
-  -- one that isn't is to be frozen
-  freezes : (k : Continuation) → h.mounted ≡ Some k → MayNotStep old k.thread → new.history ≡ old.history → answer ≡ Run Freeze →
-      IsActDue old new c now h answer
+      ((nanos : Option ℕ) → answer ≡ Nap nanos → Waits new k.thread × IsNap new now nanos) → IsActDue old new c now h answer
+  -- one that isn't is to be frozen, unless it is pinned
+  freezes : (k : Continuation) → h.mounted ≡ Some k → MayNotStep old k.thread → IsLoose old k.thread → new.history ≡ old.history →
+      answer ≡ Run Freeze → IsActDue old new c now h answer
+  -- with a pinned one the carrier naps
+  keeps : (k : Continuation) (nanos : Option ℕ) → h.mounted ≡ Some k → Waits old k.thread → new.history ≡ old.history → answer ≡ Nap nanos →
+      IsNap old now nanos → IsActDue old new c now h answer
 
 -- it is made only where the time isn't less than this
 abbrev pub ReadsInTime : Known → Hand → ℕ → Type 0
@@ -136,11 +143,20 @@ pub data IsDue (old new : Known) (c now : ℕ) (h : Hand) (answer : Turn) : Type
   ends : Awaits old now → new.history ≡ old.history ++ entry_by c (Clock now) ∷ [] → is_some (machine_ending new) ≡ true →
       IsDue old new c now h answer
 
+-- Time went on for a reason, before these entries of the turn; or the run was given up before it had any.
+abbrev pub HadReason : Known → Known → ℕ → ℕ → List Entry → Type 0
+HadReason old new c now later =
+    Given old (λ v. HasReason old.setting v.state c now later) ⊎ ((new.told ≡ Some Halted) × (later ≡ []))
+
 -- ---- stalls
 
--- a program that can go on no more has an ending
+-- no thread can go on, or the carriers keep all that could from it
+abbrev pub goes_no_more : World → Scheduled State → Bool
+goes_no_more w v = is_stalled w v.state || is_starved (look_of w v.state) v.schedule
+
+-- such a program has an ending
 abbrev pub StallsAreTold : Known → Type 0
-StallsAreTold m = Given m (λ v. is_stalled m.setting.world v.state ≡ true → is_some (machine_ending m) ≡ true)
+StallsAreTold m = Given m (λ v. goes_no_more m.setting.world v ≡ true → is_some (machine_ending m) ≡ true)
 
 -- ---- how far the end is
 
@@ -166,8 +182,7 @@ pub record IsTurn (old new : Known) (c now : ℕ) (h g : Hand) (answer : Turn) :
   -- it appends no entries but those of one turn of its carrier
   pub appends : Appends old new c now
   -- time goes on only for a reason
-  pub reason : (new.told ≡ Some Halted → ⊥) → (later : List Entry) → appends.entries ≡ entry_by c (Clock now) ∷ later →
-      Given old (λ v. HasReason old.setting v.state c now later)
+  pub reason : (later : List Entry) → appends.entries ≡ entry_by c (Clock now) ∷ later → HadReason old new c now later
   -- the run is over where there is an ending, and there alone
   pub over : is_over answer ≡ is_some (machine_ending new)
   pub asks : g.asked ≡ asked_by answer

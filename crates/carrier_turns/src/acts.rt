@@ -4,12 +4,14 @@ ghost use Rattle.std.specs.Prelude.{◌≡◌, ℕ, IfNone, IfSome, None, false,
 ghost use Rattle.carrier_turns.specs.Acts.{IsAct};
 ghost use Rattle.carrier_turns.specs.Hands.{Fits, HasThread};
 ghost use Rattle.carrier_turns.specs.Steps.{HasJustGone, MayAct, MayGoOn, NeedsClock, is_runs};
-ghost use Rattle.carrier_turns.specs.Turns.{HoldsFrozen, HoldsNothing, ReadsInTime, wants_nothing};
+ghost use Rattle.carrier_turns.specs.Turns.{HoldsFrozen, HoldsNothing, MayNotStep, ReadsInTime, wants_nothing};
 
-use crate::answers::{asked, give_up, nap_length, run_on, unless_over, unless_stalled, way_on};
+use crate::answers::{
+    asked, give_up, nap_length, nap_unless_stalled, run_on, unless_over, unless_stalled, way_on,
+};
 use crate::ask::{Ask, Turn};
 use crate::hand::Hand;
-use crate::mounted_steps::{is_off, make_step, may_go_on};
+use crate::mounted_steps::{is_off, is_pinned, make_step, may_go_on};
 use machine::{After, Machine};
 use std::alloc::Global;
 
@@ -28,12 +30,13 @@ fn answer_to<'p>(
     hand: &mut Hand<'p>,
     carrier: u32,
     thread: u32,
+    now: u64,
     after: After,
 ) -> Turn
     requires other { is_runs after ≡ false }
     requires gone { HasJustGone after machine.old carrier thread hand.old }
     ensures fits { Fits machine.new carrier hand.new }
-    ensures act { (x : HasJustGone after machine.old carrier thread hand.old) (now : ℕ)
+    ensures act { (x : HasJustGone after machine.old carrier thread hand.old)
         → IsAct x.old machine.new carrier now x.held hand.new result }
     ensures in_time { (x : HasJustGone after machine.old carrier thread hand.old)
         → wants_nothing machine.new.told ≡ true → ReadsInTime x.old x.held x.least }
@@ -51,6 +54,7 @@ fn answer_to<'p>(
             hand.asked = asked(answer);
             answer
         }
+        After::Waits => nap_unless_stalled(machine, now),
         After::Ends => {
             machine.retire(carrier, thread);
             machine.is_legal();
@@ -72,11 +76,12 @@ pub(crate) fn step_on<'p>(
     hand: &mut Hand<'p>,
     carrier: u32,
     thread: u32,
+    now: u64,
     least: u64,
 ) -> Option<Turn>
     requires may { MayGoOn machine.old carrier hand.old thread }
     ensures fits { IfSome result (λ answer. Fits machine.new carrier hand.new) }
-    ensures act { IfSome result (λ answer. (now : ℕ) →
+    ensures act { IfSome result (λ answer.
         IsAct machine.old machine.new carrier now hand.old hand.new answer) }
     ensures in_time { IfSome result (λ answer.
         wants_nothing machine.new.told ≡ true → ReadsInTime machine.old hand.old least) }
@@ -87,10 +92,32 @@ pub(crate) fn step_on<'p>(
     if runs_on(after) {
         return Some(run_on(machine, &mut hand.asked, thread));
     }
-    Some(answer_to(machine, hand, carrier, thread, after))
+    Some(answer_to(machine, hand, carrier, thread, now, after))
 }
 
-// The turn of a carrier that has a thread mounted. The thread makes a step, if it is enabled; if not, it is to be frozen.
+// The turn of a carrier whose thread can't step: the carrier naps with a pinned one, and any other is to be frozen.
+#[inline(never)]
+fn pause<'p>(
+    machine: &Machine<'p>,
+    hand: &mut Hand<'p>,
+    carrier: u32,
+    thread: u32,
+    now: u64,
+) -> Turn
+    requires may { MayAct machine.now carrier hand.old }
+    requires mounted { HasThread hand.old thread }
+    requires off { MayNotStep machine.now thread }
+    ensures fits { Fits machine.now carrier hand.new }
+    ensures act { IsAct machine.now machine.now carrier now hand.old hand.new result }
+{
+    if is_pinned(machine, hand, carrier, thread) {
+        return Turn::Nap(nap_length(machine, now));
+    }
+    hand.asked = Ask::Freeze;
+    Turn::Run(Ask::Freeze)
+}
+
+// The turn of a carrier that has a thread mounted. The thread makes a step, if it is enabled.
 #[inline(always)]
 fn go_on<'p>(
     alloc: Global,
@@ -98,23 +125,23 @@ fn go_on<'p>(
     hand: &mut Hand<'p>,
     carrier: u32,
     thread: u32,
+    now: u64,
     least: u64,
 ) -> Option<Turn>
     requires may { MayAct machine.old carrier hand.old }
     requires mounted { HasThread hand.old thread }
     ensures fits { IfSome result (λ answer. Fits machine.new carrier hand.new) }
-    ensures act { IfSome result (λ answer. (now : ℕ) →
+    ensures act { IfSome result (λ answer.
         IsAct machine.old machine.new carrier now hand.old hand.new answer) }
     ensures in_time { IfSome result (λ answer.
         wants_nothing machine.new.told ≡ true → ReadsInTime machine.old hand.old least) }
     ensures none { IfNone result (NeedsClock machine.old machine.new hand.old hand.new least) }
 {
     if is_off(machine, hand, carrier, thread) {
-        hand.asked = Ask::Freeze;
-        return Some(Turn::Run(Ask::Freeze));
+        return Some(pause(machine, hand, carrier, thread, now));
     }
     may_go_on(machine, hand, carrier, thread);
-    step_on(alloc, machine, hand, carrier, thread, least)
+    step_on(alloc, machine, hand, carrier, thread, now, least)
 }
 
 // The turn of a carrier that has frozen its thread: it puts the thread down.
@@ -188,7 +215,7 @@ pub(crate) fn act<'p>(
     ensures none { IfNone result (NeedsClock machine.old machine.new hand.old hand.new least) }
 {
     if let Some(thread) = mounted_thread(hand) {
-        return go_on(alloc, machine, hand, carrier, thread, least);
+        return go_on(alloc, machine, hand, carrier, thread, now, least);
     }
     if hand.frozen.is_some() {
         return Some(put_down(machine, hand, carrier));

@@ -4,7 +4,7 @@ ghost use Rattle.std.specs.Prelude.{◌≡◌};
 ghost use Rattle.vthread_state.specs.declared.phase.Phase.TheVariants.{Run};
 ghost use Rattle.machine.specs.Hands.{HasPhase, Lives};
 ghost use Rattle.machine.specs.Legal.{GoesOn, IsLegal, Works};
-ghost use Rattle.carrier_turns.specs.Steps.{AnswersUnlessOver, AnswersUnlessStalled, GoesOnBy, IsGivenUp};
+ghost use Rattle.carrier_turns.specs.Steps.{AnswersUnlessOver, AnswersUnlessStalled, GoesOnBy, IsGivenUp, NapsUnlessStalled};
 ghost use Rattle.carrier_turns.specs.Turns.{IsNap, asked_by};
 ghost use Rattle.carrier_turns.specs.declared.ask.Ask.TheVariants.{Nothing};
 ghost use Rattle.carrier_turns.specs.declared.ask.Turn.TheVariants.{Over};
@@ -35,7 +35,7 @@ pub(crate) fn unless_over(machine: &Machine<'_>, ask: Ask) -> Turn
     Turn::Run(ask)
 }
 
-/// This answer, unless the run has ended. That no thread can go on is told.
+/// This answer, unless the run has ended. That no thread can go on is told, and that carriers keep all that could from it.
 #[inline(always)]
 pub(crate) fn unless_stalled(machine: &mut Machine<'_>, ask: Ask) -> Turn
     ensures { AnswersUnlessStalled machine.old machine.new ask result }
@@ -44,6 +44,9 @@ pub(crate) fn unless_stalled(machine: &mut Machine<'_>, ask: Ask) -> Turn
         return Turn::Over;
     }
     if machine.stall() {
+        return Turn::Over;
+    }
+    if machine.starve() {
         return Turn::Over;
     }
     Turn::Run(ask)
@@ -109,4 +112,16 @@ pub(crate) fn nap_length(machine: &Machine<'_>, now: u64) -> Option<u64>
         Some(deadline) => Some(deadline.saturating_sub(now)),
         None => None,
     }
+}
+
+/// How long a carrier naps whose thread is pinned and can't go on, unless the run has ended.
+#[inline(never)]
+pub(crate) fn nap_unless_stalled(machine: &mut Machine<'_>, now: u64) -> Turn
+    requires { IsLegal machine.old }
+    ensures { NapsUnlessStalled machine.old machine.new now result }
+{
+    if unless_stalled(machine, Ask::Nothing).is_over() {
+        return Turn::Over;
+    }
+    Turn::Nap(nap_length(machine, now))
 }

@@ -1,7 +1,7 @@
 //! The step of a mounted thread.
 
 ghost use Rattle.std.specs.Prelude.{◌≡◌, false, IfNone, IfSome, IsTrue};
-ghost use Rattle.machine.specs.Hands.{MayStep};
+ghost use Rattle.machine.specs.Hands.{IsLoose, MayStep, Waits};
 ghost use Rattle.carrier_turns.specs.Hands.{HasThread};
 ghost use Rattle.carrier_turns.specs.LocalRuns.{steps_of, stop_of};
 ghost use Rattle.carrier_turns.specs.Steps.{HasGone, MayAct, MayGoOn, NeedsClock};
@@ -48,6 +48,21 @@ pub(crate) fn is_off(machine: &Machine<'_>, hand: &Hand<'_>, carrier: u32, threa
         return false;
     }
     !machine.is_enabled(thread)
+}
+
+/// Whether the mounted thread, which can't step, is pinned.
+pub(crate) fn is_pinned(machine: &Machine<'_>, hand: &Hand<'_>, carrier: u32, thread: u32) -> bool
+    requires may { MayAct machine.now carrier hand.now }
+    requires mounted { HasThread hand.now thread }
+    requires off { MayNotStep machine.now thread }
+    ensures held { IsTrue result → Waits machine.now thread }
+    ensures loose { result ≡ false → IsLoose machine.now thread }
+{
+    let _ = thread;
+    match &hand.mounted {
+        Some(mounted) => machine.is_pinned(carrier, mounted),
+        None => false,
+    }
 }
 
 /// A turn whose mounted thread may step may go on with it. This does nothing.

@@ -82,7 +82,7 @@ fn turn_with_clock<'p>(
         return Turn::Over;
     }
     machine.is_legal();
-    match step_on(alloc, machine, hand, carrier, thread, 0) {
+    match step_on(alloc, machine, hand, carrier, thread, now, 0) {
         Some(answer) => answer,
         None => unreachable!(),
     }

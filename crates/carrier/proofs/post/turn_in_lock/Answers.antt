@@ -60,8 +60,8 @@ returns-clause-met g c =
     (parts_stay c.take-held.result.value.machine c.turn-answer.new.self.machine c.number-carrier.result c.args.now c.turn-answer.ensures.turn.appends
     ∙ parts_of c.take-held.result.value c.args.lock.now.initial c.take-held.ensures.setting)
     c.is_legal.ensures.legal (ap (λ (s : SeatState). s.seen) c.give.ensures) c.ending-met.result c.ending-met.ensures
-    (λ works. subst (λ k. IsTimed (g.C.Clock.gives k) c.turn-answer.new.self.machine)
-    (c.turn-answer.ensures.clock ∙ clock_of c.take-held.result.value c.args.lock.now.initial c.take-held.ensures.setting) (c.is_legal.ensures.timed works))
+    (subst (λ k. IsTimed (g.C.Clock.gives k) c.turn-answer.new.self.machine)
+    (c.turn-answer.ensures.clock ∙ clock_of c.take-held.result.value c.args.lock.now.initial c.take-held.ensures.setting) c.is_legal.ensures.timed)
 
 pub returns-clause-over : goal.returns-clause-over
 returns-clause-over g c = c.turn-answer.ensures.turn.over ∙ sym (ap is_some c.ending-met.ensures)

@@ -16,6 +16,6 @@ close-requires-clause-count g c =
 
 pub returns-clause-timed : goal.returns-clause-timed
 returns-clause-timed g c =
-    λ works. subst (λ k. IsTimed (g.C.Clock.gives k) c.into_machine.result)
+    subst (λ k. IsTimed (g.C.Clock.gives k) c.into_machine.result)
     (clock_of c.close.result c.in_ok-lock.lock.initial c.close.ensures.setting
-    ∙ clock_is c.in_ok-lock.lock.initial c.in_ok-timed.timed c.args.machine c.args.clock.now c.in_ok-lock.ensures.initial c.in_ok-timed.ensures) (c.into_machine.ensures.timed works)
+    ∙ clock_is c.in_ok-lock.lock.initial c.in_ok-timed.timed c.args.machine c.args.clock.now c.in_ok-lock.ensures.initial c.in_ok-timed.ensures) c.into_machine.ensures.timed

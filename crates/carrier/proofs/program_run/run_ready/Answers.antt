@@ -12,8 +12,8 @@ returns-then-is_some g c =
     let m = c.in_ok-machine.machine in
     let gives = g.C.Clock.gives c.args.clock.now in
     if_ok c.leave.result _ _ (λ x run p world main limits.
-    of_setting m m p gives c.args.program.now c.args.main c.args.limits c.args.carriers x.history.items x.out.items x.err.items x.live.items x.ending refl c.in_ok-machine.ensures world main limits run)
-    (c.leave.ensures gives (λ works. timed_at_first gives m (ap (λ (k : Known). k.history) c.in_ok-machine.ensures)))
+    of_setting m m p gives c.args.program.now c.args.main c.args.limits c.args.carriers x.history.items x.out.items x.err.items x.listed.items x.ending refl c.in_ok-machine.ensures world main limits run)
+    (c.leave.ensures gives (timed_at_first gives m (ap (λ (k : Known). k.history) c.in_ok-machine.ensures)))
 
 pub run_machine-requires-clause-begins : goal.run_machine-requires-clause-begins
 run_machine-requires-clause-begins g c κs within =
@@ -25,6 +25,6 @@ returns g c =
     let m = c.in_ok-machine-2.machine in
     let gives = g.C.Clock.gives c.args.clock.now in
     if_ok c.leave-2.result _ _ (λ x run p world main limits.
-    of_setting m c.in_ok-machine.machine p gives c.args.program.now c.args.main c.args.limits c.args.carriers x.history.items x.out.items x.err.items x.live.items x.ending
+    of_setting m c.in_ok-machine.machine p gives c.args.program.now c.args.main c.args.limits c.args.carriers x.history.items x.out.items x.err.items x.listed.items x.ending
     c.in_ok-machine-2.ensures.parts c.in_ok-machine.ensures world main limits run)
     (c.leave-2.ensures gives c.in_ok-machine-2.ensures.timed)

@@ -10,4 +10,4 @@ settle-requires-clause-hand c =
 pub returns-clause-act : goal.returns-clause-act
 returns-clause-act c = λ now.
     settle_act c.args.machine.now c.settle.new.self c.args.carrier now c.in-Some.frozen c.args.hand.now _ c.unless_over.result c.requires.may
-    (sym c.take.ensures.value ∙ c.in-Some.is) c.settle.ensures.entry c.unless_over.ensures c.requires.may.done c.requires.may.works
+    (sym c.take.ensures.value ∙ c.in-Some.is) c.settle.ensures.entry c.settle.ensures.idle c.unless_over.ensures c.requires.may.done c.requires.may.works

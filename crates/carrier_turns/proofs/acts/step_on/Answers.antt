@@ -22,9 +22,9 @@ returns-then-runs_on-clause-fits c =
     (record { mounted_is = refl; frozen_is = refl; local_is = refl; asked_is = c.run_on.ensures.asked }) refl refl
 
 pub returns-then-runs_on-clause-act : goal.returns-then-runs_on-clause-act
-returns-then-runs_on-clause-act c = λ now.
+returns-then-runs_on-clause-act c =
     let gone = runs_too (gone_at (runs_so c.in_ok-after.after (sym c.runs_on.ensures ∙ c.if-runs_on.true)) c.in_ok-after.ensures.gone) in
-    goes_act c.args.machine.now c.make_step.new.machine c.args.carrier c.args.thread now c.args.least c.args.hand.now c.make_step.new.hand _ c.run_on.result
+    goes_act c.args.machine.now c.make_step.new.machine c.args.carrier c.args.thread c.args.now c.args.least c.args.hand.now c.make_step.new.hand _ c.run_on.result
     c.requires.may gone
     (goes_may c.args.machine.now c.make_step.new.machine c.args.carrier c.args.thread c.args.least c.args.hand.now c.make_step.new.hand gone c.is_legal.ensures)
     c.run_on.ensures.way c.run_on.ensures.asked c.in_ok-after.ensures.gone.works

@@ -19,8 +19,8 @@ returns-clause-fits c =
 
 pub returns-clause-act : goal.returns-clause-act
 returns-clause-act c =
-    mount_act c.args.machine.now c.next.new.self c.args.carrier c.in-Some.frozen.thread c.args.now c.args.hand.now _ c.way_on-answer.result c.requires.may c.requires.nothing
-    c.in-Some.ensures.entry (goes_by c.next.new.self c.thread-thread.result c.in-Some.frozen.thread c.way_on-answer.result c.thread-thread.ensures c.way_on-answer.ensures)
+    mount_act c.args.machine.now c.next.new.self c.args.carrier c.in-Some.frozen.thread c.args.now c.in-Some.frozen.stack.frames c.args.hand.now _ c.way_on-answer.result c.requires.may c.requires.nothing
+    c.in-Some.ensures.entry c.in-Some.ensures.hand c.in-Some.ensures.loose (goes_by c.next.new.self c.thread-thread.result c.in-Some.frozen.thread c.way_on-answer.result c.thread-thread.ensures c.way_on-answer.ensures)
     c.asked-hand.ensures c.requires.may.works
 
 pub returns-in_default-clause-act : goal.returns-in_default-clause-act

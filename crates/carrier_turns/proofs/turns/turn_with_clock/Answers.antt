@@ -31,4 +31,4 @@ returns-clause-turn c =
     let made = sym c.is_err.ensures.value ∙ c.if-is_err.false in
     read_turn c.args.machine.now c.clock.new.self c.args.carrier c.args.now c.args.hand.now c.requires.may c.requires.spare c.requires.reads c.requires.later
     (clock_made c.clock.result _ c.clock.ensures.entry made) (clock_made c.clock.result _ c.clock.ensures.goes_on made) c.is_legal.ensures
-    c.step_on.new.machine c.step_on.new.hand c.in-Some-step_on.answer (c.in-Some-step_on.ensures.act c.args.now)
+    c.step_on.new.machine c.step_on.new.hand c.in-Some-step_on.answer c.in-Some-step_on.ensures.act

@@ -5,4 +5,4 @@ use Rattle.carrier.proofs.timed_machine.TimedMachine.new.Goals as goal
 
 pub invariant_of-result : goal.invariant_of-result
 invariant_of-result g c =
-    λ works. timed_at_first (g.C.Clock.gives c.args.clock.now) c.in_ok-new.field-0.value (ap (λ (m : Known). m.history) c.in_ok-new.ensures.ok ∙ c.requires)
+    timed_at_first (g.C.Clock.gives c.args.clock.now) c.in_ok-new.field-0.value (ap (λ (m : Known). m.history) c.in_ok-new.ensures.ok ∙ c.requires)
