@@ -2,7 +2,7 @@
 use Rattle.std.specs.Prelude.{◌≡◌, ℕ, List, Some, Result, Ok, Err}
 use Rattle.std.specs.Global.{Vec}
 use Rattle.class_model.specs.declared.class_file.ClassFile.{ClassFile}
-use Rattle.jasm.specs.Listing.{listing}
+use Rattle.class_listing.specs.Listing.{listing}
 use Rattle.jasm.specs.declared.error.ListError.{ListError}
 use Rattle.jasm.specs.declared.error.ListError.TheVariants as errors
 use Rattle.jasm.specs.Texts.{Assembles}

@@ -2,13 +2,9 @@
 #![tactic(auto)]
 
 mod assembler;
-mod class;
 mod error;
-mod flags;
 mod laws;
 mod lister;
-mod method;
-mod rows;
 
 pub use assembler::assemble;
 pub use error::{ListError, TextError};

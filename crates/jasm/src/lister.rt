@@ -5,10 +5,10 @@ ghost use Rattle.jasm.specs.Texts.{Assembles};
 ghost use Rattle.jasm.specs.Lists as spec;
 
 use crate::assembler::assemble;
-use crate::class::listing_of;
 use crate::error::{ListError, TextError};
 use asm_text::LineError;
 use class_equality::is_same_file;
+use class_listing::listing_of;
 use class_model::ClassFile;
 use std::alloc::Global;
 

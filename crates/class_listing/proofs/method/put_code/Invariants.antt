@@ -1,6 +1,6 @@
 use Rattle.std.proofs.Common.{◌≡◌, drop}
-use Rattle.jasm.specs.Methods.{with_code}
-use Rattle.jasm.proofs.method.put_code.Given as goal
+use Rattle.class_listing.specs.Methods.{with_code}
+use Rattle.class_listing.proofs.method.put_code.Given as goal
 
 abbrev pub invariant-loop-instruction : goal.invariant-loop-instruction
 invariant-loop-instruction l =

@@ -2,9 +2,9 @@
 
 ghost use Rattle.std.specs.Prelude.{◌≡◌, ◌≤◌, length, get_or, false, OnOk, IfOk};
 ghost use Rattle.asm_code.specs.Encoding.{Puts};
-ghost use Rattle.asm_listing.specs.Numbers.{GivesBy};
+ghost use Rattle.asm_listing.specs.Numbers.{Gives, GivesBy};
 ghost use Rattle.asm_listing.specs.Code as codes;
-ghost use Rattle.jasm.specs.Methods as spec;
+ghost use Rattle.class_listing.specs.Methods as spec;
 
 use crate::flags::member_flags;
 use crate::rows::{name_rows, put_rows};
@@ -246,6 +246,16 @@ fn put_attributes(
     }
 }
 
+fn method_line(alloc: Global, pool: &[Const], method: &Member) -> Result<Line, LineError>
+    ensures { Gives result (spec.method_line pool.now method.now) }
+{
+    Ok(Line::Method {
+        name: word_at(alloc, pool, method.name)?,
+        descriptor: word_at(alloc, pool, method.descriptor)?,
+        flags: member_flags(alloc, method.flags)?,
+    })
+}
+
 fn put_method(
     alloc: Global,
     text: &mut Vec<u8>,
@@ -254,11 +264,7 @@ fn put_method(
 ) -> Result<(), LineError>
     ensures { Puts result text.new.items (spec.with_method pool.now method.now text.old.items) }
 {
-    let line = Line::Method {
-        name: word_at(alloc, pool, method.name)?,
-        descriptor: word_at(alloc, pool, method.descriptor)?,
-        flags: member_flags(alloc, method.flags)?,
-    };
+    let line = method_line(alloc, pool, method)?;
     print_line(text, &line)?;
     put_attributes(alloc, text, pool, &method.attributes)?;
     print_line(text, &Line::End)?;

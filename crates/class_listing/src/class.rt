@@ -2,8 +2,8 @@
 
 ghost use Rattle.std.specs.Prelude.{◌≡◌};
 ghost use Rattle.asm_code.specs.Encoding.{Puts};
-ghost use Rattle.asm_listing.specs.Numbers.{GivesBy};
-ghost use Rattle.jasm.specs.Listing as spec;
+ghost use Rattle.asm_listing.specs.Numbers.{Gives, GivesBy};
+ghost use Rattle.class_listing.specs.Listing as spec;
 
 use crate::flags::{class_flags, member_flags};
 use crate::method::put_methods;
@@ -11,6 +11,15 @@ use asm_listing::{class_at, word_at};
 use asm_text::{Line, LineError, print_line};
 use class_model::{ClassFile, Const, Member};
 use std::alloc::Global;
+
+fn class_line(alloc: Global, pool: &[Const], flags: u16, own: u16) -> Result<Line, LineError>
+    ensures { Gives result (spec.class_line pool.now flags own) }
+{
+    Ok(Line::Class {
+        name: class_at(alloc, pool, own)?,
+        flags: class_flags(alloc, flags)?,
+    })
+}
 
 fn put_class(
     alloc: Global,
@@ -21,10 +30,7 @@ fn put_class(
 ) -> Result<(), LineError>
     ensures { Puts result text.new.items (spec.with_class pool.now flags own text.old.items) }
 {
-    let line = Line::Class {
-        name: class_at(alloc, pool, own)?,
-        flags: class_flags(alloc, flags)?,
-    };
+    let line = class_line(alloc, pool, flags, own)?;
     print_line(text, &line)?;
     Ok(())
 }
@@ -74,6 +80,17 @@ fn put_interfaces(
     Ok(())
 }
 
+fn field_line(alloc: Global, pool: &[Const], field: &Member) -> Result<Line, LineError>
+    ensures { Gives result (spec.field_line pool.now field.now) }
+{
+    Ok(Line::Field {
+        name: word_at(alloc, pool, field.name)?,
+        descriptor: word_at(alloc, pool, field.descriptor)?,
+        flags: member_flags(alloc, field.flags)?,
+    })
+}
+
+// A field has no attribute.
 fn put_field(
     alloc: Global,
     text: &mut Vec<u8>,
@@ -82,11 +99,7 @@ fn put_field(
 ) -> Result<(), LineError>
     ensures { Puts result text.new.items (spec.with_field pool.now field.now text.old.items) }
 {
-    let line = Line::Field {
-        name: word_at(alloc, pool, field.name)?,
-        descriptor: word_at(alloc, pool, field.descriptor)?,
-        flags: member_flags(alloc, field.flags)?,
-    };
+    let line = field_line(alloc, pool, field)?;
     if !field.attributes.is_empty() {
         return Err(LineError::Bad);
     }

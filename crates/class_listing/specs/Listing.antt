@@ -6,16 +6,22 @@ use Rattle.class_model.specs.declared.constant.Const.{Const}
 use Rattle.class_model.specs.declared.attribute.Attribute.{Attribute}
 use Rattle.class_model.specs.declared.member.Member.{Member}
 use Rattle.class_model.specs.declared.class_file.ClassFile.{ClassFile}
+use Rattle.asm_text.specs.declared.line.Line.{Line}
 use Rattle.asm_text.specs.declared.line.Line.TheVariants as lines
 use Rattle.asm_code.specs.Encoding.{Step}
 use Rattle.asm_listing.specs.Words.{class_at, word_at}
-use Rattle.jasm.specs.Flags.{class_flags, member_flags}
-use Rattle.jasm.specs.Methods.{with_line, with_methods}
+use Rattle.class_listing.specs.Flags.{class_flags, member_flags}
+use Rattle.class_listing.specs.Methods.{with_line, with_methods}
+
+abbrev pub class_line : List Const → ℕ → ℕ → Option Line
+class_line pool flags own = do
+  name ← class_at pool own
+  Some (lines.Class (class_flags flags) name)
 
 abbrev pub with_class : List Const → ℕ → ℕ → Step
 with_class pool flags own text = do
-  name ← class_at pool own
-  Some (with_line (lines.Class (class_flags flags) name) text)
+  line ← class_line pool flags own
+  Some (with_line line text)
 
 -- a class without a superclass has no line for it
 abbrev pub with_super : List Const → ℕ → Step
@@ -38,11 +44,17 @@ abbrev pub without : {A : Type 0} → List Attribute → A → Option A
 without [] x = Some x
 without (a ∷ as') x = None
 
-abbrev pub with_field : List Const → Member → Step
-with_field pool m text = do
+abbrev pub field_line : List Const → Member → Option Line
+field_line pool m = do
   name ← word_at pool m.name
   descriptor ← word_at pool m.descriptor
-  without m.attributes (with_line (lines.Field (member_flags m.flags) name descriptor) text)
+  Some (lines.Field (member_flags m.flags) name descriptor)
+
+-- a field has no attribute
+abbrev pub with_field : List Const → Member → Step
+with_field pool m text = do
+  line ← field_line pool m
+  without m.attributes (with_line line text)
 
 abbrev pub with_fields : List Const → List Member → Step
 with_fields pool [] text = Some text

@@ -2,22 +2,29 @@
 
 ghost use Rattle.std.specs.Prelude.{◌≡◌, OnOk};
 ghost use Rattle.asm_code.specs.Encoding.{Puts};
-ghost use Rattle.jasm.specs.Methods as spec;
+ghost use Rattle.asm_listing.specs.Numbers.{Gives};
+ghost use Rattle.class_listing.specs.Methods as spec;
 
 use asm_listing::{caught_at, label_of};
 use asm_text::{Line, LineError, print_line};
 use class_model::{Const, Row};
 use std::alloc::{AllocError, Global};
 
-fn put_row(alloc: Global, text: &mut Vec<u8>, pool: &[Const], row: &Row) -> Result<(), LineError>
-    ensures { Puts result text.new.items (spec.with_row pool.now row.now text.old.items) }
+fn row_line(alloc: Global, pool: &[Const], row: &Row) -> Result<Line, LineError>
+    ensures { Gives result (spec.row_line pool.now row.now) }
 {
-    let line = Line::Catch {
+    Ok(Line::Catch {
         caught: caught_at(alloc, pool, row.catch_type)?,
         from: label_of(alloc, row.start)?,
         to: label_of(alloc, row.end)?,
         using: label_of(alloc, row.handler)?,
-    };
+    })
+}
+
+fn put_row(alloc: Global, text: &mut Vec<u8>, pool: &[Const], row: &Row) -> Result<(), LineError>
+    ensures { Puts result text.new.items (spec.with_row pool.now row.now text.old.items) }
+{
+    let line = row_line(alloc, pool, row)?;
     print_line(text, &line)?;
     Ok(())
 }

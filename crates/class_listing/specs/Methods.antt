@@ -19,7 +19,7 @@ use Rattle.asm_listing.specs.declared.code.PlacedLine.{PlacedLine}
 use Rattle.asm_listing.specs.Words.{label_of, word_at, caught_at}
 use Rattle.asm_listing.specs.Code.{Seen, nothing, code_lines}
 use Rattle.asm_listing.specs.Frames.{map_lines}
-use Rattle.jasm.specs.Flags.{member_flags}
+use Rattle.class_listing.specs.Flags.{member_flags}
 
 abbrev pub with_line : Line → List ℕ → List ℕ
 with_line l text = text ++ line_text l
@@ -60,10 +60,15 @@ with_code flags (i ∷ is) frames text = with_code flags is (frames_after i.pc f
 
 -- ---- rows of the exception table
 
+abbrev pub row_line : List Const → Row → Option Line
+row_line pool row = do
+  caught ← caught_at pool row.catch_type
+  Some (lines.Catch caught (label_of row.start) (label_of row.end) (label_of row.handler))
+
 abbrev pub with_row : List Const → Row → Step
 with_row pool row text = do
-  caught ← caught_at pool row.catch_type
-  Some (with_line (lines.Catch caught (label_of row.start) (label_of row.end) (label_of row.handler)) text)
+  line ← row_line pool row
+  Some (with_line line text)
 
 abbrev pub with_rows : List Const → List Row → Step
 with_rows pool [] text = Some text
@@ -121,11 +126,16 @@ with_attributes pool [] text = Some text
 with_attributes pool (a ∷ []) text = with_attribute pool a.body text
 with_attributes pool (a ∷ b ∷ cs) text = None
 
-abbrev pub with_method : List Const → Member → Step
-with_method pool m text = do
+abbrev pub method_line : List Const → Member → Option Line
+method_line pool m = do
   name ← word_at pool m.name
   descriptor ← word_at pool m.descriptor
-  next ← with_attributes pool m.attributes (with_line (lines.Method (member_flags m.flags) name descriptor) text)
+  Some (lines.Method (member_flags m.flags) name descriptor)
+
+abbrev pub with_method : List Const → Member → Step
+with_method pool m text = do
+  line ← method_line pool m
+  next ← with_attributes pool m.attributes (with_line line text)
   Some (with_line lines.End next)
 
 abbrev pub with_methods : List Const → List Member → Step

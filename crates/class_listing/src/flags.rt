@@ -1,7 +1,7 @@
 //! The flags of some bits, in the order of the bits (JVMS 4.1, 4.5, 4.6).
 
 ghost use Rattle.std.specs.Prelude.{◌≡◌, IfOk};
-ghost use Rattle.jasm.specs.Flags as spec;
+ghost use Rattle.class_listing.specs.Flags as spec;
 
 use asm_text::Flag;
 use items::Items;
