@@ -207,4 +207,4 @@ of_built a h words off quiet =
 
 -- where there are several reasons, all ask for a text, or none does
 pub faults_alike : (words : List Text) → AreAlike (fault_of command_line words)
-faults_alike words = of_built (built command_line) nothing_held (argument_words command_line words) refl (refl, tt)
+faults_alike words = of_built (built command_line) nothing_held (argument_words command_line words) refl (refl, (refl, (refl, (refl, tt))))

@@ -2,6 +2,11 @@ pub mod BuilderLaws
 pub mod FaultLaws
 pub mod MatchLaws
 pub mod ReadingLaws
+pub mod PlainCommands
+pub mod PlainFile
+pub mod PlainGen
 pub mod PlainLaws
 pub mod PlainRows
+pub mod PlainRun
+pub mod PlainRunRows
 pub mod PlainWalk

@@ -1,37 +1,31 @@
--- The walk of clap over plain words.
-use Rattle.std.proofs.Common.{◌≡◌, ℕ, ◌≤◌, ◌<◌, ◌^◌, Bool, true, false, List, [], ◌∷◌, ◌++◌, map, length, Some, None, refl, sym, ap, subst, ◌∙◌, arith, codes, append_assoc}
+-- The walk of clap over plain words, in any command.
+use Rattle.std.proofs.Common.{◌≡◌, ℕ, ◌≤◌, ◌<◌, ◌^◌, Bool, true, false, List, [], ◌∷◌, ◌++◌, length, Option, Some, None, refl, ap, ◌∙◌, arith}
 use Rattle.std.specs.Prelude.{◌&&◌, ◌||◌, ◌==◌, fold, pos, nat_lt, if◌then◌else◌}
 use Rattle.std.specs.Fmt.{decimal}
-use Rattle.std.specs.List.{AllByRecursion, flat_map, list_all}
+use Rattle.std.specs.List.{list_all}
 use Rattle.std.specs.Str.{bytes_eq}
 use Rattle.std.specs.Char.{digit_value}
 use Rattle.std.specs.Str.Parse.{AllDigits, IsNumeral, digits_value, without_leading_plus, without_leading_sign, signed_digits_value}
-use Rattle.std.proofs.lemmas.Bool.{ne_eqb, lt-ltb, le-leb, le-ltb}
+use Rattle.std.proofs.lemmas.Bool.{ne_eqb, lt-ltb, le-leb}
 use Rattle.std.proofs.lemmas.Fmt.{decimal_is_IsNumeral}
 use Rattle.std.proofs.lemmas.List.Folds.{list_any-append}
 use Rattle.std.proofs.lemmas.List.Sums.{fold-append}
 use Rattle.std.proofs.lemmas.Str.Parse.{digit_from_value}
 use Rattle.clap.specs.Lexer.{long_of, short_of}
-use Rattle.clap.specs.Faults.{settle_fault, step_fault, use_fault, walk_fault, word_fault}
-use Rattle.clap.specs.Kinds.{Kinds, or_else, range_kinds, values_kinds}
-use Rattle.clap.specs.Simple.{Shape, built, built_leaf, filled, inherited, with_index}
+use Rattle.clap.specs.Facts.{parser_of_value}
+use Rattle.clap.specs.Faults.{defaults_fault, check_fault, level_fault, settle_fault, step_fault, walk_fault, word_fault}
+use Rattle.clap.specs.Kinds.{Kinds, or_else, values_kinds}
+use Rattle.clap.specs.Simple.{Shape, filled, new_rule, with_index}
 use Rattle.clap.specs.ValueTests.{accepts}
-use Rattle.clap.specs.Walk.{Held, Row, Rule, Step, Text, Waiting, Walk, after_step, at_row, has_row, idle, is_pending, more_values, nothing_held, option, plain_word, positional, pushed, reacted, settled, walk_from, walked, with_values, without, word_met}
+use Rattle.clap.specs.Walk.{Held, Row, Rule, Step, Text, Waiting, Walk, after_step, arg_by_id, arg_by_index, arg_by_long, at_row, has_row, idle, is_pending, more_values, next, nothing_held, option, plain_word, positional, pushed, reading_by, rows_after, settled, walk, walk_from, walked, with_default, with_values, without, word_met}
 use Rattle.clap.specs.declared.builder.value_parser.Reading.{Reading}
-use Rattle.clap.specs.declared.builder.value_parser.Reading.TheVariants.{AsWritten, WithoutMinus}
+use Rattle.clap.specs.declared.builder.value_parser.Reading.TheVariants.{WithoutMinus}
+use Rattle.clap.specs.declared.builder.value_parser.ValueParser.{ValueParser}
 use Rattle.clap.specs.declared.builder.value_parser.ValueParser.TheVariants as parsers
 use Rattle.clap.specs.declared.parser.matches.ValueSource.{ValueSource}
 use Rattle.clap.specs.declared.parser.matches.ValueSource.TheVariants.{CommandLine}
-use Rattle.arguments.specs.CommandLine.{carriers_rule, command_line, events_rule, file_rule, main_rule, run_app, trace_rule}
 use Rattle.arguments.specs.Commands.{number_in}
-use Rattle.arguments.specs.PlainWords.{AreDifferent, AreOther, IsInRange, IsPlain, RunOption, carriers, events, option_words, trace}
-
--- the built command `run`
-abbrev pub run_shape : Shape
-run_shape = built_leaf (inherited command_line.top run_app.top)
-
-pub one_sub : (built command_line).subs ≡ run_shape ∷ []
-one_sub = refl
+use Rattle.arguments.specs.PlainWords.{IsPlain}
 
 -- ---- rows
 
@@ -39,7 +33,7 @@ neither : (a b : Bool) → (a || b) ≡ false → (a ≡ false) × (b ≡ false)
 neither true b e = absurd cc
 neither false b e = (refl, e)
 
-never : (b : Bool) → (b && false) ≡ false
+pub never : (b : Bool) → (b && false) ≡ false
 never true = refl
 never false = refl
 
@@ -50,9 +44,9 @@ at_row_absent id change missing (r ∷ rs) e =
     let parts = neither (bytes_eq r.id id) (has_row id rs) e in
     rw parts.0 (ap (λ (xs : List Row). r ∷ xs) (at_row_absent id change missing rs parts.1))
 
-append_nil : (rows : List Row) → rows ++ [] ≡ rows
+pub append_nil : {X : Type 0} (xs : List X) → xs ++ [] ≡ xs
 append_nil [] = refl
-append_nil (r ∷ rs) = ap (λ (xs : List Row). r ∷ xs) (append_nil rs)
+append_nil (x ∷ xs) = ap (λ (ys : List _). x ∷ ys) (append_nil xs)
 
 abbrev pub new_row : Text → Reading → ValueSource → List Text → Row
 new_row id how source values = record { id = id; values = values; count = None; source = Some source; reading = how }
@@ -61,12 +55,12 @@ new_row id how source values = record { id = id; values = values; count = None; 
 pub added : (id : Text) (how : Reading) (source : ValueSource) (values : List Text) (rows : List Row) → has_row id rows ≡ false → with_values id how source values rows ≡ rows ++ new_row id how source values ∷ []
 added id how source values rows e = at_row_absent id (more_values source values) (new_row id how source values ∷ []) rows e
 
-first_use : (id : Text) (how : Reading) (values : List Text) (rows : List Row) → has_row id rows ≡ false
+pub first_use : (id : Text) (how : Reading) (values : List Text) (rows : List Row) → has_row id rows ≡ false
     → with_values id how CommandLine values (without id rows) ≡ rows ++ new_row id how CommandLine values ∷ []
 first_use id how values rows e =
     ap (with_values id how CommandLine values) (at_row_absent id (λ _. []) [] rows e ∙ append_nil rows) ∙ added id how CommandLine values rows e
 
-no_row : (id : Text) (xs ys : List Row) → has_row id xs ≡ false → has_row id ys ≡ false → has_row id (xs ++ ys) ≡ false
+pub no_row : (id : Text) (xs ys : List Row) → has_row id xs ≡ false → has_row id ys ≡ false → has_row id (xs ++ ys) ≡ false
 no_row id xs ys one two = list_any-append (λ r. bytes_eq r.id id) xs ys ∙ rw (one, two) refl
 
 -- ---- words
@@ -83,20 +77,23 @@ plain_is_word (x ∷ xs) h =
     record { dashes = rw no refl; long = rw no refl; short = rw no refl }
 
 -- it is no flag and no subcommand
-word_is : (c : List Rule) (waiting : Waiting) (position : ℕ) (w : Text) (h : Held) → IsWord w → word_met c [] false waiting position w h ≡ plain_word c waiting w h
+pub word_is : (c : List Rule) (waiting : Waiting) (position : ℕ) (w : Text) (h : Held) → IsWord w → word_met c [] false waiting position w h ≡ plain_word c waiting w h
 word_is c idle position w h is = rw (is.dashes, is.long, is.short) refl
 word_is c (option id) position w h is = rw (is.dashes, is.long, is.short) refl
 word_is c positional position w h is = rw (is.dashes, is.long, is.short) refl
 
-word_quiet : (s : Shape) (waiting : Waiting) (w : Text) (h : Held) → IsWord w → word_fault s [] false waiting w h ≡ []
+pub word_quiet : (s : Shape) (waiting : Waiting) (w : Text) (h : Held) → IsWord w → word_fault s [] false waiting w h ≡ []
 word_quiet s idle w h is = rw (is.dashes, is.long, is.short) refl
 word_quiet s (option id) w h is = rw (is.dashes, is.long, is.short) refl
 word_quiet s positional w h is = rw (is.dashes, is.long, is.short) refl
 
 -- a number is such a word
-pub numeral_plain : (t : Text) → IsNumeral 10 t → IsPlain t
+numeral_plain : (t : Text) → IsNumeral 10 t → IsPlain t
 numeral_plain [] h = absurd (omega (arith, h.0))
 numeral_plain (d ∷ ds) h = λ e. omega (arith, digit_from_value d h.1.0)
+
+pub number_plain : (n : ℕ) → n < 2 ^ 64 → IsPlain (decimal n)
+number_plain n fits = numeral_plain (decimal n) (decimal_is_IsNumeral n fits).0
 
 numeral_sign : (t : Text) → IsNumeral 10 t → (without_leading_sign t ≡ t) × (without_leading_plus t ≡ t) × (signed_digits_value 10 t ≡ pos (digits_value 10 t))
 numeral_sign [] h = absurd (omega (arith, h.0))
@@ -110,7 +107,7 @@ digits_pass [] h = refl
 digits_pass (d ∷ ds) h = rw (lt-ltb (digit_value d) 10 h.0) (digits_pass ds h.1)
 
 -- a number within its bounds passes
-number_passes : (low high n : ℕ) → low ≤ n → n ≤ high → high < 2 ^ 63 → accepts false (parsers.Signed (pos low) (pos high)) (decimal n) ≡ true
+pub number_passes : (low high n : ℕ) → low ≤ n → n ≤ high → high < 2 ^ 63 → accepts false (parsers.Signed (pos low) (pos high)) (decimal n) ≡ true
 number_passes low high n least most fits =
     let is = decimal_is_IsNumeral n (omega arith) in
     let sign = numeral_sign (decimal n) is.0 in
@@ -124,20 +121,17 @@ number_is n fits =
     let sign = numeral_sign (decimal n) is.0 in
     rw (sign.1, lt-ltb 0 (length (decimal n)) is.0.0, digits_pass (decimal n) is.0.1, is.1, lt-ltb n (2 ^ 32) fits) refl
 
--- ---- the walk over the words
-
-abbrev pub rules : List Rule
-rules = run_shape.rules
+-- ---- the walk over the words of a command
 
 -- what is held comes to these rows, and nothing is wrong with it
-pub record At (h : Held) (rows : List Row) : Type 0 where
-  pub is : settled rules h ≡ record { rows = rows; pending = None; skip = 0 }
-  pub quiet : settle_fault rules false h ≡ []
+pub record At (s : Shape) (h : Held) (rows : List Row) : Type 0 where
+  pub is : settled s.rules h ≡ record { rows = rows; pending = None; skip = 0 }
+  pub quiet : settle_fault s.rules false h ≡ []
 
 -- the words lead from one place of the walk to another, and nothing is wrong with them
-pub record Leads (w : Walk) (words : List Text) (last : Walk) : Type 0 where
-  pub goes : fold (walked rules []) w words ≡ last
-  pub quiet : walk_fault run_shape [] w words ≡ []
+pub record Leads (s : Shape) (w : Walk) (words : List Text) (last : Walk) : Type 0 where
+  pub goes : fold (walked s.rules []) w words ≡ last
+  pub quiet : walk_fault s [] w words ≡ []
 
 pub or_both : (a b : Kinds) → a ≡ [] → b ≡ [] → or_else a b ≡ []
 or_both a b one two = ap (λ (x : Kinds). or_else x b) one ∙ two
@@ -150,311 +144,182 @@ both_none : (a b : Kinds) → or_else a b ≡ [] → b ≡ []
 both_none [] b e = e
 both_none (k ∷ ks) b e = absurd cc
 
-faults_after : (w : Walk) (xs ys : List Text) → walk_fault run_shape [] w xs ≡ [] → walk_fault run_shape [] (fold (walked rules []) w xs) ys ≡ [] → walk_fault run_shape [] w (xs ++ ys) ≡ []
+faults_after : (s : Shape) (w : Walk) (xs ys : List Text) → walk_fault s [] w xs ≡ [] → walk_fault s [] (fold (walked s.rules []) w xs) ys ≡ [] → walk_fault s [] w (xs ++ ys) ≡ []
 unfolding walk_fault
-faults_after w [] ys one two = two
-faults_after w (x ∷ xs) ys one two = or_both _ _ (first_none _ _ one) (faults_after (walked rules [] w x) xs ys (both_none _ _ one) two)
+faults_after s w [] ys one two = two
+faults_after s w (x ∷ xs) ys one two = or_both _ _ (first_none _ _ one) (faults_after s (walked s.rules [] w x) xs ys (both_none _ _ one) two)
 
-pub leads_on : (a b c : Walk) (xs ys : List Text) → Leads a xs b → Leads b ys c → Leads a (xs ++ ys) c
-leads_on a b c xs ys one two = record {
-  goes = fold-append (walked rules []) a xs ys ∙ ap (λ (w : Walk). fold (walked rules []) w ys) one.goes ∙ two.goes;
-  quiet = faults_after a xs ys one.quiet (ap (λ (w : Walk). walk_fault run_shape [] w ys) one.goes ∙ two.quiet);
+pub leads_on : (s : Shape) (a b c : Walk) (xs ys : List Text) → Leads s a xs b → Leads s b ys c → Leads s a (xs ++ ys) c
+leads_on s a b c xs ys one two = record {
+  goes = fold-append (walked s.rules []) a xs ys ∙ ap (λ (w : Walk). fold (walked s.rules []) w ys) one.goes ∙ two.goes;
+  quiet = faults_after s a xs ys one.quiet (ap (λ (w : Walk). walk_fault s [] w ys) one.goes ∙ two.quiet);
 }
 
-held_is : (a b : List Row) (s t : ℕ) → a ≡ b → s ≡ t → (let x : Held = record { rows = a; pending = None; skip = s } in x) ≡ record { rows = b; pending = None; skip = t }
-held_is a b s t rows skip = λ i. record { rows = rows i; pending = None; skip = skip i }
+pub leads_nowhere : (s : Shape) (w : Walk) → Leads s w [] w
+unfolding walk_fault
+leads_nowhere s w = record { goes = refl; quiet = refl }
 
-rows_of_held : (h : Held) (rows : List Row) → At h rows → (settled rules h).rows ≡ rows
-rows_of_held h rows at = ap (λ (x : Held). x.rows) at.is
+pub held_is : (a b : List Row) (k n : ℕ) → a ≡ b → k ≡ n → (let x : Held = record { rows = a; pending = None; skip = k } in x) ≡ record { rows = b; pending = None; skip = n }
+held_is a b k n rows skip = λ i. record { rows = rows i; pending = None; skip = skip i }
 
-skip_of_held : (h : Held) (rows : List Row) → At h rows → h.skip ≡ 0
-skip_of_held h rows at = ap (λ (x : Held). x.skip) at.is
+pub rows_of_held : (s : Shape) (h : Held) (rows : List Row) → At s h rows → (settled s.rules h).rows ≡ rows
+rows_of_held s h rows at = ap (λ (x : Held). x.rows) at.is
 
--- ---- an option
+pub skip_of_held : (s : Shape) (h : Held) (rows : List Row) → At s h rows → h.skip ≡ 0
+skip_of_held s h rows at = ap (λ (x : Held). x.skip) at.is
 
-abbrev pub carriers_arg : Rule
-carriers_arg = with_index 1 (filled carriers_rule)
+pub starts : (s : Shape) → At s nothing_held []
+starts s = record { is = refl; quiet = refl }
 
-abbrev pub events_arg : Rule
-events_arg = with_index 1 (filled events_rule)
+-- ---- an option with a number
 
-abbrev pub trace_arg : Rule
-trace_arg = with_index 1 (filled trace_rule)
+-- the option as it is built
+abbrev pub number_arg : Text → Text → ℕ → ℕ → Rule
+number_arg id default low high = with_index 1 (filled (record (new_rule id) {
+  long = Some id;
+  value_names = 1;
+  parser = Some (parsers.Signed (pos low) (pos high));
+  defaults = default ∷ [];
+}))
 
-abbrev pub option_row : RunOption → Row
-option_row (carriers n) = new_row (codes "carriers") WithoutMinus CommandLine (decimal n ∷ [])
-option_row (events n) = new_row (codes "events") WithoutMinus CommandLine (decimal n ∷ [])
-option_row trace = new_row (codes "trace") AsWritten CommandLine (codes "true" ∷ [])
+-- the command has the option, and `flag` is its word
+pub record HasNumber (s : Shape) (id flag default : Text) (low high : ℕ) : Type 0 where
+  pub once : s.args_override_self ≡ false
+  pub by_long : arg_by_long s.rules id ≡ Some (number_arg id default low high)
+  pub by_id : arg_by_id s.rules id ≡ Some (number_arg id default low high)
+  pub itself : bytes_eq id id ≡ true
+  pub dashes : bytes_eq flag (45 ∷ 45 ∷ []) ≡ false
+  pub long : long_of flag ≡ Some (id, None)
 
-pub record Steps (h : Held) (rows : List Row) (o : RunOption) : Type 0 where
-  pub after : Held
-  pub leads : Leads (walk_from h) (option_words o) (walk_from after)
-  pub at : At after (rows ++ option_row o ∷ [])
+abbrev pub number_row : Text → ℕ → Row
+number_row id n = new_row id WithoutMinus CommandLine (decimal n ∷ [])
 
-trace_step : (h : Held) (rows : List Row) → At h rows → has_row (codes "trace") rows ≡ false → Steps h rows trace
-unfolding walked walk_fault
-trace_step h rows at none =
-    let same = rows_of_held h rows at in
-    let no : has_row (codes "trace") (settled rules h).rows ≡ false = ap (has_row (codes "trace")) same ∙ none in
-    let used_once : use_fault false trace_arg [] (settled rules h).rows ≡ [] = rw no refl in
-    record {
-      after = reacted rules trace_arg [] h;
-      leads = record { goes = refl; quiet = or_both _ _ (or_both _ _ (or_both _ _ at.quiet used_once) refl) refl };
-      at = record {
-        is = held_is _ _ _ _ (first_use (codes "trace") AsWritten (codes "true" ∷ []) (settled rules h).rows no ∙ ap (λ (rs : List Row). rs ++ option_row trace ∷ []) same) (skip_of_held h rows at);
-        quiet = refl;
-      };
-    }
+-- the option waits for its number
+abbrev waits : Shape → Text → Held → Held
+waits s id h = record (settled s.rules h) { pending = Some (id, []) }
 
-carriers_step : (h : Held) (rows : List Row) (n : ℕ) → At h rows → has_row (codes "carriers") rows ≡ false → 1 ≤ n → n ≤ 64 → Steps h rows (carriers n)
-unfolding walked walk_fault
-carriers_step h rows n at none least most =
-    let same = rows_of_held h rows at in
-    let no : has_row (codes "carriers") (settled rules h).rows ≡ false = ap (has_row (codes "carriers")) same ∙ none in
-    let t = decimal n in
-    let word = plain_is_word t (numeral_plain t (decimal_is_IsNumeral n (omega arith)).0) in
-    let waits : Held = record (settled rules h) { pending = Some (codes "carriers", []) } in
-    let start : Walk = record { held = waits; waiting = option (codes "carriers"); position = 1; is_trailing = false; stopped = None } in
-    let met = word_is rules (option (codes "carriers")) 1 t waits word in
-    let passes = number_passes 1 64 n least most (omega arith) in
-    record {
-      after = record (settled rules h) { pending = Some (codes "carriers", t ∷ []) };
-      leads = record {
-        goes = ap (λ (m : Held × Step). after_step rules t start m.0 m.1) met;
-        quiet = or_both _ _ (or_both _ _ at.quiet refl)
-            (or_both _ _ (or_both _ _ (word_quiet run_shape (option (codes "carriers")) t waits word) (ap (λ (m : Held × Step). step_fault run_shape 1 m.0 m.1) met)) refl);
-      };
-      at = record {
-        is = held_is _ _ _ _ (first_use (codes "carriers") WithoutMinus (t ∷ []) (settled rules h).rows no ∙ ap (λ (rs : List Row). rs ++ option_row (carriers n) ∷ []) same) (skip_of_held h rows at);
-        quiet = rw (no, passes) refl;
-      };
-    }
+abbrev waiting_at : Shape → Text → Held → Walk
+waiting_at s id h = record { held = waits s id h; waiting = option id; position = 1; is_trailing = false; stopped = None }
 
-events_step : (h : Held) (rows : List Row) (n : ℕ) → At h rows → has_row (codes "events") rows ≡ false → 1000 ≤ n → n ≤ 33554432 → Steps h rows (events n)
-unfolding walked walk_fault
-events_step h rows n at none least most =
-    let same = rows_of_held h rows at in
-    let no : has_row (codes "events") (settled rules h).rows ≡ false = ap (has_row (codes "events")) same ∙ none in
-    let t = decimal n in
-    let word = plain_is_word t (numeral_plain t (decimal_is_IsNumeral n (omega arith)).0) in
-    let waits : Held = record (settled rules h) { pending = Some (codes "events", []) } in
-    let start : Walk = record { held = waits; waiting = option (codes "events"); position = 1; is_trailing = false; stopped = None } in
-    let met = word_is rules (option (codes "events")) 1 t waits word in
-    let passes = number_passes 1000 33554432 n least most (omega arith) in
-    record {
-      after = record (settled rules h) { pending = Some (codes "events", t ∷ []) };
-      leads = record {
-        goes = ap (λ (m : Held × Step). after_step rules t start m.0 m.1) met;
-        quiet = or_both _ _ (or_both _ _ at.quiet refl)
-            (or_both _ _ (or_both _ _ (word_quiet run_shape (option (codes "events")) t waits word) (ap (λ (m : Held × Step). step_fault run_shape 1 m.0 m.1) met)) refl);
-      };
-      at = record {
-        is = held_is _ _ _ _ (first_use (codes "events") WithoutMinus (t ∷ []) (settled rules h).rows no ∙ ap (λ (rs : List Row). rs ++ option_row (events n) ∷ []) same) (skip_of_held h rows at);
-        quiet = rw (no, passes) refl;
-      };
-    }
+-- the number waits to be used
+abbrev pub number_held : Shape → Text → Held → ℕ → Held
+number_held s id h n = record (settled s.rules h) { pending = Some (id, decimal n ∷ []) }
 
--- ---- MAIN and the FILEs
+module _ (s : Shape) (id flag default : Text) (low high : ℕ) (has : HasNumber s id flag default low high) where
+  flag_met : (h : Held) → word_met s.rules [] false idle 1 flag h ≡ (waits s id h, next (option id))
+  flag_met h = rw (has.dashes, has.long, has.by_long) refl
 
-abbrev pub main_arg : Rule
-main_arg = with_index 1 (filled main_rule)
+  flag_leads : (h : Held) (rows : List Row) → At s h rows → Leads s (walk_from h) (flag ∷ []) (waiting_at s id h)
+  unfolding walked walk_fault
+  flag_leads h rows at =
+      let met = flag_met h in
+      record {
+        goes = ap (λ (m : Held × Step). after_step s.rules flag (walk_from h) m.0 m.1) met;
+        quiet = or_both _ _ (or_both _ _ (rw (has.dashes, has.long, has.by_long, has.once) at.quiet)
+            (ap (λ (m : Held × Step). step_fault s 1 m.0 m.1) met)) refl;
+      }
 
-abbrev pub file_arg : Rule
-file_arg = with_index 2 (filled file_rule)
+  number_met : (h : Held) (n : ℕ) → IsPlain (decimal n) → word_met s.rules [] false (option id) 1 (decimal n) (waits s id h) ≡ (number_held s id h n, next idle)
+  number_met h n plain = word_is s.rules (option id) 1 (decimal n) (waits s id h) (plain_is_word (decimal n) plain) ∙ rw (has.by_id, has.itself) refl
 
-abbrev pub main_row : Text → Row
-main_row m = new_row (codes "MAIN") AsWritten CommandLine (m ∷ [])
+  number_leads : (h : Held) (n : ℕ) → IsPlain (decimal n) → Leads s (waiting_at s id h) (decimal n ∷ []) (walk_from (number_held s id h n))
+  unfolding walked walk_fault
+  number_leads h n plain =
+      let met = number_met h n plain in
+      record {
+        goes = ap (λ (m : Held × Step). after_step s.rules (decimal n) (waiting_at s id h) m.0 m.1) met;
+        quiet = or_both _ _ (or_both _ _ (word_quiet s (option id) (decimal n) (waits s id h) (plain_is_word (decimal n) plain))
+            (ap (λ (m : Held × Step). step_fault s 1 m.0 m.1) met)) refl;
+      }
 
-abbrev pub file_row : List Text → Row
-file_row fs = new_row (codes "FILE") AsWritten CommandLine fs
+  -- the option and its number
+  pub option_leads : (h : Held) (rows : List Row) (n : ℕ) → At s h rows → n ≤ high → high < 2 ^ 63 → Leads s (walk_from h) (flag ∷ decimal n ∷ []) (walk_from (number_held s id h n))
+  option_leads h rows n at most fits =
+      leads_on s (walk_from h) (waiting_at s id h) (walk_from (number_held s id h n)) (flag ∷ []) (decimal n ∷ []) (flag_leads h rows at) (number_leads h n (number_plain n (omega arith)))
 
--- the place before the first FILE, and those behind it
-abbrev pub at_files : Held → Walk
-at_files h = record { held = h; waiting = idle; position = 2; is_trailing = false; stopped = None }
+  pub option_at : (h : Held) (rows : List Row) (n : ℕ) → At s h rows → has_row id rows ≡ false → low ≤ n → n ≤ high → high < 2 ^ 63 → At s (number_held s id h n) (rows ++ number_row id n ∷ [])
+  option_at h rows n at none least most fits =
+      let same = rows_of_held s h rows at in
+      let no : has_row id (settled s.rules h).rows ≡ false = ap (has_row id) same ∙ none in
+      let passes = number_passes low high n least most fits in
+      record {
+        is = rw has.by_id (held_is _ _ _ _ (first_use id WithoutMinus (decimal n ∷ []) (settled s.rules h).rows no ∙ ap (λ (rs : List Row). rs ++ number_row id n ∷ []) same) (skip_of_held s h rows at));
+        quiet = rw (has.by_id, no, passes) refl;
+      }
 
-abbrev pub in_files : Held → Walk
-in_files h = record { held = h; waiting = positional; position = 2; is_trailing = false; stopped = None }
+-- ---- the first word
 
-if_none : (b : Bool) (x : Kinds) → x ≡ [] → (if b then [] else x) ≡ []
+-- a required word as it is built, where it is the first
+abbrev pub word_arg : Text → Option ValueParser → Rule
+word_arg id parser = with_index 1 (filled (record (new_rule id) { required = true; parser = parser }))
+
+pub record HasWord (s : Shape) (id : Text) (parser : Option ValueParser) : Type 0 where
+  pub once : s.args_override_self ≡ false
+  pub by_index : arg_by_index s.rules 1 ≡ Some (word_arg id parser)
+  pub by_id : arg_by_id s.rules id ≡ Some (word_arg id parser)
+
+pub if_none : (b : Bool) (x : Kinds) → x ≡ [] → (if b then [] else x) ≡ []
 if_none true x e = refl
 if_none false x e = e
 
--- the word waits to be used as MAIN
-abbrev main_held : Held → Text → Held
-main_held h m = record (settled rules h) { pending = Some (codes "MAIN", m ∷ []) }
+-- the place behind the first word
+abbrev pub behind_word : Held → Walk
+behind_word h = record { held = h; waiting = idle; position = 2; is_trailing = false; stopped = None }
 
-main_leads : (h : Held) (rows : List Row) (m : Text) → At h rows → IsPlain m → Leads (walk_from h) (m ∷ []) (at_files (main_held h m))
-unfolding walked walk_fault
-main_leads h rows m at plain =
-    let word = plain_is_word m plain in
-    let met = word_is rules idle 1 m h word in
-    let waits = is_pending main_arg h.pending in
+-- the word waits to be used
+abbrev pub word_held : Shape → Text → Held → Text → Held
+word_held s id h w = record (settled s.rules h) { pending = Some (id, w ∷ []) }
+
+abbrev pub word_row : Text → Option ValueParser → Text → Row
+word_row id parser w = new_row id (reading_by (word_arg id parser)) CommandLine (w ∷ [])
+
+module _ (s : Shape) (id : Text) (parser : Option ValueParser) (has : HasWord s id parser) where
+  pub word_leads : (h : Held) (rows : List Row) (w : Text) → At s h rows → IsPlain w → Leads s (walk_from h) (w ∷ []) (behind_word (word_held s id h w))
+  unfolding walked walk_fault
+  word_leads h rows w at plain =
+      let word = plain_is_word w plain in
+      let met = word_is s.rules idle 1 w h word in
+      let pending = is_pending (word_arg id parser) h.pending in
+      record {
+        goes = ap (λ (x : Held × Step). after_step s.rules w (walk_from h) x.0 x.1) met
+            ∙ rw has.by_index (ap (λ (b : Bool). behind_word (pushed id w (if b then h else settled s.rules h))) (never pending));
+        quiet = or_both _ _ (or_both _ _ (word_quiet s idle w h word)
+            (ap (λ (x : Held × Step). step_fault s 1 x.0 x.1) met ∙ rw (has.by_index, has.once) (if_none (pending && false) (settle_fault s.rules false h) at.quiet))) refl;
+      }
+
+  pub word_at : (h : Held) (rows : List Row) (w : Text) → At s h rows → has_row id rows ≡ false → values_kinds false (parser_of_value (word_arg id parser).parser) (w ∷ []) ≡ []
+      → At s (word_held s id h w) (rows ++ word_row id parser w ∷ [])
+  word_at h rows w at none passes =
+      let same = rows_of_held s h rows at in
+      let no : has_row id (settled s.rules h).rows ≡ false = ap (has_row id) same ∙ none in
+      record {
+        is = rw has.by_id (held_is _ _ _ _ (first_use id (reading_by (word_arg id parser)) (w ∷ []) (settled s.rules h).rows no ∙ ap (λ (rs : List Row). rs ++ word_row id parser w ∷ []) same) (skip_of_held s h rows at));
+        quiet = rw (has.by_id, no) passes;
+      }
+
+-- ---- a command and its words
+
+-- nothing is wrong with the words of the command, and these rows come of them
+pub record Comes (s : Shape) (words : List Text) (rows : List Row) : Type 0 where
+  pub quiet : level_fault s [] nothing_held words false [] ≡ []
+  pub is : rows_after s.rules [] words ≡ rows
+
+-- what is wrong behind the walk
+abbrev end_faults : Shape → Held → Kinds
+end_faults s h =
+    or_else (settle_fault s.rules s.args_override_self h) (or_else (defaults_fault (settled s.rules h).rows s.rules) (check_fault s (fold with_default (settled s.rules h).rows s.rules) false))
+
+-- the walk leads to `last`, which comes to the rows `given`, and with the defaults to `rows`
+pub comes : (s : Shape) (words : List Text) (last : Walk) (given rows : List Row) → s.args_override_self ≡ false → Leads s (walk_from nothing_held) words last → At s last.held given
+    → fold with_default given s.rules ≡ rows → defaults_fault given s.rules ≡ [] → check_fault s rows false ≡ [] → Comes s words rows
+comes s words last given rows once leads at defaults quiet checks =
+    let same : (walk s.rules [] nothing_held words).held ≡ last.held = ap (λ (w : Walk). w.held) leads.goes in
+    let settles : settle_fault s.rules s.args_override_self last.held ≡ [] = rw once at.quiet in
+    let final : fold with_default (settled s.rules last.held).rows s.rules ≡ rows = ap (λ (h : Held). fold with_default h.rows s.rules) at.is ∙ defaults in
+    let defaulted : defaults_fault (settled s.rules last.held).rows s.rules ≡ [] = ap (λ (h : Held). defaults_fault h.rows s.rules) at.is ∙ quiet in
+    let checked : check_fault s (fold with_default (settled s.rules last.held).rows s.rules) false ≡ [] = ap (λ (rs : List Row). check_fault s rs false) final ∙ checks in
     record {
-      goes = ap (λ (x : Held × Step). after_step rules m (walk_from h) x.0 x.1) met
-          ∙ ap (λ (b : Bool). at_files (pushed (codes "MAIN") m (if b then h else settled rules h))) (never waits);
-      quiet = or_both _ _ (or_both _ _ (word_quiet run_shape idle m h word)
-          (ap (λ (x : Held × Step). step_fault run_shape 1 x.0 x.1) met ∙ if_none (waits && false) (settle_fault rules false h) at.quiet)) refl;
-    }
-
-main_at : (h : Held) (rows : List Row) (m : Text) → At h rows → has_row (codes "MAIN") rows ≡ false → At (main_held h m) (rows ++ main_row m ∷ [])
-main_at h rows m at none =
-    let same = rows_of_held h rows at in
-    let no : has_row (codes "MAIN") (settled rules h).rows ≡ false = ap (has_row (codes "MAIN")) same ∙ none in
-    record {
-      is = held_is _ _ _ _ (first_use (codes "MAIN") AsWritten (m ∷ []) (settled rules h).rows no ∙ ap (λ (rs : List Row). rs ++ main_row m ∷ []) same) (skip_of_held h rows at);
-      quiet = rw no refl;
-    }
-
--- the words wait to be used as FILEs
-abbrev file_held : Held → List Text → Held
-file_held h fs = record (settled rules h) { pending = Some (codes "FILE", fs) }
-
-first_file : (h : Held) (rows : List Row) (m f : Text) → At h rows → h.pending ≡ Some (codes "MAIN", m ∷ []) → IsPlain f → Leads (at_files h) (f ∷ []) (in_files (file_held h (f ∷ [])))
-unfolding walked walk_fault
-first_file h rows m f at waits plain =
-    let word = plain_is_word f plain in
-    let met = word_is rules idle 2 f h word in
-    let other : is_pending file_arg h.pending ≡ false = ap (is_pending file_arg) waits in
-    record {
-      goes = ap (λ (x : Held × Step). after_step rules f (at_files h) x.0 x.1) met
-          ∙ ap (λ (b : Bool). in_files (pushed (codes "FILE") f (if b && true then h else settled rules h))) other;
-      quiet = or_both _ _ (or_both _ _ (word_quiet run_shape idle f h word)
-          (ap (λ (x : Held × Step). step_fault run_shape 2 x.0 x.1) met ∙ if_none (is_pending file_arg h.pending && true) (settle_fault rules false h) at.quiet)) refl;
-    }
-
-next_file : (h : Held) (fs : List Text) (f : Text) → IsPlain f → Leads (in_files (file_held h fs)) (f ∷ []) (in_files (file_held h (fs ++ f ∷ [])))
-unfolding walked walk_fault
-next_file h fs f plain =
-    let word = plain_is_word f plain in
-    let met = word_is rules positional 2 f (file_held h fs) word in
-    record {
-      goes = ap (λ (x : Held × Step). after_step rules f (in_files (file_held h fs)) x.0 x.1) met;
-      quiet = or_both _ _ (or_both _ _ (word_quiet run_shape positional f (file_held h fs) word) (ap (λ (x : Held × Step). step_fault run_shape 2 x.0 x.1) met)) refl;
-    }
-
-pub texts_nil : (ts : List Text) → ts ++ [] ≡ ts
-texts_nil [] = refl
-texts_nil (t ∷ ts) = ap (λ (xs : List Text). t ∷ xs) (texts_nil ts)
-
-more_files : (h : Held) (fs gs : List Text) → AllByRecursion IsPlain gs → Leads (in_files (file_held h fs)) gs (in_files (file_held h (fs ++ gs)))
-unfolding walk_fault
-more_files h fs [] plain = record { goes = ap (λ (xs : List Text). in_files (file_held h xs)) (sym (texts_nil fs)); quiet = refl }
-more_files h fs (g ∷ gs) plain =
-    let one = next_file h fs g plain.0 in
-    let rest = more_files h (fs ++ g ∷ []) gs plain.1 in
-    subst (λ (xs : List Text). Leads (in_files (file_held h fs)) (g ∷ gs) (in_files (file_held h xs))) (append_assoc fs (g ∷ []) gs)
-    (leads_on (in_files (file_held h fs)) (in_files (file_held h (fs ++ g ∷ []))) (in_files (file_held h ((fs ++ g ∷ []) ++ gs))) (g ∷ []) gs one rest)
-
-values_pass : (fs : List Text) → values_kinds false parsers.String fs ≡ []
-values_pass [] = refl
-values_pass (f ∷ fs) = values_pass fs
-
-count_passes : (n : ℕ) → 1 ≤ n → n < 2 ^ 64 → range_kinds 1 18446744073709551615 n ≡ []
-count_passes n some few =
-    let none : (n == 0) ≡ false = ne_eqb _ _ (λ e. omega arith) in
-    rw (none, le-ltb n 1 some, le-ltb 18446744073709551615 n (omega arith)) refl
-
-files_at : (h : Held) (rows : List Row) (f : Text) (fs : List Text) → At h rows → has_row (codes "FILE") rows ≡ false → length (f ∷ fs) < 2 ^ 64 → At (file_held h (f ∷ fs)) (rows ++ file_row (f ∷ fs) ∷ [])
-files_at h rows f fs at none few =
-    let same = rows_of_held h rows at in
-    let no : has_row (codes "FILE") (settled rules h).rows ≡ false = ap (has_row (codes "FILE")) same ∙ none in
-    record {
-      is = held_is _ _ _ _ (added (codes "FILE") AsWritten CommandLine (f ∷ fs) (settled rules h).rows no ∙ ap (λ (rs : List Row). rs ++ file_row (f ∷ fs) ∷ []) same) (skip_of_held h rows at);
-      quiet = or_both (range_kinds 1 18446744073709551615 (length (f ∷ fs))) (values_kinds false parsers.String (f ∷ fs)) (count_passes (length (f ∷ fs)) (omega arith) few) (values_pass (f ∷ fs));
-    }
-
--- ---- all the words
-
-abbrev Absent : List Row → RunOption → Type 0
-Absent rows (carriers n) = has_row (codes "carriers") rows ≡ false
-Absent rows (events n) = has_row (codes "events") rows ≡ false
-Absent rows trace = has_row (codes "trace") rows ≡ false
-
-absent_more : (rows : List Row) (o p : RunOption) → AreOther o p → Absent rows p → Absent (rows ++ option_row o ∷ []) p
-absent_more rows (carriers m) (carriers n) other absent = absurd other
-absent_more rows (carriers m) (events n) other absent = no_row (codes "events") rows (option_row (carriers m) ∷ []) absent refl
-absent_more rows (carriers m) trace other absent = no_row (codes "trace") rows (option_row (carriers m) ∷ []) absent refl
-absent_more rows (events m) (carriers n) other absent = no_row (codes "carriers") rows (option_row (events m) ∷ []) absent refl
-absent_more rows (events m) (events n) other absent = absurd other
-absent_more rows (events m) trace other absent = no_row (codes "trace") rows (option_row (events m) ∷ []) absent refl
-absent_more rows trace (carriers n) other absent = no_row (codes "carriers") rows (option_row trace ∷ []) absent refl
-absent_more rows trace (events n) other absent = no_row (codes "events") rows (option_row trace ∷ []) absent refl
-absent_more rows trace trace other absent = absurd other
-
-all_absent_more : (rows : List Row) (o : RunOption) (os : List RunOption) → AllByRecursion (AreOther o) os → AllByRecursion (Absent rows) os → AllByRecursion (Absent (rows ++ option_row o ∷ [])) os
-all_absent_more rows o [] others absent = tt
-all_absent_more rows o (p ∷ os) others absent = (absent_more rows o p others.0 absent.0, all_absent_more rows o os others.1 absent.1)
-
-none_yet : (os : List RunOption) → AllByRecursion (Absent []) os
-none_yet [] = tt
-none_yet (carriers n ∷ os) = (refl, none_yet os)
-none_yet (events n ∷ os) = (refl, none_yet os)
-none_yet (trace ∷ os) = (refl, none_yet os)
-
-one_step : (h : Held) (rows : List Row) (o : RunOption) → At h rows → Absent rows o → IsInRange o → Steps h rows o
-one_step h rows (carriers n) at absent range = carriers_step h rows n at absent range.0 range.1
-one_step h rows (events n) at absent range = events_step h rows n at absent range.0 range.1
-one_step h rows trace at absent range = trace_step h rows at absent
-
-record Passes (h : Held) (rows : List Row) (os : List RunOption) : Type 0 where
-  after : Held
-  leads : Leads (walk_from h) (flat_map option_words os) (walk_from after)
-  at : At after (rows ++ map option_row os)
-
-all_steps : (h : Held) (rows : List Row) (os : List RunOption) → At h rows → AllByRecursion (Absent rows) os → AreDifferent os → AllByRecursion IsInRange os → Passes h rows os
-unfolding walk_fault
-all_steps h rows [] at absent different range = record {
-  after = h;
-  leads = record { goes = refl; quiet = refl };
-  at = subst (At h) (sym (append_nil rows)) at;
-}
-all_steps h rows (o ∷ os) at absent different range =
-    let one = one_step h rows o at absent.0 range.0 in
-    let rest = all_steps one.after (rows ++ option_row o ∷ []) os one.at (all_absent_more rows o os different.0 absent.1) different.1 range.1 in
-    record {
-      after = rest.after;
-      leads = leads_on (walk_from h) (walk_from one.after) (walk_from rest.after) (option_words o) (flat_map option_words os) one.leads rest.leads;
-      at = subst (At rest.after) (append_assoc rows (option_row o ∷ []) (map option_row os)) rest.at;
-    }
-
-no_main_yet : (os : List RunOption) → has_row (codes "MAIN") (map option_row os) ≡ false
-no_main_yet [] = refl
-no_main_yet (carriers n ∷ os) = no_main_yet os
-no_main_yet (events n ∷ os) = no_main_yet os
-no_main_yet (trace ∷ os) = no_main_yet os
-
-no_file_yet : (os : List RunOption) → has_row (codes "FILE") (map option_row os) ≡ false
-no_file_yet [] = refl
-no_file_yet (carriers n ∷ os) = no_file_yet os
-no_file_yet (events n ∷ os) = no_file_yet os
-no_file_yet (trace ∷ os) = no_file_yet os
-
-abbrev pub plain_rows : List RunOption → Text → List Text → List Row
-plain_rows os m fs = (map option_row os ++ main_row m ∷ []) ++ file_row fs ∷ []
-
-abbrev pub run_words : List RunOption → Text → List Text → List Text
-run_words os m fs = flat_map option_words os ++ (m ∷ fs)
-
--- the walk over the words of a run
-pub record Ends (os : List RunOption) (m : Text) (fs : List Text) : Type 0 where
-  pub last : Held
-  pub leads : Leads (walk_from nothing_held) (run_words os m fs) (in_files last)
-  pub at : At last (plain_rows os m fs)
-
-pub ends : (os : List RunOption) (m f : Text) (fs : List Text) → AreDifferent os → AllByRecursion IsInRange os → IsPlain m → IsPlain f → AllByRecursion IsPlain fs → length (f ∷ fs) < 2 ^ 64 → Ends os m (f ∷ fs)
-ends os m f fs different range main_plain file_plain plain few =
-    let start : At nothing_held [] = record { is = refl; quiet = refl } in
-    let options = all_steps nothing_held [] os start (none_yet os) different range in
-    let h = options.after in
-    let rows = map option_row os in
-    let main_is = main_at h rows m options.at (no_main_yet os) in
-    let no_file = no_row (codes "FILE") rows (main_row m ∷ []) (no_file_yet os) refl in
-    let held = main_held h m in
-    let files = leads_on (at_files held) (in_files (file_held held (f ∷ []))) (in_files (file_held held (f ∷ fs))) (f ∷ []) fs
-    (first_file held (rows ++ main_row m ∷ []) m f main_is refl file_plain) (more_files held (f ∷ []) fs plain) in
-    let words = leads_on (walk_from h) (at_files held) (in_files (file_held held (f ∷ fs))) (m ∷ []) (f ∷ fs) (main_leads h rows m options.at main_plain) files in
-    record {
-      last = file_held held (f ∷ fs);
-      leads = leads_on (walk_from nothing_held) (walk_from h) (in_files (file_held held (f ∷ fs))) (flat_map option_words os) (m ∷ (f ∷ fs)) options.leads words;
-      at = files_at held (rows ++ main_row m ∷ []) f fs main_is no_file few;
+      quiet = or_both (walk_fault s [] (walk_from nothing_held) words) (end_faults s (walk s.rules [] nothing_held words).held) leads.quiet
+          (ap (end_faults s) same ∙ or_both _ _ settles (or_both _ _ defaulted checked));
+      is = ap (λ (h : Held). fold with_default (settled s.rules h).rows s.rules) same ∙ final;
     }

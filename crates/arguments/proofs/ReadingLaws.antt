@@ -52,14 +52,14 @@ by_reason (x ∷ ks) words k alike (inr among) = ap (λ (b : Bool). if b then So
 
 -- memory ran out, or there is such a reason
 answered : (spelled : Option Command) (k : ErrorKind) (r : Result CodeCommand CommandError) → spelled ≡ told k → AnswersTo k r → Answers spelled r
-answered spelled k (Ok (code.Run run)) is h = absurd h
 answered spelled k (Ok (code.Help text)) is h = is ∙ ap (λ (b : Bool). if b then Some help else None) h
+answered spelled k (Ok command) is h = absurd h
 answered spelled k (Err (Usage text)) is h = is ∙ ap (λ (b : Bool). if b then Some help else None) h.1
 answered spelled k (Err NoMemory) is h = tt
 
 without_memory : (spelled : Option Command) (k : ErrorKind) (r : Result CodeCommand CommandError) → k ≡ OutOfMemory → AnswersTo k r → Answers spelled r
-without_memory spelled k (Ok (code.Run run)) is h = absurd h
 without_memory spelled k (Ok (code.Help text)) is h = let bad : asks_for_text OutOfMemory ≡ true = subst (λ (x : ErrorKind). asks_for_text x ≡ true) is h in absurd cc
+without_memory spelled k (Ok command) is h = absurd h
 without_memory spelled k (Err (Usage text)) is h = absurd (h.0 is)
 without_memory spelled k (Err NoMemory) is h = tt
 

@@ -19,9 +19,17 @@ pub record Run : Type 0 where
   pub main : Text
   pub files : List Text
 
--- a run; or the help or the version is asked for
+-- `gen`: on how many carriers, and COUNT
+pub record Gen : Type 0 where
+  pub carriers : ℕ
+  pub count : ℕ
+
+-- a run; the assembler's text FILE, and the class file FILE that is listed; the generated program; or the help or the version is asked for
 pub data Command : Type 0 where
   run : Run → Command
+  asm : Text → Command
+  list : Text → Command
+  gen : Gen → Command
   help : Command
 
 -- the bytes of each argument
@@ -69,9 +77,26 @@ run_of rows =
     option_and_then (λ carriers. option_map (λ events. run_with rows carriers events) (number_of (codes "events") 1000 33554432 rows))
     (number_of (codes "carriers") 1 64 rows)
 
+abbrev pub gen_with : ℕ → ℕ → Gen
+gen_with carriers count = record { carriers = carriers; count = count }
+
+-- the run of the generated program that was matched
+abbrev pub gen_of : List Row → Option Gen
+gen_of rows =
+    option_and_then (λ carriers. option_map (gen_with carriers) (number_of (codes "COUNT") 1 50000 rows)) (number_of (codes "carriers") 1 64 rows)
+
+-- the command of this name that was matched
+abbrev pub named : Text → List Row → Option Command
+named name rows =
+    if bytes_eq name (codes "run") then option_map run (run_of rows)
+    else (if bytes_eq name (codes "asm") then Some (asm (word_of (codes "FILE") rows))
+    else (if bytes_eq name (codes "list") then Some (list (word_of (codes "FILE") rows))
+    else (if bytes_eq name (codes "gen") then option_map gen (gen_of rows)
+    else None)))
+
 -- the command that was matched, by its name
 abbrev pub matched : Text × List Row → Option Command
-matched p = if bytes_eq p.0 (codes "run") then option_map run (run_of p.1) else None
+matched p = named p.0 p.1
 
 -- whether it is no mistake, but the help or the version is asked for
 abbrev pub asks_for_text : ErrorKind → Bool

@@ -1,11 +1,18 @@
--- Plain words, which always spell their command: the program's name, `run`, each option at most once, and then MAIN and one FILE or more.
--- A number comes after its option, is within its bounds, and is in decimal without leading zeros. MAIN and the FILEs begin with no minus, and
--- none of them is empty.
+-- Plain words, which always spell their command: the program's name, a command's name, each of its options at most once, and then its other
+-- words. A number comes after its option, is within its bounds, and is in decimal without leading zeros. A word that is no number begins with
+-- no minus and isn't empty.
 use Rattle.std.specs.Prelude.{◌≢◌, ℕ, ◌≤◌, Bool, true, false, List, [], ◌∷◌, ◌++◌, Option, Some, None, codes, unwrap_or}
 use Rattle.std.specs.Fmt.{decimal}
 use Rattle.std.specs.List.{AllByRecursion, flat_map}
 use Rattle.clap.specs.Walk.{Text}
-use Rattle.arguments.specs.Commands.{Run}
+use Rattle.arguments.specs.Commands.{Gen, Run}
+
+-- a word that isn't empty, and begins with no minus
+abbrev pub IsPlain : Text → Type 0
+IsPlain [] = ⊥
+IsPlain (c ∷ cs) = c ≢ 45
+
+-- ---- `run [--carriers N] [--events N] [--trace] MAIN FILE..`
 
 pub data RunOption : Type 0 where
   carriers : ℕ → RunOption
@@ -34,13 +41,8 @@ abbrev pub AreDifferent : List RunOption → Type 0
 AreDifferent [] = Unit {0}
 AreDifferent (o ∷ os) = AllByRecursion (AreOther o) os × AreDifferent os
 
--- a word that isn't empty, and begins with no minus
-abbrev pub IsPlain : Text → Type 0
-IsPlain [] = ⊥
-IsPlain (c ∷ cs) = c ≢ 45
-
-abbrev pub plain_words : Text → List RunOption → Text → List Text → List Text
-plain_words program options main files = program ∷ (codes "run" ∷ (flat_map option_words options ++ (main ∷ files)))
+abbrev pub plain_run_words : Text → List RunOption → Text → List Text → List Text
+plain_run_words program options main files = program ∷ (codes "run" ∷ (flat_map option_words options ++ (main ∷ files)))
 
 -- the number that is given by an option, and whether the flag is up
 abbrev pub carriers_given : List RunOption → Option ℕ
@@ -67,3 +69,25 @@ plain_run options main files = record {
   main = main;
   files = files;
 }
+
+-- ---- `asm FILE` and `list FILE`
+
+abbrev pub plain_asm_words : Text → Text → List Text
+plain_asm_words program file = program ∷ (codes "asm" ∷ (file ∷ []))
+
+abbrev pub plain_list_words : Text → Text → List Text
+plain_list_words program file = program ∷ (codes "list" ∷ (file ∷ []))
+
+-- ---- `gen [--carriers N] COUNT`
+
+-- `--carriers` with its number, or nothing
+abbrev pub carriers_words : Option ℕ → List Text
+carriers_words None = []
+carriers_words (Some n) = option_words (carriers n)
+
+abbrev pub plain_gen_words : Text → Option ℕ → ℕ → List Text
+plain_gen_words program n count = program ∷ (codes "gen" ∷ (carriers_words n ++ (decimal count ∷ [])))
+
+-- the run of the generated program that plain words spell
+abbrev pub plain_gen : Option ℕ → ℕ → Gen
+plain_gen n count = record { carriers = unwrap_or n 4; count = count }

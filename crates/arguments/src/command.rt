@@ -10,6 +10,12 @@ use thiserror::Error;
 pub enum Command {
     /// A program is to be run.
     Run(Run),
+    /// The class file of an assembler text is to be written: the command `asm FILE`.
+    Asm { file: String },
+    /// The assembler text of a class file is to be written: the command `list FILE`.
+    List { file: String },
+    /// The generated program is to be run.
+    Gen(Gen),
     /// The help or the version is asked for. This is the text, for the standard output.
     Help(String),
 }
@@ -27,6 +33,15 @@ pub struct Run {
     pub main: String,
     /// The arguments that name the files, one at least.
     pub files: Vec<String>,
+}
+
+/// The command `gen [--carriers N] COUNT`.
+#[derive(Drop)]
+pub struct Gen {
+    /// On how many carriers the program is run, 1 to 64.
+    pub carriers: u32,
+    /// How many virtual threads it starts, 1 to 50,000.
+    pub count: u32,
 }
 
 /// Why arguments give no command.

@@ -7,6 +7,6 @@ mod help_texts;
 mod laws;
 mod reading;
 
-pub use command::{Command, CommandError, Run};
+pub use command::{Command, CommandError, Gen, Run};
 pub use laws::plain_words_spell;
 pub use reading::read_command;

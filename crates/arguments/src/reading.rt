@@ -3,12 +3,12 @@
 ghost use Rattle.std.specs.Prelude.{◌≡◌, ◌<◌, ◌^◌, ◌++◌, ◌≤◌, Some, IfOk, IfErr, IfSome, OnOk, map, option_and_then, string_bytes};
 ghost use Rattle.clap.specs.Matches.{found_of};
 ghost use Rattle.clap.specs.Words.{kind_of, one_of, rows_of};
-ghost use Rattle.arguments.specs.Commands.{command_of, flag_of, number_in, number_of, run_of, texts, word_of, words_of};
+ghost use Rattle.arguments.specs.Commands.{command_of, flag_of, gen_of, named, number_in, number_of, run_of, texts, word_of, words_of};
 ghost use Rattle.arguments.specs.Commands as ranges;
-ghost use Rattle.arguments.specs.Meanings.{AnswersTo, HasBounds, IsInBounds, IsRefusal, command_meaning, matched_in, run_meaning};
+ghost use Rattle.arguments.specs.Meanings.{AnswersTo, HasBounds, HasGenBounds, IsInBounds, IsRefusal, command_meaning, gen_meaning, matched_in, run_meaning};
 
 use crate::clap_command::command_line;
-use crate::command::{Command, CommandError, Run};
+use crate::command::{Command, CommandError, Gen, Run};
 use crate::help_texts;
 use clap::error::ErrorKind;
 use clap::{ArgMatches, Error};
@@ -36,9 +36,29 @@ fn read_matches(alloc: Global, matches: &ArgMatches) -> Result<Command, CommandE
     ensures bounds { IfOk result (λ c. IsInBounds (command_meaning c)) }
     ensures refusal { IfErr result (IsRefusal (matched_in matches.now)) }
 {
-    match matches.subcommand_matches("run") {
-        Some(run) => Ok(Command::Run(read_run(alloc, run)?)),
+    match matches.subcommand() {
+        Some((name, matches)) => read_named(alloc, name, matches),
         None => Err(CommandError::Usage(String::new(alloc))),
+    }
+}
+
+// The command of this name that was matched.
+fn read_named(alloc: Global, name: &str, matches: &ArgMatches) -> Result<Command, CommandError>
+    ensures command { IfOk result (λ c. named name.now (rows_of (found_of matches.now))
+        ≡ Some (command_meaning c)) }
+    ensures bounds { IfOk result (λ c. IsInBounds (command_meaning c)) }
+    ensures refusal { IfErr result (IsRefusal (named name.now (rows_of (found_of matches.now)))) }
+{
+    match name {
+        "run" => Ok(Command::Run(read_run(alloc, matches)?)),
+        "asm" => Ok(Command::Asm {
+            file: word(alloc, matches, "FILE")?,
+        }),
+        "list" => Ok(Command::List {
+            file: word(alloc, matches, "FILE")?,
+        }),
+        "gen" => Ok(Command::Gen(read_gen(alloc, matches)?)),
+        _ => Err(CommandError::Usage(String::new(alloc))),
     }
 }
 
@@ -72,6 +92,20 @@ fn read_run(alloc: Global, matches: &ArgMatches) -> Result<Run, CommandError>
         main: word(alloc, matches, "MAIN")?,
         files: words(alloc, matches, "FILE")?,
     })
+}
+
+// The run of the generated program that was matched. Its bounds are tested once more, as those of a run are.
+fn read_gen(alloc: Global, matches: &ArgMatches) -> Result<Gen, CommandError>
+    ensures run { IfOk result (λ g. gen_of (rows_of (found_of matches.now)) ≡ Some (gen_meaning g)) }
+    ensures bounds { IfOk result (λ g. HasGenBounds (gen_meaning g)) }
+    ensures refusal { IfErr result (IsRefusal (gen_of (rows_of (found_of matches.now)))) }
+{
+    let carriers = number(matches, "carriers", 1, 64);
+    let count = number(matches, "COUNT", 1, 50_000);
+    let (Some(carriers), Some(count)) = (carriers, count) else {
+        return Err(CommandError::Usage(String::new(alloc)));
+    };
+    Ok(Gen { carriers, count })
 }
 
 // The number of an option, within these bounds.

@@ -14,7 +14,7 @@ use Rattle.verify_types.specs.declared.why.VerifyWhy.TheVariants as verify_whys
 use Rattle.command_line.specs.declared.answer.Which.{Which}
 use Rattle.command_line.specs.declared.answer.Which.TheVariants.{Files, FileSize, Threads, Events}
 use Rattle.command_line.specs.declared.answer.Why.{Why}
-use Rattle.command_line.specs.declared.answer.Why.TheVariants.{Ended, MainThrew, Exited, Stalled, Usage, Limit, Missing, SourceFault, BadClass, NoMain, LinkFault, VerifyFault, SinkFault, NoMemory}
+use Rattle.command_line.specs.declared.answer.Why.TheVariants.{Ended, MainThrew, Exited, Stalled, Starved, Usage, Limit, Missing, SourceFault, BadClass, BadText, Unlisted, NoMain, LinkFault, VerifyFault, SinkFault, NoMemory}
 use Rattle.command_line.specs.Commands.{Names}
 
 -- This table and those of names and lines list every case, so that a new answer is refused until it has a row.
@@ -31,8 +31,11 @@ status_of (VerifyFault class method pc why) = 69
 status_of NoMain = 70
 status_of (Limit which number) = 71
 status_of (Stalled threads) = 72
+status_of (Starved threads) = 73
 status_of (SinkFault which written) = 74
 status_of NoMemory = 75
+status_of (BadText line) = 76
+status_of (Unlisted file) = 79
 
 -- the name of what is wrong with a class file
 abbrev pub class_why_name : ClassWhy → List ℕ
@@ -102,11 +105,15 @@ limit_line which number = codes "jvt: limit " ++ which_name which ++ codes " " +
 abbrev pub after_space : ℕ → List ℕ
 after_space n = codes " " ++ decimal n
 
-abbrev pub stalled_line : List ℕ → List ℕ
-stalled_line threads = codes "jvt: stalled: threads" ++ flat_map after_space threads ++ 10 ∷ []
+-- a text, the number of each thread after a space, and a line's end
+abbrev pub threads_line : List ℕ → List ℕ → List ℕ
+threads_line text threads = text ++ flat_map after_space threads ++ 10 ∷ []
 
 abbrev pub bad_class_line : List ℕ → ℕ → ClassWhy → List ℕ
 bad_class_line file at why = codes "jvt: bad class " ++ file ++ codes " at " ++ decimal at ++ codes ": " ++ class_why_name why ++ 10 ∷ []
+
+abbrev pub bad_text_line : ℕ → List ℕ
+bad_text_line line = codes "jvt: bad text at line " ++ decimal line ++ 10 ∷ []
 
 abbrev pub link_line : List ℕ → LinkWhy → List ℕ
 link_line class why = codes "jvt: link " ++ utf8_of class ++ codes ": " ++ link_why_name why ++ 10 ∷ []
@@ -131,10 +138,13 @@ line_of c MainThrew = []
 line_of c (Exited n) = []
 line_of c Usage = usage_line
 line_of c (Limit which number) = limit_line which number
-line_of c (Stalled threads) = stalled_line threads
+line_of c (Stalled threads) = threads_line (codes "jvt: stalled: threads") threads
+line_of c (Starved threads) = threads_line (codes "jvt: starved: pinned threads") threads
 line_of c (Missing file) = line_with (codes "jvt: missing ") (file_name c file)
 line_of c (SourceFault file) = line_with (codes "jvt: cannot read ") (file_name c file)
 line_of c (BadClass file at why) = bad_class_line (file_name c file) at why
+line_of c (BadText line) = bad_text_line line
+line_of c (Unlisted file) = line_with (codes "jvt: cannot list ") (file_name c file)
 line_of c NoMain = line_with (codes "jvt: no main in ") c.main
 line_of c (LinkFault class why) = link_line class why
 line_of c (VerifyFault class method pc why) = verify_line class method pc why
@@ -145,9 +155,12 @@ line_of c NoMemory = memory_line
 abbrev pub NamesSomething : Why → Type 0
 NamesSomething (Limit which number) = Unit {0}
 NamesSomething (Stalled threads) = Unit {0}
+NamesSomething (Starved threads) = Unit {0}
 NamesSomething (Missing file) = Unit {0}
 NamesSomething (SourceFault file) = Unit {0}
 NamesSomething (BadClass file at why) = Unit {0}
+NamesSomething (BadText line) = Unit {0}
+NamesSomething (Unlisted file) = Unit {0}
 NamesSomething NoMain = Unit {0}
 NamesSomething (LinkFault class why) = Unit {0}
 NamesSomething (VerifyFault class method pc why) = Unit {0}

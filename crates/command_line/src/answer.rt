@@ -42,6 +42,11 @@ pub enum Why {
     Stalled {
         threads: Items<u32>,
     },
+    /// Each carrier keeps a pinned thread that can't go on, while another thread could. `threads` are those pinned threads, in the order of the
+    /// carriers.
+    Starved {
+        threads: Items<u32>,
+    },
     /// The arguments are no command.
     Usage,
     /// A limit is passed. `number` is the limit.
@@ -62,6 +67,14 @@ pub enum Why {
         file: u32,
         at: u32,
         why: ClassWhy,
+    },
+    /// The text is assembled to no class file. `line` is the first line that doesn't fit, counted from 1.
+    BadText {
+        line: u32,
+    },
+    /// No text is assembled to the class file.
+    Unlisted {
+        file: u32,
     },
     /// No file's class is the main class with a `main` (JLS 12.1.4).
     NoMain,
@@ -113,8 +126,11 @@ impl Why {
             Why::NoMain => 70,
             Why::Limit { .. } => 71,
             Why::Stalled { .. } => 72,
+            Why::Starved { .. } => 73,
             Why::SinkFault { .. } => 74,
             Why::NoMemory => 75,
+            Why::BadText { .. } => 76,
+            Why::Unlisted { .. } => 79,
         }
     }
 }

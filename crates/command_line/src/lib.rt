@@ -7,6 +7,6 @@ mod names;
 mod utf8;
 
 pub use answer::{SinkName, Which, Why};
-pub use arguments::{Command, CommandError, Run, read_command};
+pub use arguments::{Command, CommandError, Gen, Run, read_command};
 pub use line::{CANNOT_WRITE, Line, NO_MEMORY, USAGE, make_line};
-pub use names::{Names, names_of, no_names};
+pub use names::{Names, names_of, names_of_files, no_names};

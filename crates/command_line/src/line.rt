@@ -2,7 +2,8 @@
 
 ghost use Rattle.std.specs.Prelude.{◌≡◌, ◌++◌, IfOk, OnErr, OnOk};
 ghost use Rattle.std.specs.List.{flat_map};
-ghost use Rattle.command_line.specs.Answers.{line_of, line_with, limit_line, stalled_line, after_space, bad_class_line, link_line, verify_line, NamesSomething, class_why_name as class_why_name_of, link_why_name as link_why_name_of, verify_why_name as verify_why_name_of, which_name as which_name_of, file_name as file_name_of};
+ghost use Rattle.command_line.specs.Answers as spec;
+ghost use Rattle.command_line.specs.Answers.{line_of, line_with, limit_line, after_space, bad_class_line, bad_text_line, link_line, verify_line, NamesSomething, class_why_name as class_why_name_of, link_why_name as link_why_name_of, verify_why_name as verify_why_name_of, which_name as which_name_of, file_name as file_name_of};
 ghost use Rattle.command_line.specs.Commands.{names_meaning};
 ghost use Rattle.command_line.specs.Lines.{bytes_of};
 
@@ -57,7 +58,16 @@ pub fn make_line(alloc: Global, why: &Why, names: Names) -> Result<Line, AllocEr
         Why::SinkFault { .. } => return Ok(Line::Fixed(CANNOT_WRITE)),
         Why::NoMemory => return Ok(Line::Fixed(NO_MEMORY)),
         Why::Limit { which, number } => limit(alloc, *which, *number)?,
-        Why::Stalled { threads } => stalled(alloc, threads.as_slice())?,
+        Why::Stalled { threads } => threads_line(
+            alloc,
+            b"jvt: stalled: threads",
+            threads.as_slice(),
+        )?,
+        Why::Starved { threads } => threads_line(
+            alloc,
+            b"jvt: starved: pinned threads",
+            threads.as_slice(),
+        )?,
         Why::Missing { file } => line_with_name(alloc, b"jvt: missing ", file_name(names, *file))?,
         Why::SourceFault { file } => line_with_name(
             alloc,
@@ -65,6 +75,12 @@ pub fn make_line(alloc: Global, why: &Why, names: Names) -> Result<Line, AllocEr
             file_name(names, *file),
         )?,
         Why::BadClass { file, at, why } => bad_class(alloc, file_name(names, *file), *at, *why)?,
+        Why::BadText { line } => bad_text(alloc, *line)?,
+        Why::Unlisted { file } => line_with_name(
+            alloc,
+            b"jvt: cannot list ",
+            file_name(names, *file),
+        )?,
         Why::NoMain => line_with_name(alloc, b"jvt: no main in ", names.main)?,
         Why::LinkFault { class, why } => link(alloc, class.as_slice(), *why)?,
         Why::VerifyFault {
@@ -127,10 +143,11 @@ fn push_numbers(line: &mut Vec<u8>, numbers: &[u32]) -> Result<(), AllocError>
     Ok(())
 }
 
-fn stalled(alloc: Global, threads: &[u32]) -> Result<Vec<u8>, AllocError>
-    ensures { IfOk result (λ line. line.items ≡ stalled_line threads.now) }
+// A text, and after it the number of each thread.
+fn threads_line(alloc: Global, text: &[u8], threads: &[u32]) -> Result<Vec<u8>, AllocError>
+    ensures { IfOk result (λ line. line.items ≡ spec.threads_line text.now threads.now) }
 {
-    let mut line = Vec::from_slice(alloc, b"jvt: stalled: threads")?;
+    let mut line = Vec::from_slice(alloc, text)?;
     push_numbers(&mut line, threads)?;
     line.push(b'\n')?;
     Ok(line)
@@ -146,6 +163,16 @@ fn bad_class(alloc: Global, file: &str, at: u32, why: ClassWhy) -> Result<Vec<u8
     line.extend_from_slice(buffer.format(at).as_bytes())?;
     line.extend_from_slice(b": ")?;
     line.extend_from_slice(class_why_name(why))?;
+    line.push(b'\n')?;
+    Ok(line)
+}
+
+fn bad_text(alloc: Global, at: u32) -> Result<Vec<u8>, AllocError>
+    ensures { IfOk result (λ line. line.items ≡ bad_text_line at) }
+{
+    let mut buffer = Buffer::new();
+    let mut line = Vec::from_slice(alloc, b"jvt: bad text at line ")?;
+    line.extend_from_slice(buffer.format(at).as_bytes())?;
     line.push(b'\n')?;
     Ok(line)
 }

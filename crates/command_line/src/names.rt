@@ -1,7 +1,7 @@
 //! What a command names in the lines of its answers.
 
 ghost use Rattle.std.specs.Prelude.{◌≡◌};
-ghost use Rattle.command_line.specs.Commands.{names_meaning, names_of as names_of_run, no_names as none};
+ghost use Rattle.command_line.specs.Commands.{names_meaning, names_of as names_of_run, names_of_files as named_files, no_names as none, texts};
 ghost use Rattle.arguments.specs.Meanings.{run_meaning};
 
 use arguments::Run;
@@ -21,6 +21,13 @@ pub fn names_of(run: &Run) -> Names<'_>
         main: run.main.as_str(),
         files: run.files.as_slice(),
     }
+}
+
+/// The names of a command that names these files and no main class.
+pub fn names_of_files(files: &[String]) -> Names<'_>
+    ensures { names_meaning result ≡ named_files (texts files.now) }
+{
+    Names { main: "", files }
 }
 
 /// The names of a command that names neither, or of an answer that names none.

@@ -1,7 +1,6 @@
 -- From what linking and typing say of a program to what they say of class files.
 use Rattle.std.proofs.Common.{◌≡◌, ℕ, List, drop, Some, Result, Ok, Err, refl, ap, subst, ◌∙◌}
 use Rattle.std.specs.Prelude.{All, IfOk, IfErr}
-use Rattle.std.proofs.Math.Seq.{drop-append_seam}
 use Rattle.class_model.specs.declared.class_file.ClassFile.{ClassFile}
 use Rattle.class_world.specs.declared.error.LinkError.{LinkError}
 use Rattle.class_world.specs.declared.error.LinkError.TheVariants.{Fault, NoMemory}
@@ -28,10 +27,6 @@ pub accepted_is : (classes : List ClassFile) (p : Program) (r : Result World Acc
 accepted_is classes p (Ok w) same links found typed =
     record { links = subst Links same links; typed = subst IsWellTyped (found ∙ ap world_of same) typed }
 accepted_is classes p (Err error) same links found typed = tt
-
--- the files of the program that was linked
-pub seam : (classes : List ClassFile) (p : Program) → p ≡ program_of classes → drop p.built_in p.classes ≡ classes
-seam classes p same = ap (λ (q : Program). drop q.built_in q.classes) same ∙ drop-append_seam built_in classes
 
 -- the world that was typed is that of the files
 pub world_is : (classes : List ClassFile) (p : Program) (r : Result World AcceptError) → p ≡ program_of classes → IfOk r (λ w. w ≡ world_of p) → IfOk r (λ w. w ≡ world_of (program_of classes))

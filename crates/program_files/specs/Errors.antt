@@ -1,28 +1,15 @@
--- The answers to the errors of loading, of linking and typing, and of the start.
-use Rattle.std.specs.Prelude.{Result, Ok, Err}
-use Rattle.program_files.specs.declared.errors.LoadError.{LoadError}
-use Rattle.program_files.specs.declared.errors.LoadError.TheVariants as load
+-- The answers to the errors of linking and typing, and of the start.
 use Rattle.class_world.specs.declared.error.LinkError.{LinkError}
 use Rattle.class_world.specs.declared.error.LinkError.TheVariants as link
-use Rattle.link_rules.specs.declared.why.LinkWhy.TheVariants.{Unsupported}
 use Rattle.program_files.specs.declared.errors.AcceptError.{AcceptError}
 use Rattle.program_files.specs.declared.errors.AcceptError.TheVariants as accept
 use Rattle.program_files.specs.declared.errors.StartError.{StartError}
 use Rattle.program_files.specs.declared.errors.StartError.TheVariants as start
-use Rattle.command_line.specs.declared.answer.Which.TheVariants.{FileSize}
 use Rattle.command_line.specs.declared.answer.Why.{Why}
-use Rattle.command_line.specs.declared.answer.Why.TheVariants.{Ended, Limit, Missing, SourceFault, BadClass, NoMain, LinkFault, VerifyFault, NoMemory}
-use Rattle.program_files.specs.Limits.{most_bytes}
+use Rattle.command_line.specs.declared.answer.Why.TheVariants.{NoMain, LinkFault, VerifyFault, NoMemory}
 use Rattle.link_rules.specs.Program.{Program}
 use Rattle.verify_types.specs.declared.fault.VerifyFault as faults
 use Rattle.program_files.specs.Linking.{class_text, method_text}
-
-abbrev pub load_answer : LoadError → Why
-load_answer (load.Missing file) = Missing file
-load_answer (load.SourceFault file) = SourceFault file
-load_answer load.TooLarge = Limit FileSize most_bytes
-load_answer (load.BadClass file at why) = BadClass file at why
-load_answer load.NoMemory = NoMemory
 
 -- what an error of linking says of files that are not accepted
 abbrev pub unlinked : LinkError → AcceptError
@@ -40,10 +27,4 @@ accept_answer accept.NoMemory = NoMemory
 
 abbrev pub start_answer : StartError → Why
 start_answer start.NoMain = NoMain
-start_answer (start.Unsupported class) = LinkFault class Unsupported
 start_answer start.NoMemory = NoMemory
-
--- the answer to files that were read, which is the end of the run that follows, or to one that was not
-abbrev pub loaded_answer : {X : Type 0} → Result X LoadError → Why
-loaded_answer (Ok x) = Ended
-loaded_answer (Err error) = load_answer error

@@ -1,10 +1,8 @@
 pub mod MainClass
 pub mod Linking
-pub mod Supported
 pub mod Limits
 pub mod Programs
 pub mod Errors
 pub mod Contents
 pub mod LoadCauses
 pub mod LinkCauses
-pub mod StoreFaults

@@ -6,10 +6,6 @@ use Rattle.ref_model.specs.declared.limits.Limits.{Limits}
 abbrev pub most_files : ℕ
 most_files = 256
 
--- the most bytes of a class file
-abbrev pub most_bytes : ℕ
-most_bytes = 4194304
-
 -- the limits of a run whose history may have so many entries: cells of the heap, and threads
 abbrev pub run_limits : ℕ → Limits
 run_limits events = record { heap_cells = 4194304; threads = 100000; events = events }

@@ -1,5 +1,5 @@
 -- Which program class files are.
-use Rattle.std.specs.Prelude.{◌≡◌, ℕ, Bool, true, List, Some, is_some}
+use Rattle.std.specs.Prelude.{◌≡◌, ℕ, Bool, List, Some, is_some}
 use Rattle.class_model.specs.declared.class_file.ClassFile.{ClassFile}
 use Rattle.link_model.specs.World.{World}
 use Rattle.link_model.specs.Worlds.{world_of}
@@ -7,7 +7,6 @@ use Rattle.link_model.specs.MainMethod.{main_of}
 use Rattle.ref_model.specs.Setting.{Setting}
 use Rattle.program_files.specs.Linking.{program_of, AreAccepted}
 use Rattle.ref_model.specs.declared.limits.Limits.{Limits}
-use Rattle.program_files.specs.Supported.{is_supported}
 
 -- the linked world of class files, after the built-in classes
 abbrev pub world_of_files : List ClassFile → World
@@ -17,10 +16,9 @@ world_of_files classes = world_of (program_of classes)
 abbrev pub has_main : List ℕ → List ClassFile → Bool
 has_main name classes = is_some (main_of (world_of_files classes) name)
 
--- The class of this name declares a main method, of this number, and the machine has a step for all that the classes do.
-pub record IsStarted (name : List ℕ) (classes : List ClassFile) (main : ℕ) : Type 0 where
-  pub number : main_of (world_of_files classes) name ≡ Some main
-  pub supported : is_supported (world_of_files classes) ≡ true
+-- the class of this name declares a main method, of this number
+abbrev pub IsStarted : List ℕ → List ClassFile → ℕ → Type 0
+IsStarted name classes main = main_of (world_of_files classes) name ≡ Some main
 
 -- The classes are accepted and have main in the class of this name, which the program runs under these limits.
 pub record IsProgram (most : Limits) (name : List ℕ) (classes : List ClassFile) (p : Setting) : Type 0 where

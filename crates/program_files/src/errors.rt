@@ -1,30 +1,13 @@
-//! The errors of loading, of linking and typing, and of the start, and the answers to them.
+//! The errors of linking and typing, and of the start, and the answers to them.
 
 ghost use Rattle.std.specs.Prelude.{◌≡◌};
 
-use crate::class_files::MOST_BYTES;
-use class_grammar::ClassWhy;
 use class_world::LinkError;
-use command_line::{Which, Why};
+use command_line::Why;
 use items::{Items, NoMemory};
 use link_rules::LinkWhy;
-use std::alloc::{AllocError, AllocFailed};
+use std::alloc::AllocError;
 use verify_types::VerifyWhy;
-
-/// Why a file was not read as a class file. `file` is its index among the FILE arguments, from 0.
-#[derive(Debug, Drop)]
-pub enum LoadError {
-    /// There is no such file.
-    Missing { file: u32 },
-    /// The store failed.
-    SourceFault { file: u32 },
-    /// The file has more bytes than are read.
-    TooLarge,
-    /// The file is no class file. `at` is the offset in it of the first check that fails, in bytes.
-    BadClass { file: u32, at: u32, why: ClassWhy },
-    /// Memory ran out.
-    NoMemory,
-}
 
 /// Why class files are not accepted as a program.
 #[derive(Debug, Drop)]
@@ -51,20 +34,8 @@ pub enum AcceptError {
 pub enum StartError {
     /// No class is the main class with a `main` (JLS 12.1.4).
     NoMain,
-    /// The classes do what the machine has no step for. `class` is the name of the first of them.
-    Unsupported { class: Items<u16> },
     /// Memory ran out.
     NoMemory,
-}
-
-impl<T: Drop> From<AllocFailed<T>> for LoadError {
-    ghost use Rattle.program_files.specs.declared.errors.LoadError.TheVariants as errors;
-
-    ghost from_gives = { λ _ e. e ≡ errors.NoMemory };
-
-    fn from(_: AllocFailed<T>) -> Self {
-        LoadError::NoMemory
-    }
 }
 
 impl From<AllocError> for StartError {
@@ -74,25 +45,6 @@ impl From<AllocError> for StartError {
 
     fn from(_: AllocError) -> Self {
         StartError::NoMemory
-    }
-}
-
-impl From<LoadError> for Why {
-    ghost use Rattle.program_files.specs.Errors.{load_answer};
-
-    ghost from_gives = { λ error why. why ≡ load_answer error };
-
-    fn from(error: LoadError) -> Self {
-        match error {
-            LoadError::Missing { file } => Why::Missing { file },
-            LoadError::SourceFault { file } => Why::SourceFault { file },
-            LoadError::TooLarge => Why::Limit {
-                which: Which::FileSize,
-                number: MOST_BYTES,
-            },
-            LoadError::BadClass { file, at, why } => Why::BadClass { file, at, why },
-            LoadError::NoMemory => Why::NoMemory,
-        }
     }
 }
 
@@ -161,10 +113,6 @@ impl From<StartError> for Why {
     fn from(error: StartError) -> Self {
         match error {
             StartError::NoMain => Why::NoMain,
-            StartError::Unsupported { class } => Why::LinkFault {
-                class,
-                why: LinkWhy::Unsupported,
-            },
             StartError::NoMemory => Why::NoMemory,
         }
     }

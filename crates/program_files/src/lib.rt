@@ -6,8 +6,8 @@ mod errors;
 mod fault_names;
 mod main_class;
 mod program;
-mod supported;
 
 pub use class_files::read_files;
-pub use errors::{AcceptError, LoadError, StartError};
+pub use errors::{AcceptError, StartError};
+pub use input_files::LoadError;
 pub use program::{accept_files, start};

@@ -7,20 +7,16 @@ ghost use Rattle.link_model.specs.Worlds.{world_of};
 ghost use Rattle.step_soundness.specs.OpeningLaws.{IsMain};
 ghost use Rattle.lib_table.specs.Spelled.{IsSpelled};
 ghost use Rattle.link_soundness.specs.Library.{HasLibrary};
-ghost use Rattle.schedule_soundness.specs.PinLaws.{NamesNoHold};
 ghost use Rattle.verify_types.specs.Faults.{IsWellTyped};
 ghost use Rattle.program_files.specs.Linking.{built_in, program_of, AreAccepted};
 ghost use Rattle.program_files.specs.Errors.{verify_fault};
 ghost use Rattle.program_files.specs.MainClass.{class_named as class_named_by};
-ghost use Rattle.program_files.specs.LinkCauses.{NotAccepted, NotStarted, NotTyped, first_name as first_name_of};
+ghost use Rattle.program_files.specs.LinkCauses.{NotAccepted, NotStarted, NotTyped};
 ghost use Rattle.program_files.specs.Programs.{IsStarted, world_of_files};
-ghost use Rattle.program_files.specs.declared.errors.StartError.TheVariants as errors;
 
 use crate::errors::{AcceptError, StartError};
 use crate::fault_names::{class_text, method_text};
 use crate::main_class::class_named;
-use crate::supported::is_supported;
-use class_grammar::class_name_at;
 use class_model::ClassFile;
 use class_world::{World, link};
 use items::{Items, NoMemory};
@@ -83,18 +79,14 @@ pub fn start(alloc: Global, main: &str, world: &World) -> Result<u32, StartError
     ensures started { IfOk result (λ n. (classes : List class_files.ClassFile)
         → world.now ≡ program_of classes → IsStarted (class_named_by main.now) classes n) }
     ensures main { IfOk result (IsMain (world_of world.now)) }
-    ensures unpinned { IfOk result (λ n. NamesNoHold (world_of world.now)) }
     ensures refused { IfErr result (λ error. (classes : List class_files.ClassFile)
         → world.now ≡ program_of classes → NotStarted (class_named_by main.now) classes error) }
 {
     let name = class_named(alloc, main)?;
-    let Some(number) = main_of(world, &name) else {
-        return Err(StartError::NoMain);
-    };
-    if !is_supported(world.tables()) {
-        return Err(unsupported(alloc, world.files())?);
+    match main_of(world, &name) {
+        Some(number) => Ok(number),
+        None => Err(StartError::NoMain),
     }
-    Ok(number)
 }
 
 // The number of the main method of the class of this name.
@@ -104,24 +96,4 @@ fn main_of(world: &World, name: &[u16]) -> Option<u32>
 {
     linked_worlds_open();
     world.main_of(name)
-}
-
-// The error of classes that do what the machine has no step for, with the name of the first.
-fn unsupported(alloc: Global, classes: &[ClassFile]) -> Result<StartError, AllocError>
-    ensures { IfOk result (λ error. error ≡ errors.Unsupported (first_name_of classes.now)) }
-{
-    let name = Vec::from_slice(alloc, first_name(classes))?;
-    Ok(StartError::Unsupported {
-        class: Items::from(name),
-    })
-}
-
-// The name of the first class.
-fn first_name(classes: &[ClassFile]) -> &[u16]
-    ensures { result.now ≡ first_name_of classes.now }
-{
-    match classes {
-        [first, ..] => class_name_at(&first.pool, first.own).unwrap_or(&[]),
-        [] => &[],
-    }
 }

@@ -1,7 +1,7 @@
 use Rattle.std.proofs.Common.{◌≡◌, take}
 use Rattle.std.specs.List.{AllZip}
 use Rattle.command_line.specs.Commands.{texts}
-use Rattle.program_files.specs.LoadCauses.{IsRead}
+use Rattle.input_files.specs.LoadCauses.{IsRead}
 use Rattle.program_files.proofs.class_files.read_files.Given as goal
 
 abbrev pub invariant-loop-index : goal.invariant-loop-index

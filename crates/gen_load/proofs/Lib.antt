@@ -1,0 +1,4 @@
+pub mod Reading
+pub mod TextLaws
+pub mod Making
+pub mod Spelled

@@ -1,0 +1,5 @@
+pub mod Limits
+pub mod Contents
+pub mod Errors
+pub mod LoadCauses
+pub mod StoreFaults
