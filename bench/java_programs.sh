@@ -80,6 +80,11 @@ own_rules() {
     own=crates/java_programs/data/own
     $(jdk 21) javac --release 21 -XDstringConcat=inline -g:none -d "$own" bench/own/threads/*.java
     $(jdk 21) javac --release 21 -g:none -cp "$own" -d "$own" bench/own/threads/later/Middle.java
+    # Threads under native frames, which want a class of jvt's own to be compiled against.
+    mkdir "$own/stub"
+    $(jdk 21) javac --release 21 -g:none -d "$own/stub" bench/own/pins/jvt/Native.java
+    $(jdk 21) javac --release 21 -XDstringConcat=inline -g:none -cp "$own/stub" -d "$own" bench/own/pins/*.java
+    rm -r "$own/stub"
     mkdir "$data/sketches"
     cp "$top/bench/own/stdout" "$work/own"
     python3 "$top/bench/own/sketches.py" "$top/bench/own/sketches.txt" "$data/sketches" "$work/own"

@@ -21,6 +21,8 @@ CHANGES = {
     "NoLocalForThis": {FLAGS: PUBLIC},
     "SynchronizedB": {NAME: ord("B"), FLAGS: PUBLIC_STATIC_SYNCHRONIZED},
     "NullForInt": {PUSH: ACONST_NULL, PUSH + 1: NOP},
+    # no text says this version
+    "Release8": {7: 52},
     # what the reader refuses, in the order of the file
     "BadMagic": {0: 0},
     "OldVersion": {7: 50},
@@ -39,6 +41,9 @@ CHANGES = {
 
 # The classes that differ so from the one with a SourceFile attribute.
 SOURCE_FILE_CHANGES = {"LongSourceFile": {265: 255}, "EmptySourceFile": {268: 1}}
+
+# Texts for the assembler.
+TEXTS = {"Flop.jasm": "class A\nflop\n"}
 
 
 def changed(data, changes):
@@ -66,6 +71,8 @@ def main():
     files |= {"A": data, "ChildOfB": child_of_b(data), "Empty": b"", "Cut": data[:10], "Longer": data + b"\0"}
     for name, content in files.items():
         (out / f"{name}.class").write_bytes(content)
+    for name, text in TEXTS.items():
+        (out / name).write_text(text)
 
 
 main()

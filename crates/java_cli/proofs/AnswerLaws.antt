@@ -5,16 +5,14 @@ use Rattle.std.specs.List.{AllZip}
 use Rattle.std.proofs.lemmas.Option.{same_Some}
 use Rattle.std.proofs.lemmas.Slice.Zip.{AllZip-long, AllZip-map}
 use Rattle.class_model.specs.declared.class_file.ClassFile.{ClassFile}
-use Rattle.class_grammar.specs.declared.class_why.ClassWhy.{ClassWhy}
 use Rattle.jvm_edges.specs.Files.{file_named}
 use Rattle.jvm_edges.specs.Files as store
 use Rattle.ref_model.specs.Setting.{Setting}
-use Rattle.program_files.specs.declared.errors.LoadError.{LoadError}
-use Rattle.program_files.specs.declared.errors.LoadError.TheVariants as load
+use Rattle.input_files.specs.declared.error.LoadError.{LoadError}
+use Rattle.input_files.specs.declared.error.LoadError.TheVariants as load
 use Rattle.link_rules.specs.declared.fault.LinkFault as faults
 use Rattle.link_rules.specs.Faults.{Links}
 use Rattle.link_rules.specs.declared.why.LinkWhy.{LinkWhy}
-use Rattle.link_rules.specs.declared.why.LinkWhy.TheVariants.{Unsupported}
 use Rattle.verify_types.specs.declared.why.VerifyWhy.{VerifyWhy}
 use Rattle.verify_types.specs.declared.fault.VerifyFault as typing
 use Rattle.program_files.specs.declared.errors.AcceptError.{AcceptError}
@@ -27,21 +25,26 @@ use Rattle.command_line.specs.declared.answer.Why.TheVariants.{Usage, Limit, Mis
 use Rattle.program_files.specs.Limits.{most_files, run_limits}
 use Rattle.ref_model.specs.declared.limits.Limits.{Limits}
 use Rattle.program_files.specs.Programs.{has_main, world_of_files, IsStarted, IsProgram}
-use Rattle.program_files.specs.Errors.{load_answer, accept_answer, start_answer}
+use Rattle.input_files.specs.Errors.{load_answer}
+use Rattle.program_files.specs.Errors.{accept_answer, start_answer}
 use Rattle.arguments.specs.Commands.{Run}
 use Rattle.program_files.specs.MainClass.{class_named}
 use Rattle.program_files.specs.Linking.{program_of, class_text, method_text, IsLinkFault, IsVerifyFault, AreAccepted}
-use Rattle.program_files.specs.Contents.{Contents, HasContents, HaveContents, IsClass, AreClasses, IsBad, IsWrong, FirstWrong}
-use Rattle.program_files.specs.LinkCauses.{CannotRun, NotAccepted, NotStarted}
+use Rattle.input_files.specs.Contents.{Contents, HasContents, IsClass, IsWrong}
+use Rattle.program_files.specs.Contents.{HaveContents, AreClasses, FirstWrong}
+use Rattle.program_files.specs.LinkCauses.{NotAccepted, NotStarted}
 use Rattle.java_cli.specs.Causes.{Due, answered, runs, IsProgramRefusal, IsProgramDue, IsDue, too_many, wrong, by_linking, HasCause, HasRun, IsReached, IsOfRun, IsDueOrFault, contents_of, IsExact, IsRefusal}
-use Rattle.program_files.specs.LoadCauses.{IsRead, IsWrongFile, NotRead, IsStopped}
-use Rattle.program_files.specs.StoreFaults.{StoreFaults}
+use Rattle.input_files.specs.LoadCauses.{IsRead, IsWrongFile, NotRead}
+use Rattle.program_files.specs.LoadCauses.{IsStopped}
+use Rattle.input_files.specs.StoreFaults.{StoreFaults}
+use Rattle.input_files.proofs.ReadLaws.{one_wrong_here, wrong_or_class}
 use Rattle.link_soundness.specs.Library.{HasLibrary}
-use Rattle.schedule_soundness.specs.PinLaws.{NamesNoHold}
 use Rattle.step_soundness.specs.OpeningLaws.{IsMain}
 use Rattle.java_cli.specs.declared.runnable.Runnable.{Runnable}
 use Rattle.java_cli.specs.Runs.{IsRunDue, HasRead}
-use Rattle.java_cli.specs.Headline.{OnRun, OutFaults, IsSameOrNoMemory}
+use Rattle.answers.specs.Taken.{OutFaults}
+use Rattle.answers.specs.Reports.{IsSameOrNoMemory}
+use Rattle.java_cli.specs.Headline.{OnRun}
 
 -- ---- the contents of files
 
@@ -62,27 +65,6 @@ held_is : (files : store.Files) (names : List (List ℕ)) (contents : List Conte
 held_is files names contents holds = AllZip-map (λ (name : List ℕ). file_named name files) names contents holds
 
 -- ---- a wrong file has one error
-
-one_bad : (n : ℕ) (bytes : List ℕ) (a b : LoadError) → IsBad n bytes a → IsBad n bytes b → a ≡ b
-one_bad n bytes a b x y =
-    let same : Some (x.at, x.reason) ≡ Some (y.at, y.reason) = sym x.first ∙ y.first in
-    x.is_error ∙ ap (λ (o : Option (ℕ × ClassWhy)). of o) same ∙ sym y.is_error
-  where
-    of : Option (ℕ × ClassWhy) → LoadError
-    of None = load.NoMemory
-    of (Some p) = load.BadClass n p.0 p.1
-
-one_wrong_here : (n : ℕ) (contents : Contents) (a b : LoadError) → IsWrong n contents a → IsWrong n contents b → a ≡ b
-one_wrong_here n None a b x y = x ∙ sym y
-one_wrong_here n (Some bytes) a b (inl x) (inl y) = x.1 ∙ sym y.1
-one_wrong_here n (Some bytes) a b (inl x) (inr y) = absurd (omega (arith, x.0, y.small))
-one_wrong_here n (Some bytes) a b (inr x) (inl y) = absurd (omega (arith, x.small, y.0))
-one_wrong_here n (Some bytes) a b (inr x) (inr y) = one_bad n bytes a b x y
-
-wrong_or_class : (n : ℕ) (contents : Contents) (a : LoadError) (f : ClassFile) → IsWrong n contents a → IsClass contents f → ⊥
-wrong_or_class n None a f x is = is
-wrong_or_class n (Some bytes) a f (inl x) is = omega (arith, x.0, is.0)
-wrong_or_class n (Some bytes) a f (inr x) is = x.none f is.1
 
 pub one_wrong : (n : ℕ) (contents : List Contents) (a b : LoadError) → FirstWrong n contents a → FirstWrong n contents b → a ≡ b
 one_wrong n [] a b x y = absurd x
@@ -133,47 +115,32 @@ one_fault classes class other reason again x y =
 main_or_none : (name : List ℕ) (classes : List ClassFile) → has_main name classes ≡ false → has_main name classes ≡ true → ⊥
 main_or_none name classes x y = let no : false ≡ true = sym x ∙ y in absurd cc
 
--- the machine can run the classes, or it can't
-started_or_not : (name : List ℕ) (classes : List ClassFile) (class : List ℕ) (main : ℕ) → IsStarted name classes main → CannotRun name classes class → ⊥
-started_or_not name classes class main x y = let no : true ≡ false = sym x.supported ∙ y.cannot in absurd cc
-
 one_refusal : (name : List ℕ) (classes : List ClassFile) (a b : Why) → IsProgramRefusal name classes a → IsProgramRefusal name classes b → a ≡ b
 one_refusal name classes NoMain NoMain x y = refl
-one_refusal name classes NoMain (LinkFault class reason) x (inl y) = absurd (linked_or_fault classes class reason x.0.links y)
-one_refusal name classes NoMain (LinkFault class reason) x (inr y) = absurd (main_or_none name classes x.1 y.2.main)
+one_refusal name classes NoMain (LinkFault class reason) x y = absurd (linked_or_fault classes class reason x.0.links y)
 one_refusal name classes NoMain (VerifyFault class method pc reason) x y = absurd (typed_or_fault classes class method pc reason x.0 y)
 one_refusal name classes NoMain b x y = absurd y
-one_refusal name classes (LinkFault class reason) NoMain (inl x) y = absurd (linked_or_fault classes class reason y.0.links x)
-one_refusal name classes (LinkFault class reason) NoMain (inr x) y = absurd (main_or_none name classes y.1 x.2.main)
-one_refusal name classes (LinkFault class reason) (LinkFault other again) (inl x) (inl y) = one_fault classes class other reason again x y
-one_refusal name classes (LinkFault class reason) (LinkFault other again) (inl x) (inr y) = absurd (linked_or_fault classes class reason y.1.links x)
-one_refusal name classes (LinkFault class reason) (LinkFault other again) (inr x) (inl y) = absurd (linked_or_fault classes other again x.1.links y)
-one_refusal name classes (LinkFault class reason) (LinkFault other again) (inr x) (inr y) =
-    let names : class ≡ other = x.2.first ∙ sym y.2.first in
-    let reasons : reason ≡ again = x.0 ∙ sym y.0 in
-    cc
-one_refusal name classes (LinkFault class reason) (VerifyFault other method pc why) (inl x) y = absurd (linked_or_fault classes class reason y.0 x)
-one_refusal name classes (LinkFault class reason) (VerifyFault other method pc why) (inr x) y = absurd (typed_or_fault classes other method pc why x.1 y)
+one_refusal name classes (LinkFault class reason) NoMain x y = absurd (linked_or_fault classes class reason y.0.links x)
+one_refusal name classes (LinkFault class reason) (LinkFault other again) x y = one_fault classes class other reason again x y
+one_refusal name classes (LinkFault class reason) (VerifyFault other method pc why) x y = absurd (linked_or_fault classes class reason y.0 x)
 one_refusal name classes (LinkFault class reason) b x y = absurd y
 one_refusal name classes (VerifyFault class method pc reason) NoMain x y = absurd (typed_or_fault classes class method pc reason y.0 x)
-one_refusal name classes (VerifyFault class method pc reason) (LinkFault other why) x (inl y) = absurd (linked_or_fault classes other why x.0 y)
-one_refusal name classes (VerifyFault class method pc reason) (LinkFault other why) x (inr y) = absurd (typed_or_fault classes class method pc reason y.1 x)
+one_refusal name classes (VerifyFault class method pc reason) (LinkFault other why) x y = absurd (linked_or_fault classes other why x.0 y)
 one_refusal name classes (VerifyFault class method pc reason) (VerifyFault other again next because) x y = one_verify_fault classes class other method again pc next reason because x y
 one_refusal name classes (VerifyFault class method pc reason) b x y = absurd y
 one_refusal name classes a b x y = absurd x
 
 -- a program that runs isn't refused
 run_or_refusal : (most : Limits) (name : List ℕ) (classes : List ClassFile) (p : Setting) (a : Why) → IsProgram most name classes p → IsProgramRefusal name classes a → ⊥
-run_or_refusal most name classes p NoMain x y = main_or_none name classes y.1 (ap is_some x.main.number)
-run_or_refusal most name classes p (LinkFault class reason) x (inl y) = linked_or_fault classes class reason x.accepted.links y
-run_or_refusal most name classes p (LinkFault class reason) x (inr y) = started_or_not name classes class p.main x.main y.2
+run_or_refusal most name classes p NoMain x y = main_or_none name classes y.1 (ap is_some x.main)
+run_or_refusal most name classes p (LinkFault class reason) x y = linked_or_fault classes class reason x.accepted.links y
 run_or_refusal most name classes p (VerifyFault class method pc reason) x y = typed_or_fault classes class method pc reason x.accepted y
 run_or_refusal most name classes p a x y = y
 
 one_program : (most : Limits) (name : List ℕ) (classes : List ClassFile) (p q : Setting) → IsProgram most name classes p → IsProgram most name classes q → p ≡ q
 one_program most name classes p q x y =
     let worlds : p.world ≡ q.world = x.world ∙ sym y.world in
-    let mains : p.main ≡ q.main = same_Some p.main q.main (sym x.main.number ∙ y.main.number) in
+    let mains : p.main ≡ q.main = same_Some p.main q.main (sym x.main ∙ y.main) in
     let limits : p.limits ≡ q.limits = x.limits ∙ sym y.limits in
     λ i. record { world = worlds i; main = mains i; limits = limits i }
 
@@ -374,7 +341,7 @@ memory_exact known faulty c = record { cause = tt; due = λ files due is it. tt 
 pub unaccepted_exact : (known : Option store.Files) (faulty : Type 0) (c : Run) (classes : List ClassFile) (error : AcceptError) → length c.files ≤ most_files → AllZip (IsRead known) c.files classes
     → NotAccepted classes error → IsExact known faulty c (accept_answer error)
 unaccepted_exact known faulty c classes accept.NoMemory few all is = memory_exact known faulty c
-unaccepted_exact known faulty c classes (accept.LinkFault class reason) few all is = program_exact known faulty c classes (LinkFault class reason) few all (inl is)
+unaccepted_exact known faulty c classes (accept.LinkFault class reason) few all is = program_exact known faulty c classes (LinkFault class reason) few all is
 unaccepted_exact known faulty c classes (accept.VerifyFault class method pc reason) few all is = program_exact known faulty c classes (VerifyFault class method pc reason) few all is
 
 -- classes that are accepted, and don't start
@@ -382,7 +349,6 @@ pub unstarted_exact : (known : Option store.Files) (faulty : Type 0) (c : Run) (
     → AreAccepted classes → NotStarted (class_named c.main) classes error → IsExact known faulty c (start_answer error)
 unstarted_exact known faulty c classes start.NoMemory few all accepted is = memory_exact known faulty c
 unstarted_exact known faulty c classes start.NoMain few all accepted is = program_exact known faulty c classes NoMain few all (accepted, is)
-unstarted_exact known faulty c classes (start.Unsupported class) few all accepted is = program_exact known faulty c classes (LinkFault class Unsupported) few all (inr (refl, accepted, is))
 
 -- an error of linking, of typing or of the start is no end and no fault of a sink, and comes after no fault of the store
 pub accept_refusal : (error : AcceptError) → IsRefusal (accept_answer error)
@@ -397,12 +363,10 @@ accept_faults accept.NoMemory before now kept = tt
 
 pub start_refusal : (error : StartError) → IsRefusal (start_answer error)
 start_refusal start.NoMain = tt
-start_refusal (start.Unsupported class) = tt
 start_refusal start.NoMemory = tt
 
 pub start_faults : (error : StartError) (before now : ℕ) → now ≡ before → StoreFaults (start_answer error) before now
 start_faults start.NoMain before now kept = kept
-start_faults (start.Unsupported class) before now kept = kept
 start_faults start.NoMemory before now kept = tt
 
 -- a run is due to classes that are accepted, and of which main is started
@@ -412,8 +376,8 @@ run_due known c classes p few all is files due told it = (p, program_due known c
 
 -- and these are what was read
 pub has_read : (known : Option store.Files) (c : Run) (classes : List ClassFile) (x : Runnable) → length c.files ≤ most_files → AllZip (IsRead known) c.files classes → AreAccepted classes → IsStarted (class_named c.main) classes x.main
-    → x.checked ≡ world_of_files classes → HasLibrary x.checked.program → IsMain x.checked x.main → NamesNoHold x.checked → HasRead known c x
-has_read known c classes x few all accepted started world library main unpinned =
+    → x.checked ≡ world_of_files classes → HasLibrary x.checked.program → IsMain x.checked x.main → HasRead known c x
+has_read known c classes x few all accepted started world library main =
     let read = all_read known c.files classes all in
     let p : Setting = record { world = x.checked; main = x.main; limits = run_limits c.events } in
     let is : IsProgram (run_limits c.events) (class_named c.main) classes p = record { accepted = accepted; main = started; world = world; limits = refl } in
@@ -421,7 +385,6 @@ has_read known c classes x few all accepted started world library main unpinned 
       given = record { contents = read.contents; classes = classes; few = few; holds = read.holds; read = read.read; accepted = is };
       library = library;
       has_main = main;
-      unpinned = unpinned;
     }
 
 pub has_run : (known : Option store.Files) (c : Run) (x : Runnable) → HasRead known c x → HasRun known c

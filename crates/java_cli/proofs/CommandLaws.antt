@@ -1,24 +1,23 @@
 -- What the call answers, by what its arguments spell.
-use Rattle.std.proofs.Common.{◌≡◌, ◌⊎◌, inl, inr, ℕ, List, [], length, take, Option, Some, None, refl, sym, ap, subst, ◌∙◌, arith}
-use Rattle.std.proofs.lemmas.List.{append-nil, take_all}
+use Rattle.std.proofs.Common.{◌≡◌, ◌⊎◌, inl, inr, ℕ, List, [], Option, Some, None, refl, sym, ap, subst, ◌∙◌}
+use Rattle.std.proofs.lemmas.List.{append-nil}
 use Rattle.arguments.specs.Commands as commands
 use Rattle.arguments.specs.Commands.{Command, Run}
 use Rattle.arguments.specs.Meanings.{IsRefusal}
 use Rattle.arguments.specs.declared.command.CommandError.{CommandError}
 use Rattle.arguments.specs.declared.command.CommandError.TheVariants as errors
-use Rattle.jvm_edges.specs.Bytes.{Appends}
 use Rattle.jvm_edges.specs.Files as store
-use Rattle.command_line.specs.Answers.{fault_line, line_of}
+use Rattle.command_line.specs.Answers.{line_of}
 use Rattle.command_line.specs.Commands.{Names, names_in, no_names}
 use Rattle.command_line.specs.declared.answer.Why.{Why}
 use Rattle.command_line.specs.declared.answer.SinkName.TheVariants.{Out}
 use Rattle.command_line.specs.declared.answer.Why.TheVariants.{Ended, SinkFault, Usage, NoMemory}
-use Rattle.program_files.specs.StoreFaults.{StoreFaults}
-use Rattle.java_cli.specs.declared.report.Report.{Report}
+use Rattle.input_files.specs.StoreFaults.{StoreFaults}
 use Rattle.java_cli.specs.Causes.{IsCaused, IsExact, IsOfRun}
-use Rattle.java_cli.specs.Headline.{IfHelp, IfRun, IsMore, IsOfHelp, IsUsageExact, OnRun, OutFaults, Shown, Takes, TakesAnswer, TakesLine, refusal_of}
+use Rattle.answers.specs.Taken.{IsMore, OutFaults, TakesAnswer, TakesLine}
+use Rattle.answers.specs.Reports.{IsOfText, refusal_of}
+use Rattle.java_cli.specs.Headline.{IfHelp, IfRun, IsUsageExact, OnRun}
 use Rattle.java_cli.proofs.AnswerLaws.{memory_exact}
-use Rattle.java_cli.proofs.LineLaws.{line_told}
 
 -- ---- a command
 
@@ -64,6 +63,9 @@ line_alone contents faults old new o c why written is not_usage line = record {
 each_run : (o : Option Command) (fact : Run → Type 0) → ((c : Run) → fact c) → IfRun o fact
 each_run None fact each = tt
 each_run (Some commands.help) fact each = tt
+each_run (Some (commands.asm file)) fact each = tt
+each_run (Some (commands.list file)) fact each = tt
+each_run (Some (commands.gen c)) fact each = tt
 each_run (Some (commands.run c)) fact each = each c
 
 not_of_run : (e : CommandError) → IsOfRun (refusal_of e) → ⊥
@@ -108,55 +110,19 @@ each_help : (o : Option Command) (fact : Type 0) → fact → IfHelp o fact
 each_help None fact holds = tt
 each_help (Some commands.help) fact holds = holds
 each_help (Some (commands.run c)) fact holds = tt
+each_help (Some (commands.asm file)) fact holds = tt
+each_help (Some (commands.list file)) fact holds = tt
+each_help (Some (commands.gen c)) fact holds = tt
 
 pub refused_help : (o : Option Command) (e : CommandError) (why : Why) (fact : Type 0) → IsRefusal o e → why ≡ refusal_of e → IfHelp o ((why ≡ NoMemory) ⊎ fact)
 refused_help o (errors.Usage text) why fact none is = subst (λ (x : Option Command). IfHelp x ((why ≡ NoMemory) ⊎ fact)) (sym none) tt
 refused_help o errors.NoMemory why fact none is = each_help o ((why ≡ NoMemory) ⊎ fact) (inl is)
 
 -- such an answer may be one to a run too
-pub help_of_run : (why : Why) → IsOfHelp why → IsOfRun why
+pub help_of_run : (why : Why) → IsOfText why → IsOfRun why
 help_of_run Ended of = tt
 help_of_run (SinkFault Out written) of = tt
 help_of_run why of = absurd of
 
-pub help_not_usage : (why : Why) → IsOfHelp why → why ≡ Usage → ⊥
-help_not_usage why of is = subst IsOfHelp is of
-
--- nothing is put
-nothing_told : {E : Type 0} (contents : E → Option (List ℕ)) (faults : E → ℕ) (old : E) → TakesLine contents faults old old [] [] 0
-nothing_told contents faults old = record {
-  taken = 0;
-  takes = appends_nothing (contents old);
-  part = λ lt. absurd (omega (arith, lt));
-  whole = λ all lt. absurd (omega (arith, lt));
-  kept = λ all le. refl;
-}
-  where
-    appends_nothing : (o : Option (List ℕ)) → Appends o [] o
-    appends_nothing None = refl
-    appends_nothing (Some bytes) = ap (λ (bs : List ℕ). Some bs) (sym (append-nil bytes))
-
-module _ {O E : Type 0} (bytes : O → Option (List ℕ)) (counts : O → ℕ) (old_out new_out : O) (contents : E → Option (List ℕ)) (faults : E → ℕ) (old new : E) (text : List ℕ) (r : Report) where
-  pub shown_whole : Takes bytes counts old_out new_out text None → r.why ≡ Ended → r.history.items ≡ [] → r.out_written ≡ length text → r.err_written ≡ 0 → Shown bytes old_out new_out contents faults old old r
-  shown_whole takes why history out_written err_written = record {
-    answer = rw why tt;
-    history = history;
-    text = text;
-    out = subst (λ (n : ℕ). Appends (bytes old_out) (take n text) (bytes new_out)) (sym out_written)
-        (subst (λ (piece : List ℕ). Appends (bytes old_out) piece (bytes new_out)) (sym (take_all (length text) text (omega arith))) takes.0);
-    out_taken = rw (why, out_written) refl;
-    err_written = err_written;
-    line = rw why (nothing_told contents faults old);
-  }
-
-  pub shown_part : (n : ℕ) (last : Option ℕ) → Takes bytes counts old_out new_out text (Some n) → Takes contents faults old new fault_line last → r.why ≡ SinkFault Out n → r.history.items ≡ [] → r.out_written ≡ n → r.err_written ≡ 0
-      → Shown bytes old_out new_out contents faults old new r
-  shown_part n last takes put why history out_written err_written = record {
-    answer = rw why tt;
-    history = history;
-    text = text;
-    out = subst (λ (n : ℕ). Appends (bytes old_out) (take n text) (bytes new_out)) (sym out_written) takes.0;
-    out_taken = rw (why, out_written) (refl, takes.1);
-    err_written = err_written;
-    line = rw why (line_told contents faults old new fault_line last put);
-  }
+pub help_not_usage : (why : Why) → IsOfText why → why ≡ Usage → ⊥
+help_not_usage why of is = subst IsOfText is of

@@ -8,27 +8,26 @@ use Rattle.class_grammar.specs.declared.class_why.ClassWhy.{ClassWhy}
 use Rattle.class_file.specs.File.{first_bad}
 use Rattle.class_file.proofs.OutcomeLaws.{one_value, none_bad, some_spelled}
 use Rattle.link_rules.specs.declared.fault.LinkFault as faults
-use Rattle.link_rules.specs.declared.why.LinkWhy.TheVariants.{Unsupported}
 use Rattle.link_rules.specs.Faults.{Links, link_fault}
 use Rattle.link_model.specs.MainMethod.{main_of}
 use Rattle.link_model.specs.Worlds.{world_of}
 use Rattle.verify_types.specs.declared.fault.VerifyFault as typing
 use Rattle.verify_types.specs.Faults.{first_fault}
-use Rattle.program_files.specs.Limits.{run_limits, most_files, most_bytes}
+use Rattle.input_files.specs.Limits.{most_bytes}
+use Rattle.program_files.specs.Limits.{run_limits, most_files}
 use Rattle.ref_model.specs.declared.limits.Limits.{Limits}
 use Rattle.program_files.specs.Programs.{world_of_files}
-use Rattle.program_files.specs.Supported.{is_supported}
-use Rattle.program_files.specs.declared.errors.LoadError.{LoadError}
-use Rattle.program_files.specs.declared.errors.LoadError.TheVariants as load
+use Rattle.input_files.specs.declared.error.LoadError.{LoadError}
+use Rattle.input_files.specs.declared.error.LoadError.TheVariants as load
 use Rattle.command_line.specs.declared.answer.Which.TheVariants.{Files}
 use Rattle.command_line.specs.declared.answer.Why.TheVariants.{Limit, NoMain, LinkFault, VerifyFault}
-use Rattle.program_files.specs.Errors.{load_answer}
+use Rattle.input_files.specs.Errors.{load_answer}
 use Rattle.arguments.specs.Commands.{Run}
 use Rattle.program_files.specs.MainClass.{class_named}
 use Rattle.program_files.specs.Linking.{program_of, class_text, method_text, IsTypingFault, AreAccepted}
-use Rattle.program_files.specs.Contents.{Contents, IsClass, AreClasses, IsWrong, FirstWrong}
+use Rattle.input_files.specs.Contents.{Contents, IsClass, IsWrong}
+use Rattle.program_files.specs.Contents.{AreClasses, FirstWrong}
 use Rattle.java_cli.specs.Causes.{Due, answered, runs, IsProgramDue, IsDue, too_many, wrong, by_linking, AreBytes, OneIsDue}
-use Rattle.program_files.specs.LinkCauses.{first_name}
 use Rattle.java_cli.proofs.AnswerLaws.{one_wrong, wrong_or_classes, one_program_due}
 
 -- ---- at most one
@@ -91,16 +90,10 @@ first_wrong_or_read : (n : ℕ) (contents : List Contents) → AllByRecursion Ar
 first_wrong_or_read n [] fits = inr ([], tt)
 first_wrong_or_read n (h ∷ contents) fits = joined n h contents (wrong_or_read n h fits.0) (first_wrong_or_read (n + 1) contents fits.1)
 
-by_support : (most : Limits) (name : List ℕ) (classes : List ClassFile) → AreAccepted classes → (n : ℕ) → main_of (world_of_files classes) name ≡ Some n → (b : Bool) → is_supported (world_of_files classes) ≡ b
-    → (a : Due) × IsProgramDue most name classes a
-by_support most name classes accepted n main true e =
-    (runs (record { world = world_of_files classes; main = n; limits = most }), record { accepted = accepted; main = record { number = main; supported = e }; world = refl; limits = refl })
-by_support most name classes accepted n main false e =
-    (answered (LinkFault (first_name classes) Unsupported), inr (refl, accepted, record { main = ap is_some main; cannot = e; first = refl }))
-
 by_main : (most : Limits) (name : List ℕ) (classes : List ClassFile) → AreAccepted classes → (n : Option ℕ) → main_of (world_of_files classes) name ≡ n → (a : Due) × IsProgramDue most name classes a
 by_main most name classes accepted None e = (answered NoMain, (accepted, ap is_some e))
-by_main most name classes accepted (Some n) e = by_support most name classes accepted n e (is_supported (world_of_files classes)) refl
+by_main most name classes accepted (Some n) e =
+    (runs (record { world = world_of_files classes; main = n; limits = most }), record { accepted = accepted; main = e; world = refl; limits = refl })
 
 by_typing : (most : Limits) (name : List ℕ) (classes : List ClassFile) → Links (program_of classes) → (o : Option typing.VerifyFault) → first_fault (world_of (program_of classes)) ≡ o
     → (a : Due) × IsProgramDue most name classes a
@@ -110,9 +103,9 @@ by_typing most name classes links (Some f) e =
     let named : IsTypingFault p (class_text p f.class) (method_text p.classes f.method) f.pc f.why = record { fault = f; first = e; class_is = refl; method_is = refl; pc_is = refl; reason_is = refl } in
     (answered (VerifyFault (class_text p f.class) (method_text p.classes f.method) f.pc f.why), (links, named))
 
-by_fault : (most : Limits) (name : List ℕ) (classes : List ClassFile) → (o : Option faults.LinkFault) → link_fault (program_of classes) ≡ o → (a : Due) × IsProgramDue most name classes a
+pub by_fault : (most : Limits) (name : List ℕ) (classes : List ClassFile) → (o : Option faults.LinkFault) → link_fault (program_of classes) ≡ o → (a : Due) × IsProgramDue most name classes a
 by_fault most name classes None e = by_typing most name classes e (first_fault (world_of (program_of classes))) refl
-by_fault most name classes (Some f) e = (answered (LinkFault f.class f.why), inl e)
+by_fault most name classes (Some f) e = (answered (LinkFault f.class f.why), e)
 
 by_files : (c : Run) (contents : List Contents) → length c.files ≤ most_files → ((error : LoadError) × FirstWrong 0 contents error) ⊎ ((classes : List ClassFile) × AreClasses contents classes) → (a : Due) × IsDue c contents a
 by_files c contents few (inl x) = (answered (load_answer x.0), wrong few x.0 x.1 refl)

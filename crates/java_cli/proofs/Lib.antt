@@ -3,3 +3,5 @@ pub mod CommandLaws
 pub mod DueLaws
 pub mod LineLaws
 pub mod RunLaws
+pub mod ToolLaws
+pub mod GenLaws

@@ -16,20 +16,22 @@ use Rattle.link_model.specs.World.{World}
 use Rattle.ref_model.specs.Setting.{Setting}
 use Rattle.ref_model.specs.State.{State}
 use Rattle.ref_model.specs.Ending.{ending, exit_or, keeps_going, threads_ending}
-use Rattle.carrier.specs.Runs.{IsCause, IsEndingOf, own, caused, limited, IsRun, live_threads}
-use Rattle.java_cli.specs.declared.report.Report.{Report}
+use Rattle.carrier.specs.Runs.{AreListed, IsCause, IsEndingOf, own, caused, limited, IsRun}
+use Rattle.answers.specs.declared.report.Report.{Report}
 use Rattle.java_cli.specs.declared.runnable.Runnable.{Runnable}
 use Rattle.command_line.specs.declared.answer.Which.TheVariants.{Threads, Events}
 use Rattle.command_line.specs.declared.answer.Why.{Why}
-use Rattle.command_line.specs.declared.answer.Why.TheVariants.{Ended, MainThrew, Exited, Stalled, Usage, Limit, SinkFault, NoMemory}
+use Rattle.command_line.specs.declared.answer.Why.TheVariants.{Ended, MainThrew, Exited, Stalled, Starved, Usage, Limit, SinkFault, NoMemory}
 use Rattle.arguments.specs.Commands.{Run}
 use Rattle.command_line.specs.Commands.{Names, names_of, no_names}
 use Rattle.command_line.specs.Answers.{line_of, memory_line}
 use Rattle.program_files.specs.Limits.{run_limits}
 use Rattle.java_cli.specs.Causes.{HasRun, IsOfRun, Due, runs, IsDueOrFault, IsCaused, IsExact}
-use Rattle.program_files.specs.StoreFaults.{StoreFaults}
+use Rattle.input_files.specs.StoreFaults.{StoreFaults}
 use Rattle.java_cli.specs.Runs.{HasRead, IsRunDue}
-use Rattle.java_cli.specs.Headline.{IsEndingAnswer, IsRunAnswer, IsOutTaken, IsErrTaken, TakesLine, RanProgram, Ran, IsIdle, IsRunOrNoMemory, OnRun, OnNoRun, OutFaults, Takes, answer_with, line_after, run_tail, tail_of, trace_part, taken_of, ending_answer, Wrote, Unwritten}
+use Rattle.answers.specs.Taken.{IsOutTaken, TakesLine, OutFaults, Takes, taken_of}
+use Rattle.answers.specs.Reports.{IsIdle}
+use Rattle.java_cli.specs.Headline.{IsEndingAnswer, IsRunAnswer, IsErrTaken, RanProgram, Ran, IsRunOrNoMemory, OnRun, OnNoRun, answer_with, line_after, run_tail, tail_of, trace_part, ending_answer, Wrote, Unwritten}
 use Rattle.java_cli.proofs.AnswerLaws.{has_run, memory_exact}
 use Rattle.java_cli.proofs.LineLaws.{answer_told}
 
@@ -58,24 +60,25 @@ own_ending r e is = by_exit r.memory.exited is
     by_exit (Some status) is = same (endings.Exited status) e tt is
 
 -- the answer is that of the ending
-own_told : (p : Setting) (entries : ℕ) (v : Scheduled State) (live : List ℕ) (told : Ending) → IsOwnEnding told → ending v.state ≡ Some told → IsEndingAnswer p entries v (ending_answer live told)
-own_told p entries v live endings.Ended of is = is
-own_told p entries v live endings.MainThrew of is = is
-own_told p entries v live (endings.Exited status) of is = is
-own_told p entries v live told of is = absurd of
+own_told : (p : Setting) (entries : ℕ) (v : Scheduled State) (listed : List ℕ) (told : Ending) → IsOwnEnding told → ending v.state ≡ Some told → IsEndingAnswer p entries v (ending_answer listed told)
+own_told p entries v listed endings.Ended of is = is
+own_told p entries v listed endings.MainThrew of is = is
+own_told p entries v listed (endings.Exited status) of is = is
+own_told p entries v listed told of is = absurd of
 
-cause_told : (p : Setting) (entries : ℕ) (v : Scheduled State) (live : List ℕ) (told : Ending) → IsCause p v told → (told ≡ endings.Halted → ⊥) → (told ≡ endings.Stalled → live ≡ live_threads v.state)
-    → IsEndingAnswer p entries v (ending_answer live told)
-cause_told p entries v live endings.Stalled cause not_given_up is_live = (cause, is_live refl)
-cause_told p entries v live (endings.Limit limits.Threads n) cause not_given_up is_live = cause
-cause_told p entries v live endings.Halted cause not_given_up is_live = absurd (not_given_up refl)
-cause_told p entries v live told cause not_given_up is_live = absurd cause
+cause_told : (p : Setting) (entries : ℕ) (v : Scheduled State) (listed : List ℕ) (told : Ending) → IsCause p v told → (told ≡ endings.Halted → ⊥) → AreListed v told listed
+    → IsEndingAnswer p entries v (ending_answer listed told)
+cause_told p entries v listed endings.Stalled cause not_given_up are_listed = (cause, are_listed)
+cause_told p entries v listed endings.Starved cause not_given_up are_listed = (cause, are_listed)
+cause_told p entries v listed (endings.Limit limits.Threads n) cause not_given_up are_listed = cause
+cause_told p entries v listed endings.Halted cause not_given_up are_listed = absurd (not_given_up refl)
+cause_told p entries v listed told cause not_given_up are_listed = absurd cause
 
-ending_told : (p : Setting) (entries : ℕ) (v : Scheduled State) (live : List ℕ) (told : Ending) → IsEndingOf p v entries told → (told ≡ endings.Stalled → live ≡ live_threads v.state)
-    → IsEndingAnswer p entries v (ending_answer live told)
-ending_told p entries v live told (own is) is_live = own_told p entries v live told (own_ending v.state told is) is
-ending_told p entries v live told (caused cause not_given_up) is_live = cause_told p entries v live told cause not_given_up is_live
-ending_told p entries v live told (limited going is few) is_live = subst (λ (e : Ending). IsEndingAnswer p entries v (ending_answer live e)) (sym is) (going, refl, few)
+ending_told : (p : Setting) (entries : ℕ) (v : Scheduled State) (listed : List ℕ) (told : Ending) → IsEndingOf p v entries told → AreListed v told listed
+    → IsEndingAnswer p entries v (ending_answer listed told)
+ending_told p entries v listed told (own is) are_listed = own_told p entries v listed told (own_ending v.state told is) is
+ending_told p entries v listed told (caused cause not_given_up) are_listed = cause_told p entries v listed told cause not_given_up are_listed
+ending_told p entries v listed told (limited going is few) are_listed = subst (λ (e : Ending). IsEndingAnswer p entries v (ending_answer listed e)) (sym is) (going, refl, few)
 
 -- it is an answer to the run
 ending_or_fault : (p : Setting) (entries : ℕ) (v : Scheduled State) (why : Why) → IsEndingAnswer p entries v why → IsRunAnswer p entries v why
@@ -93,6 +96,7 @@ answer_of_run p entries v Ended is = tt
 answer_of_run p entries v MainThrew is = tt
 answer_of_run p entries v (Exited status) is = tt
 answer_of_run p entries v (Stalled threads) is = tt
+answer_of_run p entries v (Starved threads) is = tt
 answer_of_run p entries v (Limit Threads number) is = tt
 answer_of_run p entries v (Limit Events number) is = tt
 answer_of_run p entries v (SinkFault which written) is = tt
@@ -105,14 +109,15 @@ abbrev NamesNoSink : Why → Type 0
 NamesNoSink (SinkFault which written) = ⊥
 NamesNoSink why = Unit {0}
 
-names_no_sink : (live : List ℕ) (told : Ending) → NamesNoSink (ending_answer live told)
-names_no_sink live endings.Ended = tt
-names_no_sink live endings.MainThrew = tt
-names_no_sink live (endings.Exited status) = tt
-names_no_sink live endings.Stalled = tt
-names_no_sink live (endings.Limit limits.Threads number) = tt
-names_no_sink live (endings.Limit limits.Events number) = tt
-names_no_sink live told = tt
+names_no_sink : (listed : List ℕ) (told : Ending) → NamesNoSink (ending_answer listed told)
+names_no_sink listed endings.Ended = tt
+names_no_sink listed endings.MainThrew = tt
+names_no_sink listed (endings.Exited status) = tt
+names_no_sink listed endings.Stalled = tt
+names_no_sink listed endings.Starved = tt
+names_no_sink listed (endings.Limit limits.Threads number) = tt
+names_no_sink listed (endings.Limit limits.Events number) = tt
+names_no_sink listed told = tt
 
 taken_is : (why : Why) (out_fault err_fault : Option ℕ) (size : ℕ) → NamesNoSink why → ((n : ℕ) → out_fault ≡ Some n → n < size) → IsOutTaken (answer_with why out_fault err_fault) (taken_of out_fault size) size
 taken_is why (Some n) err_fault size none short = (refl, short n refl)
@@ -193,14 +198,14 @@ module _ {O E : Type 0} (bytes : O → Option (List ℕ)) (counts : O → ℕ) (
       Unwritten old_out new_out contents faults old new r ⊎ Wrote bytes counts old_out new_out contents faults old new no_names trace carriers history text errors why r
 
   -- the report of a run that was written
-  ran_is : (p : Setting) (gives : ℕ → Bool) (trace : Bool) (carriers : ℕ) (history : List Entry) (text errors live : List ℕ) (told : Ending) (r : Report) → IsRun p gives carriers history text errors live told
-      → Wrote bytes counts old_out new_out contents faults old new no_names trace carriers history text errors (ending_answer live told) r
+  ran_is : (p : Setting) (gives : ℕ → Bool) (trace : Bool) (carriers : ℕ) (history : List Entry) (text errors listed : List ℕ) (told : Ending) (r : Report) → IsRun p gives carriers history text errors listed told
+      → Wrote bytes counts old_out new_out contents faults old new no_names trace carriers history text errors (ending_answer listed told) r
       → RanProgram p gives carriers (bytes old_out) (bytes new_out) (Told no_names trace carriers r) r
-  ran_is p gives trace carriers history text errors live told r run_is wrote =
-      let none = names_no_sink live told in
+  ran_is p gives trace carriers history text errors listed told r run_is wrote =
+      let none = names_no_sink listed told in
       let short = fault_short bytes counts old_out new_out text wrote.out_fault wrote.out in
-      let ended = ending_told p (length history) run_is.after live told run_is.ended run_is.live in
-      let answer = fault_or_ending p (length history) run_is.after (ending_answer live told) wrote.out_fault wrote.err_fault ended in
+      let ended = ending_told p (length history) run_is.after listed told run_is.ended run_is.listed in
+      let answer = fault_or_ending p (length history) run_is.after (ending_answer listed told) wrote.out_fault wrote.err_fault ended in
       record {
         first = run_is.first;
         last = run_is.after;
@@ -213,8 +218,8 @@ module _ {O E : Type 0} (bytes : O → Option (List ℕ)) (counts : O → ℕ) (
         reasons = rw wrote.history run_is.reasons;
         complete = run_is.complete;
         out = rw (run_is.prints, wrote.out_written) (takes_front bytes counts old_out new_out text wrote.out_fault wrote.out);
-        out_taken = rw (wrote.why_is, run_is.prints, wrote.out_written) (taken_is (ending_answer live told) wrote.out_fault wrote.err_fault (length text) none short);
-        err_taken = rw (wrote.why_is, run_is.tells, wrote.err_written) (err_taken_is (ending_answer live told) wrote.out_fault wrote.err_fault (length errors) none wrote.err_size);
+        out_taken = rw (wrote.why_is, run_is.prints, wrote.out_written) (taken_is (ending_answer listed told) wrote.out_fault wrote.err_fault (length text) none short);
+        err_taken = rw (wrote.why_is, run_is.tells, wrote.err_written) (err_taken_is (ending_answer listed told) wrote.out_fault wrote.err_fault (length errors) none wrote.err_size);
         err = subst (Told no_names trace carriers r) (sym run_is.tells) wrote.err;
       }
 
@@ -239,13 +244,13 @@ module _ {O E : Type 0} (bytes : O → Option (List ℕ)) (counts : O → ℕ) (
         (subst (λ (n : ℕ). TakesLine contents faults old new memory_line [] n) (sym none.err_written) none.line);
   }
 
-  pub delivered_is : (gives : ℕ → Bool) (w : World) (main : ℕ) (most : Limits) (trace : Bool) (carriers : ℕ) (history : List Entry) (text errors live : List ℕ) (told : Ending) (r : Report)
-      → ((p : Setting) → p.world ≡ w → p.main ≡ main → p.limits ≡ most → IsRun p gives carriers history text errors live told) → Delivered trace carriers history text errors (ending_answer live told) r
+  pub delivered_is : (gives : ℕ → Bool) (w : World) (main : ℕ) (most : Limits) (trace : Bool) (carriers : ℕ) (history : List Entry) (text errors listed : List ℕ) (told : Ending) (r : Report)
+      → ((p : Setting) → p.world ≡ w → p.main ≡ main → p.limits ≡ most → IsRun p gives carriers history text errors listed told) → Delivered trace carriers history text errors (ending_answer listed told) r
       → IsDelivered gives w main most trace carriers r
-  delivered_is gives w main most trace carriers history text errors live told r run_is (inl none) = unwritten_is gives w main most trace carriers r none
-  delivered_is gives w main most trace carriers history text errors live told r run_is (inr wrote) =
+  delivered_is gives w main most trace carriers history text errors listed told r run_is (inl none) = unwritten_is gives w main most trace carriers r none
+  delivered_is gives w main most trace carriers history text errors listed told r run_is (inr wrote) =
       let ran : (p : Setting) → p.world ≡ w → p.main ≡ main → p.limits ≡ most → RanProgram p gives carriers (bytes old_out) (bytes new_out) (Told no_names trace carriers r) r =
-      λ p in_world has_main has_limits. ran_is p gives trace carriers history text errors live told r (run_is p in_world has_main has_limits) wrote in
+      λ p in_world has_main has_limits. ran_is p gives trace carriers history text errors listed told r (run_is p in_world has_main has_limits) wrote in
       let p : Setting = record { world = w; main = main; limits = most } in
       let first = ran p refl refl refl in
       let of = answer_of_run p (length r.history.items) first.last r.why first.answer in
@@ -254,7 +259,7 @@ module _ {O E : Type 0} (bytes : O → Option (List ℕ)) (counts : O → ℕ) (
         answer = inl of;
         idle = λ idle. absurd (idle of);
         out_faults = subst (λ (why : Why). OutFaults why (counts old_out) (counts new_out)) (sym wrote.why_is)
-            (faults_by bytes counts old_out new_out text (ending_answer live told) wrote.out_fault wrote.err_fault (names_no_sink live told) wrote.out);
+            (faults_by bytes counts old_out new_out text (ending_answer listed told) wrote.out_fault wrote.err_fault (names_no_sink listed told) wrote.out);
         line = λ idle. absurd (idle of);
       }
 
@@ -269,6 +274,7 @@ same_line a b why (inl of) = by why of
     by MainThrew of = refl
     by (Exited status) of = refl
     by (Stalled threads) of = refl
+    by (Starved threads) of = refl
     by (Limit which number) of = refl
     by (SinkFault which written) of = refl
     by why of = absurd of
@@ -322,6 +328,7 @@ run_cause known faulty c Ended of run = run
 run_cause known faulty c MainThrew of run = run
 run_cause known faulty c (Exited status) of run = run
 run_cause known faulty c (Stalled threads) of run = run
+run_cause known faulty c (Starved threads) of run = run
 run_cause known faulty c (Limit Threads number) of run = run
 run_cause known faulty c (Limit Events number) of run = run
 run_cause known faulty c (SinkFault which written) of run = run
@@ -332,6 +339,7 @@ run_is_due p Ended of = tt
 run_is_due p MainThrew of = tt
 run_is_due p (Exited status) of = tt
 run_is_due p (Stalled threads) of = tt
+run_is_due p (Starved threads) of = tt
 run_is_due p (Limit Threads number) of = tt
 run_is_due p (Limit Events number) of = tt
 run_is_due p (SinkFault which written) of = tt
@@ -347,11 +355,12 @@ pub answer_exact : (known : Option store.Files) (faulty : Type 0) (c : Run) (x :
 answer_exact known faulty c x why read due (inl of) = run_exact known faulty c why of (has_run known c x read) due
 answer_exact known faulty c x why read due (inr is) = subst (λ (why : Why). IsExact known faulty c why) (sym is) (memory_exact known faulty c)
 
-of_run_faults : (why : Why) (before now : ℕ) → IsOfRun why → now ≡ before → StoreFaults why before now
+pub of_run_faults : (why : Why) (before now : ℕ) → IsOfRun why → now ≡ before → StoreFaults why before now
 of_run_faults Ended before now of kept = kept
 of_run_faults MainThrew before now of kept = kept
 of_run_faults (Exited status) before now of kept = kept
 of_run_faults (Stalled threads) before now of kept = kept
+of_run_faults (Starved threads) before now of kept = kept
 of_run_faults (Limit which number) before now of kept = kept
 of_run_faults (SinkFault which written) before now of kept = kept
 of_run_faults why before now of kept = absurd of

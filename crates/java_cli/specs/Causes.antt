@@ -4,18 +4,17 @@ use Rattle.std.specs.Prelude.{◌≡◌, ◌⊎◌, ℕ, ◌<◌, ◌≤◌, fal
 use Rattle.jvm_edges.specs.Files.{file_named}
 use Rattle.jvm_edges.specs.Files as store
 use Rattle.class_model.specs.declared.class_file.ClassFile.{ClassFile}
-use Rattle.link_rules.specs.declared.why.LinkWhy.TheVariants.{Unsupported}
 use Rattle.ref_model.specs.Setting.{Setting}
 use Rattle.arguments.specs.Commands.{Run}
 use Rattle.command_line.specs.declared.answer.Which.TheVariants.{Files, FileSize, Threads, Events}
 use Rattle.command_line.specs.declared.answer.Why.{Why}
-use Rattle.command_line.specs.declared.answer.Why.TheVariants.{Ended, MainThrew, Exited, Stalled, Usage, Limit, Missing, SourceFault, BadClass, NoMain, LinkFault, VerifyFault, SinkFault, NoMemory}
-use Rattle.program_files.specs.declared.errors.LoadError.{LoadError}
-use Rattle.program_files.specs.Contents.{Contents, HaveContents, AreClasses, FirstWrong}
-use Rattle.program_files.specs.Errors.{load_answer}
+use Rattle.command_line.specs.declared.answer.Why.TheVariants.{Ended, MainThrew, Exited, Stalled, Starved, Usage, Limit, Missing, SourceFault, BadClass, NoMain, LinkFault, VerifyFault, SinkFault, NoMemory}
+use Rattle.input_files.specs.declared.error.LoadError.{LoadError}
+use Rattle.input_files.specs.Contents.{Contents}
+use Rattle.program_files.specs.Contents.{HaveContents, AreClasses, FirstWrong}
+use Rattle.input_files.specs.Errors.{load_answer}
 use Rattle.program_files.specs.Limits.{most_files, run_limits}
 use Rattle.ref_model.specs.declared.limits.Limits.{Limits}
-use Rattle.program_files.specs.LinkCauses.{CannotRun}
 use Rattle.program_files.specs.Linking.{IsLinkFault, IsVerifyFault, AreAccepted}
 use Rattle.program_files.specs.MainClass.{class_named}
 use Rattle.program_files.specs.Programs.{has_main, IsProgram}
@@ -28,11 +27,10 @@ pub data Due : Type 0 where
   runs : Setting → Due
 
 -- The answer to classes that aren't run, where main is to be in the one of this name: the first fault of linking; then the first fault of
--- typing; then, of classes that are accepted, no main; then what the machine has no step for. No other answer is one.
+-- typing; then, of classes that are accepted, no main. No other answer is one.
 abbrev pub IsProgramRefusal : List ℕ → List ClassFile → Why → Type 0
 IsProgramRefusal name classes NoMain = AreAccepted classes × (has_main name classes ≡ false)
-IsProgramRefusal name classes (LinkFault class reason) =
-    IsLinkFault classes class reason ⊎ ((reason ≡ Unsupported) × AreAccepted classes × CannotRun name classes class)
+IsProgramRefusal name classes (LinkFault class reason) = IsLinkFault classes class reason
 IsProgramRefusal name classes (VerifyFault class method pc reason) = IsVerifyFault classes class method pc reason
 IsProgramRefusal name classes why = ⊥
 
@@ -77,6 +75,7 @@ IsCaused known faulty c Ended = HasRun known c
 IsCaused known faulty c MainThrew = HasRun known c
 IsCaused known faulty c (Exited status) = HasRun known c
 IsCaused known faulty c (Stalled threads) = HasRun known c
+IsCaused known faulty c (Starved threads) = HasRun known c
 IsCaused known faulty c (Limit Threads number) = HasRun known c
 IsCaused known faulty c (Limit Events number) = HasRun known c
 IsCaused known faulty c (SinkFault which written) = HasRun known c
@@ -93,6 +92,7 @@ IsOfRun (Limit FileSize number) = ⊥
 IsOfRun (Limit Threads number) = Unit {0}
 IsOfRun (Limit Events number) = Unit {0}
 IsOfRun (Stalled threads) = Unit {0}
+IsOfRun (Starved threads) = Unit {0}
 IsOfRun (SinkFault which written) = Unit {0}
 IsOfRun why = ⊥
 

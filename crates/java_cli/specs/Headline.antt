@@ -1,11 +1,11 @@
 -- What a call of the machine did, from the words to what the sinks took.
 use Rattle.std.specs.Prelude.{◌≡◌, ◌⊎◌, ℕ, ◌+◌, ◌<◌, ◌≤◌, Bool, true, List, [], ◌++◌, Option, Some, None, length, take, if◌then◌else◌}
 use Rattle.jvm_edges.specs.Bytes.{Appends}
-use Rattle.jvm_edges.specs.Causes.{Rose}
 use Rattle.jvm_edges.specs.Files.{Files}
 use Rattle.history.specs.declared.entry.Entry.{Entry}
 use Rattle.history.specs.Java.{java}
 use Rattle.schedule_model.specs.Run.{Scheduled, schedule_of}
+use Rattle.schedule_model.specs.Stalled.{is_starved}
 use Rattle.ref_model.specs.declared.ending.Ending.{Ending}
 use Rattle.ref_model.specs.declared.ending.Ending.TheVariants as endings
 use Rattle.ref_model.specs.declared.ending.Which.TheVariants as limits
@@ -14,32 +14,34 @@ use Rattle.ref_model.specs.State.{State}
 use Rattle.ref_model.specs.Opening.{opening}
 use Rattle.ref_model.specs.Ending.{ending}
 use Rattle.ref_model.specs.Run.{run}
-use Rattle.ref_model.specs.Looks.{is_stalled, machine_from}
-use Rattle.carrier.specs.Runs.{AreGivenTimes, HaveReasons, IsComplete, LacksThreads, entries_left, live_threads}
-use Rattle.java_cli.specs.declared.report.Report.{Report}
+use Rattle.ref_model.specs.Looks.{is_stalled, look_of, machine_from}
+use Rattle.carrier.specs.Runs.{AreGivenTimes, HaveReasons, IsComplete, LacksThreads, entries_left, live_threads, mounted_threads}
+use Rattle.answers.specs.declared.report.Report.{Report}
+use Rattle.answers.specs.Taken.{IsOutTaken, Takes, TakesLine, taken_of}
 use Rattle.command_line.specs.declared.answer.SinkName.TheVariants.{Out, Err}
 use Rattle.command_line.specs.declared.answer.Which.TheVariants.{Threads, Events}
 use Rattle.command_line.specs.declared.answer.Why.{Why}
-use Rattle.command_line.specs.declared.answer.Why.TheVariants.{Ended, MainThrew, Exited, Stalled, Usage, Limit, SinkFault, NoMemory}
+use Rattle.command_line.specs.declared.answer.Why.TheVariants.{Ended, MainThrew, Exited, Stalled, Starved, Usage, Limit, SinkFault, NoMemory}
 use Rattle.history.specs.TraceText.{trace_text}
 use Rattle.arguments.specs.Commands as commands
-use Rattle.arguments.specs.Commands.{Command, Run}
-use Rattle.arguments.specs.declared.command.CommandError.{CommandError}
-use Rattle.arguments.specs.declared.command.CommandError.TheVariants as errors
-use Rattle.command_line.specs.Commands.{Names, names_of, no_names}
+use Rattle.arguments.specs.Commands.{Command, Gen, Run}
+use Rattle.command_line.specs.Commands.{Names, names_of}
 use Rattle.java_cli.specs.Runs.{IsGiven}
-use Rattle.command_line.specs.Answers.{NamesSomething, line_of, fault_line, memory_line}
+use Rattle.command_line.specs.Answers.{line_of, fault_line, memory_line}
 use Rattle.java_cli.specs.Causes.{IsOfRun}
 
 -- ---- the answer to a run
 
--- The answer says how the program has ended; or, that it hasn't, and that no thread can go on, where it names the live ones; that a thread
--- would make one more than there may be; or that the history had room for fewer entries than a turn may make.
+-- The answer says how the program has ended; or, that it hasn't, and that no thread can go on, where it names the live ones; that each carrier
+-- has a pinned thread that can't go on, while others could, where it names those; that a thread would make one more than there may be; or that
+-- the history had room for fewer entries than a turn may make.
 abbrev pub IsEndingAnswer : Setting → ℕ → Scheduled State → Why → Type 0
 IsEndingAnswer p entries last Ended = ending last.state ≡ Some endings.Ended
 IsEndingAnswer p entries last MainThrew = ending last.state ≡ Some endings.MainThrew
 IsEndingAnswer p entries last (Exited status) = ending last.state ≡ Some (endings.Exited status)
 IsEndingAnswer p entries last (Stalled threads) = (is_stalled p.world last.state ≡ true) × (threads ≡ live_threads last.state)
+IsEndingAnswer p entries last (Starved threads) =
+    (is_starved (look_of p.world last.state) last.schedule ≡ true) × (threads ≡ mounted_threads last.schedule.mounted)
 IsEndingAnswer p entries last (Limit Threads number) = (number ≡ p.limits.threads) × LacksThreads p last
 IsEndingAnswer p entries last (Limit Events number) =
     (ending last.state ≡ None) × (number ≡ p.limits.events) × (p.limits.events < entries + entries_left)
@@ -52,26 +54,11 @@ IsRunAnswer p entries last why = IsEndingAnswer p entries last why
 
 -- ---- what the sinks took
 
--- how much the out sink took of so many bytes: all, unless its fault is the answer
-abbrev pub IsOutTaken : Why → ℕ → ℕ → Type 0
-IsOutTaken (SinkFault Out written) taken size = (written ≡ taken) × (taken < size)
-IsOutTaken why taken size = taken ≡ size
-
 -- how much the err sink took of so many bytes: all, unless a sink's fault is the answer
 abbrev pub IsErrTaken : Why → ℕ → ℕ → Type 0
 IsErrTaken (SinkFault Out written) taken size = taken ≤ size
 IsErrTaken (SinkFault Err written) taken size = (written ≡ taken) × (taken < size)
 IsErrTaken why taken size = taken ≡ size
-
--- The err sink took the front of the program's error output, and after all of it the answer's line, or its front. Where it didn't take
--- all, its count of faults rose; otherwise that is as before.
-pub record TakesLine {E : Type 0} (contents : E → Option (List ℕ)) (faults : E → ℕ) (old new : E) (line text : List ℕ) (written : ℕ)
-    : Type 0 where
-  pub taken : ℕ
-  pub takes : Appends (contents old) (take written text ++ take taken line) (contents new)
-  pub part : written < length text → (taken ≡ 0) × Rose (faults old) (faults new)
-  pub whole : length text ≤ written → taken < length line → Rose (faults old) (faults new)
-  pub kept : length text ≤ written → length line ≤ taken → faults new ≡ faults old
 
 -- the history's text, where it is asked for
 abbrev pub trace_part : Bool → ℕ → List Entry → List ℕ
@@ -112,13 +99,6 @@ pub record Ran (c : Run) (known : Option Files) (gives : ℕ → Bool) (before a
   pub given : IsGiven known c program
   pub ran : RanProgram program gives c.carriers before after Errs r
 
--- Nothing was run: the history is empty, and neither sink took any output of a program.
-pub record IsIdle (before after : Option (List ℕ)) (r : Report) : Type 0 where
-  pub history : r.history.items ≡ []
-  pub out_written : r.out_written ≡ 0
-  pub err_written : r.err_written ≡ 0
-  pub same : after ≡ before
-
 -- the fact holds where the answer is that of a run
 abbrev pub OnRun : Why → Type 0 → Type 0
 OnRun why fact = IsOfRun why → fact
@@ -127,17 +107,27 @@ OnRun why fact = IsOfRun why → fact
 abbrev pub OnNoRun : Why → Type 0 → Type 0
 OnNoRun why fact = (IsOfRun why → ⊥) → fact
 
--- the count of faults of the out sink rose exactly where the answer names its fault
-abbrev pub OutFaults : Why → ℕ → ℕ → Type 0
-OutFaults (SinkFault Out written) before now = Rose before now
-OutFaults why before now = now ≡ before
-
 -- ---- which command it was
 
 -- the fact holds of the command, where the words spell a run
 abbrev pub IfRun : Option Command → (Run → Type 0) → Type 0
 IfRun (Some (commands.run c)) fact = fact c
 IfRun command fact = Unit {0}
+
+-- the fact holds of the file, where the words ask for the class file that its text makes
+abbrev pub IfAsm : Option Command → (List ℕ → Type 0) → Type 0
+IfAsm (Some (commands.asm file)) fact = fact file
+IfAsm command fact = Unit {0}
+
+-- the fact holds of the file, where the words ask for the listing of a class file
+abbrev pub IfList : Option Command → (List ℕ → Type 0) → Type 0
+IfList (Some (commands.list file)) fact = fact file
+IfList command fact = Unit {0}
+
+-- the fact holds of the command, where the words ask for a run of the generated program
+abbrev pub IfGen : Option Command → (Gen → Type 0) → Type 0
+IfGen (Some (commands.gen c)) fact = fact c
+IfGen command fact = Unit {0}
 
 -- the fact holds, where the words ask for the help or the version
 abbrev pub IfHelp : Option Command → Type 0 → Type 0
@@ -148,48 +138,6 @@ IfHelp command fact = Unit {0}
 pub record IsUsageExact (command : Option Command) (why : Why) : Type 0 where
   pub only : why ≡ Usage → command ≡ None
   pub due : command ≡ None → (why ≡ Usage) ⊎ (why ≡ NoMemory)
-
--- the answer to arguments that give no command
-abbrev pub refusal_of : CommandError → Why
-refusal_of (errors.Usage text) = Usage
-refusal_of errors.NoMemory = NoMemory
-
--- the answers where a text is shown
-abbrev pub IsOfHelp : Why → Type 0
-IsOfHelp Ended = Unit {0}
-IsOfHelp (SinkFault Out written) = Unit {0}
-IsOfHelp why = ⊥
-
--- A text was shown, and nothing was run: the out sink took all of the text, unless its fault is the answer; and the err sink the answer's line.
-pub record Shown {O E : Type 0} (bytes : O → Option (List ℕ)) (old_out new_out : O) (contents : E → Option (List ℕ)) (faults : E → ℕ)
-    (old new : E) (r : Report) : Type 0 where
-  pub answer : IsOfHelp r.why
-  pub history : r.history.items ≡ []
-  pub text : List ℕ
-  pub out : Appends (bytes old_out) (take r.out_written text) (bytes new_out)
-  pub out_taken : IsOutTaken r.why r.out_written (length text)
-  pub err_written : r.err_written ≡ 0
-  pub line : TakesLine contents faults old new (line_of no_names r.why) [] 0
-
--- what follows the line of an answer without a run: after that of Usage, what is wrong with the words
-abbrev pub IsMore : Why → List ℕ → Type 0
-IsMore Usage more = Unit {0}
-IsMore why more = more ≡ []
-
--- the err sink took the line and what follows it, or a front of the two
-pub record TakesAnswer {E : Type 0} (contents : E → Option (List ℕ)) (faults : E → ℕ) (old new : E) (why : Why) (line : List ℕ) (written : ℕ)
-    : Type 0 where
-  pub more : List ℕ
-  pub is_more : IsMore why more
-  pub takes : TakesLine contents faults old new (line ++ more) [] written
-
--- ---- a sink that takes all, or fails
-
--- The sink took all the bytes; or it failed when it had taken so many.
-abbrev pub Takes : {S : Type 0} → (S → Option (List ℕ)) → (S → ℕ) → S → S → List ℕ → Option ℕ → Type 0
-Takes contents faults old new bytes None = Appends (contents old) bytes (contents new) × (faults new ≡ faults old)
-Takes contents faults old new bytes (Some n) =
-    Appends (contents old) (take n bytes) (contents new) × (n < length bytes) × Rose (faults old) (faults new)
 
 -- the answer to a run, where the out sink and the err sink failed after so many bytes
 abbrev pub answer_with : Why → Option ℕ → Option ℕ → Why
@@ -202,20 +150,16 @@ abbrev pub line_after : Option ℕ → List ℕ → List ℕ
 line_after None line = line
 line_after (Some n) line = fault_line
 
--- how many bytes a sink took of so many
-abbrev pub taken_of : Option ℕ → ℕ → ℕ
-taken_of None size = size
-taken_of (Some n) size = n
-
--- the answer to a program that ended so, with the threads that are live where it is stalled
+-- the answer to a program that ended so, with the threads that it lists
 abbrev pub ending_answer : List ℕ → Ending → Why
-ending_answer live endings.Ended = Ended
-ending_answer live endings.MainThrew = MainThrew
-ending_answer live (endings.Exited status) = Exited status
-ending_answer live endings.Stalled = Stalled live
-ending_answer live (endings.Limit limits.Threads number) = Limit Threads number
-ending_answer live (endings.Limit limits.Events number) = Limit Events number
-ending_answer live other = NoMemory
+ending_answer listed endings.Ended = Ended
+ending_answer listed endings.MainThrew = MainThrew
+ending_answer listed (endings.Exited status) = Exited status
+ending_answer listed endings.Stalled = Stalled listed
+ending_answer listed endings.Starved = Starved listed
+ending_answer listed (endings.Limit limits.Threads number) = Limit Threads number
+ending_answer listed (endings.Limit limits.Events number) = Limit Events number
+ending_answer listed other = NoMemory
 
 -- A run was written: its history, its answer, and what the sinks took of these two outputs.
 pub record Wrote {O E : Type 0} (bytes : O → Option (List ℕ)) (counts : O → ℕ) (old_out new_out : O) (contents : E → Option (List ℕ))
@@ -244,7 +188,3 @@ pub record Unwritten {O E : Type 0} (old_out new_out : O) (contents : E → Opti
 -- it is the answer to a run, or memory ran out
 abbrev pub IsRunOrNoMemory : Why → Type 0
 IsRunOrNoMemory why = IsOfRun why ⊎ (why ≡ NoMemory)
-
--- an answer is as before, or its line names something and there was no memory for it
-abbrev pub IsSameOrNoMemory : Why → Why → Type 0
-IsSameOrNoMemory before after = (after ≡ before) ⊎ (NamesSomething before × (after ≡ NoMemory))

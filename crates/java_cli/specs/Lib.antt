@@ -1,3 +1,5 @@
 pub mod Causes
 pub mod Runs
 pub mod Headline
+pub mod Tools
+pub mod Generated

@@ -3,14 +3,14 @@ use Rattle.std.specs.Prelude.{◌≡◌, ◌≤◌, List, Option, Some, length}
 use Rattle.class_model.specs.declared.class_file.ClassFile.{ClassFile}
 use Rattle.jvm_edges.specs.Files.{Files}
 use Rattle.link_soundness.specs.Library.{HasLibrary}
-use Rattle.schedule_soundness.specs.PinLaws.{NamesNoHold}
 use Rattle.step_soundness.specs.OpeningLaws.{IsMain}
 use Rattle.ref_model.specs.Setting.{Setting}
 use Rattle.program_files.specs.Limits.{most_files, run_limits}
 use Rattle.arguments.specs.Commands.{Run}
 use Rattle.program_files.specs.MainClass.{class_named}
 use Rattle.program_files.specs.Programs.{IsProgram}
-use Rattle.program_files.specs.Contents.{Contents, HaveContents, AreClasses}
+use Rattle.input_files.specs.Contents.{Contents}
+use Rattle.program_files.specs.Contents.{HaveContents, AreClasses}
 use Rattle.java_cli.specs.declared.runnable.Runnable.{Runnable}
 use Rattle.java_cli.specs.Causes.{Due, runs, IsDue, contents_of}
 
@@ -28,7 +28,6 @@ pub record HasRead (known : Option Files) (c : Run) (x : Runnable) : Type 0 wher
   pub given : IsGiven known c (record { world = x.checked; main = x.main; limits = run_limits c.events })
   pub library : HasLibrary x.checked.program
   pub has_main : IsMain x.checked x.main
-  pub unpinned : NamesNoHold x.checked
 
 -- where the store's files are known, what is due is a run
 abbrev pub IsRunDue : Option Files → Run → Type 0

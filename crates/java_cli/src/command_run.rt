@@ -6,14 +6,15 @@ ghost use Rattle.arguments.specs.Meanings.{run_meaning};
 ghost use Rattle.command_line.specs.Answers.{line_of};
 ghost use Rattle.command_line.specs.Commands.{names_of as names_of_run};
 ghost use Rattle.java_cli.specs.Causes.{IsExact};
-ghost use Rattle.program_files.specs.StoreFaults.{StoreFaults};
+ghost use Rattle.input_files.specs.StoreFaults.{StoreFaults};
 ghost use Rattle.program_files.specs.Limits.{run_limits as limits_of_run};
-ghost use Rattle.java_cli.specs.Headline.{IsIdle, OnNoRun, OnRun, OutFaults, Ran, TakesLine, run_tail};
+ghost use Rattle.answers.specs.Taken.{OutFaults, TakesLine};
+ghost use Rattle.answers.specs.Reports.{IsIdle};
+ghost use Rattle.java_cli.specs.Headline.{OnNoRun, OnRun, Ran, run_tail};
 
 use crate::program_run::run_checked;
-use crate::refusals::refuse;
-use crate::report::Report;
 use crate::runnable::read_program;
+use answers::{Report, refuse};
 use command_line::{Run, Why, names_of};
 use jvm_edges::{Clock, Gate, Sink, Store};
 use ref_model::Limits;
@@ -22,7 +23,7 @@ use std::sync::Wait;
 use std::thread::Threads;
 
 /// The limits of a run whose history may have so many entries.
-fn run_limits(events: u32) -> Limits
+pub(crate) fn run_limits(events: u32) -> Limits
     ensures { result ≡ limits_of_run events }
 {
     Limits {

@@ -3,7 +3,7 @@
 ghost use Rattle.std.specs.Prelude.{List};
 ghost use Rattle.std.specs.List.{AllByRecursion};
 ghost use Rattle.arguments.specs.Commands.{Run};
-ghost use Rattle.program_files.specs.Contents.{Contents};
+ghost use Rattle.input_files.specs.Contents.{Contents};
 ghost use Rattle.java_cli.specs.Causes.{AreBytes, OneIsDue};
 
 /// Exactly one answer is due to a command whose files have these bytes.

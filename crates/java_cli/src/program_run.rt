@@ -2,17 +2,16 @@
 
 ghost use Rattle.std.specs.Prelude.{◌≡◌, ◌⊎◌, ◌<◌, ◌++◌, [], ℕ, Bool, Some, IfOk, length};
 ghost use Rattle.link_soundness.specs.Library.{HasLibrary};
-ghost use Rattle.schedule_soundness.specs.PinLaws.{NamesNoHold};
 ghost use Rattle.step_soundness.specs.OpeningLaws.{IsMain};
 ghost use Rattle.ref_model.specs.Setting.{Setting};
 ghost use Rattle.command_line.specs.Answers.{line_of};
 ghost use Rattle.command_line.specs.Commands.{Names as Named, no_names as none_named};
 ghost use Rattle.java_cli.specs.Headline as spec;
-ghost use Rattle.java_cli.specs.Headline.{IsIdle, IsRunOrNoMemory, OnNoRun, OnRun, OutFaults, RanProgram, TakesLine, Unwritten, Wrote, ending_answer, tail_of, trace_part};
+ghost use Rattle.answers.specs.Taken.{OutFaults, TakesLine, taken_of};
+ghost use Rattle.answers.specs.Reports.{IsIdle};
+ghost use Rattle.java_cli.specs.Headline.{IsRunOrNoMemory, OnNoRun, OnRun, RanProgram, Unwritten, Wrote, ending_answer, tail_of, trace_part};
 
-use crate::refusals::no_memory;
-use crate::report::Report;
-use crate::writing::{put_both, put_part};
+use answers::{Report, no_memory, put_both, put_part};
 use carrier::{Execution, run};
 use class_world::World;
 use command_line::{CANNOT_WRITE, SinkName, Which, Why, make_line, no_names};
@@ -43,7 +42,6 @@ pub fn run_checked<R: Threads + Wait + Sync, O: Sink, E: Sink, C: Clock + Sync, 
 ) -> Report
     requires library { HasLibrary checked.program }
     requires main { IsMain checked main }
-    requires unpinned { NamesNoHold checked }
     requires carriers { 0 < carriers }
     requires threads { 0 < limits.threads }
     // Where the program ran, its history is legal, the answer is how it ends, and what is written is its output.
@@ -66,16 +64,19 @@ pub fn run_checked<R: Threads + Wait + Sync, O: Sink, E: Sink, C: Clock + Sync, 
     }
 }
 
-// The answer to a program with this ending, whose threads are live where it is stalled. A run has no other ending than the first six.
-fn answer_to(ending: Ending, live: Vec<u32>) -> Why
-    ensures { result ≡ ending_answer live.items ending }
+// The answer to a program with this ending, which lists these threads. A run has no other ending than the first seven.
+fn answer_to(ending: Ending, listed: Vec<u32>) -> Why
+    ensures { result ≡ ending_answer listed.items ending }
 {
     match ending {
         Ending::Ended => Why::Ended,
         Ending::MainThrew => Why::MainThrew,
         Ending::Exited(status) => Why::Exited(status),
         Ending::Stalled => Why::Stalled {
-            threads: Items::from(live),
+            threads: Items::from(listed),
+        },
+        Ending::Starved => Why::Starved {
+            threads: Items::from(listed),
         },
         Ending::Limit(Limited::Threads, number) => Why::Limit {
             which: Which::Threads,
@@ -85,8 +86,7 @@ fn answer_to(ending: Ending, live: Vec<u32>) -> Why
             which: Which::Events,
             number,
         },
-        Ending::Limit(Limited::Files | Limited::FileSize, _) | Ending::Starved | Ending::Halted =>
-            Why::NoMemory,
+        Ending::Limit(Limited::Files | Limited::FileSize, _) | Ending::Halted => Why::NoMemory,
     }
 }
 
@@ -121,7 +121,7 @@ fn line_after<'a>(out_fault: Option<u64>, line: &'a [u8]) -> &'a [u8]
 // the sink took, where it fails there.
 fn put_faults<E: Sink>(err: &mut E, text: &[u8], line: &[u8], trace_text: &[u8]) -> Option<u64>
     ensures taken { TakesLine E.contents E.faults err.old err.new (line.now ++ trace_text.now)
-        text.now (spec.taken_of result (length text.now)) }
+        text.now (taken_of result (length text.now)) }
     ensures short { (n : ℕ) → result ≡ Some n → n < length text.now }
 {
     match put_part(err, text) {
@@ -187,16 +187,16 @@ fn deliver<O: Sink, E: Sink>(
     ensures { Unwritten out.old out.new E.contents E.faults err.old err.new result
         ⊎ Wrote O.contents O.faults out.old out.new E.contents E.faults err.old err.new
         none_named trace carriers execution.history.items execution.out.items
-        execution.err.items (ending_answer execution.live.items execution.ending) result }
+        execution.err.items (ending_answer execution.listed.items execution.ending) result }
 {
     let Execution {
         history,
         out: text,
         err: error_text,
-        live,
+        listed,
         ending,
     } = execution;
-    let why = answer_to(ending, live);
+    let why = answer_to(ending, listed);
     let line = make_line(alloc, &why, no_names());
     let trace_text = make_trace(alloc, trace, carriers, &history);
     match (line, trace_text) {

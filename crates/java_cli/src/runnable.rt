@@ -4,7 +4,7 @@ ghost use Rattle.std.specs.Prelude.{◌≡◌, IfOk, IfErr};
 ghost use Rattle.jvm_edges.specs.Causes.{Rose};
 ghost use Rattle.arguments.specs.Meanings.{run_meaning};
 ghost use Rattle.java_cli.specs.Causes.{IsExact, IsRefusal};
-ghost use Rattle.program_files.specs.StoreFaults.{StoreFaults};
+ghost use Rattle.input_files.specs.StoreFaults.{StoreFaults};
 ghost use Rattle.java_cli.specs.Runs.{HasRead, IsRunDue};
 
 use class_world::World;

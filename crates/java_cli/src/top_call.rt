@@ -1,18 +1,23 @@
 //! The call that does all that the program does.
 
-ghost use Rattle.std.specs.Prelude.{◌≡◌, ◌⊎◌};
+ghost use Rattle.std.specs.Prelude.{◌≡◌, ◌⊎◌, false};
 ghost use Rattle.jvm_edges.specs.Causes.{Rose};
 ghost use Rattle.arguments.specs.Commands.{command_of, texts};
 ghost use Rattle.command_line.specs.Answers.{line_of};
-ghost use Rattle.command_line.specs.Commands.{names_in};
+ghost use Rattle.command_line.specs.Commands.{names_in, no_names};
 ghost use Rattle.java_cli.specs.Causes.{IsExact};
-ghost use Rattle.program_files.specs.StoreFaults.{StoreFaults};
-ghost use Rattle.java_cli.specs.Headline.{IfHelp, IfRun, IsIdle, IsUsageExact, OnNoRun, OnRun, OutFaults, Ran, Shown, TakesAnswer, TakesLine, run_tail};
+ghost use Rattle.input_files.specs.StoreFaults.{StoreFaults};
+ghost use Rattle.answers.specs.Taken.{OutFaults, TakesAnswer, TakesLine};
+ghost use Rattle.answers.specs.Reports.{IsIdle, Shown};
+ghost use Rattle.class_tools.specs.Due.{IsAssembly, IsListing};
+ghost use Rattle.java_cli.specs.Generated.{IsGenExact, RanGenerated};
+ghost use Rattle.java_cli.specs.Headline.{IfAsm, IfGen, IfHelp, IfList, IfRun, IsUsageExact, OnNoRun, OnRun, Ran, run_tail, tail_of};
+ghost use Rattle.java_cli.specs.Tools.{Converts};
 
 use crate::command_run::run_program;
-use crate::help::show;
-use crate::refusals::refuse_arguments;
-use crate::report::Report;
+use crate::generated::run_generated;
+use answers::{Report, refuse_arguments, show};
+use class_tools::{assemble_file, list_file};
 use command_line::{Command, Why, read_command};
 use jvm_edges::{Clock, Gate, Sink, Store};
 use std::alloc::Global;
@@ -43,6 +48,19 @@ pub fn jvt<R: Threads + Wait + Sync, S: Store, O: Sink, E: Sink, C: Clock + Sync
     ensures usage { IsUsageExact (command_of (texts args.now)) result.why }
     ensures exact { IfRun (command_of (texts args.now)) (λ c. IsExact (S.files store.old)
         (Rose (S.faults store.old) (S.faults store.new)) c result.why) }
+    // Where the words ask for a class file or a listing, it goes to `out`.
+    ensures asm { IfAsm (command_of (texts args.now)) (λ file. Converts IsAssembly
+        (S.files store.old) (Rose (S.faults store.old) (S.faults store.new)) file
+        (O.contents out.old) (O.contents out.new) result) }
+    ensures list { IfList (command_of (texts args.now)) (λ file. Converts IsListing
+        (S.files store.old) (Rose (S.faults store.old) (S.faults store.new)) file
+        (O.contents out.old) (O.contents out.new) result) }
+    // The generated program is run as one that is read from files is.
+    ensures generated { IfGen (command_of (texts args.now)) (λ c. OnRun result.why
+        (RanGenerated c (C.gives clock.now) (O.contents out.old) (O.contents out.new)
+        (λ text. TakesLine E.contents E.faults err.old err.new
+        (tail_of no_names false c.carriers result) text result.err_written) result)) }
+    ensures gen_exact { IfGen (command_of (texts args.now)) (λ c. IsGenExact c.count result.why) }
     // Where a text was asked for, it is shown, unless memory ran out.
     ensures help { IfHelp (command_of (texts args.now)) ((result.why ≡ Why.NoMemory)
         ⊎ Shown O.contents out.old out.new E.contents E.faults err.old err.new result) }
@@ -58,6 +76,9 @@ pub fn jvt<R: Threads + Wait + Sync, S: Store, O: Sink, E: Sink, C: Clock + Sync
     };
     match command {
         Command::Run(run) => run_program(rt, alloc, &run, store, out, err, clock, gate),
+        Command::Asm { file } => assemble_file(alloc, &file, store, out, err),
+        Command::List { file } => list_file(alloc, &file, store, out, err),
+        Command::Gen(load) => run_generated(rt, alloc, &load, out, err, clock, gate),
         Command::Help(text) => show(alloc, text.as_bytes(), out, err),
     }
 }

@@ -2,7 +2,6 @@
 
 ghost use Rattle.std.specs.Prelude.{◌≡◌, ◌<◌, IfOk};
 ghost use Rattle.link_soundness.specs.Library.{HasLibrary};
-ghost use Rattle.schedule_soundness.specs.PinLaws.{NamesNoHold};
 ghost use Rattle.step_soundness.specs.OpeningLaws.{IsMain};
 
 use crate::arguments_of;
@@ -133,7 +132,6 @@ fn call<R: Threads + Wait + Sync + AllocGlobal, G: Gate + Sync>(
 fn load(alloc: Global, bytes: &[u8]) -> Result<(Checked<World>, u32), Fail>
     ensures library { IfOk result (λ r. HasLibrary r.0.program) }
     ensures main { IfOk result (λ r. IsMain r.0 r.1) }
-    ensures unpinned { IfOk result (λ r. NamesNoHold r.0) }
 {
     let mut names = Vec::new(alloc);
     names.push(String::from_str(alloc, "A.class")?)?;

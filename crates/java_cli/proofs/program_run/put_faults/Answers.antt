@@ -1,6 +1,6 @@
 use Rattle.std.proofs.Common.{◌++◌, subst}
-use Rattle.java_cli.specs.Headline.{Takes}
-use Rattle.java_cli.proofs.LineLaws.{all_told}
+use Rattle.answers.specs.Taken.{Takes}
+use Rattle.answers.proofs.TakenLaws.{all_told}
 use Rattle.java_cli.proofs.program_run.put_faults.Goals as goal
 
 pub returns-in-None-clause-taken : goal.returns-in-None-clause-taken

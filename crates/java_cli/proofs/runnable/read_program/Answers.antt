@@ -7,13 +7,14 @@ use Rattle.link_model.specs.World.{World}
 use Rattle.link_rules.specs.Program.{Program}
 use Rattle.arguments.specs.Commands.{texts}
 use Rattle.arguments.specs.Meanings.{run_meaning}
-use Rattle.program_files.specs.Errors.{load_answer, accept_answer, start_answer}
+use Rattle.input_files.specs.Errors.{load_answer}
+use Rattle.program_files.specs.Errors.{accept_answer, start_answer}
 use Rattle.java_cli.specs.Causes.{IsExact}
 use Rattle.program_files.specs.LinkCauses.{NotStarted}
-use Rattle.program_files.specs.LoadCauses.{IsRead, IsStopped}
-use Rattle.program_files.specs.StoreFaults.{StoreFaults}
+use Rattle.input_files.specs.LoadCauses.{IsRead}
+use Rattle.program_files.specs.LoadCauses.{IsStopped}
+use Rattle.input_files.specs.StoreFaults.{StoreFaults}
 use Rattle.ref_model.specs.Setting.{Setting}
-use Rattle.schedule_soundness.specs.PinLaws.{NamesNoHold}
 use Rattle.step_soundness.specs.OpeningLaws.{IsMain}
 use Rattle.program_files.specs.Limits.{run_limits}
 use Rattle.program_files.specs.MainClass.{class_named}
@@ -115,7 +116,6 @@ returns-clause-read g c =
     has_read _ (run_meaning c.args.run.now) classes _ few found c.in_ok-checked.ensures.accepted (subst (λ (t : List ℕ). IsStarted (class_named t) classes c.in_ok-main.main) name started)
     c.in_ok-checked.ensures.world c.in_ok-checked.ensures.library
     (subst (λ (w : World). IsMain w c.in_ok-main.main) c.world.ensures.world c.in_ok-main.ensures.main)
-    (subst NamesNoHold c.world.ensures.world c.in_ok-main.ensures.unpinned)
 
 pub returns-clause-due : goal.returns-clause-due
 returns-clause-due g c =

@@ -1,11 +1,7 @@
 use Rattle.std.proofs.Common.{subst}
 use Rattle.link_model.specs.World.{World}
-use Rattle.schedule_soundness.specs.PinLaws.{NamesNoHold}
 use Rattle.step_soundness.specs.OpeningLaws.{IsMain}
 use Rattle.java_programs.proofs.tests.load.Goals as goal
 
 pub returns-clause-main : goal.returns-clause-main
 returns-clause-main c = subst (λ (w : World). IsMain w c.in_ok-main.main) c.world.ensures.world c.in_ok-main.ensures.main
-
-pub returns-clause-unpinned : goal.returns-clause-unpinned
-returns-clause-unpinned c = subst NamesNoHold c.world.ensures.world c.in_ok-main.ensures.unpinned
