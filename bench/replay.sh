@@ -1,9 +1,9 @@
 #!/bin/sh
 # Plays random lists of turns of carriers over the Java programs of crates/java_programs, and has each history judged by the program in
 # bench/replay, which is written from the rules and shares no code with the crates. Of each list it is compared whether each entry may stand
-# where it stands, whether the history is that which the turns give, what the program wrote, how the run ended, and which threads were live
-# where none could go on. The crate ref_run runs each history again, and has to come to the same output and ending. It prints each difference,
-# and how many lists were judged. Lists in bench/replay/own have their histories beside them.
+# where it stands, whether the history is that which the turns give, what the program wrote, how the run ended, and which threads are listed.
+# The crate ref_run runs each history again, and has to come to the same output and ending. It prints each difference, and how many lists were
+# judged. Lists in bench/replay/own have their histories beside them.
 # The player (bench/plays) is compiled without proof beside a copy of the crates. usage: bench/replay.sh [COUNT OF LISTS]
 set -eu
 . "$(dirname -- "$0")/plays.sh"

@@ -1,5 +1,6 @@
 """Cases for the program `plays`: a Java program, a number of carriers, limits, and a list of turns."""
 
+import re
 from pathlib import Path
 from typing import NamedTuple
 
@@ -7,6 +8,8 @@ from turn_lists import limits_of, randoms_of, turn_list
 
 MOST_TURNS = 4000
 MOST_CARRIERS = 5
+# The options of a command, with what they say.
+OPTIONS = re.compile(r" --(trace|(carriers|events)[ =]\S+)(?= )")
 # The file of the cases that asks for the built-in class files, and the word in it.
 LIBRARY = "library"
 
@@ -66,7 +69,7 @@ def java_programs(table):
     """The programs of the table that run, by their names."""
     found = {}
     for line in Path(table).read_text().splitlines():
-        words = line.split()
+        words = OPTIONS.sub("", line).split()
         if words[:1] == ["run"] and len(words) > 2:
             name = Path(words[2]).stem
             found.setdefault(name, JavaProgram(name, words[1].replace(".", "/"), tuple(words[2:])))

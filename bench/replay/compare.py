@@ -30,22 +30,22 @@ class Told(NamedTuple):
     out: bytes
     err: bytes
     ending: str
-    live: tuple
+    listed: tuple
     replay: str
 
 
 def told_in(text):
     """What `plays` printed of a case."""
-    trace, behind = [], {"live": "", "replay": "missing"}
+    trace, behind = [], {"listed": "", "replay": "missing"}
     for line in text.splitlines():
         word, _, rest = line.partition(" ")
-        if word in ("out", "err", "ending", "live", "replay"):
+        if word in ("out", "err", "ending", "listed", "replay"):
             behind[word] = rest
         else:
             trace.append(line + "\n")
-    live = tuple(map(int, behind["live"].split()))
+    listed = tuple(map(int, behind["listed"].split()))
     out, err = (bytes.fromhex(behind[stream]) for stream in ("out", "err"))
-    return Told("".join(trace), out, err, behind["ending"], live, behind["replay"])
+    return Told("".join(trace), out, err, behind["ending"], listed, behind["replay"])
 
 
 def played(path):
@@ -77,8 +77,8 @@ def differences(case, told, verdict):
         found.append(f"ending {told.ending}, judged {verdict.ending}")
     if told.replay != "same":
         found.append(f"run again: {told.replay}")
-    if told.ending == "Stalled" and told.live != verdict.live:
-        found.append(f"live threads {told.live}, judged {verdict.live}")
+    if told.ending in ("Stalled", "Starved") and told.listed != verdict.listed:
+        found.append(f"threads {told.listed} are listed, judged {verdict.listed}")
     return found
 
 

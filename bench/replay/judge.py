@@ -5,8 +5,8 @@ usage: judge.py LIBRARY TRACE MAIN FILE..
 
 LIBRARY has the built-in class files, one a line as `class` and its bytes in hexadecimal; TRACE is the text of a history, and the FILEs are the
 program's class files in their order. It prints the first entry that may not stand where it stands, and why, or else `legal`; then `out` and
-`err` with what the program wrote in hexadecimal, `ending` with how it ended, `none` where it goes on and `Stalled` where no thread can go on,
-and then `live` with the live threads.
+`err` with what the program wrote in hexadecimal, and `ending` with how it ended: `none` where it goes on, `Stalled` where no thread can go on, and
+`Starved` where pinned threads keep all others from it. Then `listed` has the live threads, or the pinned ones in the order of the carriers.
 """
 
 import functools
@@ -42,7 +42,7 @@ class Verdict(NamedTuple):
     out: bytes = b""
     err: bytes = b""
     ending: str = "none"
-    live: tuple = ()
+    listed: tuple = ()
     lacks_threads: bool = False
 
 
@@ -71,13 +71,23 @@ def make_entry(schedule, entry):
     schedule.last_carrier = entry.carrier
 
 
-def ending_of(state, entries, limits):
-    """How the run has ended: as the program did, at the limit of events, or since no thread can go on."""
+def ending_of(schedule, entries, limits):
+    """How the run has ended: as the program did, at the limit of events, or since no thread can go on, or is kept from it."""
+    state = schedule.state
     if state.ending() is not None:
         return state.ending()
     if limits.events < len(entries) + ENTRIES_OF_A_TURN:
         return f"Limit Events {limits.events}"
-    return "Stalled" if state.is_stalled() else "none"
+    if state.is_stalled():
+        return "Stalled"
+    return "Starved" if schedule.is_starved() else "none"
+
+
+def listed_threads(schedule, ending):
+    """The threads that an answer lists."""
+    if ending == "Starved":
+        return tuple(schedule.mounted)
+    return tuple(thread.number for thread in schedule.state.threads if thread.status == LIVE)
 
 
 def judge(program, main_class, carriers, entries, limits=Limits()):
@@ -89,11 +99,11 @@ def judge(program, main_class, carriers, entries, limits=Limits()):
             make_entry(schedule, entry)
         except Undefined as undefined:
             return Verdict(f"entry {number}, {entry}: {undefined}")
-    live = tuple(thread.number for thread in state.threads if thread.status == LIVE)
-    ending = ending_of(state, entries, limits)
+    ending = ending_of(schedule, entries, limits)
+    listed = listed_threads(schedule, ending)
     mounted = [state.threads[number] for number in schedule.mounted if number is not None]
     lacking = state.ending() is None and any([lacks_threads(state, thread) for thread in mounted])
-    return Verdict(None, bytes(state.memory.out), bytes(state.memory.err), ending, live, lacking)
+    return Verdict(None, bytes(state.memory.out), bytes(state.memory.err), ending, listed, lacking)
 
 
 def main():
@@ -106,8 +116,8 @@ def main():
         print("out", verdict.out.hex())
         print("err", verdict.err.hex())
         print("ending", verdict.ending)
-        if verdict.ending == "Stalled":
-            print("live", *verdict.live)
+        if verdict.ending in ("Stalled", "Starved"):
+            print("listed", *verdict.listed)
     sys.exit(verdict.fault is not None)
 
 

@@ -17,8 +17,9 @@ OWN = Path(__file__).resolve().parent / "own"
 ALONE = """Accounts BalancedTree Codes ConstructorOrder Corners DeepRecursion DefaultMethods ExitInHandler ExpressionParser FinallyOrders
 Initializers Jagged MachineExceptions MergeSort NegativeExit OutAndErr SwitchForms UncaughtMemory UncaughtMine UnicodeTexts
 Limits FirstObjects OtherInitializers SynchronizedInitializer Main 267a 277a 278a 279a""".split()
-# Programs with threads whose outcome is a matter of the machine's own rules: stalls, abstract methods, numbers.
-OWN_THREADS = """JoinsItself JoinsInARing ThreadNumbers AbstractRun FramesOfThreads ParkedForEver PhilosophersStall WaitsForEver""".split()
+# Programs with threads whose outcome is a matter of the machine's own rules: stalls, abstract methods, numbers, native frames that pin.
+OWN_THREADS = """JoinsItself JoinsInARing ThreadNumbers AbstractRun FramesOfThreads ParkedForEver PhilosophersStall WaitsForEver
+PinnedPark PinnedMain MorePinned PinnedAlone PinnedWaits PinnedYields""".split()
 # How many cases of a program are played in one run.
 GROUP = 12
 # One case in so many is of a program with one thread.

@@ -2,7 +2,7 @@
 
 In a turn a carrier that has a thread mounted makes a step of it, and with a step that ends the thread puts it down; a thread that has to leave is
 put down in its next turn. A thread that isn't enabled is made ready to be put down in one turn, and put down in the next. An idle carrier takes
-up a thread. Before its step a thread has executed its local instructions, at most 10,000; a notify picks the thread that has waited longest. A
+up a thread. With a pinned thread that isn't enabled it does nothing. Before its step a thread has executed its local instructions, at most 10,000; a notify picks the thread that has waited longest. A
 turn is at a time; time goes on to it first where a live thread waits for that, after which the run may have ended, or where the step reads the
 clock, and the time is less.
 """
@@ -49,9 +49,14 @@ class Player:
         self.frozen.discard(carrier)
         self.enter(Unmount(carrier, number))
 
-    def tell_stall(self):
-        if not self.has_ended() and self.state.is_stalled():
+    def tell_stop(self):
+        """Tells that no thread can go on, or that pinned threads keep all others from it."""
+        if self.has_ended():
+            return
+        if self.state.is_stalled():
             self.told = "Stalled"
+        elif self.schedule.is_starved():
+            self.told = "Starved"
 
     def step(self, carrier, number, now):
         thread = self.state.threads[number]
@@ -68,17 +73,19 @@ class Player:
         self.history.append(Step(carrier, number, ahead + 1, pick))
         if thread.status == DONE:
             self.put_down(carrier, number)
-            self.tell_stall()
+            self.tell_stop()
         elif number in self.schedule.owing:
             self.frozen.add(carrier)
-            self.tell_stall()
+            self.tell_stop()
+        elif number not in self.schedule.look.enabled:
+            self.tell_stop()
 
     def turn(self, carrier, now):
         if self.has_ended():
             return
         if self.state.is_awaited(now):
             self.enter(Clock(carrier, now))
-            self.tell_stall()
+            self.tell_stop()
             if self.has_ended():
                 return
         self.act(carrier, now)
@@ -93,5 +100,5 @@ class Player:
             self.put_down(carrier, number)
         elif number in self.schedule.look.enabled:
             self.step(carrier, number, now)
-        else:
+        elif not self.state.threads[number].is_pinned():
             self.frozen.add(carrier)

@@ -123,6 +123,20 @@ class Schedule:
         in_line = self.look.entered(number) is not None
         return in_line and number in self.was_off and not self.state.threads[number].is_pinned()
 
+    # ---- whether a run starves
+
+    def is_kept(self, number):
+        """Whether a carrier's thread is pinned, and neither can go on nor has a time to come."""
+        if number is None:
+            return False
+        thread = self.state.threads[number]
+        return thread.is_pinned() and not self.state.is_enabled(thread) and not self.state.has_time(thread)
+
+    def is_starved(self):
+        """Whether the threads that the carriers have mounted keep all others from going on."""
+        kept = all(self.is_kept(number) for number in self.mounted)
+        return kept and any(self.state.is_enabled(thread) or self.state.has_time(thread) for thread in self.state.threads)
+
     # ---- what a step or a tick does to lists and deques
 
     def update(self, carrier, before, in_order_of_lists):
