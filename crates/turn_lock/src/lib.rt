@@ -8,6 +8,7 @@ mod moves;
 mod seat;
 mod taking;
 mod view;
+mod waiting;
 
 pub use lock::{Held, TurnLock};
 pub use seat::Seat;

@@ -65,7 +65,14 @@ impl<V: Kept> TurnLock<V> {
         ensures seen { HasSeenAll (V.history result.value) seat.old }
     {
         let badge = mem::replace(&mut seat.badge, Badge::blank());
-        let (value, badge) = take_value::<V, Brand, R>(rt, &self.table.shared, badge, seat.number);
+        let (value, badge) = take_value::<V, Brand, R>(
+            rt,
+            &self.table.shared,
+            badge,
+            seat.number,
+            &mut seat.patience,
+        );
+        seat.patience.end_take();
         seat.count = value.entries().len() as u64;
         seat.badge = badge;
         Held { value }

@@ -5,6 +5,7 @@ ghost use Rattle.turn_lock.specs.Seats.{new_seat};
 ghost use Rattle.turn_lock.specs.Views.{view_of};
 
 use crate::view::View;
+use crate::waiting::Patience;
 use atomic_table::Badge;
 use std::marker::Model;
 
@@ -15,6 +16,8 @@ pub struct Seat {
     pub(crate) number: u32,
     /// How many entries of the history it has seen.
     pub(crate) count: u64,
+    /// How it has found the turn of late.
+    pub(crate) patience: Patience,
 }
 
 impl Model for Seat {
@@ -39,6 +42,7 @@ impl Seat {
             badge,
             number,
             count: 0,
+            patience: Patience::new(),
         }
     }
 

@@ -9,18 +9,12 @@ ghost use Rattle.turn_lock.specs.Moves.{IsCounted, IsTaken};
 ghost use Rattle.turn_lock.specs.Views.{number_of, seen_of, view_of};
 
 use crate::key::{COUNT, Place, SharedTable, TURN, WAITING};
-use crate::moves::{Admits, CountOne, GiveBack, PickUp, PutDown, Stay, Take};
+use crate::moves::{Admits, CountOne, GiveBack, PickUp, PutDown, Take};
 use crate::view::View;
+use crate::waiting::{Patience, wait};
 use atomic_table::Badge;
 use history::Kept;
-use std::hint::spin_loop;
 use std::sync::Wait;
-
-// How often a carrier looks whether the turn is free before it sleeps.
-const LOOKS: u32 = 40;
-
-// The bits of a word that a sleep compares.
-const SLEEP_BITS: u64 = 0xffff_ffff;
 
 /// Waits until the turn is free, takes it, and takes the value out of the slot.
 pub(crate) fn take_value<V: Kept, A: Admits<V>, R: Wait>(
@@ -28,6 +22,7 @@ pub(crate) fn take_value<V: Kept, A: Admits<V>, R: Wait>(
     table: &SharedTable<V>,
     badge: Badge<View>,
     number: u32,
+    patience: &mut Patience,
 ) -> (V, Badge<View>)
     requires table { IsLockTable table.now.table_id }
     requires lock { badge.table_id ≡ table.now.table_id }
@@ -43,7 +38,7 @@ pub(crate) fn take_value<V: Kept, A: Admits<V>, R: Wait>(
     for _ in rt.forever() {
         match try_take::<V, A>(table, &mut place, number) {
             Ok(value) => return (value, place.into_badge()),
-            Err(found) => wait(rt, table, &mut place, found),
+            Err(found) => wait(rt, table, &mut place, found, patience),
         }
     }
     unreachable!()
@@ -70,44 +65,6 @@ fn try_take<V: Kept, A: Admits<V>>(
     let value = table.exchange(place, 0, None).unwrap();
     table.load::<PutDown>(place, TURN);
     Ok(value)
-}
-
-// Looks for a while whether the turn is free.
-fn becomes_free<V: Kept>(table: &SharedTable<V>) -> bool
-    requires { IsLockTable table.now.table_id }
-{
-    for _ in 0..LOOKS {
-        if table.peek(TURN) == 0 {
-            return true;
-        }
-        spin_loop();
-    }
-    false
-}
-
-// Waits for the turn, which was found to be another's: for a while, and then asleep.
-fn wait<V: Kept, R: Wait>(rt: &R, table: &SharedTable<V>, place: &mut Place<V>, found: u64)
-    requires table { IsLockTable table.now.table_id }
-    requires lock { place.old.table_id ≡ table.now.table_id }
-    ensures lock { place.new.table_id ≡ place.old.table_id }
-    ensures same { place.new.me ≡ place.old.me }
-{
-    if !becomes_free(table) {
-        sleep(rt, table, place, found);
-    }
-}
-
-// Sleeps, unless the turn has changed since it was found. No wake-up is lost: `park` looks at the turn after the sleeper has
-// counted itself, and `end_turn` at the count after it has freed the turn.
-fn sleep<V: Kept, R: Wait>(rt: &R, table: &SharedTable<V>, place: &mut Place<V>, found: u64)
-    requires table { IsLockTable table.now.table_id }
-    requires lock { place.old.table_id ≡ table.now.table_id }
-    ensures lock { place.new.table_id ≡ place.old.table_id }
-    ensures same { place.new.me ≡ place.old.me }
-{
-    table.fetch_add::<Stay>(place, WAITING, 1);
-    table.park(rt, TURN, (found & SLEEP_BITS) as u32);
-    table.fetch_sub::<Stay>(place, WAITING, 1);
 }
 
 /// Counts the new entries, puts the value into the slot, and ends the turn.

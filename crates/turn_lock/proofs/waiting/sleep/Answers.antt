@@ -1,6 +1,6 @@
 use Rattle.std.proofs.Common.{◌+◌, ◌-◌, ◌%◌, ◌^◌, ◌∙◌, arith}
 use Rattle.turn_lock.proofs.TurnLaws.{stays}
-use Rattle.turn_lock.proofs.taking.sleep.Goals as goal
+use Rattle.turn_lock.proofs.waiting.sleep.Goals as goal
 
 pub fetch_add-requires : goal.fetch_add-requires
 fetch_add-requires g c = (
