@@ -1,5 +1,5 @@
 -- What the values of the code mean.
-use Rattle.std.specs.Prelude.{◌≡◌, ◌≤◌, true, false, Option, None, Result, Ok, Err, option_and_then}
+use Rattle.std.specs.Prelude.{◌≡◌, ◌≤◌, true, false, List, Option, None, Result, Ok, Err, option_and_then}
 use Rattle.std.specs.String.{string_bytes}
 use Rattle.arguments.specs.declared.command.Command.{Command as CodeCommand}
 use Rattle.arguments.specs.declared.command.Command.TheVariants as code
@@ -7,7 +7,8 @@ use Rattle.arguments.specs.declared.command.Run as run_struct
 use Rattle.arguments.specs.declared.command.Gen as gen_struct
 use Rattle.arguments.specs.declared.command.CommandError.{CommandError}
 use Rattle.arguments.specs.declared.command.CommandError.TheVariants.{Usage, NoMemory}
-use Rattle.clap.specs.Words.{subcommand_rows_of}
+use Rattle.clap.specs.Matches.{found_of}
+use Rattle.clap.specs.Words.{Row, rows_of, subcommand_rows_of}
 use Rattle.clap.specs.declared.error.kind.ErrorKind.{ErrorKind}
 use Rattle.clap.specs.declared.error.kind.ErrorKind.TheVariants.{OutOfMemory}
 use Rattle.clap.specs.declared.parser.matches.ArgMatches.{ArgMatches}
@@ -55,6 +56,10 @@ IsInBounds other = Unit {0}
 abbrev pub IsRefusal : {X : Type 0} → Option X → CommandError → Type 0
 IsRefusal c (Usage text) = c ≡ None
 IsRefusal c NoMemory = Unit {0}
+
+-- what a parse of a subcommand's words found, row by row
+abbrev pub rows_in : ArgMatches → List Row
+rows_in m = rows_of (found_of m)
 
 -- the command that a parse matched
 abbrev pub matched_in : ArgMatches → Option Command

@@ -1,11 +1,10 @@
 //! Reads the arguments.
 
 ghost use Rattle.std.specs.Prelude.{◌≡◌, ◌<◌, ◌^◌, ◌++◌, ◌≤◌, Some, IfOk, IfErr, IfSome, OnOk, map, option_and_then, string_bytes};
-ghost use Rattle.clap.specs.Matches.{found_of};
-ghost use Rattle.clap.specs.Words.{kind_of, one_of, rows_of};
+ghost use Rattle.clap.specs.Words.{kind_of, one_of};
 ghost use Rattle.arguments.specs.Commands.{command_of, flag_of, gen_of, named, number_in, number_of, run_of, texts, word_of, words_of};
 ghost use Rattle.arguments.specs.Commands as ranges;
-ghost use Rattle.arguments.specs.Meanings.{AnswersTo, HasBounds, HasGenBounds, IsInBounds, IsRefusal, command_meaning, gen_meaning, matched_in, run_meaning};
+ghost use Rattle.arguments.specs.Meanings.{AnswersTo, HasBounds, HasGenBounds, IsInBounds, IsRefusal, command_meaning, gen_meaning, matched_in, rows_in, run_meaning};
 
 use crate::clap_command::command_line;
 use crate::command::{Command, CommandError, Gen, Run};
@@ -44,10 +43,10 @@ fn read_matches(alloc: Global, matches: &ArgMatches) -> Result<Command, CommandE
 
 // The command of this name that was matched.
 fn read_named(alloc: Global, name: &str, matches: &ArgMatches) -> Result<Command, CommandError>
-    ensures command { IfOk result (λ c. named name.now (rows_of (found_of matches.now))
+    ensures command { IfOk result (λ c. named name.now (rows_in matches.now)
         ≡ Some (command_meaning c)) }
     ensures bounds { IfOk result (λ c. IsInBounds (command_meaning c)) }
-    ensures refusal { IfErr result (IsRefusal (named name.now (rows_of (found_of matches.now)))) }
+    ensures refusal { IfErr result (IsRefusal (named name.now (rows_in matches.now))) }
 {
     match name {
         "run" => Ok(Command::Run(read_run(alloc, matches)?)),
@@ -76,9 +75,9 @@ fn without_matches(alloc: Global, error: &Error) -> Result<Command, CommandError
 
 // The run that was matched. clap has tested the bounds of its numbers, but says so of no command's arguments: so they are tested once more.
 fn read_run(alloc: Global, matches: &ArgMatches) -> Result<Run, CommandError>
-    ensures run { IfOk result (λ r. run_of (rows_of (found_of matches.now)) ≡ Some (run_meaning r)) }
+    ensures run { IfOk result (λ r. run_of (rows_in matches.now) ≡ Some (run_meaning r)) }
     ensures bounds { IfOk result (λ r. HasBounds (run_meaning r)) }
-    ensures refusal { IfErr result (IsRefusal (run_of (rows_of (found_of matches.now)))) }
+    ensures refusal { IfErr result (IsRefusal (run_of (rows_in matches.now))) }
 {
     let carriers = number(matches, "carriers", 1, 64);
     let events = number(matches, "events", 1000, 33_554_432);
@@ -96,9 +95,9 @@ fn read_run(alloc: Global, matches: &ArgMatches) -> Result<Run, CommandError>
 
 // The run of the generated program that was matched. Its bounds are tested once more, as those of a run are.
 fn read_gen(alloc: Global, matches: &ArgMatches) -> Result<Gen, CommandError>
-    ensures run { IfOk result (λ g. gen_of (rows_of (found_of matches.now)) ≡ Some (gen_meaning g)) }
+    ensures run { IfOk result (λ g. gen_of (rows_in matches.now) ≡ Some (gen_meaning g)) }
     ensures bounds { IfOk result (λ g. HasGenBounds (gen_meaning g)) }
-    ensures refusal { IfErr result (IsRefusal (gen_of (rows_of (found_of matches.now)))) }
+    ensures refusal { IfErr result (IsRefusal (gen_of (rows_in matches.now))) }
 {
     let carriers = number(matches, "carriers", 1, 64);
     let count = number(matches, "COUNT", 1, 50_000);
@@ -110,7 +109,7 @@ fn read_gen(alloc: Global, matches: &ArgMatches) -> Result<Gen, CommandError>
 
 // The number of an option, within these bounds.
 fn number(matches: &ArgMatches, id: &str, least: u32, most: u32) -> Option<u32>
-    ensures value { result ≡ number_of id.now least most (rows_of (found_of matches.now)) }
+    ensures value { result ≡ number_of id.now least most (rows_in matches.now) }
     ensures bounds { IfSome result (λ n. (least ≤ n) × (n ≤ most)) }
 {
     within(option_number(matches, id)?, least, most)
@@ -118,7 +117,7 @@ fn number(matches: &ArgMatches, id: &str, least: u32, most: u32) -> Option<u32>
 
 // The number of an option.
 fn option_number(matches: &ArgMatches, id: &str) -> Option<u32>
-    ensures { result ≡ option_and_then number_in (one_of id.now (rows_of (found_of matches.now))) }
+    ensures { result ≡ option_and_then number_in (one_of id.now (rows_in matches.now)) }
 {
     matches.get_one::<u32>(id)
 }
@@ -136,21 +135,21 @@ fn within(number: u32, least: u32, most: u32) -> Option<u32>
 
 // Whether a flag is up.
 fn flag(matches: &ArgMatches, id: &str) -> bool
-    ensures { result ≡ flag_of id.now (rows_of (found_of matches.now)) }
+    ensures { result ≡ flag_of id.now (rows_in matches.now) }
 {
     matches.get_one::<bool>(id).unwrap_or(false)
 }
 
 // The word of this name.
 fn word(alloc: Global, matches: &ArgMatches, id: &str) -> Result<String, AllocError>
-    ensures { IfOk result (λ s. string_bytes s ≡ word_of id.now (rows_of (found_of matches.now))) }
+    ensures { IfOk result (λ s. string_bytes s ≡ word_of id.now (rows_in matches.now)) }
 {
     String::from_str(alloc, matches.get_str(id).unwrap_or(""))
 }
 
 // The words of this name.
 fn words(alloc: Global, matches: &ArgMatches, id: &str) -> Result<Vec<String>, AllocError>
-    ensures { IfOk result (λ v. texts v.items ≡ words_of id.now (rows_of (found_of matches.now))) }
+    ensures { IfOk result (λ v. texts v.items ≡ words_of id.now (rows_in matches.now)) }
 {
     copies(alloc, matches.get_strs(id).unwrap_or(&[]))
 }

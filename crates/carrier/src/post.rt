@@ -7,7 +7,7 @@ ghost use Rattle.carrier.specs.Shared.{shared_run};
 
 use crate::readings::Reading;
 use crate::timed_machine::MachineLock;
-use carrier_turns::{Hand, Turn, do_asked};
+use carrier_turns::{Ask, Hand, Turn, do_asked};
 use items::NoMemory;
 use jvm_edges::{Clock, Gate};
 use machine::ReadyProgram;
@@ -24,6 +24,13 @@ pub struct Post<'p> {
     pub hand: Hand<'p>,
     pub met: Option<Ending>,
     pub longest_nap: u64,
+}
+
+// Whether a carrier whose turn answered this leaves its next turn to others where they have the machine: it is neither to execute local
+// instructions nor to put its thread down.
+#[inline(always)]
+fn gives_way(answer: Turn) -> bool {
+    !matches!(answer, Turn::Run(Ask::Local(_) | Ask::Freeze))
 }
 
 // Waits for the turn, makes a turn of the seat's carrier with the machine, at a time in nanoseconds, and gives the machine back. Besides the
@@ -54,8 +61,9 @@ fn turn_in_lock<'p, 'c, R: Wait, C: Clock>(
     let mut held = lock.take(rt, seat);
     let answer = held.value.turn(alloc, hand, carrier, now);
     held.value.is_legal();
-    let met = held.value.ending();
+    let met = held.value.ending_after(answer);
     lock.give(seat, held);
+    seat.give_way(gives_way(answer));
     (answer, met)
 }
 

@@ -1,10 +1,10 @@
 //! A machine with the clock of its run.
 
-ghost use Rattle.std.specs.Prelude.{◌≡◌, [], IfOk, IsTrue};
+ghost use Rattle.std.specs.Prelude.{◌≡◌, [], IfOk, IsTrue, is_some};
 ghost use Rattle.machine.specs.Legal.{IsLegal};
 ghost use Rattle.machine.specs.Machines.{machine_ending};
 ghost use Rattle.carrier_turns.specs.Hands.{Fits, HasDone};
-ghost use Rattle.carrier_turns.specs.Turns.{IsTurn};
+ghost use Rattle.carrier_turns.specs.Turns.{IsTurn, is_over};
 ghost use Rattle.carrier.specs.Runs.{IsTimed};
 
 use carrier_turns::{Hand, Turn, turn};
@@ -81,12 +81,17 @@ impl<'p, 'c, C: Clock> TimedMachine<'p, 'c, C> {
         turn(alloc, &mut *self.machine, hand, carrier, now)
     }
 
-    /// How the run has ended, if it has.
+    /// How the run has ended after a turn that answered this, if it has.
     #[inline(always)]
-    pub fn ending(&self) -> Option<Ending>
+    pub fn ending_after(&self, answer: Turn) -> Option<Ending>
+        requires { is_over answer ≡ is_some (machine_ending self.now.machine) }
         ensures { result ≡ machine_ending self.now.machine }
     {
-        self.machine.ending()
+        if answer.is_over() {
+            self.machine.ending()
+        } else {
+            None
+        }
     }
 
     /// That the history is that of a run of the program (`Machine::is_legal`).

@@ -55,6 +55,15 @@ impl Seat {
         badge
     }
 
+    /// Whether it leaves the turn to others from now on, where `take` finds that they have it: it rests then, and is late. Who has nothing
+    /// at hand that others could wait for does well to give way.
+    #[inline(always)]
+    pub fn give_way(&mut self, gives_way: bool)
+        ensures { self.new ≡ self.old }
+    {
+        self.patience.give_way(gives_way);
+    }
+
     /// Its number, counted from 0.
     pub fn number(&self) -> u32
         ensures { result ≡ self.now.number }

@@ -32,7 +32,8 @@ pub(crate) fn take_value<V: Kept, A: Admits<V>, R: Wait>(
     ensures lock { result.1.table_id ≡ badge.table_id }
     ensures view { result.1.views ≡ view_of true number (V.history result.0) ∷ [] }
     ensures begins { IsPrefix (seen_of (only_view badge.views)) (V.history result.0) }
-    ensures exact { made_by number (V.history result.0) ≡ made_by number (seen_of (only_view badge.views)) }
+    ensures exact { made_by number (V.history result.0)
+        ≡ made_by number (seen_of (only_view badge.views)) }
 {
     let mut place: Place<V> = badge.into_seat();
     for _ in rt.forever() {
@@ -55,7 +56,8 @@ fn try_take<V: Kept, A: Admits<V>>(
     requires view { place.old.me ≡ (view_of false number (seen_of place.old.me.0), []) }
     requires admits { (v : V) → V.setting v ≡ V.setting table.now.key.initial.value → A.admits v }
     ensures lock { place.new.table_id ≡ place.old.table_id }
-    ensures ok { IfOk result (λ v. IsTaken V.history A.admits number (seen_of place.old.me.0) v place.new.me) }
+    ensures ok { IfOk result (λ v.
+        IsTaken V.history A.admits number (seen_of place.old.me.0) v place.new.me) }
     ensures err { OnErr result (place.new.me ≡ place.old.me) }
 {
     let found = table.compare_exchange::<Take<A>>(place, TURN, 0, u64::from(number) + 1);
@@ -102,7 +104,8 @@ fn end_turn<V: Kept>(table: &SharedTable<V>, place: &mut Place<V>, value: Option
     requires counted { IsCounted V.history place.old.me value }
     requires setting { IfSome value (λ v. V.setting v ≡ V.setting table.now.key.initial.value) }
     ensures lock { place.new.table_id ≡ place.old.table_id }
-    ensures view { place.new.me ≡ (view_of false (number_of place.old.me.0) (seen_of place.old.me.0), []) }
+    ensures view { place.new.me
+        ≡ (view_of false (number_of place.old.me.0) (seen_of place.old.me.0), []) }
 {
     let empty = table.exchange(place, 0, value);
     let None = empty else { unreachable!() };

@@ -13,55 +13,79 @@ use std::time::Duration;
 // How often a seat looks whether the turn is free before it rests.
 const LOOKS: u32 = 100;
 
-// How many takes in a row find the turn another's before the seat leaves it to others for the length of a rest.
+// How many takes in a row have to find the turn another's before the seat leaves it to others for the length of a rest.
 const CROWD: u32 = 4;
 
-// How long a rest takes at most, in nanoseconds.
-const REST: u64 = 50_000;
+// How long the first rest of a take lasts at most, in nanoseconds. Each further one lasts as much longer, up to the longest.
+const FIRST_REST: u64 = 50_000;
 
-// How often a seat waits in one take before it sleeps until it is woken.
-const MOST_RESTS: u32 = 8;
+const LONGEST_REST: u64 = 8 * FIRST_REST;
+
+// How often a seat rests in one take before it sleeps until it is woken.
+const MOST_RESTS: u32 = 100;
 
 // The bits of a word that a sleep compares.
 const SLEEP_BITS: u64 = 0xffff_ffff;
 
-/// How a seat has found the turn of late: in how many takes in a row it was another's, and how often in this one.
-#[derive(Clone, Copy, Drop)]
+/// How a seat waits, and how it has found the turn of late: in how many takes in a row it was another's, whether in this one, and how often the
+/// seat has rested in it.
+#[derive(Drop)]
 pub(crate) struct Patience {
+    gives_way: bool,
     crowd: u32,
-    waits: u32,
+    waits: bool,
+    rests: u32,
 }
 
 impl Patience {
-    /// That of a seat which hasn't waited yet.
+    /// That of a seat which has taken nothing yet.
     pub(crate) fn new() -> Self {
-        Patience { crowd: 0, waits: 0 }
+        Patience {
+            gives_way: false,
+            crowd: 0,
+            waits: false,
+            rests: 0,
+        }
     }
 
-    /// A take has ended.
+    /// Whether the seat leaves the turn to others from now on, where it finds that they have it.
+    #[inline(always)]
+    pub(crate) fn give_way(&mut self, gives_way: bool) {
+        self.gives_way = gives_way;
+    }
+
+    /// A take ends: the next one may wait again.
     #[inline(always)]
     pub(crate) fn end_take(&mut self) {
-        if self.waits == 0 || self.crowd >= CROWD {
+        if !self.waits || self.crowd >= CROWD {
             self.crowd = 0;
         } else {
             self.crowd += 1;
         }
-        self.waits = 0;
+        self.waits = false;
+        self.rests = 0;
     }
 
-    // Whether a take that finds the turn another's leaves it to others first.
-    fn steps_back(&self) -> bool {
-        self.waits == 0 && self.crowd >= CROWD
+    // A take finds the turn another's: whether it leaves it to others first. A seat that doesn't give way leaves it at most once.
+    fn steps_back(&mut self) -> bool {
+        let is_first = !self.waits;
+        self.waits = true;
+        self.gives_way || (is_first && self.crowd >= CROWD)
     }
 
-    // Whether a take has rested often enough, and sleeps.
-    fn is_over(&self) -> bool {
-        self.waits > MOST_RESTS
+    // How long the seat rests, in nanoseconds. `None`: it has rested often enough in this take.
+    fn next_rest(&mut self) -> Option<u64> {
+        if self.rests >= MOST_RESTS {
+            return None;
+        }
+        self.rests += 1;
+        Some((FIRST_REST * u64::from(self.rests)).min(LONGEST_REST))
     }
 }
 
-/// Waits for the turn, which was found to be another's: it looks for a while, or rests, or sleeps in the end. A seat that found the turn another's
-/// again and again rests at once, since it and another one take turns then, and the value goes to and fro between two processors.
+/// Waits for the turn, which was found to be another's: the seat looks for a while, and then rests; in the end it sleeps. One that gives way
+/// doesn't look; nor does one that found the turn another's again and again, since it and another one have every other turn then, and the value
+/// goes to and fro between two processors.
 #[inline(never)]
 pub(crate) fn wait<V: Kept, R: Wait>(
     rt: &R,
@@ -75,15 +99,12 @@ pub(crate) fn wait<V: Kept, R: Wait>(
     ensures lock { place.new.table_id ≡ place.old.table_id }
     ensures same { place.new.me ≡ place.old.me }
 {
-    let steps_back = patience.steps_back();
-    patience.waits = patience.waits.saturating_add(1);
-    if !steps_back && becomes_free(table) {
+    if !patience.steps_back() && becomes_free(table) {
         return;
     }
-    if patience.is_over() {
-        sleep(rt, table, place, found);
-    } else {
-        rest(rt, table);
+    match patience.next_rest() {
+        Some(nanos) => rest(rt, table, nanos),
+        None => sleep(rt, table, place, found),
     }
 }
 
@@ -100,11 +121,11 @@ fn becomes_free<V: Kept>(table: &SharedTable<V>) -> bool
     false
 }
 
-// Rests, unless somebody sleeps. Nobody is woken on the word of those who sleep, so a rest ends by its time.
-fn rest<V: Kept, R: Wait>(rt: &R, table: &SharedTable<V>)
+// Rests for as many nanoseconds, unless somebody sleeps. Nobody is woken on the word that counts those who sleep, so a rest ends by its time.
+fn rest<V: Kept, R: Wait>(rt: &R, table: &SharedTable<V>, nanos: u64)
     requires { IsLockTable table.now.table_id }
 {
-    table.park_timeout(rt, WAITING, 0, Duration::from_nanos(REST));
+    table.park_timeout(rt, WAITING, 0, Duration::from_nanos(nanos));
 }
 
 // Sleeps, unless the turn has changed since it was found. No wake-up is lost: `park` looks at the turn after the sleeper has

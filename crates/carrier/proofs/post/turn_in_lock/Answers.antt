@@ -17,6 +17,9 @@ pub turn-answer-requires-clause-given : goal.turn-answer-requires-clause-given
 turn-answer-requires-clause-given g c =
     subst (λ k. IsTrue (g.C.Clock.gives k c.args.now)) (sym (clock_of c.take-held.result.value c.args.lock.now.initial c.take-held.ensures.setting)) c.requires.given
 
+pub ending_after-met-requires : goal.ending_after-met-requires
+ending_after-met-requires g c = c.turn-answer.ensures.turn.over
+
 pub give-requires-clause-lock : goal.give-requires-clause-lock
 give-requires-clause-lock g c = ap (λ (s : SeatState). s.lock) c.take-held.ensures.seat ∙ c.requires.lock
 
@@ -37,31 +40,31 @@ give-requires-clause-continues g c =
     (ap (λ (s : SeatState). s.seen) c.take-held.ensures.seat))
 
 pub returns-clause-lock : goal.returns-clause-lock
-returns-clause-lock g c = ap (λ (s : SeatState). s.lock) c.give.ensures ∙ ap (λ (s : SeatState). s.lock) c.take-held.ensures.seat
+returns-clause-lock g c = ap (λ (s : SeatState). s.lock) (c.give_way.ensures ∙ c.give.ensures) ∙ ap (λ (s : SeatState). s.lock) c.take-held.ensures.seat
 
 pub returns-clause-number : goal.returns-clause-number
-returns-clause-number g c = ap (λ (s : SeatState). s.number) c.give.ensures ∙ ap (λ (s : SeatState). s.number) c.take-held.ensures.seat
+returns-clause-number g c = ap (λ (s : SeatState). s.number) (c.give_way.ensures ∙ c.give.ensures) ∙ ap (λ (s : SeatState). s.number) c.take-held.ensures.seat
 
 pub returns-clause-idle : goal.returns-clause-idle
-returns-clause-idle g c = ap (λ (s : SeatState). s.holds) c.give.ensures
+returns-clause-idle g c = ap (λ (s : SeatState). s.holds) (c.give_way.ensures ∙ c.give.ensures)
 
 pub returns-clause-turned : goal.returns-clause-turned
 returns-clause-turned g c =
-    turned_on (shared_run g.C.Clock.gives c.args.lock.now) c.turn-answer.new.self.machine c.give.new.seat
+    turned_on (shared_run g.C.Clock.gives c.args.lock.now) c.turn-answer.new.self.machine c.give_way.new.self
     (parts_stay c.take-held.result.value.machine c.turn-answer.new.self.machine c.number-carrier.result c.args.now c.turn-answer.ensures.turn.appends
     ∙ parts_of c.take-held.result.value c.args.lock.now.initial c.take-held.ensures.setting)
-    c.is_legal.ensures.legal (ap (λ (s : SeatState). s.seen) c.give.ensures) c.take-held.result.value.machine c.number-carrier.result c.args.now c.args.hand.now c.turn-answer.new.hand
+    c.is_legal.ensures.legal (ap (λ (s : SeatState). s.seen) (c.give_way.ensures ∙ c.give.ensures)) c.take-held.result.value.machine c.number-carrier.result c.args.now c.args.hand.now c.turn-answer.new.hand
     c.turn-answer.result c.turn-answer.ensures.fits c.turn-answer.ensures.turn
-    (ap (λ (s : SeatState). s.number) c.give.ensures ∙ ap (λ (s : SeatState). s.number) c.take-held.ensures.seat ∙ sym c.number-carrier.ensures)
+    (ap (λ (s : SeatState). s.number) (c.give_way.ensures ∙ c.give.ensures) ∙ ap (λ (s : SeatState). s.number) c.take-held.ensures.seat ∙ sym c.number-carrier.ensures)
 
 pub returns-clause-met : goal.returns-clause-met
 returns-clause-met g c =
-    met_on (shared_run g.C.Clock.gives c.args.lock.now) c.turn-answer.new.self.machine c.give.new.seat
+    met_on (shared_run g.C.Clock.gives c.args.lock.now) c.turn-answer.new.self.machine c.give_way.new.self
     (parts_stay c.take-held.result.value.machine c.turn-answer.new.self.machine c.number-carrier.result c.args.now c.turn-answer.ensures.turn.appends
     ∙ parts_of c.take-held.result.value c.args.lock.now.initial c.take-held.ensures.setting)
-    c.is_legal.ensures.legal (ap (λ (s : SeatState). s.seen) c.give.ensures) c.ending-met.result c.ending-met.ensures
+    c.is_legal.ensures.legal (ap (λ (s : SeatState). s.seen) (c.give_way.ensures ∙ c.give.ensures)) c.ending_after-met.result c.ending_after-met.ensures
     (subst (λ k. IsTimed (g.C.Clock.gives k) c.turn-answer.new.self.machine)
     (c.turn-answer.ensures.clock ∙ clock_of c.take-held.result.value c.args.lock.now.initial c.take-held.ensures.setting) c.is_legal.ensures.timed)
 
 pub returns-clause-over : goal.returns-clause-over
-returns-clause-over g c = c.turn-answer.ensures.turn.over ∙ sym (ap is_some c.ending-met.ensures)
+returns-clause-over g c = c.turn-answer.ensures.turn.over ∙ sym (ap is_some c.ending_after-met.ensures)
