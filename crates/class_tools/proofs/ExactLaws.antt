@@ -1,5 +1,5 @@
 -- From what was read and what was made of it to the cause of the answer.
-use Rattle.std.proofs.Common.{◌≡◌, ℕ, ◌≤◌, ◌⊎◌, inl, inr, List, length, Option, Some, None, Result, Ok, Err, refl, sym, ap, subst, ◌∙◌}
+use Rattle.std.proofs.Common.{◌≡◌, ℕ, ◌≤◌, ◌⊎◌, inl, inr, List, length, Option, Some, None, Result, Ok, Err, refl, sym, ap, subst, ◌∙◌, arith}
 use Rattle.std.specs.Prelude.{IfOk, IfErr, IsErrAnd}
 use Rattle.std.specs.Global.{Vec}
 use Rattle.jvm_edges.specs.Files.{Files, file_named}
@@ -19,7 +19,6 @@ use Rattle.input_files.specs.StoreFaults.{StoreFaults}
 use Rattle.class_tools.specs.Due.{Due, writes, answered, IsAssembly, IsDue, IsListing}
 use Rattle.class_tools.specs.Exact.{HasCause, IsCaused, IsDueOrFault, IsExact, IsRefusal}
 use Rattle.class_tools.specs.Making.{IsOfBytes, Makes, text_answer}
-use Rattle.class_tools.proofs.DueLaws.{one_due}
 
 -- ---- the answers that nothing is written with
 
@@ -77,6 +76,16 @@ pub bad_kind : (bytes : List ℕ) (r : Result (Vec ℕ) Why) (error : LoadError)
 bad_kind bytes (Ok v) error is bad = absurd is
 bad_kind bytes (Err why) error is (inl e) = subst IsOfBytes (sym (is ∙ ap load_answer e)) tt
 bad_kind bytes (Err why) error is (inr b) = subst IsOfBytes (sym (is ∙ ap load_answer b.is_error)) tt
+
+-- ---- at most one thing is due
+
+pub one_due : (of : List ℕ → Due → Type 0) → ((bytes : List ℕ) (a b : Due) → of bytes a → of bytes b → a ≡ b)
+    → (contents : Contents) (a b : Due) → IsDue of contents a → IsDue of contents b → a ≡ b
+one_due of one None a b x y = x ∙ sym y
+one_due of one (Some bytes) a b (inl x) (inl y) = x.1 ∙ sym y.1
+one_due of one (Some bytes) a b (inl x) (inr y) = absurd (omega (arith, x.0, y.0))
+one_due of one (Some bytes) a b (inr x) (inl y) = absurd (omega (arith, x.0, y.0))
+one_due of one (Some bytes) a b (inr x) (inr y) = one bytes a b x.1 y.1
 
 -- ---- causes
 

@@ -1,3 +1,2 @@
-pub mod DueLaws
 pub mod ExactLaws
 pub mod AnswerLaws

@@ -1,3 +1,4 @@
 pub mod Due
 pub mod Exact
 pub mod Making
+pub mod OneDue

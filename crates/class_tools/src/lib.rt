@@ -3,9 +3,11 @@
 
 mod answering;
 mod assembling;
+mod conversion;
 mod laws;
 mod listing;
 
-pub use assembling::assemble_file;
+pub use assembling::Assembly;
+pub use conversion::{Conversion, convert_file};
 pub use laws::one_is_due;
-pub use listing::list_file;
+pub use listing::Listing;

@@ -21,19 +21,6 @@ use Rattle.java_cli.proofs.AnswerLaws.{memory_exact}
 
 -- ---- a command
 
--- what holds of the run, where the words spell one
-pub of_run : (o : Option Command) (c : Run) (fact : Run → Type 0) → o ≡ Some (commands.run c) → fact c → IfRun o fact
-of_run o c fact is holds = subst (λ (x : Option Command). IfRun x fact) (sym is) holds
-
-pub of_no_run : (o : Option Command) (fact : Run → Type 0) → o ≡ Some commands.help → IfRun o fact
-of_no_run o fact is = subst (λ (x : Option Command). IfRun x fact) (sym is) tt
-
-pub of_help : (o : Option Command) (fact : Type 0) → o ≡ Some commands.help → fact → IfHelp o fact
-of_help o fact is holds = subst (λ (x : Option Command). IfHelp x fact) (sym is) holds
-
-pub of_no_help : (o : Option Command) (c : Run) (fact : Type 0) → o ≡ Some (commands.run c) → IfHelp o fact
-of_no_help o c fact is = subst (λ (x : Option Command). IfHelp x fact) (sym is) tt
-
 -- a command is spelled, and so the answer is not Usage
 pub spelled : (o : Option Command) (c : Command) (why : Why) → o ≡ Some c → (why ≡ Usage → ⊥) → IsUsageExact o why
 spelled o c why is not_usage = record {

@@ -1,41 +1,50 @@
 -- What the call answers to the commands on one file, and to that of the generated program.
-use Rattle.std.proofs.Common.{◌≡◌, ◌⊎◌, inl, inr, ℕ, Bool, List, [], Option, Some, None, refl, sym, ap, subst, ◌∙◌}
+use Rattle.std.proofs.Common.{◌≡◌, inl, inr, ℕ, List, [], Option, Some, None, sym, ap, subst, ◌∙◌}
 use Rattle.arguments.specs.Commands as commands
 use Rattle.arguments.specs.Commands.{Command, Gen, Run}
-use Rattle.arguments.specs.Meanings.{IsRefusal}
+use Rattle.arguments.specs.Meanings.{IsRefusal, command_meaning}
+use Rattle.arguments.specs.declared.command.Command.{Command as CodeCommand}
 use Rattle.arguments.specs.declared.command.CommandError.{CommandError}
 use Rattle.arguments.specs.declared.command.CommandError.TheVariants as errors
 use Rattle.jvm_edges.specs.Files.{Files}
+use Rattle.command_line.specs.Answers.{line_of}
+use Rattle.command_line.specs.Commands.{names_in}
 use Rattle.command_line.specs.declared.answer.Which.TheVariants.{FileSize}
 use Rattle.command_line.specs.declared.answer.Why.{Why}
 use Rattle.command_line.specs.declared.answer.Why.TheVariants.{Missing, Limit, Usage, NoMemory}
 use Rattle.answers.specs.declared.report.Report.{Report}
 use Rattle.answers.specs.Reports.{IsOfText, refusal_of}
+use Rattle.answers.specs.Taken.{TakesAnswer, TakesLine}
 use Rattle.input_files.specs.Contents.{Contents}
 use Rattle.input_files.specs.Limits.{most_bytes}
 use Rattle.class_tools.specs.Due as tools
-use Rattle.class_tools.specs.Due.{IsAssembly, IsListing}
 use Rattle.class_tools.specs.Exact as exact
-use Rattle.class_tools.specs.Exact.{HasCause, IsCaused, IsExact, IsWritten, OnText}
-use Rattle.java_cli.specs.Headline.{IfAsm, IfGen, IfHelp, IfList, IfRun}
+use Rattle.class_tools.specs.Exact.{HasCause, IsCaused, IsExact}
+use Rattle.java_cli.specs.Headline.{IfAsm, IfGen, IfHelp, IfList, IfRun, IsUsageExact}
 use Rattle.java_cli.specs.Tools.{Converts}
+use Rattle.java_cli.proofs.CommandLaws.{line_alone, spelled}
 
 -- ---- the command that the words spell
 
-pub run_by : (o : Option Command) (c : Command) (fact : Run → Type 0) → o ≡ Some c → IfRun (Some c) fact → IfRun o fact
-run_by o c fact is holds = subst (λ (x : Option Command). IfRun x fact) (sym is) holds
+-- The words spell the command that was read, and it is this one.
+module _ {o : Option Command} {read one : CodeCommand} (spells : o ≡ Some (command_meaning read)) (is : read ≡ one) where
+  pub spelled_by : o ≡ Some (command_meaning one)
+  spelled_by = spells ∙ ap (λ (c : CodeCommand). Some (command_meaning c)) is
 
-pub asm_by : (o : Option Command) (c : Command) (fact : List ℕ → Type 0) → o ≡ Some c → IfAsm (Some c) fact → IfAsm o fact
-asm_by o c fact is holds = subst (λ (x : Option Command). IfAsm x fact) (sym is) holds
+  pub run_by : (fact : Run → Type 0) → IfRun (Some (command_meaning one)) fact → IfRun o fact
+  run_by fact holds = subst (λ (x : Option Command). IfRun x fact) (sym spelled_by) holds
 
-pub list_by : (o : Option Command) (c : Command) (fact : List ℕ → Type 0) → o ≡ Some c → IfList (Some c) fact → IfList o fact
-list_by o c fact is holds = subst (λ (x : Option Command). IfList x fact) (sym is) holds
+  pub asm_by : (fact : List ℕ → Type 0) → IfAsm (Some (command_meaning one)) fact → IfAsm o fact
+  asm_by fact holds = subst (λ (x : Option Command). IfAsm x fact) (sym spelled_by) holds
 
-pub gen_by : (o : Option Command) (c : Command) (fact : Gen → Type 0) → o ≡ Some c → IfGen (Some c) fact → IfGen o fact
-gen_by o c fact is holds = subst (λ (x : Option Command). IfGen x fact) (sym is) holds
+  pub list_by : (fact : List ℕ → Type 0) → IfList (Some (command_meaning one)) fact → IfList o fact
+  list_by fact holds = subst (λ (x : Option Command). IfList x fact) (sym spelled_by) holds
 
-pub help_by : (o : Option Command) (c : Command) (fact : Type 0) → o ≡ Some c → IfHelp (Some c) fact → IfHelp o fact
-help_by o c fact is holds = subst (λ (x : Option Command). IfHelp x fact) (sym is) holds
+  pub gen_by : (fact : Gen → Type 0) → IfGen (Some (command_meaning one)) fact → IfGen o fact
+  gen_by fact holds = subst (λ (x : Option Command). IfGen x fact) (sym spelled_by) holds
+
+  pub help_by : (fact : Type 0) → IfHelp (Some (command_meaning one)) fact → IfHelp o fact
+  help_by fact holds = subst (λ (x : Option Command). IfHelp x fact) (sym spelled_by) holds
 
 -- ---- Usage is no answer to them
 
@@ -51,17 +60,21 @@ usage_not_due of none (Some bytes) (inl large) = no_limit large.1
     no_limit e = absurd cc
 usage_not_due of none (Some bytes) (inr small) = none bytes small.1
 
-not_usage : (of : List ℕ → tools.Due → Type 0) → ((bytes : List ℕ) → of bytes (tools.answered Usage) → ⊥) → (known : Option Files) (faulty : Type 0)
-    (file : List ℕ) (why : Why) → IsExact of known faulty file why → why ≡ Usage → ⊥
-not_usage of none known faulty file why x is =
-    let cause : HasCause of known file (tools.answered Usage) = subst (IsCaused of known faulty file) is x.cause in
-    usage_not_due of none cause.contents cause.due
+-- their answers, where `none` says that Usage is never due by the bytes
+module _ {of : List ℕ → tools.Due → Type 0} {known : Option Files} {faulty : Type 0} {file : List ℕ} {why : Why} (x : IsExact of known faulty file why)
+    (none : (bytes : List ℕ) → of bytes (tools.answered Usage) → ⊥) where
+  not_usage : why ≡ Usage → ⊥
+  not_usage is =
+      let cause : HasCause of known file (tools.answered Usage) = subst (IsCaused of known faulty file) is x.cause in
+      usage_not_due of none cause.contents cause.due
 
-pub assembly_not_usage : (known : Option Files) (faulty : Type 0) (file : List ℕ) (why : Why) → IsExact IsAssembly known faulty file why → why ≡ Usage → ⊥
-assembly_not_usage known faulty file why = not_usage IsAssembly (λ bytes bad. bad) known faulty file why
+  pub tool_usage : {o : Option Command} {c : Command} → o ≡ Some c → IsUsageExact o why
+  tool_usage {o} {c} is = spelled o c why is not_usage
 
-pub listing_not_usage : (known : Option Files) (faulty : Type 0) (file : List ℕ) (why : Why) → IsExact IsListing known faulty file why → why ≡ Usage → ⊥
-listing_not_usage known faulty file why = not_usage IsListing (λ bytes bad. bad) known faulty file why
+  pub tool_line : {E : Type 0} {contents : E → Option (List ℕ)} {faults : E → ℕ} {old new : E} {o : Option Command} {c : Command} {written : ℕ} → o ≡ Some c → written ≡ 0
+      → TakesLine contents faults old new (line_of (names_in (Some c)) why) [] 0 → TakesAnswer contents faults old new why (line_of (names_in o) why) written
+  tool_line {E} {contents} {faults} {old} {new} {o} {c} {written} is unwritten line =
+      line_alone contents faults old new o c why written is not_usage (subst (λ (n : ℕ). TakesLine contents faults old new (line_of (names_in (Some c)) why) [] n) (sym unwritten) line)
 
 -- ---- memory ran out before the command was known
 

@@ -17,7 +17,7 @@ ghost use Rattle.java_cli.specs.Tools.{Converts};
 use crate::command_run::run_program;
 use crate::generated::run_generated;
 use answers::{Report, refuse_arguments, show};
-use class_tools::{assemble_file, list_file};
+use class_tools::{Assembly, Listing, convert_file};
 use command_line::{Command, Why, read_command};
 use jvm_edges::{Clock, Gate, Sink, Store};
 use std::alloc::Global;
@@ -76,8 +76,8 @@ pub fn jvt<R: Threads + Wait + Sync, S: Store, O: Sink, E: Sink, C: Clock + Sync
     };
     match command {
         Command::Run(run) => run_program(rt, alloc, &run, store, out, err, clock, gate),
-        Command::Asm { file } => assemble_file(alloc, &file, store, out, err),
-        Command::List { file } => list_file(alloc, &file, store, out, err),
+        Command::Asm { file } => convert_file(alloc, &Assembly, &file, store, out, err),
+        Command::List { file } => convert_file(alloc, &Listing, &file, store, out, err),
         Command::Gen(load) => run_generated(rt, alloc, &load, out, err, clock, gate),
         Command::Help(text) => show(alloc, text.as_bytes(), out, err),
     }

@@ -1,5 +1,6 @@
 use Rattle.class_tools.specs.Due.{IsAssembly, IsListing}
-use Rattle.class_tools.proofs.DueLaws.{one_assembly, one_due, one_listing}
+use Rattle.class_tools.specs.OneDue.{one_assembly, one_listing}
+use Rattle.class_tools.proofs.ExactLaws.{one_due}
 use Rattle.class_tools.proofs.laws.one_is_due.Goals as goal
 
 pub returns-clause-assembly : goal.returns-clause-assembly

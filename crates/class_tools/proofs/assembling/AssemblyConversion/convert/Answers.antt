@@ -1,5 +1,5 @@
 use Rattle.class_tools.proofs.ExactLaws.{text_kind, text_makes}
-use Rattle.class_tools.proofs.assembling.assembled.Goals as goal
+use Rattle.class_tools.proofs.assembling.AssemblyConversion.convert.Goals as goal
 
 pub written-requires : goal.written-requires
 written-requires c = (c.args.text.now, c.in-Ok.ensures)

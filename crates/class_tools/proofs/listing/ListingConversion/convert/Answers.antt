@@ -1,7 +1,7 @@
 use Rattle.std.proofs.Common.{Err, refl, subst}
 use Rattle.jasm.specs.Lists.{Lists}
 use Rattle.class_tools.proofs.ExactLaws.{bad_kind, bad_makes}
-use Rattle.class_tools.proofs.listing.listed.Goals as goal
+use Rattle.class_tools.proofs.listing.ListingConversion.convert.Goals as goal
 
 pub returns-in_err-class-clause-made : goal.returns-in_err-class-clause-made
 returns-in_err-class-clause-made c = bad_makes c.args.bytes.now c.from_residual.result c.in_err-class.field-0.0 c.from_residual.ensures.1 c.in_err-class.ensures.bad

@@ -1,5 +1,7 @@
--- At most one thing is due.
-use Rattle.std.proofs.Common.{◌≡◌, ℕ, inl, inr, List, Some, None, Result, Ok, Err, sym, ap, subst, ◌∙◌, arith}
+-- At most one thing is due by the bytes of a file: the proofs that the trait `Conversion` asks for. They stand here
+-- since an `impl` can't cite `proofs/`.
+use Rattle.std.proofs.Common.{◌≡◌, ℕ, List, Result, Ok, Err, refl, sym, ap, subst, ◌∙◌}
+use Rattle.std.specs.Prelude.{IfOk, IfErr}
 use Rattle.std.proofs.lemmas.Option.{same_Some}
 use Rattle.class_model.specs.declared.class_file.ClassFile.{ClassFile}
 use Rattle.class_grammar.specs.Layout.{class_file}
@@ -11,32 +13,23 @@ use Rattle.jasm.proofs.TextLaws.{one_made}
 use Rattle.command_line.specs.declared.answer.Why.TheVariants.{BadClass, BadText, Unlisted}
 use Rattle.input_files.specs.declared.error.LoadError.{LoadError}
 use Rattle.input_files.specs.declared.error.LoadError.TheVariants as load
-use Rattle.input_files.specs.Contents.{Contents}
 use Rattle.input_files.specs.Errors.{load_answer}
 use Rattle.input_files.proofs.ReadLaws.{one_bad}
-use Rattle.class_tools.specs.Due.{Due, writes, answered, IsAssembly, IsListing, IsDue}
+use Rattle.class_tools.specs.Due.{Due, writes, answered, IsAssembly, IsListing}
 
 -- ---- what a text makes
 
 one_answer : (text : List ℕ) (made other : Result ClassFile ℕ) → Assembles text made → Assembles text other → made ≡ other
 one_answer text made other = one_made _ _ text made other
 
-abbrev file_or : Result ClassFile ℕ → ClassFile → ClassFile
-file_or (Ok f) g = f
-file_or (Err line) g = g
-
-abbrev line_or : Result ClassFile ℕ → ℕ → ℕ
-line_or (Ok f) n = n
-line_or (Err line) n = line
-
 one_file : (text : List ℕ) (f g : ClassFile) → Assembles text (Ok f) → Assembles text (Ok g) → f ≡ g
-one_file text f g x y = ap (λ (r : Result ClassFile ℕ). file_or r f) (one_answer text (Ok f) (Ok g) x y)
+one_file text f g x y = subst (λ (r : Result ClassFile ℕ). IfOk r (λ h. f ≡ h)) (one_answer text (Ok f) (Ok g) x y) refl
 
 one_line : (text : List ℕ) (m n : ℕ) → Assembles text (Err m) → Assembles text (Err n) → m ≡ n
-one_line text m n x y = ap (λ (r : Result ClassFile ℕ). line_or r m) (one_answer text (Err m) (Err n) x y)
+one_line text m n x y = subst (λ (r : Result ClassFile ℕ). IfErr r (λ k. m ≡ k)) (one_answer text (Err m) (Err n) x y) refl
 
 file_or_line : (text : List ℕ) (f : ClassFile) (n : ℕ) → Assembles text (Ok f) → Assembles text (Err n) → ⊥
-file_or_line text f n x y = let no : Ok f ≡ Err n = one_answer text (Ok f) (Err n) x y in absurd cc
+file_or_line text f n x y = subst (λ (r : Result ClassFile ℕ). IfErr r (λ k. ⊥)) (one_answer text (Ok f) (Err n) x y) tt
 
 pub one_assembly : (text : List ℕ) (a b : Due) → IsAssembly text a → IsAssembly text b → a ≡ b
 one_assembly text (writes p) (writes q) x y =
@@ -68,13 +61,3 @@ one_listing bytes (answered (Unlisted file)) (answered (BadClass other place rea
 one_listing bytes (answered (Unlisted file)) (answered (Unlisted other)) x y = ap (λ (n : ℕ). answered (Unlisted n)) (x.0 ∙ sym y.0)
 one_listing bytes (answered (Unlisted file)) (answered b) x y = absurd y
 one_listing bytes (answered a) b x y = absurd x
-
--- ---- what a file makes
-
-pub one_due : (of : List ℕ → Due → Type 0) → ((bytes : List ℕ) (a b : Due) → of bytes a → of bytes b → a ≡ b)
-    → (contents : Contents) (a b : Due) → IsDue of contents a → IsDue of contents b → a ≡ b
-one_due of one None a b x y = x ∙ sym y
-one_due of one (Some bytes) a b (inl x) (inl y) = x.1 ∙ sym y.1
-one_due of one (Some bytes) a b (inl x) (inr y) = absurd (omega (arith, x.0, y.0))
-one_due of one (Some bytes) a b (inr x) (inl y) = absurd (omega (arith, x.0, y.0))
-one_due of one (Some bytes) a b (inr x) (inr y) = one bytes a b x.1 y.1
