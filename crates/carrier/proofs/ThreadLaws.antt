@@ -1,8 +1,9 @@
 -- The seats and posts of all carriers.
-use Rattle.std.proofs.Common.{◌≡◌, ◌≤◌, ◌+◌, ℕ, zero, suc, List, [], ◌∷◌, ◌++◌, None, refl, ap, sym, ◌∙◌, subst, arith, length, length-append, map}
-use Rattle.std.specs.Prelude.{All}
+use Rattle.std.proofs.Common.{◌≡◌, ◌≤◌, ◌+◌, ℕ, zero, suc, List, [], ◌∷◌, ◌++◌, None, Some, refl, ap, sym, ◌∙◌, subst, arith, length, length-append, map}
+use Rattle.std.specs.Prelude.{All, take}
 use Rattle.std.specs.List.{range_with_len}
-use Rattle.std.proofs.lemmas.List.Elements.{All-cons, All-nil, All-same, All-weaker}
+use Rattle.std.proofs.Math.Seq.{take-append_seam}
+use Rattle.std.proofs.lemmas.List.Elements.{All-cons, All-nil, All-pop, All-push, All-same, All-weaker}
 use Rattle.std.proofs.lemmas.List.FromFn.{length-map-range_with_len}
 use Rattle.atomic_table.specs.Seated.{TableId}
 use Rattle.turn_lock.specs.Seats.{IsIdle, SeatState, new_seat, new_seats}
@@ -58,3 +59,29 @@ one_moved made after x left fewer y n more less so_far =
     let a = ap length more ∙ length-append made (x ∷ []) in
     let b = ap length less ∙ length-append fewer (y ∷ []) in
     omega arith
+
+-- the same beside a third list
+pub first_grows : {A B C : Type 0} (made after : List A) (x : A) (beside : List B) (left fewer : List C) (y : C) (n : ℕ) → after ≡ made ++ x ∷ [] → left ≡ fewer ++ y ∷ []
+    → length made + (length beside + length left) ≡ n → length after + (length beside + length fewer) ≡ n
+first_grows made after x beside left fewer y n more less so_far =
+    let a = ap length more ∙ length-append made (x ∷ []) in
+    let b = ap length less ∙ length-append fewer (y ∷ []) in
+    omega arith
+
+pub second_grows : {A B C : Type 0} (beside : List A) (made after : List B) (x : B) (left fewer : List C) (y : C) (n : ℕ) → after ≡ made ++ x ∷ [] → left ≡ fewer ++ y ∷ []
+    → length beside + (length made + length left) ≡ n → length beside + (length after + length fewer) ≡ n
+second_grows beside made after x left fewer y n more less so_far =
+    let a = ap length more ∙ length-append made (x ∷ []) in
+    let b = ap length less ∙ length-append fewer (y ∷ []) in
+    omega arith
+
+-- the last of a list, and those before it
+pub popped : {A : Type 0} (P : A → Type 0) (xs ys : List A) (x : A) → xs ≡ ys ++ x ∷ [] → All P xs → All P ys × P x
+popped P xs ys x is all = All-pop P xs ys (Some x) is all
+
+pub pushed : {A : Type 0} (P : A → Type 0) (xs ys : List A) (x : A) → ys ≡ xs ++ x ∷ [] → All P xs → P x → All P ys
+pushed P xs ys x is all here = All-same P ys (xs ++ x ∷ []) is (All-push P xs x all here)
+
+-- what holds of all that was written through a slice of a whole vector holds of the vector
+pub written : {A : Type 0} (P : A → Type 0) (new rest : List A) (n : ℕ) → length new ≡ n → All P new → All P (take n (new ++ rest))
+written P new rest n is all = subst (All P) (sym (subst (λ k. take k (new ++ rest) ≡ new) is (take-append_seam new rest))) all

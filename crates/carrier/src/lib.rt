@@ -5,6 +5,7 @@ mod execution;
 mod post;
 mod program_run;
 mod readings;
+mod rounds;
 mod threads;
 mod timed_machine;
 

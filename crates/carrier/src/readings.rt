@@ -61,6 +61,16 @@ impl Reading {
         Reading::new(clock, nap)
     }
 
+    /// The one for the next round, after one that came to this: a new one.
+    pub fn next_round<C: Clock>(self, clock: &C, all: Turn, longest: u64) -> Self
+        ensures { IsTrue (C.gives clock.now result.now) }
+    {
+        match all {
+            Turn::Nap(nanos) => self.after_nap(clock, nanos, longest),
+            Turn::Run(_) | Turn::Over => Reading::new(clock, 0),
+        }
+    }
+
     /// The one for the next turn, after one that answered this: a new one where the turn's step may read the clock, and at the latest after
     /// sixteen turns.
     #[inline(always)]
