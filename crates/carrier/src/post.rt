@@ -118,6 +118,41 @@ impl<'p> Post<'p> {
     }
 }
 
+/// Makes turns of a carrier, the first at this reading of the clock, until the run has ended, or just one: what the last one answered. Between
+/// them the carrier executes local instructions, freezes or naps, without the lock. All turns are made here, so that a turn is part of the loop.
+#[inline(never)]
+pub(crate) fn make_turns<'p, 'c, R: Wait, C: Clock, G: Gate>(
+    rt: &R,
+    alloc: Global,
+    program: &'p ReadyProgram,
+    lock: &MachineLock<'p, 'c, C>,
+    post: &mut Post<'p>,
+    mut reading: Reading,
+    clock: &C,
+    gate: &G,
+    just_one: bool,
+) -> Turn
+    requires post { IsPost (shared_run C.gives lock.now) post.old }
+    requires program { program.now ≡ lock.now.initial.machine.setting.world }
+    requires clock { clock.now ≡ lock.now.initial.clock }
+    requires given { IsTrue (C.gives clock.now reading.now) }
+    ensures post { IsPost (shared_run C.gives lock.now) post.new }
+    ensures number { post.new.seat.number ≡ post.old.seat.number }
+    ensures over { just_one ≡ false → is_some post.new.met ≡ true }
+{
+    for _ in rt.forever() {
+        let answer = post.turn(rt, alloc, program, lock, reading.now, gate);
+        if just_one {
+            return answer;
+        }
+        if answer.is_over() {
+            return answer;
+        }
+        reading = reading.next(clock, program, post, answer);
+    }
+    unreachable!()
+}
+
 /// Makes turns of a carrier until the run has ended, at times of the clock. Between them it executes local instructions, freezes or naps,
 /// without the lock.
 pub fn run_carrier<'p, 'c, R: Wait, C: Clock, G: Gate>(
@@ -136,13 +171,6 @@ pub fn run_carrier<'p, 'c, R: Wait, C: Clock, G: Gate>(
     ensures number { post.new.seat.number ≡ post.old.seat.number }
     ensures over { is_some post.new.met ≡ true }
 {
-    let mut reading = Reading::new(clock, 0);
-    for _ in rt.forever() {
-        let answer = post.turn(rt, alloc, program, lock, reading.now, gate);
-        if answer.is_over() {
-            return;
-        }
-        reading = reading.next(clock, program, post, answer);
-    }
-    unreachable!()
+    let reading = Reading::new(clock, 0);
+    make_turns(rt, alloc, program, lock, post, reading, clock, gate, false);
 }

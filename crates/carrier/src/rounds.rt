@@ -4,7 +4,7 @@ ghost use Rattle.std.specs.Prelude.{◌≡◌, All, IsTrue, length};
 ghost use Rattle.carrier.specs.Posts.{IsPost};
 ghost use Rattle.carrier.specs.Shared.{shared_run};
 
-use crate::post::Post;
+use crate::post::{Post, make_turns};
 use crate::readings::{Reading, longest_nap};
 use crate::timed_machine::MachineLock;
 use carrier_turns::{Ask, Turn};
@@ -31,25 +31,28 @@ fn both(first: Turn, second: Turn) -> Turn {
     }
 }
 
-// A turn of each carrier, at one time in nanoseconds that the clock gives: what they come to.
+// A turn of each carrier, at one reading of the clock: what they come to.
 fn round<'p, 'c, R: Wait, C: Clock, G: Gate>(
     rt: &R,
     alloc: Global,
     program: &'p ReadyProgram,
     lock: &MachineLock<'p, 'c, C>,
     posts: &mut [Post<'p>],
-    now: u64,
+    reading: Reading,
+    clock: &C,
     gate: &G,
 ) -> Turn
     requires posts { All (IsPost (shared_run C.gives lock.now)) posts.old }
     requires program { program.now ≡ lock.now.initial.machine.setting.world }
-    requires given { IsTrue (C.gives lock.now.initial.clock now) }
+    requires clock { clock.now ≡ lock.now.initial.clock }
+    requires given { IsTrue (C.gives clock.now reading.now) }
     ensures posts { All (IsPost (shared_run C.gives lock.now)) posts.new }
     ensures count { length posts.new ≡ length posts.old }
 {
     let mut all = Turn::Nap(None);
     for post in posts.iter_mut() {
-        all = both(all, post.turn(rt, alloc, program, lock, now, gate));
+        let answer = make_turns(rt, alloc, program, lock, post, reading, clock, gate, true);
+        all = both(all, answer);
     }
     all
 }
@@ -77,7 +80,7 @@ pub(crate) fn run_rounds<'p, 'c, R: Wait, C: Clock, G: Gate>(
     let longest = longest_nap(posts.len());
     let mut reading = Reading::new(clock, 0);
     for _ in rt.forever() {
-        let all = round(rt, alloc, program, lock, posts, reading.now, gate);
+        let all = round(rt, alloc, program, lock, posts, reading, clock, gate);
         if all.is_over() {
             return;
         }

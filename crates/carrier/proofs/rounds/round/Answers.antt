@@ -7,6 +7,6 @@ use Rattle.carrier.proofs.rounds.round.Goals as goal
 
 pub loop-post-preserved : goal.loop-post-preserved
 loop-post-preserved g c = record {
-  posts = All-set (IsPost (shared_run g.C.Clock.gives c.args.lock.now)) c.loop-post.posts c.loop-post.post-index c.turn.new.self c.turn.ensures.post c.loop-post.invariant.posts;
-  count = length-set c.loop-post.posts c.loop-post.post-index c.turn.new.self ∙ c.loop-post.invariant.count;
+  posts = All-set (IsPost (shared_run g.C.Clock.gives c.args.lock.now)) c.loop-post.posts c.loop-post.post-index c.make_turns-answer.new.post c.make_turns-answer.ensures.post c.loop-post.invariant.posts;
+  count = length-set c.loop-post.posts c.loop-post.post-index c.make_turns-answer.new.post ∙ c.loop-post.invariant.count;
 }

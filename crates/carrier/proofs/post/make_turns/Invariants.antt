@@ -2,7 +2,7 @@ use Rattle.std.proofs.Common.{◌≡◌}
 use Rattle.std.specs.Prelude.{IsTrue}
 use Rattle.carrier.specs.Posts.{IsPost}
 use Rattle.carrier.specs.Shared.{shared_run}
-use Rattle.carrier.proofs.post.run_carrier.Given as goal
+use Rattle.carrier.proofs.post.make_turns.Given as goal
 
 abbrev pub invariant-loop : goal.invariant-loop
 invariant-loop g l = record {
