@@ -83,7 +83,7 @@ impl<'p, 'c, C: Clock> TimedMachine<'p, 'c, C> {
 
     /// How the run has ended after a turn that answered this, if it has.
     #[inline(always)]
-    pub fn ending_after(&self, answer: Turn) -> Option<Ending>
+    pub(crate) fn ending_after(&self, answer: Turn) -> Option<Ending>
         requires { is_over answer ≡ is_some (machine_ending self.now.machine) }
         ensures { result ≡ machine_ending self.now.machine }
     {

@@ -207,8 +207,8 @@ impl<'a> Pool<'a> {
 
     // The constant as the NameAndType of a field.
     fn field_type_fault(&self, constant: &Const) -> Option<ClassWhy>
-        ensures { result ≡
-            checks.descriptor_fault (λ units. not (grammar.is_like_method units)) self.now constant.now }
+        ensures { result ≡ checks.descriptor_fault
+            (λ units. not (grammar.is_like_method units)) self.now constant.now }
     {
         match constant {
             Const::NameAndType(_, descriptor) => match self.is_like_method(*descriptor) {

@@ -36,7 +36,8 @@ fn units_by_form<L: Ledger>(
     ensures read { GivesBy (λ _. appended units.old.items units.new.items) result
         (spec.units_of left (utf8.units_of text.now)) }
     ensures kept { OnOk result (Appends units.old.items units.new.items) }
-    ensures few { OnOk result (length (appended units.old.items units.new.items) ≤ length text.now) }
+    ensures few { OnOk result
+        (length (appended units.old.items units.new.items) ≤ length text.now) }
     ensures cost { steps.new ≡ steps.old + length text.now }
 {
     match decode_onto(alloc, units, text, steps) {
@@ -63,7 +64,8 @@ fn units_of<L: Ledger>(
     ensures read { GivesBy (λ _. appended units.old.items units.new.items) result
         (spec.units_of (length front.now) (utf8.units_of text.now)) }
     ensures kept { OnOk result (Appends units.old.items units.new.items) }
-    ensures few { OnOk result (length (appended units.old.items units.new.items) ≤ length text.now) }
+    ensures few { OnOk result
+        (length (appended units.old.items units.new.items) ≤ length text.now) }
     ensures cost { steps.new ≡ steps.old + length text.now }
 {
     if text.len() + LANES <= front.len() && are_plain(front, text.len()) {

@@ -138,7 +138,8 @@ pub fn layout_of<L: Ledger>(
     ensures read { Gives result (spec.layout_of bytes.now) }
     ensures cost { steps.new ≤ steps.old + 4 * length bytes.now }
     // What the checks of the file may take is left.
-    ensures rest { IfOk result (λ file. steps.new + checking file ≤ steps.old + 4 * length bytes.now) }
+    ensures rest { IfOk result (λ file.
+        steps.new + checking file ≤ steps.old + 4 * length bytes.now) }
 {
     let (version, rest) = version_of(bytes)?;
     let (pool, rest) = pool_of(alloc, rest, steps)?;

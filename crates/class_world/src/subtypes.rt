@@ -54,7 +54,8 @@ pub(crate) fn is_sub(world: &World, a: u32, b: u32) -> bool
 
 /// Whether the objects of a class or an array class are of a type, in constant time. A class that is no array class has no dimensions.
 pub(crate) fn is_of_type(world: &World, class: u32, kind: ArrayType) -> bool
-    ensures { result ≡ spec.type_below (world_of world.now) (spec.type_of (world_of world.now) class) kind }
+    ensures { result ≡ spec.type_below (world_of world.now)
+        (spec.type_of (world_of world.now) class) kind }
 {
     type_below(world, type_of(world, class), kind)
 }

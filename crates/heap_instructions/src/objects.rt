@@ -98,7 +98,8 @@ pub fn throw_object(mounted: &Mounted) -> Outcome
 
 // Whether one more object with these values has room in the heap.
 fn has_room(heap: &Heap, values: &[Value]) -> bool
-    ensures { result ≡ nat_le (cells_of_values (length values.now)) (heap.now.cells - heap.now.used) }
+    ensures { result
+        ≡ nat_le (cells_of_values (length values.now)) (heap.now.cells - heap.now.used) }
 {
     1 + values.len() <= heap.room() as usize
 }

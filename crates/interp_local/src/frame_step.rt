@@ -79,7 +79,8 @@ pub(crate) fn pc_at(code: &[Instr], at: usize) -> u32
 pub(crate) fn fetch_at<'a>(code: &PreparedCode<'a>, at: usize) -> Fetched<'a>
     requires { at < length code.now.instrs.now }
     ensures instr { slice_get code.now.instrs.now at ≡ Some result.instr.now }
-    ensures resolution { result.resolution.now ≡ places.resolution_at (meanings code.now.resolutions) at }
+    ensures resolution { result.resolution.now
+        ≡ places.resolution_at (meanings code.now.resolutions) at }
 {
     Fetched {
         instr: instr_at(code.instrs, at),

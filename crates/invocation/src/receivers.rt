@@ -31,7 +31,8 @@ pub(crate) fn receiver_of<W: CallWorld>(
     mounted: &Mounted,
 ) -> Option<Result<Receiver, Exception>>
     requires { HasOperand kinds.Reference slots (operands mounted.now) }
-    ensures receiver { IsReceiver (W.world world.now) resolution.now slots heap.now mounted.now result }
+    ensures receiver { IsReceiver (W.world world.now) resolution.now slots
+        heap.now mounted.now result }
     ensures has { IfSome result (λ found. IfOk found
         (HasReceiver (W.world world.now) resolution.now slots heap.now mounted.now)) }
 {

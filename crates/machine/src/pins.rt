@@ -50,7 +50,8 @@ pub(crate) fn note_pins(
     requires thread { IfOk (told_of tried) (λ o. t < length state.now.threads.threads) }
     ensures own { NotesOwn program.now state.now t mounted.now.stack.frames tried c
         pins.old.items pins.new.items }
-    ensures others { (k : ℕ) → k ≢ c → get_or pins.new.items k false ≡ get_or pins.old.items k false }
+    ensures others { (k : ℕ) → k ≢ c →
+        get_or pins.new.items k false ≡ get_or pins.old.items k false }
     ensures sizes { length pins.new.items ≡ length pins.old.items }
 {
     match tried {

@@ -219,7 +219,8 @@ impl Monitors {
         requires free { InNoList self.old t }
         ensures owner { IsByOwner result (monitor_of self.old o).owner t }
         ensures count { IfOk result (λ left. left.0 ≡ (monitor_of self.old o).count) }
-        ensures woken { IfOk result (λ left. left.1 ≡ slice_get (monitor_of self.old o).entry_list 0) }
+        ensures woken { IfOk result (λ left.
+            left.1 ≡ slice_get (monitor_of self.old o).entry_list 0) }
         ensures ok { OnOk result
             (Becomes self.old self.new o (after_wait t (monitor_of self.old o))) }
         ensures err { OnErr result (self.new ≡ self.old) }
@@ -235,7 +236,8 @@ impl Monitors {
     /// The owner lets the first thread that waits to be notified line up for the monitor (JLS 17.2.2): that thread.
     pub fn notify(&mut self, o: u32, t: u32) -> Result<Option<u32>, NotOwner>
         ensures owner { IsByOwner result (monitor_of self.old o).owner t }
-        ensures moved { IfOk result (λ thread. thread ≡ slice_get (monitor_of self.old o).wait_list 0) }
+        ensures moved { IfOk result (λ thread.
+            thread ≡ slice_get (monitor_of self.old o).wait_list 0) }
         ensures ok { OnOk result
             (Becomes self.old self.new o (after_notify (monitor_of self.old o))) }
         ensures err { OnErr result (self.new ≡ self.old) }

@@ -35,8 +35,8 @@ fn field_step<W: MachineWorld>(
     requires operands { FindsOperands (W.world world.now) resolution.now (row instr.now.op)
         (operands mounted.old) }
     ensures { OnOk result (Steps (W.world world.now)
-        (record { instr = instr.now; resolution = resolution.now }) parts.old mounted.old.stack.frames
-        parts.new mounted.new.stack.frames) }
+        (record { instr = instr.now; resolution = resolution.now })
+        parts.old mounted.old.stack.frames parts.new mounted.new.stack.frames) }
 {
     mounted.operands_fit();
     let outcome = run_field(
@@ -65,8 +65,8 @@ fn plain_step<W: MachineWorld>(
     requires operands { FindsOperands (W.world world.now) resolution.now (row instr.now.op)
         (operands mounted.old) }
     ensures { OnOk result (Steps (W.world world.now)
-        (record { instr = instr.now; resolution = resolution.now }) parts.old mounted.old.stack.frames
-        parts.new mounted.new.stack.frames) }
+        (record { instr = instr.now; resolution = resolution.now })
+        parts.old mounted.old.stack.frames parts.new mounted.new.stack.frames) }
 {
     mounted.operands_fit();
     let outcome = run_plain(
@@ -95,8 +95,8 @@ fn other_step<W: MachineWorld>(
     requires operands { FindsOperands (W.world world.now) resolution.now (row instr.now.op)
         (operands mounted.old) }
     ensures { OnOk result (Steps (W.world world.now)
-        (record { instr = instr.now; resolution = resolution.now }) parts.old mounted.old.stack.frames
-        parts.new mounted.new.stack.frames) }
+        (record { instr = instr.now; resolution = resolution.now })
+        parts.old mounted.old.stack.frames parts.new mounted.new.stack.frames) }
 {
     mounted.operands_fit();
     let outcome = run_event(

@@ -97,8 +97,8 @@ impl Types {
 
 // Whether there is a `new` of this class at the pc.
 fn is_new_of(m: &Method<'_>, pc: u16, class: u32) -> bool
-    ensures { result ≡ is_number
-        (new_at pc (environment.with_resolutions m.now.code.now.code (meanings m.now.resolutions))) class }
+    ensures { result ≡ is_number (new_at pc
+        (environment.with_resolutions m.now.code.now.code (meanings m.now.resolutions))) class }
 {
     match new_class(m, pc) {
         Some(made) => made == class,

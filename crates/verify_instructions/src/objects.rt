@@ -266,7 +266,8 @@ impl Types {
 
     // newarray.
     fn new_array(&mut self, primitive: Primitive) -> Result<(), Stop>
-        ensures stack { (w : World) (own pc : ℕ) (resolution : Resolution) → Leaves result self.new.stack
+        ensures stack { (w : World) (own pc : ℕ) (resolution : Resolution) →
+            Leaves result self.new.stack
             (event_stack w own pc resolution (new_array_row primitive) self.old.stack) }
         ensures locals { self.new.locals ≡ self.old.locals }
     {

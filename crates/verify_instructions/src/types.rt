@@ -94,7 +94,8 @@ impl Types {
 
     // Takes a long.
     fn pop_long(&mut self) -> Result<VType, Stop>
-        ensures popped { Takes result self.new.stack (spec.type_popped ValueKind.Long self.old.stack) }
+        ensures popped { Takes result self.new.stack
+            (spec.type_popped ValueKind.Long self.old.stack) }
         ensures locals { self.new.locals ≡ self.old.locals }
     {
         match self.slots.stack.pop() {
@@ -109,7 +110,8 @@ impl Types {
 
     // Takes an int.
     fn pop_int(&mut self) -> Result<VType, Stop>
-        ensures popped { Takes result self.new.stack (spec.type_popped ValueKind.Int self.old.stack) }
+        ensures popped { Takes result self.new.stack
+            (spec.type_popped ValueKind.Int self.old.stack) }
         ensures locals { self.new.locals ≡ self.old.locals }
     {
         match self.slots.stack.pop() {
