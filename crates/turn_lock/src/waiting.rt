@@ -10,8 +10,8 @@ use std::hint::spin_loop;
 use std::sync::Wait;
 use std::time::Duration;
 
-// How often a seat looks whether the turn is free before it rests.
-const LOOKS: u32 = 100;
+// How often a seat looks whether the turn is free before it rests: for a few microseconds, in which another one makes several turns.
+const LOOKS: u32 = 1_000;
 
 // How many takes in a row have to find the turn another's before the seat leaves it to others for the length of a rest.
 const CROWD: u32 = 4;
