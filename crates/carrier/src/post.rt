@@ -16,6 +16,9 @@ use std::alloc::Global;
 use std::sync::Wait;
 use turn_lock::Seat;
 
+// How many turns a carrier makes in one loop that counts them, which costs less at each turn than a loop that may not end.
+const MANY: u32 = 1 << 20;
+
 /// What a carrier has outside the machine's lock: its seat, its hand, the ending of the run, once it has met it, and how long a nap of it takes
 /// at most, in nanoseconds. `IsPost` says when it is that of a carrier of the lock's machine.
 #[derive(Drop)]
@@ -24,13 +27,6 @@ pub struct Post<'p> {
     pub hand: Hand<'p>,
     pub met: Option<Ending>,
     pub longest_nap: u64,
-}
-
-// Whether a carrier whose turn answered this leaves its next turn to others where they have the machine: it is neither to execute local
-// instructions nor to put its thread down.
-#[inline(always)]
-fn gives_way(answer: Turn) -> bool {
-    !matches!(answer, Turn::Run(Ask::Local(_) | Ask::Freeze))
 }
 
 // Waits for the turn, makes a turn of the seat's carrier with the machine, at a time in nanoseconds, and gives the machine back. Besides the
@@ -62,8 +58,9 @@ fn turn_in_lock<'p, 'c, R: Wait, C: Clock>(
     let answer = held.value.turn(alloc, hand, carrier, now);
     held.value.is_legal();
     let met = held.value.ending_after(answer);
+    let makes_way = held.value.makes_way(carrier, answer);
     lock.give(seat, held);
-    seat.give_way(gives_way(answer));
+    seat.give_way(makes_way);
     (answer, met)
 }
 
@@ -118,8 +115,8 @@ impl<'p> Post<'p> {
     }
 }
 
-/// Makes turns of a carrier, the first at this reading of the clock, until the run has ended, or just one: what the last one answered. Between
-/// them the carrier executes local instructions, freezes or naps, without the lock. All turns are made here, so that a turn is part of the loop.
+/// Makes turns of a carrier, at most so many, and fewer where the run ends: what the last one answered. Between them the carrier executes local
+/// instructions, freezes or naps, without the lock. All turns are made here, so that a turn is part of the loop.
 #[inline(never)]
 pub(crate) fn make_turns<'p, 'c, R: Wait, C: Clock, G: Gate>(
     rt: &R,
@@ -130,7 +127,7 @@ pub(crate) fn make_turns<'p, 'c, R: Wait, C: Clock, G: Gate>(
     mut reading: Reading,
     clock: &C,
     gate: &G,
-    just_one: bool,
+    turns: u32,
 ) -> Turn
     requires post { IsPost (shared_run C.gives lock.now) post.old }
     requires program { program.now ≡ lock.now.initial.machine.setting.world }
@@ -138,23 +135,20 @@ pub(crate) fn make_turns<'p, 'c, R: Wait, C: Clock, G: Gate>(
     requires given { IsTrue (C.gives clock.now reading.now) }
     ensures post { IsPost (shared_run C.gives lock.now) post.new }
     ensures number { post.new.seat.number ≡ post.old.seat.number }
-    ensures over { just_one ≡ false → is_some post.new.met ≡ true }
+    ensures over { answers.is_over result ≡ true → is_some post.new.met ≡ true }
 {
-    for _ in rt.forever() {
-        let answer = post.turn(rt, alloc, program, lock, reading.now, gate);
-        if just_one {
-            return answer;
-        }
+    let mut answer = Turn::Run(Ask::Nothing);
+    for _ in 0..turns {
+        reading = reading.next(clock, program, post, answer);
+        answer = post.turn(rt, alloc, program, lock, reading.now, gate);
         if answer.is_over() {
             return answer;
         }
-        reading = reading.next(clock, program, post, answer);
     }
-    unreachable!()
+    answer
 }
 
-/// Makes turns of a carrier until the run has ended, at times of the clock. Between them it executes local instructions, freezes or naps,
-/// without the lock.
+/// Makes turns of a carrier until the run has ended, at times of the clock.
 pub fn run_carrier<'p, 'c, R: Wait, C: Clock, G: Gate>(
     rt: &R,
     alloc: Global,
@@ -171,6 +165,12 @@ pub fn run_carrier<'p, 'c, R: Wait, C: Clock, G: Gate>(
     ensures number { post.new.seat.number ≡ post.old.seat.number }
     ensures over { is_some post.new.met ≡ true }
 {
-    let reading = Reading::new(clock, 0);
-    make_turns(rt, alloc, program, lock, post, reading, clock, gate, false);
+    for _ in rt.forever() {
+        let reading = Reading::new(clock, 0);
+        let answer = make_turns(rt, alloc, program, lock, post, reading, clock, gate, MANY);
+        if answer.is_over() {
+            return;
+        }
+    }
+    unreachable!()
 }

@@ -51,7 +51,7 @@ fn round<'p, 'c, R: Wait, C: Clock, G: Gate>(
 {
     let mut all = Turn::Nap(None);
     for post in posts.iter_mut() {
-        let answer = make_turns(rt, alloc, program, lock, post, reading, clock, gate, true);
+        let answer = make_turns(rt, alloc, program, lock, post, reading, clock, gate, 1);
         all = both(all, answer);
     }
     all

@@ -1,14 +1,14 @@
 //! A machine with the clock of its run.
 
-ghost use Rattle.std.specs.Prelude.{◌≡◌, [], IfOk, IsTrue, is_some};
-ghost use Rattle.machine.specs.Legal.{IsLegal};
+ghost use Rattle.std.specs.Prelude.{◌≡◌, ◌<◌, [], IfOk, IsTrue, is_some};
+ghost use Rattle.machine.specs.Legal.{IsLegal, Works};
 ghost use Rattle.machine.specs.Machines.{machine_ending};
 ghost use Rattle.carrier_turns.specs.Hands.{Fits, HasDone};
 ghost use Rattle.carrier_turns.specs.Turns.{IsTurn, is_over};
 ghost use Rattle.carrier.specs.Runs.{IsTimed};
 
-use carrier_turns::{Hand, Turn, turn};
-use history::{Entry, Kept};
+use carrier_turns::{Ask, Hand, Turn, turn};
+use history::{Entry, Kept, What};
 use items::NoMemory;
 use jvm_edges::Clock;
 use machine::{Machine, ReadyProgram};
@@ -92,6 +92,40 @@ impl<'p, 'c, C: Clock> TimedMachine<'p, 'c, C> {
         } else {
             None
         }
+    }
+
+    // Whether a carrier leaves its next turn to others where they have the machine, after its own turn answered this: it found no thread,
+    // or it put one down (`has_let_go`).
+    #[inline(always)]
+    pub(crate) fn makes_way(&self, carrier: u32, answer: Turn) -> bool
+        requires carrier { carrier < self.now.machine.carriers }
+        requires ended { is_over answer ≡ is_some (machine_ending self.now.machine) }
+    {
+        match answer {
+            Turn::Nap(_) => true,
+            Turn::Run(Ask::Nothing) => {
+                self.machine.is_legal();
+                self.has_let_go(carrier)
+            }
+            Turn::Run(Ask::Local(_) | Ask::Freeze) | Turn::Over => false,
+        }
+    }
+
+    // Whether the last entry puts a thread down which yielded, or of a carrier with no other thread in its deque.
+    fn has_let_go(&self, carrier: u32) -> bool
+        requires works { Works self.now.machine }
+        requires carrier { carrier < self.now.machine.carriers }
+    {
+        let Some(
+            Entry {
+                what: What::Unmount(thread),
+                ..
+            },
+        ) = self.machine.entries().last()
+        else {
+            return false;
+        };
+        self.machine.is_in_deque(*thread) || self.machine.first_in_deque(carrier).is_none()
     }
 
     /// That the history is that of a run of the program (`Machine::is_legal`).

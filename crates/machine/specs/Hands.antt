@@ -1,11 +1,12 @@
 -- What carriers have, in what the history of a machine gives.
-use Rattle.std.specs.Prelude.{◌≡◌, ◌<◌, ℕ, true, false, List, [], Some, All, slice_get}
+use Rattle.std.specs.Prelude.{◌≡◌, ◌<◌, ◌==◌, ℕ, Bool, true, false, not, List, [], Option, Some, All, slice_get}
+use Rattle.thread_lists.specs.Lists.{first}
 use Rattle.vthread_state.specs.declared.phase.Phase.{Phase}
 use Rattle.vthread_state.specs.declared.phase.Phase.TheVariants.{Run}
 use Rattle.vthread_state.specs.declared.thread.Status.TheVariants.{Live}
 use Rattle.link_model.specs.World.{World}
 use Rattle.state_model.specs.Frames.{Frame}
-use Rattle.schedule_model.specs.Schedule.{on_carriers}
+use Rattle.schedule_model.specs.Schedule.{in_deques, on_carriers}
 use Rattle.schedule_model.specs.Entries.{has_mounted, is_idle, may_unmount}
 use Rattle.schedule_model.specs.Run.{Scheduled}
 use Rattle.ref_model.specs.Setting.{Setting}
@@ -92,3 +93,11 @@ AreTypedInRun m t frames = Given m (λ v. IsLiveIn v.state t Run → Typed m.set
 
 abbrev pub AreDequesEmpty : Known → Type 0
 AreDequesEmpty m = Given m (λ v. All (λ deque. deque ≡ []) v.schedule.deques)
+
+-- ---- a carrier's deque
+
+abbrev pub IsFirstInDeque : Known → ℕ → Option ℕ → Type 0
+IsFirstInDeque m c thread = Given m (λ v. thread ≡ first v.schedule.deques c)
+
+abbrev pub TellsIfInDeque : Known → ℕ → Bool → Type 0
+TellsIfInDeque m t b = Given m (λ v. b ≡ not (in_deques t v.schedule == 0))

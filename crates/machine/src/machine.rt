@@ -10,7 +10,7 @@ ghost use Rattle.step_soundness.specs.OpeningLaws.{IsMain};
 ghost use Rattle.link_soundness.specs.Library.{HasLibrary};
 ghost use Rattle.startup.specs.Openings.{setting};
 ghost use Rattle.machine.specs.Machines.{Given, Known, at_first, errors, limit_reached, machine_ending, output, with_ending, with_entry};
-ghost use Rattle.machine.specs.Hands.{AreDequesEmpty, AreTypedInRun, HasEnded, HasPhase, Holds, Idle, IsLoose, IsMounted, Lives, MayStep, MayUnmount, OwesNothing};
+ghost use Rattle.machine.specs.Hands.{AreDequesEmpty, AreTypedInRun, HasEnded, HasPhase, Holds, Idle, IsFirstInDeque, IsLoose, IsMounted, Lives, MayStep, MayUnmount, OwesNothing, TellsIfInDeque};
 ghost use Rattle.machine.specs.Legal.{GoesOn, HasEntryLeft, HasNotStalled, HasNotStarved, IsLegal, Works};
 ghost use Rattle.machine.specs.Clocks.{Awaits, AwaitsNothing, IsBefore, IsEarliest};
 ghost use Rattle.machine.specs.Live.{ListsLive, ListsMounted};
@@ -304,6 +304,23 @@ impl<'p> Machine<'p> {
             carrier: c,
             what: What::Unmount(t),
         });
+    }
+
+    /// The thread at the front of a carrier's deque, if there is one.
+    pub fn first_in_deque(&self, c: u32) -> Option<u32>
+        requires works { Works self.now }
+        requires carrier { c < self.now.carriers }
+        ensures { IsFirstInDeque self.now c result }
+    {
+        self.deques.first(c)
+    }
+
+    /// Whether a thread is in a carrier's deque.
+    pub fn is_in_deque(&self, t: u32) -> bool
+        requires works { Works self.now }
+        ensures { TellsIfInDeque self.now t result }
+    {
+        self.deques.holds(t)
     }
 
     /// Whether a thread that is mounted may step.

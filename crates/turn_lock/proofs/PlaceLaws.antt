@@ -21,6 +21,10 @@ use Rattle.turn_lock.proofs.TurnLaws.{counts_one}
 pub place_view : {V : Type 0} (views : List View) (v : View) (me : Mine V) → views ≡ v ∷ [] → views ≡ me.0 ∷ [] → me.1 ≡ [] → me ≡ (v, [])
 place_view views v me is made empty = λ i. ((ap only_view (sym made) ∙ ap only_view is) i, empty i)
 
+-- .. by what it has seen itself
+pub own_view : {V : Type 0} (number : ℕ) (seen : List Entry) (me : Mine V) → me ≡ (view_of false number seen, []) → me ≡ (view_of false number (seen_of me.0), [])
+own_view number seen me is = is ∙ ap (λ es. (view_of false number es, [])) (sym (ap (λ (m : Mine _). seen_of m.0) is))
+
 -- the table of a place after three steps
 pub same_table : (a b c d : TableId) → a ≡ b → b ≡ c → c ≡ d → a ≡ d
 same_table a b c d first second third = first ∙ second ∙ third

@@ -36,10 +36,36 @@ pub(crate) fn take_value<V: Kept, A: Admits<V>, R: Wait>(
         ≡ made_by number (seen_of (only_view badge.views)) }
 {
     let mut place: Place<V> = badge.into_seat();
+    let value = match try_take::<V, A>(table, &mut place, number) {
+        Ok(value) => value,
+        Err(found) => take_later::<V, A, R>(rt, table, &mut place, number, found, patience),
+    };
+    (value, place.into_badge())
+}
+
+// Waits until the turn, which was found to be another's, is free, and takes it with the value. It stands apart, since a turn that is free is
+// taken within the caller's loop.
+#[inline(never)]
+fn take_later<V: Kept, A: Admits<V>, R: Wait>(
+    rt: &R,
+    table: &SharedTable<V>,
+    place: &mut Place<V>,
+    number: u32,
+    mut found: u64,
+    patience: &mut Patience,
+) -> V
+    requires table { IsLockTable table.now.table_id }
+    requires lock { place.old.table_id ≡ table.now.table_id }
+    requires view { place.old.me ≡ (view_of false number (seen_of place.old.me.0), []) }
+    requires admits { (v : V) → V.setting v ≡ V.setting table.now.key.initial.value → A.admits v }
+    ensures lock { place.new.table_id ≡ place.old.table_id }
+    ensures taken { IsTaken V.history A.admits number (seen_of place.old.me.0) result place.new.me }
+{
     for _ in rt.forever() {
-        match try_take::<V, A>(table, &mut place, number) {
-            Ok(value) => return (value, place.into_badge()),
-            Err(found) => wait(rt, table, &mut place, found, patience),
+        wait(rt, table, place, found, patience);
+        match try_take::<V, A>(table, place, number) {
+            Ok(value) => return value,
+            Err(turn) => found = turn,
         }
     }
     unreachable!()

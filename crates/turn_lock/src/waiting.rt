@@ -10,11 +10,14 @@ use std::hint::spin_loop;
 use std::sync::Wait;
 use std::time::Duration;
 
-// How often a seat looks whether the turn is free before it rests: for a few microseconds, in which another one makes several turns.
-const LOOKS: u32 = 1_000;
+// How often a seat looks whether the turn is free before it rests: for about a microsecond, in which another one makes several turns.
+const LOOKS: u32 = 2_000;
 
-// How many takes in a row have to find the turn another's before the seat leaves it to others for the length of a rest.
-const CROWD: u32 = 4;
+// The credit that a seat has when it begins, and after each rest: how many takes more may find the turn another's than find it free before the
+// seat leaves it to others for the length of a rest.
+const FIRST_CREDIT: u32 = 2;
+
+const MOST_CREDIT: u32 = 8;
 
 // How long the first rest of a take lasts at most, in nanoseconds. Each further one lasts as much longer, up to the longest.
 const FIRST_REST: u64 = 50_000;
@@ -27,12 +30,12 @@ const MOST_RESTS: u32 = 100;
 // The bits of a word that a sleep compares.
 const SLEEP_BITS: u64 = 0xffff_ffff;
 
-/// How a seat waits, and how it has found the turn of late: in how many takes in a row it was another's, whether in this one, and how often the
-/// seat has rested in it.
+/// How a seat waits, and how it has found the turn of late: a credit of takes that may find it another's, whether this one did, and how often
+/// the seat has rested in it.
 #[derive(Drop)]
 pub(crate) struct Patience {
     gives_way: bool,
-    crowd: u32,
+    credit: u32,
     waits: bool,
     rests: u32,
 }
@@ -42,7 +45,7 @@ impl Patience {
     pub(crate) fn new() -> Self {
         Patience {
             gives_way: false,
-            crowd: 0,
+            credit: FIRST_CREDIT,
             waits: false,
             rests: 0,
         }
@@ -54,14 +57,14 @@ impl Patience {
         self.gives_way = gives_way;
     }
 
-    /// A take ends: the next one may wait again.
+    /// A take ends, which costs credit if it found the turn another's, and earns some if not. The next one may wait again.
     #[inline(always)]
     pub(crate) fn end_take(&mut self) {
-        if !self.waits || self.crowd >= CROWD {
-            self.crowd = 0;
+        self.credit = if self.waits {
+            self.credit.saturating_sub(1)
         } else {
-            self.crowd += 1;
-        }
+            self.credit.saturating_add(1).min(MOST_CREDIT)
+        };
         self.waits = false;
         self.rests = 0;
     }
@@ -70,22 +73,23 @@ impl Patience {
     fn steps_back(&mut self) -> bool {
         let is_first = !self.waits;
         self.waits = true;
-        self.gives_way || (is_first && self.crowd >= CROWD)
+        self.gives_way || (is_first && self.credit == 0)
     }
 
-    // How long the seat rests, in nanoseconds. `None`: it has rested often enough in this take.
+    // How long the seat rests, in nanoseconds, after which it has its first credit again. `None`: it has rested often enough in this take.
     fn next_rest(&mut self) -> Option<u64> {
         if self.rests >= MOST_RESTS {
             return None;
         }
         self.rests += 1;
+        self.credit = FIRST_CREDIT;
         Some((FIRST_REST * u64::from(self.rests)).min(LONGEST_REST))
     }
 }
 
 /// Waits for the turn, which was found to be another's: the seat looks for a while, and then rests; in the end it sleeps. One that gives way
-/// doesn't look; nor does one that found the turn another's again and again, since it and another one have every other turn then, and the value
-/// goes to and fro between two processors.
+/// doesn't look; nor does one whose credit is used up, since it and another one have every other turn then, and the value goes to and fro
+/// between two processors.
 #[inline(never)]
 pub(crate) fn wait<V: Kept, R: Wait>(
     rt: &R,

@@ -20,6 +20,12 @@ turn-answer-requires-clause-given g c =
 pub ending_after-met-requires : goal.ending_after-met-requires
 ending_after-met-requires g c = c.turn-answer.ensures.turn.over
 
+pub makes_way-makes_way-requires-clause-carrier : goal.makes_way-makes_way-requires-clause-carrier
+makes_way-makes_way-requires-clause-carrier g c = c.turn-answer.ensures.fits.below
+
+pub makes_way-makes_way-requires-clause-ended : goal.makes_way-makes_way-requires-clause-ended
+makes_way-makes_way-requires-clause-ended g c = c.turn-answer.ensures.turn.over
+
 pub give-requires-clause-lock : goal.give-requires-clause-lock
 give-requires-clause-lock g c = ap (λ (s : SeatState). s.lock) c.take-held.ensures.seat ∙ c.requires.lock
 
