@@ -21,7 +21,9 @@ public class Handovers implements Runnable {
 
     public static void main(String[] args) throws InterruptedException {
         for (int i = 0; i < 2; i++) THREADS[i] = Thread.ofVirtual().unstarted(new Handovers(i));
-        for (Thread thread : THREADS) thread.start();
+        // Thread 1 comes first: a thread that isn't started doesn't keep a permit.
+        THREADS[1].start();
+        THREADS[0].start();
         for (Thread thread : THREADS) thread.join();
         System.out.println(TURNS);
     }

@@ -13,11 +13,9 @@ use std::time::Duration;
 // How often a seat looks whether the turn is free before it rests: for about a microsecond, in which another one makes several turns.
 const LOOKS: u32 = 2_000;
 
-// The credit that a seat has when it begins, and after each rest: how many takes more may find the turn another's than find it free before the
-// seat leaves it to others for the length of a rest.
-const FIRST_CREDIT: u32 = 2;
-
-const MOST_CREDIT: u32 = 8;
+// The credit that a seat has when it begins, and after each rest, and the most that it can have: how many takes more may find the turn
+// another's than find it free before the seat leaves it to others for the length of a rest.
+const CREDIT: u32 = 8;
 
 // How long the first rest of a take lasts at most, in nanoseconds. Each further one lasts as much longer, up to the longest.
 const FIRST_REST: u64 = 50_000;
@@ -45,7 +43,7 @@ impl Patience {
     pub(crate) fn new() -> Self {
         Patience {
             gives_way: false,
-            credit: FIRST_CREDIT,
+            credit: CREDIT,
             waits: false,
             rests: 0,
         }
@@ -63,7 +61,7 @@ impl Patience {
         self.credit = if self.waits {
             self.credit.saturating_sub(1)
         } else {
-            self.credit.saturating_add(1).min(MOST_CREDIT)
+            self.credit.saturating_add(1).min(CREDIT)
         };
         self.waits = false;
         self.rests = 0;
@@ -76,13 +74,13 @@ impl Patience {
         self.gives_way || (is_first && self.credit == 0)
     }
 
-    // How long the seat rests, in nanoseconds, after which it has its first credit again. `None`: it has rested often enough in this take.
+    // How long the seat rests, in nanoseconds, after which it has all its credit again. `None`: it has rested often enough in this take.
     fn next_rest(&mut self) -> Option<u64> {
         if self.rests >= MOST_RESTS {
             return None;
         }
         self.rests += 1;
-        self.credit = FIRST_CREDIT;
+        self.credit = CREDIT;
         Some((FIRST_REST * u64::from(self.rests)).min(LONGEST_REST))
     }
 }
