@@ -14,7 +14,7 @@ use Rattle.ref_model.specs.Setting.{Setting}
 use Rattle.machine.specs.Hands.{Idle}
 use Rattle.machine.specs.Legal.{IsLegal}
 use Rattle.machine.specs.Machines.{Known, machine_ending}
-use Rattle.machine.specs.Ready.{IsReady}
+use Rattle.operand_soundness.specs.Ready.{IsReady}
 use Rattle.carrier_turns.specs.declared.ask.Turn.{Turn}
 use Rattle.carrier_turns.specs.declared.hand.Hand.{Hand}
 use Rattle.carrier_turns.specs.Hands.{Fits, FitsAsBefore, HasDone}

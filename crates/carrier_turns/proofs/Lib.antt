@@ -1,4 +1,3 @@
-pub mod OperandLaws
 pub mod LocalLaws
 pub mod BackLaws
 pub mod StaticLaws

@@ -10,7 +10,7 @@ use Rattle.link_model.specs.World.{World}
 use Rattle.schedule_soundness.proofs.ThreadLists.{set_other}
 use Rattle.machine.specs.Legal.{IsLegal}
 use Rattle.machine.specs.Machines.{Known, machine_ending}
-use Rattle.machine.specs.Ready.{IsReady}
+use Rattle.operand_soundness.specs.Ready.{IsReady}
 use Rattle.carrier_turns.specs.declared.ask.Turn.{Turn}
 use Rattle.carrier_turns.specs.declared.hand.Hand.{Hand}
 use Rattle.carrier_turns.specs.Hands.{Fits}

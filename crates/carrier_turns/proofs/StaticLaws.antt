@@ -31,7 +31,7 @@ use Rattle.invocation.specs.Targets.{IsStaticCallee, begins, callee_frame}
 use Rattle.interp_local.specs.declared.fetched.Fetched.{Fetched}
 use Rattle.interp_local.specs.Fetched.{IsTopAt, instruction_of}
 use Rattle.carrier_turns.specs.LocalRuns.{GoesOver}
-use Rattle.machine.specs.Ready.{IsReady}
+use Rattle.operand_soundness.specs.Ready.{IsReady}
 use Rattle.carrier_turns.proofs.LocalLaws.{static_ends}
 
 -- ---- the row of an invokestatic

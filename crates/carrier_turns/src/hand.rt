@@ -5,7 +5,7 @@ ghost use Rattle.machine.specs.Machines.{Known};
 ghost use Rattle.machine.specs.Hands.{Idle};
 ghost use Rattle.carrier_turns.specs.Hands.{Fits, FitsAnyAsBefore, FitsAsBefore, HasDone, MayFreeze, MayRun};
 ghost use Rattle.carrier_turns.specs.Turns.{KeepsPressing};
-ghost use Rattle.machine.specs.Ready.{IsReady};
+ghost use Rattle.operand_soundness.specs.Ready.{IsReady};
 
 use crate::ask::Ask;
 use crate::local::{LocalRun, calls_clock, run_local};

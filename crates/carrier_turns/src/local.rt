@@ -9,7 +9,7 @@ ghost use Rattle.ref_model.specs.LocalRows.{row, rows};
 ghost use Rattle.frame_soundness.specs.Typed.{Typed};
 ghost use Rattle.invocation.specs.InvocationCache.{AreSelected};
 ghost use Rattle.carrier_turns.specs.LocalRuns.{GoesOver, IsLongRun};
-ghost use Rattle.machine.specs.Ready.{IsReady};
+ghost use Rattle.operand_soundness.specs.Ready.{IsReady};
 
 use continuation::Mounted;
 use interp_local::{Fetched, TopRun, run_and_fetch};

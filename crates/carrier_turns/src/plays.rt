@@ -4,7 +4,7 @@ ghost use Rattle.std.specs.Prelude.{◌≡◌, ◌<◌, IfOk};
 ghost use Rattle.carrier_turns.specs.Hands.{FitsAsBefore, HasDone};
 ghost use Rattle.carrier_turns.specs.Plays.{AreCarriersIdle, AreTurnsOf, GoesOnFrom, HandsFit, IsDoneTurn, IsReadyHand, MayDo};
 ghost use Rattle.carrier_turns.specs.Turns.{KeepsPressing};
-ghost use Rattle.machine.specs.Ready.{IsReady};
+ghost use Rattle.operand_soundness.specs.Ready.{IsReady};
 
 use crate::ask::{Ask, Turn};
 use crate::hand::Hand;

@@ -25,7 +25,6 @@ mod AnyLaws
 mod SliceLaws
 mod StepEndLaws
 mod PutFacts
-mod OperandLaws
 mod MoveLaws
 mod LocalLaws
 mod StepCallLaws

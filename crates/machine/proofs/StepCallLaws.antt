@@ -31,7 +31,7 @@ use Rattle.machine.specs.Hands.{AreTypedInRun, HasHand, HasPhase, Holds, IsLive,
 use Rattle.machine.specs.Legal.{Works}
 use Rattle.machine.specs.Machines.{Given, limit_reached, machine_ending}
 use Rattle.machine.specs.Insides.{IsConsistent, is_out}
-use Rattle.machine.specs.Ready.{IsReady}
+use Rattle.operand_soundness.specs.Ready.{IsReady}
 use Rattle.machine.specs.Steps.{MayBeMade, StepsFrom}
 use Rattle.machine.specs.Turns.{IsAtLast, IsStepReady, IsStepReadyIn}
 use Rattle.machine.proofs.EndingLaws.{ending_is}

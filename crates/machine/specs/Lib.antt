@@ -5,7 +5,6 @@ pub mod Turns
 pub mod Begin
 pub mod Lists
 pub mod Insides
-pub mod Ready
 pub mod AtHand
 pub mod Moves
 pub mod Pins

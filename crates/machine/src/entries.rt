@@ -13,7 +13,7 @@ ghost use Rattle.program_state.specs.States.{IsState};
 ghost use Rattle.machine.specs.AtHand.{AreTyped, HasNext, IsAt};
 ghost use Rattle.machine.specs.Moves.{IsAsked, StaysIfReading, alone};
 ghost use Rattle.machine.specs.Puts.{IsTouched};
-ghost use Rattle.machine.specs.Ready.{IsReady};
+ghost use Rattle.operand_soundness.specs.Ready.{IsReady};
 ghost use Rattle.machine.specs.Steps.{Becomes, IsConcluded, IsEntered, IsPicking, IsTriedSo, MayBeMade, outcome_of, picked_by, told_of};
 ghost use Rattle.machine.specs.declared.made.Attempt.TheVariants.{Made};
 ghost use Rattle.machine.specs.declared.made.Others.TheVariants as moves;

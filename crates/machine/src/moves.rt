@@ -20,7 +20,7 @@ ghost use Rattle.machine.specs.Moves.{IsAsked, IsMade, IsRequested, Moves, Moves
 ghost use Rattle.thread_steps.specs.Returning.{ThrowsFrom};
 ghost use Rattle.thread_steps.specs.States.{memory_of};
 ghost use Rattle.thread_steps.specs.declared.progress.Progress.TheVariants.{Stepped};
-ghost use Rattle.machine.specs.Ready.{IsReady};
+ghost use Rattle.operand_soundness.specs.Ready.{IsReady};
 
 use crate::made::{Attempt, Move, Others};
 use continuation::Mounted;
@@ -31,11 +31,12 @@ use monitor_steps::{
     MonitorOutcome, finish_entry, leave_throw, make_call, make_monitor_request, make_return,
 };
 use program_state::{
-    ProgramState, RequestOutcome, finish_wait, make_request, reads_clock, run_step, throwing_step,
+    ProgramState, RequestOutcome, finish_wait, make_request, run_step, throwing_step,
 };
 use ref_model::ThreadRequest;
 use startup::ReadyProgram;
 use std::alloc::Global;
+use thread_calls::reads_clock;
 use thread_steps::{MonitorReturn, MonitorThrow, PendingRequest, Progress, Thrown};
 use vthread_state::Phase;
 

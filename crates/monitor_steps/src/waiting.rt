@@ -11,8 +11,9 @@ use crate::owning::is_owner;
 use crate::phases::set_phase;
 use crate::reply::MonitorReply;
 use items::NoMemory;
-use program_state::{ProgramState, deadline_of, is_negative, set_timer, take_interrupt};
+use program_state::{ProgramState, set_timer, take_interrupt};
 use ref_model::{Exception, ThreadRequest};
+use thread_calls::{deadline_of, is_negative};
 use vthread_state::Phase;
 
 // Why a thread may not wait on a monitor: a negative time is judged first, then who owns the monitor, and then the interrupt status, which

@@ -1,42 +1,37 @@
 -- A thread is made.
-use Rattle.std.proofs.Common.{◌≡◌, ◌⊎◌, inl, inr, ℕ, zero, suc, ◌+◌, ℤ, pos, Bool, true, false, List, [], ◌∷◌, ◌++◌, length, Option, Some, None, refl, ap, sym, subst, ◌∙◌}
-use Rattle.std.specs.Prelude.{codes, is_some, map, nat_lt, slice_get, if◌then◌else◌}
+use Rattle.std.proofs.Common.{◌≡◌, ◌⊎◌, inl, inr, ℕ, zero, suc, ◌+◌, Bool, true, false, List, [], ◌∷◌, ◌++◌, length, Option, Some, None, refl, ap, sym, subst, ◌∙◌}
+use Rattle.std.specs.Prelude.{map, nat_lt, slice_get}
 use Rattle.std.specs.Option.{option_map_or}
-use Rattle.items.specs.Options.{◌>>=◌}
 use Rattle.items.proofs.Binds.{bind_is}
-use Rattle.instruction_rows.specs.declared.value.Value.TheVariants as values
 use Rattle.vthread_state.specs.declared.phase.Phase.TheVariants.{Run}
 use Rattle.vthread_state.specs.declared.thread.Status.TheVariants.{New, Live}
 use Rattle.vthread_state.specs.declared.thread.Thread.{Thread}
 use Rattle.vthread_state.specs.declared.thread.ThreadKind.{ThreadKind}
-use Rattle.vthread_state.specs.declared.thread.ThreadKind.TheVariants.{Platform, Virtual}
 use Rattle.vthread_state.specs.Threads.{Threads, new_thread, thread_at}
 use Rattle.link_model.specs.World.{World}
 use Rattle.continuation.specs.Continuation.{Continuation}
 use Rattle.ref_model.specs.declared.exception.Exception.TheVariants as exceptions
-use Rattle.ref_model.specs.Asking.{Asking, goes}
+use Rattle.ref_model.specs.Asking.{goes}
 use Rattle.ref_model.specs.Ending.{is_live}
-use Rattle.ref_model.specs.Heap.{with_text, with_value}
-use Rattle.ref_model.specs.Texts.{decimal_text}
 use Rattle.ref_model.specs.Looks.{deadline_in}
 use Rattle.ref_model.specs.Memory.{Memory}
-use Rattle.ref_model.specs.Starting.{created, first_daemon, first_name, made_or_thrown, made_thread, may_create, name_made, unnamed_after, with_new_thread}
+use Rattle.ref_model.specs.Starting.{first_daemon, made_thread, may_create, unnamed_after, with_new_thread}
 use Rattle.ref_model.specs.State.{JavaThread, State}
 use Rattle.ref_model.specs.ThreadNatives.{with_number}
 use Rattle.ref_model.specs.declared.request.ThreadRequest.TheVariants as requests
 use Rattle.sleep_wheel.specs.declared.sleeper.Key.{Key}
 use Rattle.sleep_wheel.specs.Sleepers.{Sleepers, sleeper_at}
 use Rattle.heap_objs.specs.Heap.{Heap}
-use Rattle.heap_instructions.specs.HeapReads.{IsMade, IsValueSet}
 use Rattle.heap_instructions.specs.Outcomes.{with_heap}
-use Rattle.native_methods.specs.NativeStates.{thread_in}
 use Rattle.schedule_soundness.specs.PutLaws.{Stays, is_new, OthersStay}
 use Rattle.schedule_soundness.proofs.ThreadLists.{more, more_there, same_some}
 use Rattle.thread_steps.specs.declared.parts.Parts.{Parts}
 use Rattle.thread_steps.specs.States.{memory_of}
 use Rattle.program_state.specs.declared.reply.Reply.TheVariants as replies
 use Rattle.program_state.specs.declared.state.ProgramState.{ProgramState}
-use Rattle.program_state.specs.Creating.{IsAdded, IsNameMade, daemon_of, first_name_of, has_room, unnamed_with}
+use Rattle.thread_calls.specs.Creating.{IsNameMade, daemon_of, unnamed_with}
+use Rattle.thread_calls.proofs.CreateLaws.{created_is, daemon_is, name_in, name_none, unnamed_is}
+use Rattle.program_state.specs.Creating.{IsAdded, has_room}
 use Rattle.program_state.specs.Deadlines.{coming_deadline, deadlines_of, key_at, key_number, later_than}
 use Rattle.program_state.specs.Replies.{Answers}
 use Rattle.program_state.specs.States as places
@@ -147,19 +142,6 @@ added_others r t memory unnamed x idle = record { threads = λ u ne. by u (more 
     by u (inl same) = stays_same (slice_get r.threads u) (slice_get (r.threads ++ x ∷ []) u) same
     by u (inr last) = is_new x last.0 last.1 idle
 
--- ---- the number of its thread in a Thread object
-
-some_goes : (o : Option ℕ) (k : Option Memory) → is_some o ≡ true → (o >>= λ x. k) ≡ k
-some_goes None k e = absurd cc
-some_goes (Some x) k e = refl
-
-pub number_is_set : (old new : Heap) (object number : ℕ) (n : ℤ) (set : Bool) (m : Memory) → is_some (thread_in old.objects object) ≡ true → n ≡ pos number → set ≡ true
-    → IsValueSet object 1 (values.Int n) old new set → with_number (with_heap old m) object number ≡ Some (with_heap new m)
-number_is_set old new object number n set m there same done is =
-    some_goes (thread_in old.objects object) (with_value (with_heap old m) object 1 (values.Int (pos number))) there
-    ∙ ap (λ k. with_value (with_heap old m) object 1 (values.Int k)) (sym same)
-    ∙ subst (IsValueSet object 1 (values.Int n) old new) done is m
-
 -- ---- the request
 
 -- the memory with another heap
@@ -170,52 +152,11 @@ with_heap_in a heap = record a.memory { natives = record a.memory.natives { heap
 pub room_there : (a : ProgramState) (r : State) (out : ℕ → Bool) → IsState a r out → may_create r ≡ has_room a
 room_there a r out is = sym (ap (λ n. nat_lt n a.most_threads) (ap length is.rows ∙ length_rows r.threads) ∙ ap (nat_lt (length r.threads)) is.most_threads)
 
-name_is : (kind : ThreadKind) (r : State) (unnamed : ℕ) → unnamed ≡ r.unnamed → first_name_of kind unnamed ≡ first_name kind r
-name_is Platform r unnamed same = ap (λ n. codes "Thread-" ++ decimal_text (pos n)) same
-name_is Virtual r unnamed same = refl
-
-unnamed_is : (kind : ThreadKind) (name : Option ℕ) (r : State) (unnamed : ℕ) → unnamed ≡ r.unnamed → unnamed_with kind name unnamed ≡ unnamed_after kind name r
-unnamed_is Platform None r unnamed same = ap (λ n. n + 1) same
-unnamed_is Platform (Some name) r unnamed same = same
-unnamed_is Virtual name r unnamed same = same
-
-daemon_is : (kind : ThreadKind) (x : JavaThread) (row : Thread) → x.thread ≡ row → daemon_of kind row.daemon ≡ first_daemon kind x
-daemon_is Platform x row same = ap (λ (z : Thread). z.daemon) (sym same)
-daemon_is Virtual x row same = refl
-
--- the memory with the name, in the state
-name_in : (kind : ThreadKind) (name : Option ℕ) (a : ProgramState) (r : State) (out : ℕ → Bool) (heap : Heap) (found : Option ℕ) → IsState a r out
-    → IsNameMade kind name a.unnamed a.memory.natives.heap heap found
-    → (o : ℕ) → found ≡ Some o → name_made kind r name ≡ Some (with_heap heap (memory_of a.memory), o)
-name_in kind (Some name) a r out heap found is (same, given) o e =
-    let one : name ≡ o = cc in
-    λ i. Some (memory_here i, one i)
-  where
-    memory_here : r.memory ≡ with_heap heap (memory_of a.memory)
-    memory_here = sym is.memory ∙ ap (λ (s : Heap). with_heap s (memory_of a.memory)) (sym same)
-name_in kind None a r out heap found is made o e =
-    ap (with_text r.memory) (sym (name_is kind r a.unnamed is.unnamed)) ∙ ap (λ m. with_text m (first_name_of kind a.unnamed)) (sym is.memory)
-    ∙ subst (IsMade (λ r. with_text r (first_name_of kind a.unnamed)) a.memory.natives.heap heap) e made (memory_of a.memory)
-
--- there is no room for it
-name_none : (kind : ThreadKind) (name : Option ℕ) (a : ProgramState) (r : State) (out : ℕ → Bool) (heap : Heap) → IsState a r out
-    → IsNameMade kind name a.unnamed a.memory.natives.heap heap None → (name_made kind r name ≡ None) × (heap ≡ a.memory.natives.heap)
-name_none kind (Some name) a r out heap is (same, given) = absurd cc
-name_none kind None a r out heap is made =
-    (ap (with_text r.memory) (sym (name_is kind r a.unnamed is.unnamed)) ∙ ap (λ m. with_text m (first_name_of kind a.unnamed)) (sym is.memory) ∙ made.0 (memory_of a.memory), made.1)
-
-created_is : (w : World) (kind : ThreadKind) (object : ℕ) (name : Option ℕ) (t : ℕ) (r : State) (k : Asking) (x : JavaThread) (o : Option (Memory × ℕ)) → may_create r ≡ true
-    → slice_get r.threads t ≡ Some x → name_made kind r name ≡ o → created w r t k kind object name ≡ made_or_thrown w r t k kind object name x o
-created_is w kind object name t r k x o room at made =
-    ap (λ b. if b then (slice_get r.threads t >>= λ creator. made_or_thrown w r t k kind object name creator (name_made kind r name)) else None) room
-    ∙ bind_is (slice_get r.threads t) (λ creator. made_or_thrown w r t k kind object name creator (name_made kind r name)) x (made_or_thrown w r t k kind object name x o) at
-    (ap (made_or_thrown w r t k kind object name x) made)
-
 pub nothing_created : (w : World) (kind : ThreadKind) (object : ℕ) (name : Option ℕ) (t : ℕ) (a : ProgramState) (heap : Heap) → has_room a ≡ true
     → IsNameMade kind name a.unnamed a.memory.natives.heap heap None
     → Answers w (requests.Creates kind object name) (OthersStay t) t a (record a { memory = with_heap_in a heap }) (replies.Throws exceptions.OutOfMemoryError)
 nothing_created w kind object name t a heap room made r out frames is at =
-    let none = name_none kind name a r out heap is made in
+    let none = name_none kind name r (memory_of a.memory) a.unnamed a.memory.natives.heap heap is.unnamed is.memory made in
     record {
       state = r;
       same = λ k. created_is w kind object name t r k at.thread None (room_there a r out is ∙ room) at.at none.0;
@@ -238,7 +179,7 @@ thread_created w kind object string name t a new named numbered row daemon unnam
     let count : length a.threads.threads ≡ length r.threads = ap length is.rows ∙ length_rows r.threads in
     let flag : daemon ≡ first_daemon kind at.thread = is_daemon ∙ daemon_is kind at.thread row (ap (λ (z : JavaThread). z.thread) (sym own) ∙ creator.2) in
     let next : State = with_new_thread r memory unnamed x in
-    let named_in = name_in kind name a r out named (Some string) is made string refl in
+    let named_in = name_in kind name r (memory_of a.memory) a.unnamed a.memory.natives.heap named string is.unnamed is.memory made in
     record {
       state = next;
       same = λ k. created_is w kind object name t r k at.thread (Some (with_heap named (memory_of a.memory), string)) (room_there a r out is ∙ room) at.at named_in

@@ -2,7 +2,6 @@
 //! of other threads, and the ends of its waits. Carriers and run deques come above.
 #![tactic(auto)]
 
-mod clock;
 mod creating;
 mod endings;
 mod flags;
@@ -25,7 +24,6 @@ mod waits;
 mod wake_requests;
 mod world;
 
-pub use clock::{deadline_of, is_negative, reads_clock};
 pub use endings::ending;
 pub use flags::{is_interrupted, take_interrupt};
 pub use replies::go_on;

@@ -5,11 +5,11 @@ ghost use Rattle.link_model.specs.World.{World};
 ghost use Rattle.schedule_soundness.specs.PutLaws.{OthersStay};
 ghost use Rattle.program_state.specs.Replies.{Answers};
 
-use crate::clock::{nano_time, time_millis};
 use crate::reply::Reply;
 use crate::state::ProgramState;
 use instruction_rows::Value;
 use ref_model::ThreadRequest;
+use thread_calls::{nano_time, time_millis};
 
 /// nanoTime.
 pub(crate) fn tell_nanos(state: &ProgramState) -> Reply

@@ -5,13 +5,13 @@ ghost use Rattle.link_model.specs.World.{World};
 ghost use Rattle.schedule_soundness.specs.PutLaws.{OthersStay};
 ghost use Rattle.program_state.specs.Replies.{Answers};
 
-use crate::clock::{deadline_of, is_negative, is_over, is_zero, millis_after, park_deadline};
 use crate::flags::{is_interrupted, take_interrupt, take_permit};
 use crate::reply::Reply;
 use crate::request_rows::is_live;
 use crate::state::{ProgramState, row_at};
 use items::NoMemory;
 use ref_model::{Exception, ThreadRequest};
+use thread_calls::{deadline_of, is_negative, is_over, is_zero, millis_after, park_deadline};
 use vthread_state::Phase;
 
 /// sleep, in milliseconds. A negative time is judged first, and then the interrupt status, which is cleared; 0 waits for nothing.

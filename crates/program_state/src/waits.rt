@@ -20,7 +20,6 @@ ghost use Rattle.program_state.specs.States.{IsState};
 ghost use Rattle.program_state.specs.Steps.{StepsTo};
 ghost use Rattle.program_state.specs.Waiting.{AreWoken, EndsWait, IsWakeTaken, has_ended_in, is_wait, lies_in, phase_goes_on_in, status_goes_on_in};
 
-use crate::clock::is_reached;
 use crate::flags::{has_permit, is_interrupted, take_interrupt, take_permit};
 use crate::replies::{conclude_reply, throw};
 use crate::reply::Reply;
@@ -34,6 +33,7 @@ use link_model::Resolution;
 use opcodes::Instr;
 use ref_model::{Exception, ThreadRequest};
 use std::alloc::Global;
+use thread_calls::is_reached;
 use thread_steps::{PendingRequest, Progress, instruction_step};
 use vthread_state::{Phase, Status, ThreadTable};
 use wakes::Wakes;

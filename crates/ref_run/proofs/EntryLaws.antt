@@ -25,7 +25,8 @@ use Rattle.ref_run.specs.declared.fault.Fault.TheVariants as faults
 use Rattle.ref_run.specs.declared.state.RefState.{RefState}
 use Rattle.ref_run.specs.GoingOn.{Comes}
 use Rattle.ref_run.specs.States.{state_of}
-use Rattle.ref_run.specs.Steps.{IsAdvance, IsReady, is_running_status, made_entry, made_steps, stepped}
+use Rattle.operand_soundness.specs.Ready.{IsReady}
+use Rattle.ref_run.specs.Steps.{IsAdvance, is_running_status, made_entry, made_steps, stepped}
 use Rattle.ref_run.specs.Taking.{IsPut, IsTaken}
 use Rattle.ref_run.proofs.PhaseLaws.{frames_run, run_typed}
 use Rattle.ref_run.proofs.ReplayLaws.{made_more, none_made, step_is, steps_are}

@@ -6,10 +6,8 @@ mod CreateLaws
 mod EntryLaws
 mod GoingOnLaws
 mod LeaveLaws
-mod OperandLaws
 mod PhaseLaws
 mod ReplayLaws
 mod StageLaws
 mod StartLaws
 mod StepLaws
-mod TimeLaws

@@ -10,6 +10,7 @@ use Rattle.instruction_rows.specs.Table.{row as row_of}
 use Rattle.link_model.specs.World.{World}
 use Rattle.verify_types.specs.Environment.{Instruction}
 use Rattle.state_model.specs.Frames.{Frame}
+use Rattle.frames.specs.Frames.{top_method, top_pc}
 use Rattle.ref_model.specs.Asking.{Asking}
 use Rattle.ref_model.specs.Effects.{Effect, done, invokes, throws, throws_object, asks}
 use Rattle.ref_model.specs.Fetch.{fetched}
@@ -21,6 +22,7 @@ use Rattle.ref_model.specs.State.{JavaThread, State}
 use Rattle.ref_model.specs.Step.{after_effect, event_step, row_effect, row_event, row_or_event}
 use Rattle.ref_model.specs.Throwing.{throwing_step}
 use Rattle.ref_model.proofs.StateLaws.{get_set}
+use Rattle.interp_local.specs.Fetched.{instruction_at}
 use Rattle.thread_steps.specs.declared.parts.Parts.{Parts}
 use Rattle.thread_steps.specs.declared.progress.PendingRequest.{PendingRequest}
 use Rattle.thread_steps.specs.declared.progress.Progress.{Progress}
@@ -104,6 +106,12 @@ pub pending_step : (w : World) (r : State) (t : ℕ) (q : PendingRequest) (frame
 pending_step w r t q frames p =
     ap (row_or_event w r t frames) p.event ∙ ap (event_step w r t) p.top
     ∙ event_asks w r t p.frame p.below (request_of q.request, asking_of q p.frame p.below) (ap (asking_in w r.memory) (sym p.top) ∙ p.asks)
+
+-- ---- the instruction of the top frame
+
+pub fetched_at : (w : World) (frames : List Frame) (i : Instruction) → instruction_at w (top_method frames) (top_pc frames) ≡ Some i
+    → (f : Frame) (below : List Frame) → frames ≡ f ∷ below → fetched w f ≡ Some i
+fetched_at w frames i at f below top = ap (λ fs. instruction_at w (top_method fs) (top_pc fs)) (sym top) ∙ at
 
 -- ---- what became of the instruction
 

@@ -2,7 +2,6 @@ pub mod Owners
 pub mod States
 pub mod Replies
 pub mod GoingOn
-pub mod Creating
 pub mod Starting
 pub mod Steps
 pub mod Taking

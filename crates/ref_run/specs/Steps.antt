@@ -10,11 +10,8 @@ use Rattle.vthread_state.specs.declared.thread.Status.TheVariants.{New, Live, Do
 use Rattle.opcodes.specs.declared.op.ValueKind.{ValueKind}
 use Rattle.link_model.specs.World.{World}
 use Rattle.state_model.specs.Frames.{Frame}
-use Rattle.frame_soundness.specs.StepKinds.{IsLinkedWorld}
 use Rattle.frame_soundness.specs.Typed.{Typed}
 use Rattle.frames.specs.Frames.{top_stack}
-use Rattle.link_soundness.specs.Names.{AreNamed}
-use Rattle.step_soundness.specs.Resolutions.{RunsFit}
 use Rattle.ref_model.specs.declared.exception.Exception.TheVariants as exceptions
 use Rattle.ref_model.specs.Enabled.{enabled}
 use Rattle.ref_model.specs.LocalRows.{row}
@@ -44,12 +41,6 @@ use Rattle.ref_run.specs.GoingOn.{Comes, asking_call}
 use Rattle.ref_run.specs.States.{frames_of, state_of}
 
 -- ---- the program
-
--- It keeps to the typing, and its instructions name what their steps ask for.
-pub record IsReady (w : World) : Type 0 where
-  pub linked : IsLinkedWorld w
-  pub named : AreNamed w
-  pub runs : RunsFit w
 
 -- the frames of thread t are at an instruction, and keep to the typing
 abbrev pub HasTyped : World → State → ℕ → Type 0

@@ -7,12 +7,12 @@ ghost use Rattle.ref_model.specs.Ending as spec;
 ghost use Rattle.ref_model.specs.State as model;
 ghost use Rattle.ref_run.specs.States.{state_of};
 
-use crate::clock::is_reached;
 use crate::state::{RefState, is_free};
 use crate::statuses::is_done;
 use crate::thread_row::ThreadRow;
 use crate::waiters::goes_on;
 use ref_model::Ending;
+use thread_calls::is_reached;
 use vthread_state::{Phase, Status};
 
 // How the program has ended by its threads, if it has.

@@ -7,7 +7,8 @@ ghost use Rattle.interp_local.specs.Stops as stops;
 ghost use Rattle.ref_model.specs.Waiting.{at_time};
 ghost use Rattle.ref_run.specs.GoingOn.{Comes};
 ghost use Rattle.ref_run.specs.States.{state_of};
-ghost use Rattle.ref_run.specs.Steps.{IsAdvance, IsReady, entry_after, made_entry, made_steps};
+ghost use Rattle.operand_soundness.specs.Ready.{IsReady};
+ghost use Rattle.ref_run.specs.Steps.{IsAdvance, entry_after, made_entry, made_steps};
 
 use crate::endings::ending;
 use crate::fault::Fault;

@@ -5,7 +5,8 @@ ghost use Rattle.frame_soundness.specs.Typed.{Typed};
 ghost use Rattle.interp_local.specs.Fetched.{IsTopAt};
 ghost use Rattle.invocation.specs.InvocationCache.{AreSelected};
 ghost use Rattle.ref_run.specs.States.{state_of};
-ghost use Rattle.ref_run.specs.Steps.{HasTyped, IsProgress, IsReady};
+ghost use Rattle.operand_soundness.specs.Ready.{IsReady};
+ghost use Rattle.ref_run.specs.Steps.{HasTyped, IsProgress};
 
 use crate::state::RefState;
 use crate::taking::{put_frames, take_frames};

@@ -4,7 +4,6 @@
 mod asking;
 mod calling;
 mod changes;
-mod clock;
 mod creating;
 mod endings;
 mod entries;

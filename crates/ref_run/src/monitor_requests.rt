@@ -4,7 +4,6 @@ ghost use Rattle.link_model.specs.World.{World};
 ghost use Rattle.ref_run.specs.Replies.{Answers};
 ghost use Rattle.ref_run.specs.States.{state_of};
 
-use crate::clock::{deadline_of, is_negative};
 use crate::fault::Fault;
 use crate::reply::Reply;
 use crate::state::{
@@ -12,6 +11,7 @@ use crate::state::{
 };
 use crate::waiters::{has_waiter, notify_each};
 use ref_model::{Exception, ThreadRequest};
+use thread_calls::{deadline_of, is_negative};
 use vthread_state::Phase;
 
 /// monitorenter: the thread takes the monitor, or waits to enter it.

@@ -12,7 +12,8 @@ ghost use Rattle.ref_model.specs.Resuming as resuming;
 ghost use Rattle.ref_model.specs.Step as steps;
 ghost use Rattle.ref_run.specs.GoingOn.{LeadsTo};
 ghost use Rattle.ref_run.specs.States.{frames_of, state_of};
-ghost use Rattle.ref_run.specs.Steps.{Acts, HasTyped, IsReady};
+ghost use Rattle.operand_soundness.specs.Ready.{IsReady};
+ghost use Rattle.ref_run.specs.Steps.{Acts, HasTyped};
 
 use crate::asking::{gives_back, is_first_entry};
 use crate::calling::{call_method, finish_call};

@@ -11,7 +11,7 @@ ghost use Rattle.startup.specs.Openings.{opened_state, setting};
 ghost use Rattle.ref_run.specs.Owners.{owner_of};
 ghost use Rattle.ref_run.specs.Replays.{IsReplayed, IsRunOf, stopped_at};
 ghost use Rattle.ref_run.specs.States.{state_of};
-ghost use Rattle.ref_run.specs.Steps.{IsReady};
+ghost use Rattle.operand_soundness.specs.Ready.{IsReady};
 
 use crate::entries::make_entry;
 use crate::fault::Fault;

@@ -6,7 +6,7 @@ ghost use Rattle.ref_model.specs.Ending as ending;
 ghost use Rattle.ref_model.specs.Requesting as requesting;
 ghost use Rattle.ref_model.specs.Waiting as waiting;
 
-use crate::clock::is_reached;
+use thread_calls::is_reached;
 use vthread_state::{Phase, Status, ThreadKind, Wake};
 
 /// Whether a thread was started and didn't end.

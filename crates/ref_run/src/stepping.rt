@@ -6,7 +6,8 @@ ghost use Rattle.invocation.specs.InvocationCache.{AreSelected};
 ghost use Rattle.ref_model.specs.Step as spec;
 ghost use Rattle.ref_run.specs.GoingOn.{Comes};
 ghost use Rattle.ref_run.specs.States.{state_of};
-ghost use Rattle.ref_run.specs.Steps.{IsReady, is_run_phase, is_running_status, stepped};
+ghost use Rattle.operand_soundness.specs.Ready.{IsReady};
+ghost use Rattle.ref_run.specs.Steps.{is_run_phase, is_running_status, stepped};
 
 use crate::endings::is_enabled;
 use crate::fault::Fault;

@@ -8,7 +8,6 @@ ghost use Rattle.ref_model.specs.Requesting as requesting;
 ghost use Rattle.ref_run.specs.Replies.{Tells};
 ghost use Rattle.ref_run.specs.States.{state_of};
 
-use crate::clock::{nano_time, time_millis};
 use crate::reply::Reply;
 use crate::state::{RefState, is_interrupted, row_at};
 use crate::statuses::{is_live, is_virtual};
@@ -16,6 +15,7 @@ use instruction_rows::Value;
 use items::NoMemory;
 use link_model::FIRST_STATE;
 use ref_model::ThreadRequest;
+use thread_calls::{nano_time, time_millis};
 use vthread_state::JavaState;
 
 /// A boolean as an answer.

@@ -4,12 +4,12 @@ ghost use Rattle.link_model.specs.World.{World};
 ghost use Rattle.ref_run.specs.Replies.{Answers};
 ghost use Rattle.ref_run.specs.States.{state_of};
 
-use crate::clock::{deadline_of, is_negative, is_over, is_zero, millis_after, park_deadline};
 use crate::fault::Fault;
 use crate::reply::Reply;
 use crate::state::{RefState, has_permit, is_interrupted, row_at, set_interrupted, set_permit};
 use crate::statuses::is_live;
 use ref_model::{Exception, ThreadRequest};
+use thread_calls::{deadline_of, is_negative, is_over, is_zero, millis_after, park_deadline};
 use vthread_state::Phase;
 
 /// sleep, in milliseconds. A negative time is judged first, and then the interrupt status, which is cleared; 0 waits for nothing.

@@ -4,7 +4,7 @@ use Rattle.interp_local.specs.Fetched.{instruction_of}
 use Rattle.heap_instructions.specs.Operands.{operands}
 use Rattle.carrier_turns.proofs.BackLaws.{back_made}
 use Rattle.thread_steps.proofs.ReturnLaws.{value_taken}
-use Rattle.carrier_turns.proofs.OperandLaws.{operands_found}
+use Rattle.operand_soundness.proofs.OperandLaws.{operands_found}
 use Rattle.carrier_turns.proofs.local.go_back.Goals as goal
 
 pub returns-in-Returned-clause-over : goal.returns-in-Returned-clause-over

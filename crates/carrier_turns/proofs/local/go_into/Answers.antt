@@ -4,7 +4,7 @@ use Rattle.interp_local.specs.Fetched.{instruction_of}
 use Rattle.heap_instructions.specs.Operands.{operands}
 use Rattle.invocation.specs.FrameSteps.{IsEntered}
 use Rattle.invocation.proofs.ReceiverLaws.{callee_given}
-use Rattle.carrier_turns.proofs.OperandLaws.{operands_found}
+use Rattle.operand_soundness.proofs.OperandLaws.{operands_found}
 use Rattle.carrier_turns.proofs.StaticLaws.{into_made, static_row}
 use Rattle.carrier_turns.proofs.local.go_into.Goals as goal
 

@@ -2,7 +2,7 @@ use Rattle.std.proofs.Common.{false, refl}
 use Rattle.interp_local.specs.Fetched.{instruction_of}
 use Rattle.machine.specs.declared.made.Others.TheVariants as moves
 use Rattle.machine.proofs.MoveLaws.{line_frames, moves_by, off_in_time, off_yields}
-use Rattle.machine.proofs.OperandLaws.{natives_found, operands_found}
+use Rattle.operand_soundness.proofs.OperandLaws.{natives_found, operands_found}
 use Rattle.machine.proofs.moves.entering_move.Goals as goal
 
 pub finish_entry-requires-clause-operands : goal.finish_entry-requires-clause-operands

@@ -2,7 +2,7 @@ use Rattle.std.proofs.Common.{refl}
 use Rattle.std.proofs.lemmas.Result.{on_ok_weaker}
 use Rattle.interp_local.specs.Fetched.{instruction_of}
 use Rattle.machine.proofs.MoveLaws.{runs_or_asks}
-use Rattle.machine.proofs.OperandLaws.{natives_found, operands_found}
+use Rattle.operand_soundness.proofs.OperandLaws.{natives_found, operands_found}
 use Rattle.machine.proofs.moves.running_move.Goals as goal
 
 pub run_step-requires-clause-operands : goal.run_step-requires-clause-operands

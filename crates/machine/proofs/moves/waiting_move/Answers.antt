@@ -2,7 +2,7 @@ use Rattle.std.proofs.Common.{false, refl}
 use Rattle.interp_local.specs.Fetched.{instruction_of}
 use Rattle.machine.specs.declared.made.Others.TheVariants as moves
 use Rattle.machine.proofs.MoveLaws.{moves_by, off_in_time, off_yields, same_lists, stay_steps, waiting_frames}
-use Rattle.machine.proofs.OperandLaws.{natives_found, operands_found}
+use Rattle.operand_soundness.proofs.OperandLaws.{natives_found, operands_found}
 use Rattle.machine.proofs.moves.waiting_move.Goals as goal
 
 pub finish_wait-requires-clause-operands : goal.finish_wait-requires-clause-operands

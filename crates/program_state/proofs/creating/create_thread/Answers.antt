@@ -2,7 +2,7 @@ use Rattle.std.proofs.Common.{◌≡◌, ℕ, Option, Some, subst}
 use Rattle.ref_model.specs.Memory.{Memory}
 use Rattle.ref_model.specs.ThreadNatives.{with_number}
 use Rattle.heap_instructions.specs.Outcomes.{with_heap}
-use Rattle.program_state.specs.Creating.{IsNameMade}
+use Rattle.thread_calls.specs.Creating.{IsNameMade}
 use Rattle.program_state.proofs.CreateLaws.{nothing_created, thread_created}
 use Rattle.program_state.proofs.creating.create_thread.Goals as goal
 

@@ -7,7 +7,7 @@ use Rattle.ref_model.specs.ThreadNatives.{with_number}
 use Rattle.ref_model.specs.declared.request.ThreadRequest.TheVariants as requests
 use Rattle.heap_instructions.specs.Outcomes.{with_heap}
 use Rattle.ref_run.specs.declared.reply.Reply.TheVariants as replies
-use Rattle.ref_run.specs.Creating.{IsNameMade, daemon_of}
+use Rattle.thread_calls.specs.Creating.{IsNameMade, daemon_of}
 use Rattle.ref_run.specs.Replies.{IsAnswered}
 use Rattle.ref_run.specs.States.{state_of}
 use Rattle.ref_run.proofs.CreateLaws.{nothing_created, thread_created}

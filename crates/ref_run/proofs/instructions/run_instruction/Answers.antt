@@ -1,7 +1,7 @@
 use Rattle.std.proofs.Common.{refl}
 use Rattle.interp_local.specs.Fetched.{instruction_of}
-use Rattle.ref_run.proofs.OperandLaws.{fetched_at, natives_found, operands_found}
-use Rattle.ref_run.proofs.StepLaws.{progress_made, taken_frames}
+use Rattle.operand_soundness.proofs.OperandLaws.{natives_found, operands_found}
+use Rattle.ref_run.proofs.StepLaws.{fetched_at, progress_made, taken_frames}
 use Rattle.ref_run.proofs.instructions.run_instruction.Goals as goal
 
 pub instruction_step-requires-clause-operands : goal.instruction_step-requires-clause-operands

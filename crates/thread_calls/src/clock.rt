@@ -7,7 +7,7 @@ ghost use Rattle.ref_model.specs.Waiting as waiting;
 
 use ref_model::ThreadRequest;
 
-/// How many nanoseconds a millisecond has.
+// How many nanoseconds a millisecond has.
 const NANOS_IN_MILLI: u64 = 1_000_000;
 
 /// Whether there is a time, and it is negative.
@@ -21,14 +21,14 @@ pub fn is_negative(time: Option<i64>) -> bool
 }
 
 /// Whether a time is 0.
-pub(crate) fn is_zero(time: i64) -> bool
+pub fn is_zero(time: i64) -> bool
     ensures { result ≡ (unsigned_abs time == 0) }
 {
     time.unsigned_abs() == 0
 }
 
 /// Whether there is a time, and it is 0 or negative.
-pub(crate) fn is_over(time: Option<i64>) -> bool
+pub fn is_over(time: Option<i64>) -> bool
     ensures { result ≡ waiting.is_over time }
 {
     match time {
@@ -38,7 +38,7 @@ pub(crate) fn is_over(time: Option<i64>) -> bool
 }
 
 /// Whether a deadline is there, and the time isn't less.
-pub(crate) fn is_reached(now: u64, deadline: Option<u64>) -> bool
+pub fn is_reached(now: u64, deadline: Option<u64>) -> bool
     ensures { result ≡ waiting.is_reached now deadline }
 {
     match deadline {
@@ -48,14 +48,14 @@ pub(crate) fn is_reached(now: u64, deadline: Option<u64>) -> bool
 }
 
 /// The time so many milliseconds from now, of which none is negative.
-pub(crate) fn millis_after(now: u64, millis: i64) -> u64
+pub fn millis_after(now: u64, millis: i64) -> u64
     ensures { result ≡ waiting.millis_after now millis }
 {
     let nanos = millis.unsigned_abs().saturating_mul(NANOS_IN_MILLI);
     now.saturating_add(nanos)
 }
 
-/// The deadline of join: none without a time, and none for 0.
+/// The deadline of wait and join: none without a time, and none for 0.
 pub fn deadline_of(now: u64, millis: Option<i64>) -> Option<u64>
     ensures { result ≡ waiting.deadline_of now millis }
 {
@@ -72,7 +72,7 @@ pub fn deadline_of(now: u64, millis: Option<i64>) -> Option<u64>
 }
 
 /// The deadline of park: none without a time.
-pub(crate) fn park_deadline(now: u64, nanos: Option<i64>) -> Option<u64>
+pub fn park_deadline(now: u64, nanos: Option<i64>) -> Option<u64>
     ensures { result ≡ waiting.park_deadline now nanos }
 {
     match nanos {
@@ -82,14 +82,14 @@ pub(crate) fn park_deadline(now: u64, nanos: Option<i64>) -> Option<u64>
 }
 
 /// The time as nanoTime tells it.
-pub(crate) fn nano_time(now: u64) -> i64
+pub fn nano_time(now: u64) -> i64
     ensures { result ≡ int_wrap w64 (pos now) }
 {
     now.cast_signed()
 }
 
 /// The time as currentTimeMillis tells it.
-pub(crate) fn time_millis(now: u64) -> i64
+pub fn time_millis(now: u64) -> i64
     ensures { result ≡ pos (now / waiting.nanos_in_milli) }
 {
     (now / NANOS_IN_MILLI) as i64

@@ -2,8 +2,8 @@ use Rattle.std.proofs.Common.{ℕ, ℤ, ◌*◌, ap, ◌∙◌}
 use Rattle.std.specs.Int.{w64}
 use Rattle.std.proofs.lemmas.Int.{to_z-of_z}
 use Rattle.ref_model.specs.Waiting.{deadline_after, millis_after, nanos_in_milli}
-use Rattle.program_state.proofs.TimeRequestLaws.{millis_are}
-use Rattle.program_state.proofs.clock.millis_after.Goals as goal
+use Rattle.thread_calls.proofs.TimeLaws.{millis_are}
+use Rattle.thread_calls.proofs.clock.millis_after.Goals as goal
 
 pub returns : goal.returns
 returns c =

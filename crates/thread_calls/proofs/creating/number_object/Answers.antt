@@ -1,8 +1,8 @@
 use Rattle.std.proofs.Common.{Option, ℕ, ap, sym, w32, rules, ◌∙◌}
 use Rattle.std.specs.Prelude.{is_some, not}
 use Rattle.std.proofs.lemmas.Int.{to_z-of_z}
-use Rattle.program_state.proofs.CreateLaws.{number_is_set}
-use Rattle.program_state.proofs.creating.number_object.Goals as goal
+use Rattle.thread_calls.proofs.CreateLaws.{number_is_set}
+use Rattle.thread_calls.proofs.creating.number_object.Goals as goal
 
 pub returns : goal.returns
 returns c m =

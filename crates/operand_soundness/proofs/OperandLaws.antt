@@ -36,7 +36,7 @@ use Rattle.invocation.specs.Natives.{HasReceiver, InvokesNative, IsNative, IsNat
 use Rattle.thread_steps.specs.declared.parts.Parts.{Parts}
 use Rattle.thread_steps.specs.Operands.{FindsNatives}
 use Rattle.thread_steps.specs.States.{memory_of}
-use Rattle.machine.specs.Ready.{IsReady}
+use Rattle.operand_soundness.specs.Ready.{IsReady}
 
 inside : (i j : Instruction) → ◌≡◌ {A = Option Instruction} (Some i) (Some j) → i ≡ j
 inside i j e = cc

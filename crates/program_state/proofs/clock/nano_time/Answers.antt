@@ -1,8 +1,0 @@
-use Rattle.std.proofs.Common.{rules, ◌∙◌}
-use Rattle.std.specs.Int.{w64}
-use Rattle.std.proofs.lemmas.Int.{to_z-of_z}
-use Rattle.program_state.proofs.TimeRequestLaws.{nanos_are}
-use Rattle.program_state.proofs.clock.nano_time.Goals as goal
-
-pub returns : goal.returns
-returns c = to_z-of_z w64 c.cast_signed.result (search rules) ∙ c.cast_signed.ensures ∙ nanos_are c.args.now c.ranges.now.fits

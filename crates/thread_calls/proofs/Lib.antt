@@ -1,0 +1,2 @@
+pub mod CreateLaws
+mod TimeLaws
